@@ -18,7 +18,7 @@ use Rattle.fee_switch.specs.declared.active.ActiveBank.{ActiveBank}
 use Rattle.fee_log.specs.Index.{at_index, or_else, place_in}
 use Rattle.promise_device.specs.Making.{Making, banks_of}
 use Rattle.fee_told.specs.Slots.{slots_held, slots_found, held_all, settled_in, job_leaves}
-use Rattle.fee_told.specs.Device.{tells, slots_told}
+use Rattle.fee_told.specs.Device.{tells_now, slots_told}
 use Rattle.fls_model.specs.Told.{bytes_now}
 use Rattle.fee_switch_laws.specs.Shown.{old_shown}
 use Rattle.fee_log.specs.Log.{LogState, work_in}
@@ -100,7 +100,7 @@ module _ (m : Making) (entry : Told) (s : Parts) (numbers : s.banks.log.numbers 
   kind_told false started o on = tt
 
   kind_is : s.started ≡ true → IfSome (slots_told (device_of m entry s)) (λ slots. kind_at (place_now s s.banks.active n) ≡ kind_of (slot_at m.numbers slots n).settled.mark)
-  kind_is on = kind_told (tells (device_of m entry s)) s.started (bytes_now s.fls.flash) on
+  kind_is on = kind_told (tells_now (device_of m entry s)) s.started (bytes_now s.fls.flash) on
 
 place_is : (s : Parts) (active : Option ActiveBank) (n : ℕ) → is_some active ≡ true → place_now s active n ≡ place_in s.banks.log.numbers s.banks.log.places n
 place_is s None n is = cc is

@@ -32,6 +32,7 @@ order_told told d order = record {
   wait = order.wait;
   second = order.second;
   now = finds_told told d order.now;
+  told = order.told;
 }
 
 pub stays_told : (told : DeviceTold) (d t : Device) → ClockStays (clock_of d) told (clock_of t) → ClockStays (told_clock d) told (told_clock t)

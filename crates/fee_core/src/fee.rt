@@ -83,7 +83,7 @@ fn unstarted<F: Flash, O: Origin>(
 }
 
 impl<F: Flash, O: Origin> Fee<F, O> {
-    ghost use Rattle.std.specs.Prelude.{◌≡◌, ◌≤◌, ℕ, Bool, [], IfOk, IfErr, IfSome, Err};
+    ghost use Rattle.std.specs.Prelude.{◌≡◌, ◌≤◌, ℕ, false, [], IfOk, IfErr, IfSome, Err};
     ghost use Rattle.nv_base.specs.Geometry.{IsLegal, HasBanks, sectors_of_bank};
     ghost use Rattle.fls_model.specs.Told.{changes_in};
     ghost use Rattle.fls_model.specs.Attach.{IsAttach};
@@ -138,7 +138,7 @@ impl<F: Flash, O: Origin> Fee<F, O> {
         ensures none { self.operations ≡ [] → ((F.told result).ops ≡ O.entry.ops) × ((F.told result).cuts ≡ O.entry.cuts) }
         ensures changes { IfSome (changes_in (F.told result).bytes) (λ changes. changes ≡ self.operations) }
         ensures room { TellsWorkOver O.making self.operations (F.told result) (told_of self) }
-        ensures bridge { (cutter : Bool) → Bridges (reading_of O.making) cutter (record { entry = O.entry; exit = F.told result; operations = self.operations }) (part_at O.entry) (told_of self) (clock_of self) }
+        ensures bridge { Bridges (reading_of O.making) false (record { entry = O.entry; exit = F.told result; operations = self.operations }) (part_at O.entry) (told_of self) (clock_of self) }
     {
         let Fee { parts } = self;
         let _active = parts.banks.active();

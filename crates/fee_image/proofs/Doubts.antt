@@ -25,7 +25,6 @@ module _ (l : Layout) (numbers : List (DeviceNumber × ℕ)) (bytes : List ℕ) 
 pub banks_widen : BanksWiden
 banks_widen l numbers bytes s may copied h wide more within = record {
   size = h.size;
-  sound = h.sound;
   target = h.target;
   old = old_widens l numbers bytes s.target s.old s.may may wide h.old;
   behind = h.behind;
@@ -59,7 +58,6 @@ module _ (l : Layout) (numbers : List (DeviceNumber × ℕ)) (bytes : List ℕ) 
 pub banks_tighten : BanksTighten
 banks_tighten l numbers bytes s more h has copies = record {
   size = h.size;
-  sound = h.sound;
   target = h.target;
   old = old_tightens l numbers bytes more s.target s.old s.may has h.old;
   behind = h.behind;

@@ -12,8 +12,9 @@ use Rattle.fee_format.specs.Formats.{new_format}
 use Rattle.fee_image.specs.Bank.{place_of_page}
 use Rattle.fee_image.specs.Image.{Layout, layout_of, bank_in, image_page}
 use Rattle.fee_image.specs.Laws.{place_of_sector}
+use Rattle.fee_image.specs.Sound.{IsSoundImage}
 use Rattle.fee_image.specs.Banks.{Old, NoBank, OldBank, Idle, Erasing, Banks, Holds, HoldsOld, HoldsPhase, StandsBehind, AreBlank}
-use Rattle.fee_image.specs.BankLaws.{IsOther, SwitchesBegin, erase_of, ErasesFail, ErasesDone, CopiesBegin}
+use Rattle.fee_image.specs.BankLaws.{IsOther, SwitchesBegin, erase_of, ErasesFail, ErasesDone, ErasesKeepSound, CopiesBegin}
 use Rattle.fee_image.proofs.Frames.{SameOthers, behind_stays, old_stays}
 use Rattle.fee_image.proofs.Seals.{in_phase}
 use Rattle.fee_image.proofs.Logs.{erased_logs_hold}
@@ -35,7 +36,6 @@ switches_begin l numbers bytes s t copied holds is inside other =
     ] in
     record {
       size = holds.size;
-      sound = holds.sound;
       target = inside;
       old = other_old l numbers bytes s t s.old other holds.old;
       behind = λ j within ne. all j within;
@@ -90,7 +90,7 @@ module _ (g : Geometry) (banks k sector : ℕ) (old new : List ℕ) (legal : IsL
       ]
 
 -- of the target
-module _ (g : Geometry) (banks : ℕ) (numbers : List (DeviceNumber × ℕ)) (old new : List ℕ) (s : Banks) (sector : ℕ) (legal : IsLegal g) (shared : HasBanks g banks) (holds : Holds (layout_of g banks) numbers old s) (is : s.phase ≡ Erasing (sector * pages_of_sector g)) (lt : sector < sectors_of_bank g banks) (leaves : MayLeave (erase_of g banks s.target sector) old new) where
+module _ (g : Geometry) (banks : ℕ) (numbers : List (DeviceNumber × ℕ)) (old new : List ℕ) (s : Banks) (sector : ℕ) (legal : IsLegal g) (shared : HasBanks g banks) (sound : IsSoundImage (layout_of g banks) old) (holds : Holds (layout_of g banks) numbers old s) (is : s.phase ≡ Erasing (sector * pages_of_sector g)) (lt : sector < sectors_of_bank g banks) (leaves : MayLeave (erase_of g banks s.target sector) old new) where
   abbrev l : Layout
   l = layout_of g banks
 
@@ -104,14 +104,13 @@ module _ (g : Geometry) (banks : ℕ) (numbers : List (DeviceNumber × ℕ)) (ol
   was = in_phase l numbers old s (Erasing (sector * pages_of_sector g)) is holds
 
   pub still_behind : StandsBehind l new s.old s.target
-  still_behind other stands = was.0 other (torn_erases_make_no_bank l old new s.target other legal.page_low holds.sound grown holds.target stands)
+  still_behind other stands = was.0 other (torn_erases_make_no_bank l old new s.target other legal.page_low sound grown holds.target stands)
 
   pub erase_steps : (n : ℕ) → AreBlank l new s.target n → Holds l numbers new (record s { phase = Erasing n })
   erase_steps n blank =
       let all = layouts_are_legal g banks legal shared in
       record {
         size = omega (arith, holds.size, leaves.0.size);
-        sound = torn_erases_keep_sound l old new holds.sound grown;
         target = holds.target;
         old = old_stays l numbers old new all s.target s.old s.may others holds.old;
         behind = λ j inside other. behind_stays l numbers old new all s.old j (others j other) (holds.behind j inside other);
@@ -121,18 +120,22 @@ module _ (g : Geometry) (banks : ℕ) (numbers : List (DeviceNumber × ℕ)) (ol
   pub fails : Holds l numbers new s
   fails =
       let h = erase_steps (sector * pages_of_sector g) (still_blank g banks s.target sector old new legal shared lt leaves was.1) in
-      record { size = h.size; sound = h.sound; target = h.target; old = h.old; behind = h.behind; phase = subst (HoldsPhase l numbers new s) (sym is) h.phase }
+      record { size = h.size; target = h.target; old = h.old; behind = h.behind; phase = subst (HoldsPhase l numbers new s) (sym is) h.phase }
 
 pub erases_fail : ErasesFail
-erases_fail g banks numbers old new s sector legal shared holds is lt leaves = fails g banks numbers old new s sector legal shared holds is lt leaves
+erases_fail g banks numbers old new s sector legal shared sound holds is lt leaves = fails g banks numbers old new s sector legal shared sound holds is lt leaves
 
 pub erases_done : ErasesDone
-erases_done g banks numbers old new s sector legal shared holds is lt leaves done =
+erases_done g banks numbers old new s sector legal shared sound holds is lt leaves done =
     let l = layout_of g banks in
     let R = pages_of_sector g in
     let was : HoldsPhase l numbers old s (Erasing (sector * R)) = in_phase l numbers old s (Erasing (sector * R)) is holds in
-    erase_steps g banks numbers old new s sector legal shared holds is lt leaves ((sector + 1) * R)
+    erase_steps g banks numbers old new s sector legal shared sound holds is lt leaves ((sector + 1) * R)
     (erased_blank g banks s.target sector old new legal shared lt leaves holds.target holds.size done was.1)
+
+pub erases_keep_sound : ErasesKeepSound
+erases_keep_sound g banks old new k sector leaves sound =
+    torn_erases_keep_sound (layout_of g banks) old new sound (torn_erases_set_bits (place_of_sector g banks k sector) g.sector old new leaves)
 
 -- COPIES BEGIN
 pub copies_begin : CopiesBegin
@@ -140,7 +143,6 @@ copies_begin l numbers bytes s n legal holds is all give =
     let was = in_phase l numbers bytes s (Erasing n) is holds in
     record {
       size = holds.size;
-      sound = holds.sound;
       target = holds.target;
       old = holds.old;
       behind = holds.behind;

@@ -13,7 +13,7 @@ use Rattle.fee_image.specs.Image.{Layout, IsLegalLayout, bank_in, image_page}
 use Rattle.fee_image.specs.Log.{Log, HoldsLog}
 use Rattle.fee_image.specs.May.{May}
 use Rattle.fee_image.specs.Banks.{Old, OldBank, Phase, Idle, Erasing, Copying, Sealing, Banks, Holds, HoldsOld, HoldsPhase, StandsBehind, IsCopying, next_head}
-use Rattle.fee_image.specs.BankLaws.{program_of, TakesAppends, OldLogsGoOn, OldLogsChange, CopiesGoOn, CopiesChange, CopiesFail, HeadsDone, GatesFail, GatesDone}
+use Rattle.fee_image.specs.BankLaws.{program_of, TakesAppends, OldLogsGoOn, OldLogsChange, CopiesGoOn, CopiesChange, CopiesFail, LogsKeepSound, CopiesKeepSound, HeadsDone, GatesFail, GatesKeepSound, GatesDone}
 use Rattle.fee_image.proofs.Frames.{SameOthers, SamePages, stands_same, log_stays, behind_stays, old_stays, phase_stays, others_stay, page_stays}
 use Rattle.fee_image.proofs.Shows.{blank_shut, sealed_active}
 use Rattle.fee_image.proofs.Ranges.{programs_keep_sound}
@@ -38,7 +38,6 @@ old_logs_change l numbers bytes s k h log next may holds is takes at =
     let o = in_old l numbers bytes s (OldBank k h log) is holds in
     record {
       size = holds.size;
-      sound = holds.sound;
       target = holds.target;
       old = (o.0, record { bank = o.1.bank; stands = o.1.stands; holds = at });
       behind = λ j inside ne. subst (λ (x : Old). StandsBehind l bytes x j) is (holds.behind j inside ne);
@@ -54,7 +53,6 @@ old_logs_go_on l numbers old new page s k q h log next may legal holds is takes 
     let at_target : SamePages l old new s.target = others s.target (λ e. o.0 (sym e)) in
     record {
       size = omega (arith, holds.size, leaves.0.size);
-      sound = programs_keep_sound l old new page k q legal.pages size leaves lt (inr (inr low)) holds.sound;
       target = holds.target;
       old = (o.0, record { bank = o.1.bank; stands = stands_same l old new k h (same 0 (omega arith) (λ e. omega (arith, e))) (same 1 (omega arith) (λ e. omega (arith, e))) o.1.stands; holds = at });
       behind = λ j inside ne other stands here.
@@ -66,7 +64,6 @@ old_logs_go_on l numbers old new page s k q h log next may legal holds is takes 
 pub copies_change : CopiesChange
 copies_change l numbers bytes s log next copied holds is at = record {
   size = holds.size;
-  sound = holds.sound;
   target = holds.target;
   old = holds.old;
   behind = holds.behind;
@@ -86,16 +83,15 @@ module _ (l : Layout) (numbers : List (DeviceNumber × ℕ)) (old new page : Lis
   gate_blank : image_page l new s.target 1 ≡ blank_page l.page
   gate_blank = same 1 (omega (arith, legal.pages)) (λ e. ne (sym e)) ∙ c.first 1 (omega arith) (omega (arith, legal.pages))
 
-  still_sound : IsSoundImage l new
-  still_sound = programs_keep_sound l old new page s.target q legal.pages size leaves lt (elim (cases_eq q 0) [
+  pub still_sound : IsSoundImage l old → IsSoundImage l new
+  still_sound sound = programs_keep_sound l old new page s.target q legal.pages size leaves lt (elim (cases_eq q 0) [
     | inl first ↦ inl (first, λ gate. blank_shut l.page (image_page l old s.target 1) legal.page (c.first 1 (omega arith) (omega (arith, legal.pages))) gate)
     | inr later ↦ inr (inr (let low : 2 ≤ q = omega (arith, ne, later) in low))
-  ]) holds.sound
+  ]) sound
 
   pub copy_steps : (phase : Phase) (copied : May) → HoldsPhase l numbers new (record s { phase = phase; copied = copied }) phase → Holds l numbers new (record s { phase = phase; copied = copied })
   copy_steps phase copied at = record {
     size = omega (arith, holds.size, leaves.0.size);
-    sound = still_sound;
     target = holds.target;
     old = old_stays l numbers old new legal s.target s.old s.may others holds.old;
     behind = λ j inside other. behind_stays l numbers old new legal s.old j (others j other) (holds.behind j inside other);
@@ -120,6 +116,12 @@ copies_go_on l numbers old new page s q log next copied legal holds is size low 
 pub copies_fail : CopiesFail
 copies_fail l numbers old new page s q log legal holds is size lt ne leaves = fails l numbers old new page s q log legal holds is size lt ne leaves
 
+pub copies_keep_sound : CopiesKeepSound
+copies_keep_sound l numbers old new page s q log legal holds is size lt ne leaves sound = still_sound l numbers old new page s q log legal holds is size lt ne leaves sound
+
+pub logs_keep_sound : LogsKeepSound
+logs_keep_sound l old new page k q legal size low lt leaves sound = programs_keep_sound l old new page k q legal.pages size leaves lt (inr (inr low)) sound
+
 -- THE HEAD
 pub heads_done : HeadsDone
 heads_done l numbers old new s log legal holds is last whole leaves at =
@@ -142,11 +144,8 @@ gates_fail l numbers old new s log legal holds is leaves =
     let lt : 1 < l.pages = omega (arith, legal.pages) in
     let others = others_stay l old new page s.target 1 size lt leaves in
     let same = page_stays l old new page s.target 1 size lt leaves in
-    let head : image_page l old s.target 0 ≡ bank_head_page l.page (next_head s.old) = c.head in
-    let long : length (image_page l old s.target 0) ≡ l.page = ap length head ∙ (let e : length (bank_head_page l.page (next_head s.old)) ≡ l.page = omega (arith, legal.page, length-replicate {A = ℕ} (l.page - 12) 255) in e) in
     record {
       size = omega (arith, holds.size, leaves.0.size);
-      sound = programs_keep_sound l old new page s.target 1 legal.pages size leaves lt (inr (inl (refl, inl (next_head s.old, record { legal = record { format = inr refl; generation = c.last }; page_is = head ∙ ap (λ (n : ℕ). bank_head_page n (next_head s.old)) (sym long) })))) holds.sound;
       target = holds.target;
       old = old_stays l numbers old new legal s.target s.old s.may others holds.old;
       behind = λ j inside other. behind_stays l numbers old new legal s.old j (others j other) (holds.behind j inside other);
@@ -158,6 +157,17 @@ gates_fail l numbers old new s log legal holds is leaves =
       });
     }
 
+pub gates_keep_sound : GatesKeepSound
+gates_keep_sound l numbers old new s log legal holds is leaves sound =
+    let c = in_phase l numbers old s (Sealing log) is holds in
+    let page = gate_page l.page in
+    let size : length page ≡ l.page = length-replicate l.page 0 in
+    let lt : 1 < l.pages = omega (arith, legal.pages) in
+    let head : image_page l old s.target 0 ≡ bank_head_page l.page (next_head s.old) = c.head in
+    let long : length (image_page l old s.target 0) ≡ l.page = ap length head ∙ (let e : length (bank_head_page l.page (next_head s.old)) ≡ l.page = omega (arith, legal.page, length-replicate {A = ℕ} (l.page - 12) 255) in e) in
+    programs_keep_sound l old new page s.target 1 legal.pages size leaves lt
+    (inr (inl (refl, inl (next_head s.old, record { legal = record { format = inr refl; generation = c.last }; page_is = head ∙ ap (λ (n : ℕ). bank_head_page n (next_head s.old)) (sym long) })))) sound
+
 pub gates_done : GatesDone
 gates_done l numbers old new s log t legal holds is leaves gate inside other =
     let h = gates_fail l numbers old new s log legal holds is leaves in
@@ -165,7 +175,6 @@ gates_done l numbers old new s log t legal holds is leaves gate inside other =
     let active = sealed_active l numbers new s log h.target h.old h.behind c gate in
     record {
       size = h.size;
-      sound = h.sound;
       target = inside;
       old = (λ e. other (sym e), record { bank = h.target; stands = active.stands; holds = c.holds });
       behind = λ j within ne head stands here. active.first j head within here stands;

@@ -12,13 +12,12 @@ pub first_among : (m n : Held) (marks : List Held) → m ≡ n → IsAmong (Some
 first_among m n marks is = subst (λ (x : Held). IsAmong (Some (x ∷ marks)) m) is (0, (let lt : 0 < suc (length marks) = omega arith in lt), refl)
 
 pub banks_load : BanksLoad
-banks_load l numbers bytes k t h tail copied legal size sound is inside other at =
+banks_load l numbers bytes k t h tail copied legal size is inside other at =
     let active = (active_computes l bytes k h).1 is in
     let b = bank_in l h.format k in
     let log = loaded_logs_hold b numbers bytes tail legal.page legal.pages at in
     record {
       size = size;
-      sound = sound;
       target = inside;
       old = (
         λ e. other (sym e),
@@ -33,11 +32,10 @@ banks_load l numbers bytes k t h tail copied legal size sound is inside other at
     }
 
 pub no_bank_loads : NoBankLoads
-no_bank_loads l numbers bytes t copied size sound is inside =
+no_bank_loads l numbers bytes t copied size is inside =
     let none = (no_active_computes l bytes).1 is in
     record {
       size = size;
-      sound = sound;
       target = inside;
       old = λ number length. first_among never_written (found_held l bytes number length) [] (sym (ap (held_of_bank l bytes number length) is));
       behind = λ j within ne head stands. none j head within stands;

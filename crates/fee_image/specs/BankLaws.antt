@@ -46,19 +46,19 @@ SwitchesBegin =
 abbrev pub erase_of : Geometry → ℕ → ℕ → ℕ → Op
 erase_of g banks k sector = Erase (place_of_sector g banks k sector) g.sector
 
--- whatever an erase of the next sector leaves, each retry begins from what held before
+-- whatever an erase of the next sector of a sound image leaves, each retry begins from what held before
 abbrev pub ErasesFail : Type 0
 ErasesFail =
     (g : Geometry) (banks : ℕ) (numbers : List (DeviceNumber × ℕ)) (old new : List ℕ) (s : Banks) (sector : ℕ)
-    → IsLegal g → HasBanks g banks → Holds (layout_of g banks) numbers old s → s.phase ≡ Erasing (sector * pages_of_sector g) → sector < sectors_of_bank g banks
-    → MayLeave (erase_of g banks s.target sector) old new → Holds (layout_of g banks) numbers new s
+    → IsLegal g → HasBanks g banks → IsSoundImage (layout_of g banks) old → Holds (layout_of g banks) numbers old s → s.phase ≡ Erasing (sector * pages_of_sector g)
+    → sector < sectors_of_bank g banks → MayLeave (erase_of g banks s.target sector) old new → Holds (layout_of g banks) numbers new s
 
 -- done: its pages are blank
 abbrev pub ErasesDone : Type 0
 ErasesDone =
     (g : Geometry) (banks : ℕ) (numbers : List (DeviceNumber × ℕ)) (old new : List ℕ) (s : Banks) (sector : ℕ)
-    → IsLegal g → HasBanks g banks → Holds (layout_of g banks) numbers old s → s.phase ≡ Erasing (sector * pages_of_sector g) → sector < sectors_of_bank g banks
-    → MayLeave (erase_of g banks s.target sector) old new → new ≡ after_op (erase_of g banks s.target sector) old
+    → IsLegal g → HasBanks g banks → IsSoundImage (layout_of g banks) old → Holds (layout_of g banks) numbers old s → s.phase ≡ Erasing (sector * pages_of_sector g)
+    → sector < sectors_of_bank g banks → MayLeave (erase_of g banks s.target sector) old new → new ≡ after_op (erase_of g banks s.target sector) old
     → Holds (layout_of g banks) numbers new (record s { phase = Erasing ((sector + 1) * pages_of_sector g) })
 
 -- all are: the copies begin with an empty log
@@ -137,6 +137,33 @@ CopiesFail =
     → length page ≡ l.page → q < l.pages → (q ≡ 1 → ⊥) → MayLeave (program_of l s.target q page) old new
     → Holds l numbers new (record s { phase = Erasing 0 })
 
+-- SOUND IMAGES
+-- whatever an operation leaves of a sound image is sound: an erase of a sector of any bank
+abbrev pub ErasesKeepSound : Type 0
+ErasesKeepSound =
+    (g : Geometry) (banks : ℕ) (old new : List ℕ) (k sector : ℕ)
+    → MayLeave (erase_of g banks k sector) old new → IsSoundImage (layout_of g banks) old → IsSoundImage (layout_of g banks) new
+
+-- a program of any page of a bank behind its gate
+abbrev pub LogsKeepSound : Type 0
+LogsKeepSound =
+    (l : Layout) (old new page : List ℕ) (k q : ℕ)
+    → IsLegalLayout l → length page ≡ l.page → 2 ≤ q → q < l.pages → MayLeave (program_of l k q page) old new → IsSoundImage l old → IsSoundImage l new
+
+-- one of the target's head or of a page of a copy
+abbrev pub CopiesKeepSound : Type 0
+CopiesKeepSound =
+    (l : Layout) (numbers : List (DeviceNumber × ℕ)) (old new page : List ℕ) (s : Banks) (q : ℕ) (log : Log)
+    → IsLegalLayout l → Holds l numbers old s → s.phase ≡ Copying log
+    → length page ≡ l.page → q < l.pages → (q ≡ 1 → ⊥) → MayLeave (program_of l s.target q page) old new → IsSoundImage l old → IsSoundImage l new
+
+-- and one of its gate
+abbrev pub GatesKeepSound : Type 0
+GatesKeepSound =
+    (l : Layout) (numbers : List (DeviceNumber × ℕ)) (old new : List ℕ) (s : Banks) (log : Log)
+    → IsLegalLayout l → Holds l numbers old s → s.phase ≡ Sealing log → MayLeave (program_of l s.target 1 (gate_page l.page)) old new
+    → IsSoundImage l old → IsSoundImage l new
+
 -- THE SEAL
 -- the head is done, where each number is copied
 abbrev pub HeadsDone : Type 0
@@ -188,12 +215,12 @@ found_alone l bytes number length = Some (found_held l bytes number length ∷ [
 abbrev pub BanksLoad : Type 0
 BanksLoad =
     (l : Layout) (numbers : List (DeviceNumber × ℕ)) (bytes : List ℕ) (k t : ℕ) (h : BankHead) (tail : Tail) (copied : May)
-    → IsLegalLayout l → l.pages * l.page * l.banks ≤ length bytes → IsSoundImage l bytes → active_of l bytes ≡ Some (k, h) → t < l.banks → (t ≡ k → ⊥)
+    → IsLegalLayout l → l.pages * l.page * l.banks ≤ length bytes → active_of l bytes ≡ Some (k, h) → t < l.banks → (t ≡ k → ⊥)
     → let b = bank_in l h.format k in IsLoadedTail b bytes tail
     → Holds l numbers bytes (record { old = OldBank k h (loaded_log b numbers bytes tail); target = t; phase = Idle; may = found_alone l bytes; copied = copied })
 
 abbrev pub NoBankLoads : Type 0
 NoBankLoads =
     (l : Layout) (numbers : List (DeviceNumber × ℕ)) (bytes : List ℕ) (t : ℕ) (copied : May)
-    → l.pages * l.page * l.banks ≤ length bytes → IsSoundImage l bytes → active_of l bytes ≡ None → t < l.banks
+    → l.pages * l.page * l.banks ≤ length bytes → active_of l bytes ≡ None → t < l.banks
     → Holds l numbers bytes (record { old = NoBank; target = t; phase = Idle; may = found_alone l bytes; copied = copied })

@@ -7,7 +7,6 @@ use Rattle.fee_format.specs.BankHead.{bank_head_page}
 use Rattle.fee_format.specs.Pages.{blank_page}
 use Rattle.nv_base.specs.Held.{never_written}
 use Rattle.fee_image.specs.Image.{Layout, bank_in, image_page, BankStands, ComesFirst, found_held}
-use Rattle.fee_image.specs.Sound.{IsSoundImage}
 use Rattle.fee_image.specs.Log.{Log, HoldsLog}
 use Rattle.fee_image.specs.May.{May, IsAmong, IsWider}
 
@@ -89,11 +88,10 @@ HoldsPhase l numbers bytes s (Erasing n) = StandsBehind l bytes s.old s.target �
 HoldsPhase l numbers bytes s (Copying log) = IsCopying l numbers bytes s.target log s.copied
 HoldsPhase l numbers bytes s (Sealing log) = IsSealing l numbers bytes s log
 
--- the bytes of a flash hold these banks: they are sound, the old bank holds its log, the target is as its phase says, and
--- every other bank comes after the old one
+-- the bytes of a flash hold these banks: the old bank holds its log, the target is as its phase says, and every other bank
+-- comes after the old one
 pub record Holds (l : Layout) (numbers : List (DeviceNumber × ℕ)) (bytes : List ℕ) (s : Banks) : Type 0 where
   pub size : l.pages * l.page * l.banks ≤ length bytes
-  pub sound : IsSoundImage l bytes
   pub target : s.target < l.banks
   pub old : HoldsOld l numbers bytes s.target s.old s.may
   pub behind : (j : ℕ) → j < l.banks → (j ≡ s.target → ⊥) → StandsBehind l bytes s.old j

@@ -26,6 +26,14 @@ same_cuts false p q e = refl
 cuts_stay : (nth keep : ℕ) (p : Planning) → (planned nth keep p).unplanned ≡ p.unplanned
 cuts_stay nth keep p = same_cuts (nat_le 1 p.takes && nat_le 1 nth) p (record p { plan = Some (record { left = nth; keep = keep }); takes = p.takes - 1 }) refl
 
+came_stay : (nth keep : ℕ) (p : Planning) → ((planned nth keep p).came ≡ p.came) × ((planned nth keep p).withheld ≡ p.withheld)
+came_stay nth keep p = by_test (nat_le 1 p.takes && nat_le 1 nth)
+  where
+    by_test : (b : Bool) → ((if b then record p { plan = Some (record { left = nth; keep = keep }); takes = p.takes - 1 } else p).came ≡ p.came)
+        × ((if b then record p { plan = Some (record { left = nth; keep = keep }); takes = p.takes - 1 } else p).withheld ≡ p.withheld)
+    by_test true = (refl, refl)
+    by_test false = (refl, refl)
+
 module _ (m : Making) (entry : Told) (s : Parts) (nth keep : ℕ) where
   abbrev d : Device
   d = device_of m entry s
@@ -41,9 +49,9 @@ module _ (m : Making) (entry : Told) (s : Parts) (nth keep : ℕ) where
 
   pub arm_keeps : IsDevice d → IsDevice t
   arm_keeps is = record {
-    run = runs_stay (flash_device d) (flash_device t) is.run (record { none = none; bytes = refl; counts = (refl, refl); flash_faults = omega arith; faults = is.run.faults; cuts = counted is.run.cuts; worn = λ n since e. inl e });
+    run = runs_stay (flash_device d) (flash_device t) is.run (record { none = none; bytes = refl; counts = (refl, refl); came = came_stay nth keep s.fls.flash.planning; flash_faults = omega arith; faults = is.run.faults; cuts = counted is.run.cuts; worn = λ n since e. inl e });
     held = λ started. (let h = is.held started in record { behind = h.behind; copied = h.copied; banks = record { started = h.banks.started; alike = h.banks.alike; legal = h.banks.legal; some = h.banks.some; held = h.banks.held }; places = h.places; stand = h.stand; on = h.on; idle = h.idle });
-    order = record { bounded = is.order.bounded; fits = is.order.fits; ready = is.order.ready; wait = is.order.wait; second = is.order.second; now = finds_on (told_of d) (told_of t) (clock_of d) (clock_of t) (clocks_stay (flash_device d) (flash_device t) none (λ n. refl)) refl refl refl is.order.now };
+    order = record { bounded = is.order.bounded; fits = is.order.fits; ready = is.order.ready; wait = is.order.wait; second = is.order.second; now = finds_on (told_of d) (told_of t) (clock_of d) (clock_of t) (clocks_stay (flash_device d) (flash_device t) none (λ n. refl)) refl refl refl is.order.now; told = is.order.told };
     faults = is.faults;
   }
 

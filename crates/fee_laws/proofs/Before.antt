@@ -9,14 +9,19 @@ use Rattle.nv_base.specs.declared.instance.DeviceNumber.{DeviceNumber}
 use Rattle.fls_model.specs.Attach.{AreBytesOf}
 use Rattle.fls_model.specs.Told.{Told, ToldBytes, bytes_now}
 use Rattle.fee_image.specs.Image.{Layout, IsLegalLayout}
+use Rattle.fee_image.specs.Sound.{IsSoundImage}
 use Rattle.fee_image.specs.May.{May}
 use Rattle.fee_image.proofs.Sectors.{layouts_are_legal}
+use Rattle.fls_told.proofs.Clocks.{held_now}
 use Rattle.promise_device.specs.Making.{Making, banks_of}
+use Rattle.promise_device.specs.Bridge.{reading_of}
+use Rattle.promise_device.proofs.Readings.{sound_flashes_compute}
 use Rattle.fee_told.specs.Slots.{Memory}
 use Rattle.fee_told.specs.SlotLaws.{IsHeld}
-use Rattle.fee_told.specs.Device.{Device, tells}
+use Rattle.fee_told.specs.Device.{Device, flash_device, tells, tells_now}
 use Rattle.fee_told.specs.Whole.{HoldsBanks}
-use Rattle.fee_laws.specs.Inside.{Parts, device_of, memory_of, HoldsBehind}
+use Rattle.fee_told.proofs.Attached.{images_attach}
+use Rattle.fee_laws.specs.Inside.{Parts, device_of, memory_of, ShowsCopies, HoldsBehind}
 use Rattle.fee_laws.specs.Turn.{IsOn}
 use Rattle.fee_laws.proofs.MadeFor.{legal_made}
 
@@ -85,8 +90,21 @@ module _ (m : Making) (entry : Told) (s : Parts) (listed : List (DeviceNumber ×
   pub holds : HoldsBanks d copied
   holds = subst (λ (x : Memory). HoldsBanks (record d { memory = x }) behind.copied) (behind.on power) behind.banks
 
-  pub held_at : (bytes : List ℕ) → bytes_now s.fls.flash ≡ Some bytes → IsTrue (tells d) → IsHeld l m.numbers bytes (memory_of s) copied
+  pub held_at : (bytes : List ℕ) → bytes_now s.fls.flash ≡ Some bytes → IsTrue (tells_now d) → IsHeld l m.numbers bytes (memory_of s) copied
   held_at bytes at told = told_at s.fls.flash.bytes (λ (x : List ℕ). IsHeld l m.numbers x (memory_of s) copied) bytes at (holds.held told)
+
+  -- BEFORE AN OPERATION
+  -- behind which it tells only where the image was sound
+  pub held_before : (bytes : List ℕ) → bytes_now s.fls.flash ≡ Some bytes → IsTrue (tells d) → IsHeld l m.numbers bytes (memory_of s) copied
+  held_before bytes at told = held_at bytes at (held_now (flash_device d) told)
+
+  pub copies_before : IsTrue (tells d) → IfSome s.fls.flash.bytes (λ b. IfSome s.banks.course (λ c. ShowsCopies m s c b.now))
+  copies_before told = on.sound.copies power (held_now (flash_device d) told)
+
+  pub sound_before : (bytes : List ℕ) → bytes_now s.fls.flash ≡ Some bytes → IsTrue (tells d) → IsSoundImage l bytes
+  sound_before bytes at told =
+      (images_attach m bytes (told_at s.fls.flash.bytes (λ (x : List ℕ). 0 < length x) bytes at some)).1.0
+      ((sound_flashes_compute m bytes).0 (told_at s.fls.flash.bytes (λ (x : List ℕ). IsTrue ((reading_of m).is_sound x)) bytes at (on.sound.device.run.sound told)))
 
   -- THE LOG
   pub log_geometry : s.banks.log.geometry ≡ m.geometry

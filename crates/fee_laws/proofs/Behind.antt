@@ -23,11 +23,11 @@ use Rattle.fee_told.specs.SlotLaws.{IsHeld, SamePlaces}
 use Rattle.fls_told.specs.Device.{slot_with}
 use Rattle.fls_told.specs.Clock.{change_of}
 use Rattle.fls_told.specs.Runs.{HasRun, counts_fault}
-use Rattle.fls_told.specs.Tells.{AreTold}
 use Rattle.fls_told.proofs.Tells.{tells_keep}
 use Rattle.fee_told.specs.Device.{tells, Device, told_of, clock_of, flash_device}
 use Rattle.fee_told.specs.Whole.{HoldsBanks}
 use Rattle.fee_told.proofs.Steps.{places_tell}
+use Rattle.fee_told.proofs.Whole.{told_behind}
 use Rattle.fls_jobs.specs.Start.{IsIdle}
 use Rattle.fls_jobs.specs.State.{FlsState}
 use Rattle.fee_switch.specs.Banks.{BanksState, IsSameFlash}
@@ -40,7 +40,7 @@ use Rattle.fee_laws.specs.Work.{work_of}
 use Rattle.fee_laws.specs.Turn.{IsOn, Drives}
 use Rattle.fee_laws.proofs.Before.{shape, lengths, legal, some_told, each_told}
 use Rattle.fee_laws.proofs.Order.{behind_finds, in_order}
-use Rattle.fee_laws.proofs.Operation.{cuts, next_length, few_faults}
+use Rattle.fee_laws.proofs.Operation.{cuts, next_length, few_faults, one_later, are_told}
 use Rattle.fee_laws.proofs.MadeFor.{still_made}
 
 later : (n : ℕ) (xs : List Change) (x : Change) → n ≤ min (length xs) last_count → n ≤ min (length (xs ++ x ∷ [])) last_count
@@ -81,7 +81,7 @@ module _ (m : Making) (entry : Told) (s : Parts) (listed : List (DeviceNumber ×
     alike = run.alike;
     legal = legal m entry s listed kept count on;
     some = some_told m.geometry f.flash.bytes (shape m entry s listed kept count on) bytes;
-    held = λ told. each_told f.flash.bytes (λ (y : List ℕ). IsHeld (banks_of m) m.numbers y x more) (λ new at. held new at told);
+    held = λ told. each_told f.flash.bytes (λ (y : List ℕ). IsHeld (banks_of m) m.numbers y x more) (λ new at. held new at (told_behind e s.operations (change_of op s.fls.flash answer) refl told));
   }
 
   pub held_behind : HasRun (flash_device e) → (more : May) → ((new : List ℕ) → bytes_now f.flash ≡ Some new → IsTrue (tells e) → IsHeld (banks_of m) m.numbers new (memory_of t) more) → HoldsBehind e
@@ -93,11 +93,11 @@ module _ (m : Making) (entry : Told) (s : Parts) (listed : List (DeviceNumber ×
   held_torn run off torn places stands fits more held = record { behind = torn; copied = more; banks = holds run torn more held; places = places; stand = stands; on = λ power. cc (off, power); idle = inr fits }
 
   pub torn_keeps : HasRun (flash_device e) → (torn : Memory) → SamePlaces torn.old (memory_of t).old → torn.stand ≡ (memory_of t).stand
-      → ((old new : List ℕ) → AreTold (flash_device d) (flash_device e) old new → (n : ℕ) → Keeps (slot_at m.numbers (slots_held (banks_of m) m.numbers old (memory_of s)) n) (slot_at m.numbers (slots_held (banks_of m) m.numbers new torn) n)) → KeepsAll (told_of d) (told_of e)
-  torn_keeps run torn places stands keeps = tells_keep (flash_device d) (flash_device e) (record { reading = refl; numbers = refl; entry = refl; old = on.sound.device.run.alike; new = run.alike }) (λ old new told n.
+      → ((old new : List ℕ) → IsTrue (tells d) × (bytes_now s.fls.flash ≡ Some old) × (bytes_now f.flash ≡ Some new) → (n : ℕ) → Keeps (slot_at m.numbers (slots_held (banks_of m) m.numbers old (memory_of s)) n) (slot_at m.numbers (slots_held (banks_of m) m.numbers new torn) n)) → KeepsAll (told_of d) (told_of e)
+  torn_keeps run torn places stands keeps = tells_keep (flash_device d) (flash_device e) (record { reading = refl; numbers = refl; entry = refl; later = one_later s.operations (change_of op s.fls.flash answer); old = on.sound.device.run.alike; new = run.alike }) (λ old new told n.
       (let path = slots_at new (memory_of t) ∙ places_tell (banks_of m) m.numbers new torn (memory_of t) places (sym stands) in
       subst (λ (x : List Slot). Keeps (slot_at m.numbers x n) (slot_with (flash_device e) new n)) (sym (slots_at old (memory_of s)))
-      (subst (λ (x : List Slot). Keeps (slot_at m.numbers (slots_held (banks_of m) m.numbers old (memory_of s)) n) (slot_at m.numbers x n)) (sym path) (keeps old new told n))))
+      (subst (λ (x : List Slot). Keeps (slot_at m.numbers (slots_held (banks_of m) m.numbers old (memory_of s)) n) (slot_at m.numbers x n)) (sym path) (keeps old new (are_told d e s.operations (change_of op s.fls.flash answer) old new refl told) n))))
     where
       slots_at : (x : List ℕ) (o : Memory) → (if s.started then slots_held (banks_of m) m.numbers x o else slots_found (banks_of m) m.numbers x) ≡ slots_held (banks_of m) m.numbers x o
       slots_at x o = ap (λ (y : Bool). if y then slots_held (banks_of m) m.numbers x o else slots_found (banks_of m) m.numbers x) on.started
@@ -114,7 +114,7 @@ module _ (m : Making) (entry : Told) (s : Parts) (listed : List (DeviceNumber ×
     pub copies : TellsCopies m entry t
 
   pub order : Facts → InOrder (told_of e) (clock_of e)
-  order is = in_order m entry t (shape m entry s listed kept count on) (lengths m entry s listed kept count on) is.work (behind_finds e on.started is.behind)
+  order is = in_order m entry t (shape m entry s listed kept count on) (lengths m entry s listed kept count on) is.work is.run.alike (behind_finds e on.started is.behind)
 
   pub sound : Facts → (is_off : Bool) → is_off ≡ f.flash.off → IsSound m entry t listed kept (next_count count) is_off
   sound is is_off off = record {

@@ -18,10 +18,10 @@ use Rattle.fee_told.specs.SlotLaws.{IsHeld}
 use Rattle.fls_told.specs.Device.{asked_ops, flash_part}
 use Rattle.fls_told.specs.Clock.{MakesNone}
 use Rattle.fls_told.specs.Runs.{HasRun, IsWornSince, CountsCuts as RunCounts}
-use Rattle.fls_told.proofs.Clocks.{clocks_pass}
+use Rattle.fls_told.proofs.Clocks.{clocks_pass, now_before}
 use Rattle.fls_told.proofs.Making.{runs_stay}
 use Rattle.fls_told.proofs.Parts.{parts_read}
-use Rattle.fee_told.specs.Device.{Device, tells, told_of, clock_of, flash_device}
+use Rattle.fee_told.specs.Device.{Device, tells_now, told_of, clock_of, flash_device}
 use Rattle.fee_told.specs.FigureLaws.{IsWork}
 use Rattle.fee_told.proofs.Kept.{same_places}
 use Rattle.fee_laws.specs.Inside.{Parts, stand_of, memory_of, device_of, CountsCuts, IsAtWork, IsWorn, HoldsBehind, TellsCopies, IsSound}
@@ -82,14 +82,18 @@ module _ (m : Making) (entry : Told) (s : Parts) (listed : List (DeviceNumber ×
     none = makes_none;
     bytes = bytes;
     counts = (ap (λ (x : Told). x.ops) flash, ap (λ (x : Told). x.cuts) flash);
+    came = (ap (λ (x : Told). x.planning.came) flash, ap (λ (x : Told). x.planning.withheld) flash);
     flash_faults = none.more;
     faults = were_counted entry.faults s.fls.flash.faults t.fls.flash.faults s.faults t.faults none.more none.counted on.sound.device.run.faults;
     cuts = subst (RunCounts entry) (sym flash) on.sound.device.run.cuts;
     worn = λ n since at. elim (none.worn since at) [ inl was ↦ inl was | inr new ↦ inr (new n) ];
   })
 
+  later : length s.operations ≤ length t.operations
+  later = let same = ap (λ (x : Parts). length x.operations) none.only in omega (arith, same)
+
   -- the bytes hold its banks
-  pub held_behind : (more : May) → ((now : List ℕ) → bytes_now s.fls.flash ≡ Some now → IsTrue (tells d) → IsHeld (banks_of m) m.numbers now (memory_of t) more) → HoldsBehind e
+  pub held_behind : (more : May) → ((now : List ℕ) → bytes_now s.fls.flash ≡ Some now → IsTrue (tells_now d) → IsHeld (banks_of m) m.numbers now (memory_of t) more) → HoldsBehind e
   held_behind more held = record {
     behind = memory_of t;
     copied = more;
@@ -99,7 +103,7 @@ module _ (m : Making) (entry : Told) (s : Parts) (listed : List (DeviceNumber ×
       legal = legal m entry s listed kept count on;
       some = subst (λ (o : Option (List ℕ)). IfSome o (λ now. 0 < length now)) (sym makes_none.bytes) (some m entry s listed kept count on);
       held = λ told. subst (λ (o : Option (List ℕ)). IfSome o (λ now. IsHeld (banks_of m) m.numbers now (memory_of t) more)) (sym makes_none.bytes)
-          (each_told s.fls.flash.bytes (λ (now : List ℕ). IsHeld (banks_of m) m.numbers now (memory_of t) more) (λ now at. held now at told));
+          (each_told s.fls.flash.bytes (λ (now : List ℕ). IsHeld (banks_of m) m.numbers now (memory_of t) more) (λ now at. held now at (now_before (flash_device d) (flash_device e) refl refl later told)));
     };
     places = same_places (memory_of t).old;
     stand = refl;
@@ -131,7 +135,7 @@ module _ (m : Making) (entry : Told) (s : Parts) (listed : List (DeviceNumber ×
     device = record {
       run = run;
       held = λ started'. is.behind;
-      order = in_order m entry t (shape m entry s listed kept count on) (lengths m entry s listed kept count on) is.work (behind_finds e started is.behind);
+      order = in_order m entry t (shape m entry s listed kept count on) (lengths m entry s listed kept count on) is.work run.alike (behind_finds e started is.behind);
       faults = few_counted s.fls.flash.faults t.fls.flash.faults s.faults t.faults on.sound.device.faults none.counted;
     };
     rests = λ stopped. (let h = started in absurd (cc (h, stopped)));

@@ -12,10 +12,12 @@ use Rattle.fee_log.specs.declared.tail.Tail.{Tail}
 use Rattle.fee_log.specs.declared.tail.Tail.TheVariants.{Open, Writes, Owes, Closed}
 use Rattle.fee_switch.specs.Banks.{BanksState}
 use Rattle.promise_device.specs.Making.{Making}
-use Rattle.fee_told.specs.Device.{told_of, clock_of}
+use Rattle.fee_told.specs.Device.{told_of, clock_of, flash_device}
 use Rattle.fee_told.specs.Figures.{ready_of}
 use Rattle.fee_laws.specs.Inside.{Parts, device_of}
 use Rattle.fee_laws.specs.Work.{switch_turns, seal_turns, pages_free, turns_before}
+use Rattle.fls_told.proofs.Clocks.{tells_first}
+use Rattle.fls_told.specs.Clock.{ToldAlike}
 
 -- WITHOUT OPEN WORK
 pub nothing_left : (reserve : ℕ) (banks : BanksState) (c : Option Course) → c ≡ None → switch_turns reserve banks None c ≡ 0
@@ -44,9 +46,10 @@ ready_kept reserve free false = omega arith
 
 -- a device that rests is in order where what a start-up would find now is possible
 pub at_rest : (m : Making) (entry : Told) (s : Parts) → s.banks.course ≡ None
+    → ToldAlike (flash_device (device_of m entry (record s { job = None })))
     → FindsNow (told_of (device_of m entry (record s { job = None }))) (clock_of (device_of m entry (record s { job = None })))
     → InOrder (told_of (device_of m entry (record s { job = None }))) (clock_of (device_of m entry (record s { job = None })))
-at_rest m entry s closed now =
+at_rest m entry s closed alike now =
     let none = nothing_left m.reserve s.banks s.banks.course closed in
     record {
       bounded = omega (arith, none);
@@ -55,6 +58,7 @@ at_rest m entry s closed now =
       wait = λ first. (turns_before s.banks.log.tail (seal_turns s.banks.course), refl, few_before s.banks.log.tail s.banks.course);
       second = λ one. refl;
       now = now;
+      told = tells_first (flash_device (device_of m entry (record s { job = None }))) alike;
     }
 
 -- WHERE THE CLOCK STAYS

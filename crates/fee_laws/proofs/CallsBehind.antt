@@ -16,7 +16,7 @@ use Rattle.fee_told.specs.Slots.{Memory, HasJob, IsWorkOf, slots_held, slots_fou
 use Rattle.fls_told.specs.Runs.{HasRun}
 use Rattle.fls_told.proofs.Clocks.{clocks_stay}
 use Rattle.fls_told.proofs.Making.{runs_stay}
-use Rattle.fee_told.specs.Device.{Device, tells, told_of, slots_told, clock_of, flash_device}
+use Rattle.fee_told.specs.Device.{Device, tells_now, told_of, slots_told, clock_of, flash_device}
 use Rattle.fee_told.proofs.Steps.{places_tell}
 use Rattle.fee_told.proofs.Whole.{held_finds_now}
 use Rattle.fee_laws.specs.declared.job.FeeJob.{FeeJob}
@@ -72,7 +72,7 @@ module _ (m : Making) (entry : Told) (t : Parts) (h : HoldsBehind (device_of m e
   told_by false started o = refl
 
   pub slots_are : slots_told d ≡ slots_told x
-  slots_are = told_by (tells d) t.started (bytes_now t.fls.flash)
+  slots_are = told_by (tells_now d) t.started (bytes_now t.fls.flash)
 
   pub finds_now : FindsNow (told_of d) (clock_of d)
   finds_now = finds_on (told_of x) (told_of d) (clock_of x) (clock_of d) (clocks_stay (flash_device x) (flash_device d) (record { reading = refl; entry = refl; operations = refl; bytes = refl }) (λ n. refl)) refl slots_are refl (held_finds_now x h.copied h.banks)
@@ -82,11 +82,11 @@ pub run_stays : (m : Making) (entry : Told) (s : Parts) (b : BanksState) (conten
     → HasRun (flash_device (device_of m entry s)) → HasRun (flash_device (device_of m entry (record s { banks = b; content = content; job = job; last = last; given = given })))
 run_stays m entry s b content job last given run =
     runs_stay (flash_device (device_of m entry s)) (flash_device (device_of m entry (record s { banks = b; content = content; job = job; last = last; given = given }))) run
-    (record { none = record { reading = refl; entry = refl; operations = refl; bytes = refl }; bytes = refl; counts = (refl, refl); flash_faults = omega arith; faults = run.faults; cuts = run.cuts; worn = λ n since e. inl e })
+    (record { none = record { reading = refl; entry = refl; operations = refl; bytes = refl }; bytes = refl; counts = (refl, refl); came = (refl, refl); flash_faults = omega arith; faults = run.faults; cuts = run.cuts; worn = λ n since e. inl e })
 
 -- the bytes hold another memory's banks, where they are those that it has then
 pub holds_still : (m : Making) (entry : Told) (s : Parts) (b : BanksState) (content : List ℕ) (job : Option FeeJob) (last : JobResult) (given : ℕ) (h : HoldsBehind (device_of m entry s)) → s.started ≡ true → (x : Memory)
-    → ((bytes : List ℕ) → bytes_now s.fls.flash ≡ Some bytes → IsTrue (tells (device_of m entry s)) → IsHeld (banks_of m) m.numbers bytes x h.copied)
+    → ((bytes : List ℕ) → bytes_now s.fls.flash ≡ Some bytes → IsTrue (tells_now (device_of m entry s)) → IsHeld (banks_of m) m.numbers bytes x h.copied)
     → HoldsBanks (record (device_of m entry (record s { banks = b; content = content; job = job; last = last; given = given })) { memory = x }) h.copied
 holds_still m entry s b content job last given h started x held = record {
   started = started;

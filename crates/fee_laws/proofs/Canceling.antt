@@ -1,6 +1,6 @@
 -- A job is canceled that has no record in work.
 use Rattle.std.specs.Prelude.{IsTrue}
-use Rattle.std.proofs.Common.{◌≡◌, inr, ℕ, Bool, true, false, if◌then◌else◌, List, Option, Some, None, refl, sym, ◌∙◌, subst}
+use Rattle.std.proofs.Common.{◌≡◌, inr, ℕ, Bool, true, false, if◌then◌else◌, List, Option, Some, None, refl, sym, ◌∙◌, subst, arith}
 use Rattle.nv_base.specs.declared.instance.DeviceNumber.{DeviceNumber}
 use Rattle.memif.specs.Told.{Slot, Stand, Open, Ended, slot_at}
 use Rattle.memif.specs.Marks.{Keeps, KeepsAll}
@@ -18,7 +18,7 @@ use Rattle.fee_told.specs.Slots.{Memory, HasJob, IsWorkOf, slots_held, slots_fou
 use Rattle.fee_told.specs.SlotLaws.{SamePlaces, IsHeld}
 use Rattle.fls_told.specs.Device.{slot_with}
 use Rattle.fls_told.proofs.Tells.{tells_keep}
-use Rattle.fee_told.specs.Device.{Device, tells, told_of, flash_device}
+use Rattle.fee_told.specs.Device.{Device, tells_now, told_of, flash_device}
 use Rattle.fee_told.proofs.Kept.{same_places}
 use Rattle.fee_told.proofs.Jobs.{jobs_change}
 use Rattle.fee_told.proofs.Steps.{jobs_keep, places_tell}
@@ -75,10 +75,10 @@ module _ (m : Making) (entry : Told) (s : Parts) (listed : List (DeviceNumber ×
   abbrev behind : Memory
   behind = record h.behind { stand = st }
 
-  pub held_at : (bytes : List ℕ) → bytes_now s.fls.flash ≡ Some bytes → IsTrue (tells d) → IsHeld (banks_of m) m.numbers bytes h.behind h.copied
+  pub held_at : (bytes : List ℕ) → bytes_now s.fls.flash ≡ Some bytes → IsTrue (tells_now d) → IsHeld (banks_of m) m.numbers bytes h.behind h.copied
   held_at bytes at told = told_at s.fls.flash.bytes (λ (x : List ℕ). IsHeld (banks_of m) m.numbers x h.behind h.copied) bytes at (h.banks.held told)
 
-  keeps_at : (bytes : List ℕ) → bytes_now s.fls.flash ≡ Some bytes → IsTrue (tells d) → (n : ℕ)
+  keeps_at : (bytes : List ℕ) → bytes_now s.fls.flash ≡ Some bytes → IsTrue (tells_now d) → (n : ℕ)
       → Keeps (slot_at m.numbers (slots_held (banks_of m) m.numbers bytes (memory_of s)) n) (slot_at m.numbers (slots_held (banks_of m) m.numbers bytes (memory_of (canceled b s))) n)
   keeps_at bytes at told n =
       let k = jobs_keep (banks_of m) m.numbers bytes h.behind behind h.copied (held_at bytes at told) (same_places h.behind.old) (inr refl) n in
@@ -88,7 +88,7 @@ module _ (m : Making) (entry : Told) (s : Parts) (listed : List (DeviceNumber ×
       (subst (λ (slots : List Slot). Keeps (slot_at m.numbers slots n) (slot_at m.numbers (slots_held (banks_of m) m.numbers bytes behind) n)) before k)
 
   pub keeps_all : KeepsAll (told_of d) (told_of t)
-  keeps_all = tells_keep (flash_device d) (flash_device t) (record { reading = refl; numbers = refl; entry = refl; old = sound.device.run.alike; new = sound.device.run.alike }) (λ old new told n.
+  keeps_all = tells_keep (flash_device d) (flash_device t) (record { reading = refl; numbers = refl; entry = refl; later = omega arith; old = sound.device.run.alike; new = sound.device.run.alike }) (λ old new told n.
       subst (λ (x : List ℕ). Keeps (slot_with (flash_device d) old n) (slot_with (flash_device t) x n)) (same_bytes (bytes_now s.fls.flash) old new told.1 told.2)
       (subst (λ (x : Bool). Keeps
       (slot_at m.numbers (if x then slots_held (banks_of m) m.numbers old (memory_of s) else slots_found (banks_of m) m.numbers old) n)
@@ -96,7 +96,7 @@ module _ (m : Making) (entry : Told) (s : Parts) (listed : List (DeviceNumber ×
 
   -- the bytes hold it where any job fits what is behind
   module _ (fits : (stand : Stand) → HasJob m.numbers stand h.behind.old) (on : s.fls.flash.off ≡ false → behind ≡ memory_of (canceled b s)) where
-    holds_at : (bytes : List ℕ) → bytes_now s.fls.flash ≡ Some bytes → IsTrue (tells d) → IsHeld (banks_of m) m.numbers bytes behind h.copied
+    holds_at : (bytes : List ℕ) → bytes_now s.fls.flash ≡ Some bytes → IsTrue (tells_now d) → IsHeld (banks_of m) m.numbers bytes behind h.copied
     holds_at bytes at told = jobs_change (banks_of m) m.numbers bytes h.behind h.copied st (record { lengths = sound.made_for.space.lengths; legal = h.banks.legal; held = held_at bytes at told }) (fits st)
 
     pub behind_it : HoldsBehind t

@@ -56,7 +56,7 @@ use Rattle.fee_told.specs.Appends.{IsCommitted}
 use Rattle.fee_told.specs.Figures.{Work, Waits, left_of as turns_left, ready_of, wait_of}
 use Rattle.fee_told.proofs.Appends.{appends_commit as told_appends_commit}
 use Rattle.fee_told.proofs.Kept.{copies_widen}
-use Rattle.fee_told.proofs.Whole.{commits_are_told}
+use Rattle.fee_told.proofs.Whole.{commits_are_told, told_behind}
 use Rattle.fee_laws.specs.declared.job.FeeJob.{FeeJob}
 use Rattle.fee_laws.specs.Copied.{flags_of, IsCopying}
 use Rattle.fee_laws.specs.Inside.{Parts, device_of, memory_of, body_of, flags_in, mark_of, stand_of, fixed_in, HoldsBehind, ShowsCopies, TellsCopies}
@@ -64,12 +64,12 @@ use Rattle.fee_laws.specs.Record.{IsInWork, IsLengthOf}
 use Rattle.fee_laws.specs.Work.{work_of, switch_turns, pages_of_job, pages_left, waits_of, turns_before, seal_turns, is_urgent_job, pages_free}
 use Rattle.fee_laws.specs.Turn.{Turned, ended_as}
 use Rattle.fee_laws.specs.Appends.{IsAppending, work_op, after_page, AppendsCommit}
-use Rattle.fee_laws.proofs.Before.{power, log_geometry, copied, held_at, each_now, now_at}
+use Rattle.fee_laws.proofs.Before.{power, log_geometry, copied, held_before, copies_before, each_now, now_at}
 use Rattle.fee_laws.proofs.Beside.{content_beside, flags_set, named}
 use Rattle.fee_laws.proofs.Noted.{noted_set}
 use Rattle.fee_laws.proofs.Settled.{flags_settled, notes, settles_one, settled_count, settled_many, noted_many, settles_in, sets_none}
 use Rattle.fee_laws.proofs.Order.{urgent_is}
-use Rattle.fee_laws.proofs.Operation.{left, before_told, started}
+use Rattle.fee_laws.proofs.Operation.{left, before_told, started, are_told}
 use Rattle.fee_laws.proofs.Behind.{Facts, held_behind}
 use Rattle.fee_laws.proofs.Turning.{worked}
 use Rattle.fee_laws.proofs.Tails.{tailed, shown, page_commits, free_on}
@@ -190,11 +190,11 @@ module _ (m : Making) (entry : Told) (s : Parts) (listed : List (DeviceNumber ×
   behind = held_behind m entry s listed kept count is.on (work_op s) Done f is.drives (asked m entry s listed kept count Done f is) b None JobOk 0 (run_on m entry s listed kept count Done f is None JobOk 0) more
       (λ new at told'.
       (let before = before_told s.fls.flash.bytes f.flash.bytes (work_op s) Done new (asked m entry s listed kept count Done f is).bytes at in
-      (committed before.0 new before.1 at more (held_at m entry s listed kept count is.on before.0 before.1 told')).held))
+      (committed before.0 new before.1 at more (held_before m entry s listed kept count is.on before.0 before.1 told')).held))
 
   settles : Settles r.number.0 (held_written r content).mark (told_of d) (told_of e)
   settles = commits_are_told d e more r content (started m entry s listed kept count is.on (work_op s) Done f is.drives (asked m entry s listed kept count Done f is) (keeps m entry s listed kept count Done f is) b None JobOk 0 (run_on m entry s listed kept count Done f is None JobOk 0))
-      (λ old new at. committed old new at.1 at.2 more (held_at m entry s listed kept count is.on old at.1 at.0))
+      (λ old new now. (let at = are_told d e s.operations _ old new refl now in committed old new at.1 at.2 more (held_before m entry s listed kept count is.on old at.1 at.0)))
 
   -- BESIDE A SWITCH
   abbrev ns : List (DeviceNumber × ℕ)
@@ -324,9 +324,9 @@ module _ (m : Making) (entry : Told) (s : Parts) (listed : List (DeviceNumber ×
       }
 
   copies : TellsCopies m entry t
-  copies on told' = each_now f.flash.bytes (λ (x : List ℕ). IfSome s.banks.course (λ c. ShowsCopies m t c x)) (λ new at.
+  copies on now = (let told' = told_behind e s.operations _ refl now in each_now f.flash.bytes (λ (x : List ℕ). IfSome s.banks.course (λ c. ShowsCopies m t c x)) (λ new at.
       (let before = before_told s.fls.flash.bytes f.flash.bytes (work_op s) Done new (asked m entry s listed kept count Done f is).bytes at in
-      shows_by before.0 new before.1 at s.banks.course refl (now_at s.fls.flash.bytes (λ (x : List ℕ). IfSome s.banks.course (λ c. ShowsCopies m s c x)) before.0 before.1 (is.on.sound.copies (power m entry s listed kept count is.on) told'))))
+      shows_by before.0 new before.1 at s.banks.course refl (now_at s.fls.flash.bytes (λ (x : List ℕ). IfSome s.banks.course (λ c. ShowsCopies m s c x)) before.0 before.1 (copies_before m entry s listed kept count is.on told')))))
 
   -- THE PARTS
   switch_then : switch_turns m.reserve b None b.course ≡ left_of b

@@ -32,7 +32,7 @@ use Rattle.fee_laws.specs.Inside.{Parts, device_of, memory_of, stand_of, IsAtWor
 use Rattle.fee_laws.specs.Work.{work_of, pages_of_op, pages_of_job}
 use Rattle.fee_laws.specs.Turn.{Turned}
 use Rattle.fee_laws.specs.Appends.{IsAppending, work_op, after_page, AppendsAreCut}
-use Rattle.fee_laws.proofs.Before.{copied, held_at}
+use Rattle.fee_laws.proofs.Before.{copied, held_before}
 use Rattle.fee_laws.proofs.Operation.{left, before_told}
 use Rattle.fee_laws.proofs.Behind.{Facts, held_torn, torn_keeps}
 use Rattle.fee_laws.proofs.Turning.{was_cut as turn_is_cut}
@@ -87,11 +87,11 @@ module _ (m : Making) (entry : Told) (s : Parts) (listed : List (DeviceNumber ×
       (λ stand. torn_fits m.numbers (log_failed m.geometry.page was).places m.geometry.page was was.tail refl stand) more
       (λ new at told.
       (let before = before_told s.fls.flash.bytes f.flash.bytes (work_op s) Off new (asked m entry s listed kept count Off f is).bytes at in
-      (kept_at before.0 new before.1 at (held_at m entry s listed kept count is.on before.0 before.1 told)).held))
+      (kept_at before.0 new before.1 at (held_before m entry s listed kept count is.on before.0 before.1 told)).held))
 
   keeps_all : KeepsAll (told_of (device_of m entry s)) (told_of e)
   keeps_all = torn_keeps m entry s listed kept count is.on (work_op s) Off f is.drives (asked m entry s listed kept count Off f is) t.banks s.job s.last s.given run_then torn same_places refl
-      (λ old new told n. (kept_at old new told.1 told.2 (held_at m entry s listed kept count is.on old told.1 told.0)).keeps n)
+      (λ old new told n. (kept_at old new told.1 told.2 (held_before m entry s listed kept count is.on old told.1 told.0)).keeps n)
 
   -- THE PARTS
   abbrev jb : FeeJob

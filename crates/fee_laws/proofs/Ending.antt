@@ -15,7 +15,7 @@ use Rattle.fee_switch_laws.specs.KeepsRoom.{KeepsRoom}
 use Rattle.promise_device.specs.Making.{Making, banks_of}
 use Rattle.fee_told.specs.Slots.{Memory, HasJob}
 use Rattle.fee_told.specs.SlotLaws.{SamePlaces}
-use Rattle.fls_told.proofs.Clocks.{clocks_stay}
+use Rattle.fls_told.proofs.Clocks.{clocks_stay, tells_first}
 use Rattle.fee_told.specs.Device.{Device, told_of, clock_of, flash_device}
 use Rattle.fee_told.specs.Figures.{left_of}
 use Rattle.fee_told.proofs.Kept.{same_places}
@@ -54,6 +54,7 @@ module _ (m : Making) (entry : Told) (s : Parts) (listed : List (DeviceNumber ×
     wait = λ calm. (turns_before b.log.tail (seal_turns b.course), refl, few_before b.log.tail b.course);
     second = λ one. refl;
     now = finds_now m entry (canceled b s) behind;
+    told = tells_first (flash_device t) sound.device.run.alike;
   }
 
   -- what it needs beside

@@ -122,6 +122,7 @@ module _ (m : Making) (entry : Told) (s : Parts) (listed : List (DeviceNumber ×
       let both : IsKept l m.numbers old new memory (with_log memory k head (log_begun next r content) memory.stand) more = record {
         held = second.held;
         keeps = λ n. keeps_on (slot_at m.numbers (slots_held l m.numbers old memory) n) (slot_at m.numbers (slots_held l m.numbers new middle) n) (slot_at m.numbers (slots_held l m.numbers new (with_log memory k head (log_begun next r content) memory.stand)) n) (first.keeps n) (second.keeps n);
+        sound = λ sound. second.sound (first.sound sound);
       } in
       subst (λ (x : Memory). IsKept l m.numbers old new memory x more) (sym (after_is m entry s listed kept count on work then_log (log_begun next r content) memory.stand (is ∙ ap (λ (x : Log). log_begun x r content) done_path))) both
 

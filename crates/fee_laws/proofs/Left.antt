@@ -26,14 +26,14 @@ use Rattle.fls_told.specs.Runs.{HasRun, KeepsWorn}
 use Rattle.fee_told.specs.Device.{Device, told_of, flash_device}
 use Rattle.fee_told.specs.Kept.{IsKept}
 use Rattle.fee_told.specs.Whole.{CutsKeep}
-use Rattle.fee_told.proofs.Whole.{kept_is_told}
+use Rattle.fee_told.proofs.Whole.{kept_is_told, told_behind}
 use Rattle.fee_laws.specs.declared.job.FeeJob.{FeeJob}
 use Rattle.fee_laws.specs.Copied.{flags_of, IsCopying}
 use Rattle.fee_laws.specs.Inside.{Parts, device_of, memory_of, stand_of, flags_in, IsActiveOf, IsAtWork, HasSwitch, ShowsCopies, HoldsBehind, TellsCopies}
 use Rattle.fee_laws.specs.Appends.{IsAppending, work_op, after_page}
 use Rattle.fee_laws.proofs.Appended.{has_switch, flags_clear, resting_work, idle_at_work}
-use Rattle.fee_laws.proofs.Before.{power, copied, held_at, now_at, each_now}
-use Rattle.fee_laws.proofs.Operation.{left, before_told, run, worn_by, started}
+use Rattle.fee_laws.proofs.Before.{power, copied, now_at, each_now, held_before, copies_before}
+use Rattle.fee_laws.proofs.Operation.{left, before_told, run, worn_by, started, are_told}
 use Rattle.fee_laws.proofs.Behind.{Facts, held_behind}
 use Rattle.fee_laws.proofs.Page.{active_is, at_work, cut_keeps, formats, keeps_last}
 use Rattle.fee_laws.proofs.Copies.{settled_stays}
@@ -83,11 +83,11 @@ module _ (m : Making) (entry : Told) (s : Parts) (listed : List (DeviceNumber ×
       behind = held_behind m entry s listed kept count is.on (work_op s) answer f is.drives asked t.banks job last given run_on more
           (λ new at told.
           (let before = before_told s.fls.flash.bytes f.flash.bytes (work_op s) answer new asked.bytes at in
-          (kept_at before.0 new before.1 at more (held_at m entry s listed kept count is.on before.0 before.1 told)).held))
+          (kept_at before.0 new before.1 at more (held_before m entry s listed kept count is.on before.0 before.1 told)).held))
 
       pub keeps_all : KeepsAll (told_of d) (told_of e)
       keeps_all = kept_is_told d e more (started m entry s listed kept count is.on (work_op s) answer f is.drives asked keeps t.banks job last given run_on)
-          (λ old new told. kept_at old new told.1 told.2 more (held_at m entry s listed kept count is.on old told.1 told.0))
+          (λ old new now. (let told = are_told d e s.operations _ old new refl now in kept_at old new told.1 told.2 more (held_before m entry s listed kept count is.on old told.1 told.0)))
 
       -- THE TARGET
       same_flags : (old new : List ℕ) → bytes_now s.fls.flash ≡ Some old → bytes_now f.flash ≡ Some new → (more : May) → IsHeld l m.numbers old (memory_of s) more → flags_in m t new ≡ flags_in m s old
@@ -107,9 +107,9 @@ module _ (m : Making) (entry : Told) (s : Parts) (listed : List (DeviceNumber ×
           }
 
       pub copies : TellsCopies m entry t
-      copies on told = each_now f.flash.bytes (λ (x : List ℕ). IfSome s.banks.course (λ c. ShowsCopies m t c x)) (λ new at.
+      copies on now = (let told = told_behind e s.operations _ refl now in each_now f.flash.bytes (λ (x : List ℕ). IfSome s.banks.course (λ c. ShowsCopies m t c x)) (λ new at.
           (let before = before_told s.fls.flash.bytes f.flash.bytes (work_op s) answer new asked.bytes at in
-          shows_by before.0 new before.1 at s.banks.course (now_at s.fls.flash.bytes (λ (x : List ℕ). IfSome s.banks.course (λ c. ShowsCopies m s c x)) before.0 before.1 (is.on.sound.copies (power m entry s listed kept count is.on) told))))
+          shows_by before.0 new before.1 at s.banks.course (now_at s.fls.flash.bytes (λ (x : List ℕ). IfSome s.banks.course (λ c. ShowsCopies m s c x)) before.0 before.1 (copies_before m entry s listed kept count is.on told)))))
 
   -- the job ends with it, where no record is in work then
   module _ (last : JobResult) (ended : last ≢ JobPending) (idle : work_in b.log.tail ≡ None) (flags : b.log.flags ≡ s.banks.log.flags) (numbers : b.log.numbers ≡ s.banks.log.numbers) (format : b.log.format ≡ s.banks.log.format) where

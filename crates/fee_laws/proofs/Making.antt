@@ -10,7 +10,7 @@ use Rattle.fls_model.specs.Told.{Told, ToldBytes, IfBothTold}
 use Rattle.fls_jobs.specs.Start.{IsIdle}
 use Rattle.promise_device.specs.Making.{Making}
 use Rattle.promise_device.proofs.Readings.{banks_attach_sound}
-use Rattle.fls_told.specs.Runs.{CountsCuts, IsMade}
+use Rattle.fls_told.specs.Runs.{CountsCuts, IsMade, HasRun}
 use Rattle.fls_told.proofs.Making.{runs_begin}
 use Rattle.fee_told.specs.Device.{Device, told_of, flash_device}
 use Rattle.fee_switch.specs.Banks.{IsMade as AreMade}
@@ -32,13 +32,9 @@ filled_bytes g None (Some y) both = absurd both
 filled_bytes g None None both = tt
 
 -- CUTS
-cuts_counted : (s t : Told) → t.planning ≡ s.planning → t.cuts ≡ s.cuts → s.planning.unplanned ≤ s.cuts → CountsCuts s t
-cuts_counted s t planning cuts counted n (inl more) =
-    let same : t.planning.unplanned ≡ s.planning.unplanned = ap (λ (p : Planning). p.unplanned) planning in
-    inl (omega (arith, same, cuts, more))
-cuts_counted s t planning cuts counted n (inr big) =
-    let same : t.planning.unplanned ≡ s.planning.unplanned = ap (λ (p : Planning). p.unplanned) planning in
-    inr (omega (arith, same, cuts, counted, big))
+cuts_counted : (s t : Told) → t.planning.unplanned ≡ s.planning.unplanned → t.cuts ≡ s.cuts → s.planning.unplanned ≤ s.cuts → CountsCuts s t
+cuts_counted s t unplanned cuts counted n (inl more) = inl (omega (arith, unplanned, cuts, more))
+cuts_counted s t unplanned cuts counted n (inr big) = inr (omega (arith, unplanned, cuts, counted, big))
 
 -- without a switch no target is told of
 pub none_shows : (o : Option ToldBytes) (c : Option Course) (P : ToldBytes → Course → Type 0) → c ≡ None → IfSome o (λ b. IfSome c (P b))
@@ -65,6 +61,9 @@ module _ (m : Making) (entry : Told) (s : Parts) (legal : IsLegal m.geometry) (a
   is_made : IsMade (flash_device d)
   is_made = record { attaches = at; operations = refl; faults = refl; worn = λ n. refl }
 
+  run_made : HasRun (flash_device d)
+  run_made = runs_begin (flash_device d) is_made (banks_attach_sound m) (cuts_counted entry s.fls.flash (ap (λ (p : Planning). p.unplanned) at.planning) at.cuts counted)
+
   bytes : IfSome s.fls.flash.bytes (λ b. AreBytesOf m.geometry b.now)
   bytes = filled_bytes m.geometry entry.bytes s.fls.flash.bytes at.bytes
 
@@ -72,9 +71,9 @@ module _ (m : Making) (entry : Told) (s : Parts) (legal : IsLegal m.geometry) (a
   made_sound geometry idle room = record {
     made_for = record { geometry = geometry; idle = idle; banks_geometry = made.shape; shared = made.shared; numbers = made.configured; space = space; bytes = bytes; room = room; given = omega arith; ended = λ e. cc e };
     device = record {
-      run = runs_begin (flash_device d) is_made (banks_attach_sound m) (cuts_counted entry s.fls.flash at.planning at.cuts counted);
+      run = run_made;
       held = λ started. cc started;
-      order = at_rest m entry (fresh s) made.course (unstarted_finds_now d refl (some_told m.geometry s.fls.flash.bytes legal bytes));
+      order = at_rest m entry (fresh s) made.course run_made.alike (unstarted_finds_now d refl (some_told m.geometry s.fls.flash.bytes legal bytes));
       faults = omega arith;
     };
     rests = λ unstarted. record { job = refl; course = made.course };

@@ -22,8 +22,8 @@ use Rattle.promise_device.specs.Making.{Making, banks_of}
 use Rattle.fee_told.specs.Slots.{Memory, HasJob, slots_held, slots_found, settled_in}
 use Rattle.fee_told.specs.SlotLaws.{SamePlaces, IsHeld, Opened}
 use Rattle.fls_told.specs.Device.{slot_with}
-use Rattle.fls_told.proofs.Clocks.{clocks_stay}
-use Rattle.fee_told.specs.Device.{Device, tells, told_of, clock_of, flash_device}
+use Rattle.fls_told.proofs.Clocks.{clocks_stay, tells_first}
+use Rattle.fee_told.specs.Device.{Device, tells_now, told_of, clock_of, flash_device}
 use Rattle.fee_told.specs.Figures.{Work, fixed_for, left_of, turns_of, Waits, ready_of, wait_of}
 use Rattle.fee_told.proofs.Jobs.{jobs_change}
 use Rattle.fee_told.proofs.Figures.{owed_few, urgent_starts}
@@ -147,7 +147,7 @@ module _ (m : Making) (entry : Told) (s : Parts) (listed : List (DeviceNumber ×
   abbrev behind : Memory
   behind = record h.behind { stand = st }
 
-  held_at : (bytes : List ℕ) → bytes_now s.fls.flash ≡ Some bytes → IsTrue (tells d) → IsHeld (banks_of m) m.numbers bytes behind h.copied
+  held_at : (bytes : List ℕ) → bytes_now s.fls.flash ≡ Some bytes → IsTrue (tells_now d) → IsHeld (banks_of m) m.numbers bytes behind h.copied
   held_at bytes at told =
       let held : IsHeld (banks_of m) m.numbers bytes h.behind h.copied = told_at s.fls.flash.bytes (λ (x : List ℕ). IsHeld (banks_of m) m.numbers x h.behind h.copied) bytes at (h.banks.held told) in
       let job = job_in m.numbers st s.last (take s.given s.content) h.behind.old (subst (λ (x : Stand). HasJob m.numbers x h.behind.old) (h.stand ∙ stand_was) held.job) in
@@ -220,6 +220,7 @@ module _ (m : Making) (entry : Told) (s : Parts) (listed : List (DeviceNumber ×
     wait = λ calm. calm_waits (turns_before s.banks.log.tail (seal_turns s.banks.course)) _ j.urgent j.promised _ (part_is m.geometry.page (fixed_in m).own m.numbers j.number.0) calm (few_before s.banks.log.tail s.banks.course);
     second = λ one. refl;
     now = now;
+    told = tells_first (flash_device t) sound.device.run.alike;
   }
 
   pub now : FindsNow (told_of t) (clock_of t)
@@ -285,7 +286,7 @@ module _ (m : Making) (entry : Told) (s : Parts) (listed : List (DeviceNumber ×
         }
 
   -- WHAT THE START DID
-  opened_at : (bytes : List ℕ) → bytes_now s.fls.flash ≡ Some bytes → IsTrue (tells d) → (n : ℕ)
+  opened_at : (bytes : List ℕ) → bytes_now s.fls.flash ≡ Some bytes → IsTrue (tells_now d) → (n : ℕ)
       → Opened jb n (slot_at m.numbers (slots_held (banks_of m) m.numbers bytes (memory_of s)) n) (slot_at m.numbers (slots_held (banks_of m) m.numbers bytes (memory_of u)) n) jb.mark
   opened_at bytes at told n =
       let held : IsHeld (banks_of m) m.numbers bytes h.behind h.copied = told_at s.fls.flash.bytes (λ (x : List ℕ). IsHeld (banks_of m) m.numbers x h.behind h.copied) bytes at (h.banks.held told) in
@@ -296,7 +297,7 @@ module _ (m : Making) (entry : Told) (s : Parts) (listed : List (DeviceNumber ×
       (sym (places_tell (banks_of m) m.numbers bytes h.behind (memory_of s) h.places (sym h.stand))) o
 
   marks : DoubtsAt jb.number jb.mark (told_of d) (told_of t)
-  marks = opens_are_told d t jb (record { same = record { reading = refl; numbers = refl; entry = refl; old = sound.device.run.alike; new = sound.device.run.alike }; making = refl; old = started; new = started }) (λ old new told n.
+  marks = opens_are_told d t jb (record { same = record { reading = refl; numbers = refl; entry = refl; later = omega arith; old = sound.device.run.alike; new = sound.device.run.alike }; making = refl; old = started; new = started }) (λ old new told n.
       subst (λ (x : List ℕ). Opened jb n (slot_with (flash_device d) old n) (slot_with (flash_device t) x n) jb.mark) (same_bytes (bytes_now s.fls.flash) old new told.1 told.2)
       (subst (λ (x : Bool). Opened jb n
       (slot_at m.numbers (if x then slots_held (banks_of m) m.numbers old (memory_of s) else slots_found (banks_of m) m.numbers old) n)

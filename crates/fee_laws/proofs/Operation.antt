@@ -24,13 +24,13 @@ use Rattle.fls_told.specs.Device.{asked_ops, flash_part}
 use Rattle.fls_told.specs.Clock.{Makes, CutsArePossible, change_of, turn_of}
 use Rattle.fls_told.specs.Parts.{Counts}
 use Rattle.fls_told.specs.Runs.{HasRun, LeavesSound, KeepsWorn, CountsCuts as RunCounts, counts_fault}
-use Rattle.fls_told.specs.Tells.{IsSame}
+use Rattle.fls_told.specs.Tells.{IsSame, AreTold}
 use Rattle.fls_told.proofs.Clocks.{clocks_tick}
 use Rattle.fls_told.proofs.Making.{runs_go_on}
 use Rattle.fls_told.proofs.Parts.{parts_work}
-use Rattle.fee_told.specs.Device.{Device, told_of, clock_of, flash_device}
+use Rattle.fee_told.specs.Device.{Device, tells, told_of, clock_of, flash_device}
 use Rattle.fee_told.specs.Whole.{CutsKeep, AreStarted}
-use Rattle.fee_told.proofs.Whole.{cuts_are_told}
+use Rattle.fee_told.proofs.Whole.{cuts_are_told, told_behind}
 use Rattle.fee_laws.specs.declared.job.FeeJob.{FeeJob}
 use Rattle.fee_laws.specs.Inside.{Parts, device_of, CountsCuts}
 use Rattle.fee_laws.specs.Turn.{IsOn, Drives, IsCounted}
@@ -82,6 +82,14 @@ failure_counted Done n few failed = cc
 failure_counted Failed n few failed = rose_next n few
 failure_counted Off n few failed = cc
 
+pub one_later : (xs : List Change) (x : Change) → length xs ≤ length (xs ++ x ∷ [])
+one_later xs x = (let h = length-append xs (x ∷ []) in omega (arith, h))
+
+-- behind an operation only a sound image is told
+pub are_told : (d e : Device) (xs : List Change) (x : Change) (old new : List ℕ) → e.operations ≡ xs ++ x ∷ [] → AreTold (flash_device d) (flash_device e) old new
+    → IsTrue (tells e) × (bytes_now d.flash ≡ Some old) × (bytes_now e.flash ≡ Some new)
+are_told d e xs x old new is told = (told_behind e xs x is told.0, told.1, told.2)
+
 -- BYTES
 pub both_left : (x y : Option ToldBytes) (op : Op) (answer : FlashAnswer) (old new : List ℕ) → option_map (λ (b : ToldBytes). b.now) x ≡ Some old → option_map (λ (b : ToldBytes). b.now) y ≡ Some new
     → IfBothTold x y (IsChanged op answer) → MayLeave op old new × Leaves op answer old new
@@ -111,7 +119,7 @@ module _ (m : Making) (entry : Told) (s : Parts) (listed : List (DeviceNumber ×
 
   module _ (keeps : CutsKeep op d) where
     are : CutsArePossible op (flash_device d) × LeavesSound op (flash_device d)
-    are = cuts_are_told op d (copied m entry s listed kept count on) (holds m entry s listed kept count on) keeps
+    are = cuts_are_told op d (copied m entry s listed kept count on) (holds m entry s listed kept count on) on.sound.device.run.sound keeps
 
     module _ (b : BanksState) (job : Option FeeJob) (last : JobResult) (given : ℕ) where
       abbrev pub t : Parts
@@ -136,7 +144,7 @@ module _ (m : Making) (entry : Told) (s : Parts) (listed : List (DeviceNumber ×
       run worn = runs_go_on op answer (flash_device d) (flash_device e) on.sound.device.run makes refl (run_counts entry f.flash cuts) are.1 worn
 
       pub same : HasRun (flash_device e) → IsSame (flash_device d) (flash_device e)
-      same run' = record { reading = refl; numbers = refl; entry = refl; old = on.sound.device.run.alike; new = run'.alike }
+      same run' = record { reading = refl; numbers = refl; entry = refl; later = one_later s.operations (change_of op s.fls.flash answer); old = on.sound.device.run.alike; new = run'.alike }
 
       pub started : HasRun (flash_device e) → AreStarted d e
       started run' = record { same = same run'; making = refl; old = on.started; new = on.started }

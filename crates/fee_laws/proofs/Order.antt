@@ -14,7 +14,7 @@ use Rattle.fee_log.specs.declared.tail.Tail.{Tail}
 use Rattle.fee_log.specs.declared.tail.Tail.TheVariants as tail
 use Rattle.promise_device.specs.Making.{Making, banks_of}
 use Rattle.fee_told.specs.Slots.{slots_found}
-use Rattle.fee_told.specs.Device.{Device, tells, told_of, slots_in, clock_of}
+use Rattle.fee_told.specs.Device.{Device, tells_now, told_of, slots_in, clock_of, flash_device}
 use Rattle.fee_told.specs.Figures.{figures_for, wait_of, turns_owed}
 use Rattle.fee_told.specs.FigureLaws.{IsWork}
 use Rattle.fee_told.proofs.Figures.{left_fits, left_is_bounded, ready_is_kept}
@@ -24,6 +24,8 @@ use Rattle.fee_laws.specs.declared.job.FeeJob.{FeeJob}
 use Rattle.fee_laws.specs.Inside.{Parts, mark_of, stand_of, device_of, fixed_in, HoldsBehind}
 use Rattle.fee_laws.specs.Work.{is_owed, turns_before, seal_turns, waits_of, work_of, pages_free}
 use Rattle.fee_laws.proofs.CallOrder.{few_before}
+use Rattle.fls_told.proofs.Clocks.{tells_first}
+use Rattle.fls_told.specs.Clock.{ToldAlike}
 
 -- THE ONE PART
 each_first : (p own : ℕ) (all ns : List (DeviceNumber × ℕ)) (n : ℕ) → (at_number no_figures all (map (λ (x : DeviceNumber × ℕ). figures_for p own x.1) ns) n).part ≡ First
@@ -70,7 +72,7 @@ pub behind_finds : (d : Device) → d.started ≡ true → HoldsBehind d → Fin
 behind_finds d started h m found =
     let e : Device = record d { memory = h.behind } in
     let now = held_finds_now e h.copied h.banks m (record { told = found.told; made = found.made; small = found.small; image = found.image; is = found.is; finds = found.finds }) in
-    possible_so (told_of e) (told_of d) (told_of e).slots (told_of d).slots m refl (tells_by (tells d) d.flash.bytes (slots_in e) (slots_in d) same) now
+    possible_so (told_of e) (told_of d) (told_of e).slots (told_of d).slots m refl (tells_by (tells_now d) d.flash.bytes (slots_in e) (slots_in d) same) now
   where
     same : (x : List ℕ) → slots_in (record d { memory = h.behind }) x ≡ slots_in d x
     same x =
@@ -100,12 +102,13 @@ module _ (m : Making) (entry : Told) (t : Parts) (shape : IsLegal m.geometry) (l
       let calm : j.urgent ≡ false = sym (urgent_is m (record { number = j.number.0; mark = mark_of j.op (take j.length t.content); urgent = j.urgent })) ∙ e in
       (before, ap (λ (b : Bool). if b then wait_of (record (waits_of t.banks (Some j)) { urgent = true }) else Some before) calm, few_before t.banks.log.tail t.banks.course)
 
-  pub in_order : IsWork m.geometry.page sectors m.numbers m.reserve stand (work_of m.reserve t.banks t.job) → FindsNow (told_of e) (clock_of e) → InOrder (told_of e) (clock_of e)
-  in_order work now = record {
+  pub in_order : IsWork m.geometry.page sectors m.numbers m.reserve stand (work_of m.reserve t.banks t.job) → ToldAlike (flash_device e) → FindsNow (told_of e) (clock_of e) → InOrder (told_of e) (clock_of e)
+  in_order work alike now = record {
     bounded = left_is_bounded m.geometry.page sectors m.reserve m.numbers stand (work_of m.reserve t.banks t.job) work;
     fits = left_fits m.geometry.page sectors m.reserve m.numbers stand (work_of m.reserve t.banks t.job) shape.page_high few_sectors lengths work;
     ready = ready_is_kept m.reserve (pages_free t.banks t.job) (nat_le 1 (seal_turns t.banks.course));
     wait = waits_by t.job;
     second = λ one. refl;
     now = now;
+    told = tells_first (flash_device e) alike;
   }

@@ -42,7 +42,7 @@ use Rattle.fee_laws.specs.Inside.{Parts, device_of, memory_of, body_of, IsActive
 use Rattle.fee_laws.specs.Record.{IsInWork}
 use Rattle.fee_laws.specs.Turn.{IsOn}
 use Rattle.fee_laws.specs.Appends.{work_body, work_op}
-use Rattle.fee_laws.proofs.Before.{lengths, legal, copied, held_at, log_geometry, log_banks, each_told}
+use Rattle.fee_laws.proofs.Before.{lengths, legal, copied, held_before, log_geometry, log_banks, each_told}
 use Rattle.fee_laws.proofs.FollowLifts.{some_of}
 
 -- IN MEMORY
@@ -164,5 +164,5 @@ module _ (m : Making) (entry : Told) (s : Parts) (listed : List (DeviceNumber ×
     cut_keeps told = each_told s.fls.flash.bytes (λ (old : List ℕ). (image : List ℕ) → MayLeave (work_op s) old image → IsKeptSo l m.numbers old image mem) (λ old at image leaves. record {
       behind = with_log mem a.bank a.head (log_failed l.page log) mem.stand;
       copied = copied m entry s listed kept count on;
-      kept = told_appends_fail l m.numbers old image mem (copied m entry s listed kept count on) a.bank a.head log mem.stand (appending old (copied m entry s listed kept count on) (held_at m entry s listed kept count on old at told) image leaves) (inl refl);
+      kept = told_appends_fail l m.numbers old image mem (copied m entry s listed kept count on) a.bank a.head log mem.stand (appending old (copied m entry s listed kept count on) (held_before m entry s listed kept count on old at told) image leaves) (inl refl);
     })

@@ -28,7 +28,7 @@ use Rattle.fee_switch_laws.specs.Shown.{old_shown}
 use Rattle.promise_device.specs.Making.{Making, banks_of}
 use Rattle.fee_told.specs.Slots.{Memory, HasJob, job_leaves, left_by, slots_found, slots_with, settled_in}
 use Rattle.fee_told.specs.SlotLaws.{IsHeld}
-use Rattle.fee_told.specs.Device.{Device, tells, told_of, slots_in, clock_of}
+use Rattle.fee_told.specs.Device.{Device, tells_now, told_of, slots_in, clock_of}
 use Rattle.fee_told.specs.Figures.{ready_of, turns_of, left_of as turns_left}
 use Rattle.fee_told.proofs.Jobs.{jobs_change}
 use Rattle.fee_laws.specs.declared.job.FeeJob.{FeeJob}
@@ -133,7 +133,7 @@ module _ (m : Making) (entry : Told) (s : Parts) (listed : List (DeviceNumber ×
       ∙ same_with (shown_of (banks_of m) x (memory_of s).old) (job_leaves stand) (job_leaves (memory_of s).stand) m.numbers (settled_in (banks_of m) m.numbers x (memory_of s).old) leaves_none)
 
   same_slots : (told_of e).slots ≡ (told_of d).slots
-  same_slots = tells_by (tells d) s.fls.flash.bytes (slots_in e) (slots_in d) slots_are
+  same_slots = tells_by (tells_now d) s.fls.flash.bytes (slots_in e) (slots_in d) slots_are
 
   -- THE TARGET
   shows_by : (x : List ℕ) (c : Option Course) → IfSome c (λ y. ShowsCopies m s y x) → IfSome c (λ y. ShowsCopies m t y x)
@@ -198,10 +198,10 @@ module _ (m : Making) (entry : Told) (s : Parts) (listed : List (DeviceNumber ×
       (subst (λ (o : Option Mark). switch_turns m.reserve s.banks None s.banks.course < turns_of o (work_of m.reserve s.banks s.job) + switch_turns m.reserve s.banks s.job s.banks.course) (sym op_mark) (omega (arith, few)))
 
   -- what it comes to, where it is told
-  module _ (tells_so : (bytes : List ℕ) → bytes_now s.fls.flash ≡ Some bytes → IsTrue (tells d) → Reads (slot_at m.numbers (slots_in d bytes) j.number.0).settled.mark result (take given content)) (gives : Gives result (length_of m.numbers j.number.0) (take given content)) (may_fail : result ≡ JobFailed → Rose s.faults faults) where
+  module _ (tells_so : (bytes : List ℕ) → bytes_now s.fls.flash ≡ Some bytes → IsTrue (tells_now d) → Reads (slot_at m.numbers (slots_in d bytes) j.number.0).settled.mark result (take given content)) (gives : Gives result (length_of m.numbers j.number.0) (take given content)) (may_fail : result ≡ JobFailed → Rose s.faults faults) where
     ends : EndsAs asks.mark asks.number result (take given content) (told_of d) (told_of e)
     ends = subst (λ (o : Option Mark). EndsAs o asks.number result (take given content) (told_of d) (told_of e)) (sym op_mark)
-        (reads_by j.number.0 (tells d) s.fls.flash.bytes (slots_in d) m.numbers (told_of d) result (take given content) tells_so, gives)
+        (reads_by j.number.0 (tells_now d) s.fls.flash.bytes (slots_in d) m.numbers (told_of d) result (take given content) tells_so, gives)
 
     pub read_so : Turned m entry turn.Worked s t listed kept count false
     read_so = worked m entry s listed kept count is.on t none facts (record {

@@ -1,6 +1,6 @@
 -- A start-up.
 use Rattle.std.specs.Prelude.{IfSome, IsTrue, ◌&&◌}
-use Rattle.std.proofs.Common.{◌≡◌, ◌⊎◌, inl, inr, ◌≤◌, ◌<◌, ◌+◌, ◌*◌, ℕ, Bool, true, false, if◌then◌else◌, List, [], ◌∷◌, length, Option, Some, None, Ok, Err, refl, sym, ap, ◌∙◌, subst, arith}
+use Rattle.std.proofs.Common.{◌≡◌, ◌⊎◌, inl, inr, ◌≤◌, ◌<◌, ◌+◌, ◌*◌, ℕ, Bool, true, false, if◌then◌else◌, List, [], length, Option, Some, None, Ok, Err, refl, sym, ap, ◌∙◌, subst, arith}
 use Rattle.nv_base.specs.Count.{Rose, next_count, last_count}
 use Rattle.nv_base.specs.Geometry.{IsLegal, HasBanks, size_of}
 use Rattle.nv_base.specs.Lengths.{AreLengths}
@@ -18,7 +18,6 @@ use Rattle.fls_model.specs.Attach.{AreBytesOf}
 use Rattle.fls_model.specs.Told.{Told, bytes_now}
 use Rattle.fls_jobs.specs.declared.answer.FlsResult.{FlsResult}
 use Rattle.fee_image.specs.Image.{Layout, layout_of, bank_in, active_of}
-use Rattle.fee_image.specs.Sound.{IsSoundImage}
 use Rattle.fee_image.specs.LogLaws.{loaded_log}
 use Rattle.fee_image.specs.Log.{Log}
 use Rattle.fee_image.specs.May.{May}
@@ -32,9 +31,6 @@ use Rattle.fee_switch.specs.Start.{IsLoadedAs}
 use Rattle.fee_switch.specs.Banks.{BanksState, FindsActive, LoadsActive}
 use Rattle.fee_switch_laws.specs.Shown.{old_shown, phase_shown}
 use Rattle.promise_device.specs.Making.{Making, banks_of}
-use Rattle.promise_device.specs.Bridge.{reading_of}
-use Rattle.promise_device.specs.Image.{IsSoundFlash}
-use Rattle.promise_device.proofs.Readings.{sound_flashes_compute}
 use Rattle.fee_told.specs.Slots.{Memory, slots_held, slots_found, held_of, banks_with, may_told}
 use Rattle.fee_told.specs.SlotLaws.{IsStarted, IsHeld}
 use Rattle.fls_told.specs.Device.{flash_part, slot_with}
@@ -45,7 +41,7 @@ use Rattle.fls_told.proofs.Clocks.{clocks_stay}
 use Rattle.fls_told.proofs.Making.{runs_stay}
 use Rattle.fls_told.proofs.Parts.{parts_power}
 use Rattle.fls_told.proofs.Tells.{tells_start}
-use Rattle.fee_told.specs.Device.{Device, tells, told_of, slots_in, is_switching, clock_of, flash_device}
+use Rattle.fee_told.specs.Device.{Device, tells_now, told_of, slots_in, is_switching, clock_of, flash_device}
 use Rattle.fee_told.specs.Jobs.{MayStart, AreStarted}
 use Rattle.fee_told.specs.Whole.{HoldsBanks}
 use Rattle.fee_told.specs.Figures.{left_of}
@@ -71,10 +67,6 @@ use Rattle.fee_laws.proofs.BehindNone.{Counted, were_counted, few_counted}
 use Rattle.fee_laws.proofs.MadeFor.{still_made}
 
 -- BYTES
-sound_in : (m : Making) (bytes : List ℕ) → 0 < length bytes → IsSoundFlash m bytes → IsSoundImage (banks_of m) bytes
-sound_in m [] some sound = absurd (omega arith)
-sound_in m (x ∷ xs) some sound = sound
-
 at_most : (a b c : ℕ) → a ≡ c → b ≡ c → a ≤ b
 at_most a b c x y = omega (arith, x, y)
 
@@ -116,6 +108,7 @@ module _ (m : Making) (entry : Told) (s : Parts) (made : IsMadeFor m s) (is : Is
     none = none;
     bytes = refl;
     counts = (refl, refl);
+    came = (refl, refl);
     flash_faults = more;
     faults = were_counted entry.faults s.fls.flash.faults flash_faults s.faults faults more counted is.run.faults;
     cuts = is.run.cuts;
@@ -135,7 +128,7 @@ module _ (m : Making) (entry : Told) (s : Parts) (made : IsMadeFor m s) (is : Is
   abbrev AllPossible : List ℕ → Bool → Type 0
   AllPossible bytes started = (n : ℕ) → IsPossible (slot_at m.numbers (if started then slots_held l m.numbers bytes d.memory else slots_found l m.numbers bytes) n) (held_of l m.numbers bytes n)
 
-  possible_by : (started : Bool) → s.started ≡ started → (bytes : List ℕ) → bytes_now s.fls.flash ≡ Some bytes → IsTrue (tells d) → AllPossible bytes started
+  possible_by : (started : Bool) → s.started ≡ started → (bytes : List ℕ) → bytes_now s.fls.flash ≡ Some bytes → IsTrue (tells_now d) → AllPossible bytes started
   possible_by true e bytes at told =
       let h = is.held e in
       let held : IsHeld l m.numbers bytes h.behind h.copied = told_at s.fls.flash.bytes (λ (x : List ℕ). IsHeld l m.numbers x h.behind h.copied) bytes at (h.banks.held told) in
@@ -143,16 +136,15 @@ module _ (m : Making) (entry : Told) (s : Parts) (made : IsMadeFor m s) (is : Is
       subst (λ (slots : List Slot). (n : ℕ) → IsPossible (slot_at m.numbers slots n) (held_of l m.numbers bytes n)) (sym (places_tell l m.numbers bytes h.behind d.memory h.places (sym h.stand))) found
   possible_by false e bytes at told = unstarted_is_found l m.numbers bytes
 
-  possible : (bytes : List ℕ) → bytes_now s.fls.flash ≡ Some bytes → IsTrue (tells d) → (n : ℕ) → IsPossible (slot_with (flash_device d) bytes n) (held_of l m.numbers bytes n)
+  possible : (bytes : List ℕ) → bytes_now s.fls.flash ≡ Some bytes → IsTrue (tells_now d) → (n : ℕ) → IsPossible (slot_with (flash_device d) bytes n) (held_of l m.numbers bytes n)
   possible bytes at told = possible_by s.started refl bytes at told
 
   -- WHAT IT STARTS WITH
-  may : (bytes : List ℕ) → bytes_now s.fls.flash ≡ Some bytes → IsTrue (tells d) → MayStart l m.numbers bytes (slots_in d bytes) b.target (Ended JobOk [])
+  may : (bytes : List ℕ) → bytes_now s.fls.flash ≡ Some bytes → IsTrue (tells_now d) → MayStart l m.numbers bytes (slots_in d bytes) b.target (Ended JobOk [])
   may bytes at told = record {
     lengths = lengths;
     legal = layouts_are_legal m.geometry m.banks legal shared;
     size = at_most (l.pages * l.page * l.banks) (length bytes) (size_of m.geometry) (banks_fill m.geometry m.banks legal shared).0 (now_at s.fls.flash.bytes (AreBytesOf m.geometry) bytes at made.bytes).size;
-    sound = sound_in m bytes (told_at s.fls.flash.bytes (λ (x : List ℕ). 0 < length x) bytes at some) ((sound_flashes_compute m bytes).0 (told_at s.fls.flash.bytes (λ (x : List ℕ). IsTrue ((reading_of m).is_sound x)) bytes at (is.run.sound told)));
     target_in = omega (arith, are.state.target, are.shared);
     possible = possible bytes at told;
     shut = refl;
@@ -182,7 +174,7 @@ module _ (m : Making) (entry : Told) (s : Parts) (made : IsMadeFor m s) (is : Is
 
   -- the banks that were loaded
   starts : IfSome s.fls.flash.bytes (λ x. FindsActive x.now b) → IfSome s.fls.flash.bytes (λ x. LoadsActive x.now b)
-      → (bytes : List ℕ) → bytes_now s.fls.flash ≡ Some bytes → IsTrue (tells d) → AreStarted l m.numbers bytes (slots_in d bytes) (memory_of u) none_copied
+      → (bytes : List ℕ) → bytes_now s.fls.flash ≡ Some bytes → IsTrue (tells_now d) → AreStarted l m.numbers bytes (slots_in d bytes) (memory_of u) none_copied
   starts finds loads bytes at told =
       let first = subst (λ (x : Layout). active_shown b.active ≡ active_of x bytes) lay (now_at s.fls.flash.bytes (λ (x : List ℕ). FindsActive x b) bytes at finds) in
       let loaded = subst (λ (x : Layout). IfSome b.active (λ a. IsLoadedAs x bytes a.bank a.head b.log)) lay (now_at s.fls.flash.bytes (λ (x : List ℕ). LoadsActive x b) bytes at loads) in
@@ -203,7 +195,7 @@ module _ (m : Making) (entry : Told) (s : Parts) (made : IsMadeFor m s) (is : Is
 
   -- WHAT IS TOLD
   same : IsSame (flash_device d) (flash_device t)
-  same = record { reading = refl; numbers = refl; entry = refl; old = is.run.alike; new = run.alike }
+  same = record { reading = refl; numbers = refl; entry = refl; later = omega arith; old = is.run.alike; new = run.alike }
 
   off_now : ready && is_switching (memory_of u).phase ≡ false
   off_now = ap (λ (phase : Phase). ready && is_switching phase) idle ∙ by_test ready
@@ -219,7 +211,7 @@ module _ (m : Making) (entry : Told) (s : Parts) (made : IsMadeFor m s) (is : Is
   only = λ i. record (told_of t) { switching = off_now i; left = left_now i }
 
   pub starts_up_as : FindsNow (told_of t) (clock_of t) → ClockStays (clock_of d) (told_of t) (clock_of t)
-  starts_up_as now = record { same = clocks_stay (flash_device d) (flash_device t) none (λ n. refl); order = at_rest m entry u are.closed now }
+  starts_up_as now = record { same = clocks_stay (flash_device d) (flash_device t) none (λ n. refl); order = at_rest m entry u are.closed run.alike now }
 
   unplanned : (s.fls.flash.planning.unplanned + entry.cuts ≤ entry.planning.unplanned + s.fls.flash.cuts) ⊎ (last_count ≤ s.fls.flash.cuts) → ((dropped s.fls.flash.planning).unplanned + entry.cuts ≤ entry.planning.unplanned + s.fls.flash.cuts) ⊎ (last_count ≤ s.fls.flash.cuts)
   unplanned since = since
@@ -234,7 +226,7 @@ module _ (m : Making) (entry : Told) (s : Parts) (made : IsMadeFor m s) (is : Is
   pub sound_as : (t.started ≡ true → HoldsBehind t) → (ready ≡ true → AreReady b) → FindsNow (told_of t) (clock_of t) → (listed : List (DeviceNumber × ℕ)) (kept count : ℕ) (is_off : Bool) → IsSound m entry s listed kept count is_off → IsSound m entry u listed kept count false
   sound_as held rdy now listed kept count is_off sound = record {
     made_for = still_made m s u made refl made.bytes (record { geometry = are.geometry ∙ sym made.banks_geometry; banks = are.shared ∙ sym made.shared; numbers = are.numbers ∙ sym made.numbers }) made.room (omega arith) (λ e. cc e);
-    device = record { run = run; held = held; order = at_rest m entry u are.closed now; faults = few_counted s.fls.flash.faults flash_faults s.faults faults is.faults counted };
+    device = record { run = run; held = held; order = at_rest m entry u are.closed run.alike now; faults = few_counted s.fls.flash.faults flash_faults s.faults faults is.faults counted };
     rests = λ unstarted. record { job = refl; course = are.closed };
     works = λ started. at_work b are.closed (rdy started);
     room = λ started on. record { space = space; switch = shut_room b.course are.closed };
@@ -259,7 +251,7 @@ module _ (m : Making) (entry : Told) (s : Parts) (made : IsMadeFor m s) (is : Is
     ready_more : s.fls.flash.faults ≤ s.fls.flash.faults
     ready_more = omega arith
 
-    banks_start : (bytes : List ℕ) → bytes_now s.fls.flash ≡ Some bytes → IsTrue (tells (device_of m entry s)) → AreStarted (banks_of m) m.numbers bytes (slots_in (device_of m entry s) bytes) (memory_of ready_parts) none_copied
+    banks_start : (bytes : List ℕ) → bytes_now s.fls.flash ≡ Some bytes → IsTrue (tells_now (device_of m entry s)) → AreStarted (banks_of m) m.numbers bytes (slots_in (device_of m entry s) bytes) (memory_of ready_parts) none_copied
     banks_start = starts m entry s made is lengths b are result s.fls.flash.faults true s.faults ready_more (inl refl) finds loads
 
     ready_holds : HoldsBanks ready_device none_copied

@@ -25,7 +25,7 @@ use Rattle.promise_device.specs.Making.{Making, banks_of}
 use Rattle.fee_told.specs.Slots.{Memory, slots_found}
 use Rattle.fee_told.specs.SlotLaws.{IsHeld, SamePlaces}
 use Rattle.fls_told.proofs.Clocks.{clocks_stay}
-use Rattle.fee_told.specs.Device.{Device, tells, told_of, slots_in, clock_of, flash_device}
+use Rattle.fee_told.specs.Device.{Device, tells_now, told_of, slots_in, clock_of, flash_device}
 use Rattle.fee_told.specs.Figures.{Work, ready_of, wait_of}
 use Rattle.fee_told.proofs.Kept.{same_places}
 use Rattle.fee_told.proofs.Steps.{places_tell}
@@ -111,7 +111,7 @@ module _ (m : Making) (entry : Told) (s : Parts) (listed : List (DeviceNumber ×
   slots_are x = ap (λ (z : List Slot). if s.started then z else slots_found (banks_of m) m.numbers x) (places_tell (banks_of m) m.numbers x (memory_of s) (memory_of t) places refl)
 
   same_slots : (told_of e).slots ≡ (told_of d).slots
-  same_slots = tells_by (tells d) s.fls.flash.bytes (slots_in e) (slots_in d) slots_are
+  same_slots = tells_by (tells_now d) s.fls.flash.bytes (slots_in e) (slots_in d) slots_are
 
   none : AsksNone m entry s t
   none = record { only = refl; more = omega arith; counted = inl refl; worn = λ since worn. inl worn }

@@ -159,7 +159,7 @@ module _ (m : Making) (entry : Told) (s : Parts) (listed : List (DeviceNumber ×
     kept_then old shows =
         let held = begun_held m entry s listed kept count made answer f is old body size_is shows.held in
         subst (λ (x : Phase). IsKept l m.numbers old old mem (record mem { phase = x }) (copied_of (flags_in m s old))) (sym phase_then)
-        (record { held = held; keeps = λ n. keeps_same (slot_at m.numbers (slots_held l m.numbers old mem) n) })
+        (record { held = held; keeps = λ n. keeps_same (slot_at m.numbers (slots_held l m.numbers old mem) n); sound = λ sound. sound })
 
     module _ (read_in : (old : List ℕ) → bytes_now s.fls.flash ≡ Some old → take src.length made.buffer ≡ piece (address_of_page s.banks.geometry s.banks.banks s.banks.log.bank (at + 2)) (length (take src.length made.buffer)) old) where
       copies_it : (old : List ℕ) → bytes_now s.fls.flash ≡ Some old → Each (Copies head (take head.length made.buffer)) (flags_in m s old)

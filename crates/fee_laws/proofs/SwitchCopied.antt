@@ -263,7 +263,7 @@ module _ (m : Making) (entry : Told) (s : Parts) (listed : List (DeviceNumber ×
       let copies = subst (λ (x : List ℕ). CopiesOrNot w.sets h x (fs old)) (sym body_is) (copy_was old shows).0 in
       let wide = wider_by (w.pages == 1) w.sets h body (fs old) copies in
       let held_wide = copies_widen l m.numbers new (record mem { phase = Copying N }) (if w.pages == 1 then settling cop h body else cop) (copied_of (marked_if sets_now h.number.0 (fs old))) held_if wide tt in
-      let both : IsKept l m.numbers old new mem (record mem { phase = Copying N }) (copied_of (marked_if sets_now h.number.0 (fs old))) = record { held = held_wide; keeps = first.keeps } in
+      let both : IsKept l m.numbers old new mem (record mem { phase = Copying N }) (copied_of (marked_if sets_now h.number.0 (fs old))) = record { held = held_wide; keeps = first.keeps; sound = first.sound } in
       subst (λ (x : Memory). IsKept l m.numbers old new mem x (copied_of (fs' new))) then_is
       (subst (λ (x : List Flag). IsKept l m.numbers old new mem (record mem { phase = Copying N }) (copied_of x)) (sym (flags_then old new shows leaves)) both)
 
@@ -333,4 +333,4 @@ module _ (m : Making) (entry : Told) (s : Parts) (listed : List (DeviceNumber ×
       (torn m entry s listed kept count at made Done f is (step_op s.banks at) (step m entry s listed kept count w made Done f is) (q' Done is) (page' Done is) (op_is m entry s listed kept count w made Done f is) (size' Done is) (inside' Done is) (log' Done is) (phase m entry s listed kept count w made Done f is) (not_gate' Done is))
       (cutting m entry s listed kept count at made Done f is (step_op s.banks at) (step m entry s listed kept count w made Done f is) (q' Done is) (page' Done is) (op_is m entry s listed kept count w made Done f is) (size' Done is) (inside' Done is) (log' Done is) (phase m entry s listed kept count w made Done f is) (not_gate' Done is))
       (next m entry s listed kept count w made Done f is) (set m entry s listed kept count w made Done f is).flags (after_step s.banks.copies Done) (b_is is) (seals is)
-      (λ old new shows leaves left. record { kept_all = kept_then m entry s listed kept count w made Done f is old new shows leaves left; copying = copying_then m entry s listed kept count w made Done f is old new shows leaves })
+      (λ old new sound shows leaves left. record { kept_all = kept_then m entry s listed kept count w made Done f is old new shows leaves left; copying = copying_then m entry s listed kept count w made Done f is old new shows leaves })

@@ -39,6 +39,7 @@ use Rattle.fee_laws.proofs.Switching.{shows, may_in}
 use Rattle.fee_laws.proofs.SwitchShown.{no_job}
 use Rattle.fee_laws.proofs.SwitchNearer.{switch_is_open, all_write, no_read, each_job}
 use Rattle.fee_laws.proofs.Appended.{idle_at_work}
+use Rattle.fee_laws.proofs.Before.{sound_before}
 
 module _ (m : Making) (entry : Told) (s : Parts) (listed : List (DeviceNumber × ℕ)) (kept count : ℕ) (c : Course) (made : BanksState) (f : FlsState) (is : IsStepping m entry s listed kept count c made Off f) (op : Op) (step : IsStep op s.fls.flash Off f.flash) (torn : Memory) (cutting : Cutting m entry s listed kept count c made Off f is op step torn) (same_old : torn.old ≡ (memory_of s).old) (stands : torn.stand ≡ (memory_of s).stand) (log : LogState) where
   abbrev pub b : BanksState
@@ -59,7 +60,7 @@ module _ (m : Making) (entry : Told) (s : Parts) (listed : List (DeviceNumber ×
   kept_at : (old new : List ℕ) → bytes_now s.fls.flash ≡ Some old → bytes_now f.flash ≡ Some new → IsTrue (tells (device_of m entry s)) → IsKept (banks_of m) m.numbers old new (memory_of s) torn (copied_of (flags_in m s old))
   kept_at old new at_old at_new told =
       let both = left m entry s listed kept count is.on op Off f is.drives (asked m entry s listed kept count c made Off f is op step) old new at_old at_new in
-      cutting old new (shows m entry s listed kept count c made Off f is op step old at_old told) both.0
+      cutting old new (sound_before m entry s listed kept count is.on old at_old told) (shows m entry s listed kept count c made Off f is op step old at_old told) both.0
 
   abbrev more : May
   more = may_in m s (bytes_now s.fls.flash)

@@ -86,7 +86,7 @@ use Rattle.fee_laws.specs.Record.{IsLengthOf, kind_of}
 use Rattle.fee_laws.proofs.Heads.{has_kind, head_with, same_kind}
 use Rattle.fee_laws.specs.Work.{pages_of_op, fits_in, is_waiting, needs_switch, claimed}
 use Rattle.fee_laws.specs.Switches.{step_op}
-use Rattle.fee_laws.proofs.Operation.{run, left, before_told, started}
+use Rattle.fee_laws.proofs.Operation.{run, left, before_told, started, are_told}
 use Rattle.fee_laws.proofs.Behind.{held_behind}
 use Rattle.fee_laws.proofs.Switching.{asked, not_worn, keeps, shows, may_in}
 use Rattle.fee_laws.proofs.SwitchNearer.{switch_is_open, all_write, no_read, turns_keep, each_job, both_jobs}
@@ -239,7 +239,7 @@ module _ (m : Making) (entry : Told) (s : Parts) (listed : List (DeviceNumber ×
 
   keeping : KeepsAll (told_of d) (told_of e)
   keeping = kept_is_told d e more (started m entry s listed kept count is.on o Done f is.drives asks keep b s.job s.last s.given run_then)
-      (λ old new told. subst (λ (x : May). IsKept l m.numbers old new (memory_of s) (memory_of t) x) (sym (more_is old told.1)) (kept_at old new told.1 told.2 told.0))
+      (λ old new now. (let told = are_told d e s.operations _ old new refl now in subst (λ (x : May). IsKept l m.numbers old new (memory_of s) (memory_of t) x) (sym (more_is old told.1)) (kept_at old new told.1 told.2 told.0)))
 
   -- THE ROOM
   was_room : KeepsRoom m.reserve s.banks

@@ -43,6 +43,7 @@ use Rattle.fee_laws.specs.Switches.{IsStepping, step_op}
 use Rattle.fee_laws.proofs.Before.{shape, shared, lengths, legal}
 use Rattle.fee_laws.proofs.Switching.{Cutting}
 use Rattle.fee_laws.proofs.SwitchShown.{kept_both, each_clear, settled_copying, roomy, short, no_job, standing}
+use Rattle.fee_image.specs.Sound.{IsSoundImage}
 
 module _ (m : Making) (entry : Told) (s : Parts) (listed : List (DeviceNumber × ℕ)) (kept count : ℕ) (n : ℕ) (made : BanksState) (answer : FlashAnswer) (f : FlsState) (is : IsStepping m entry s listed kept count (Erase n) made answer f) where
   abbrev mem : Memory
@@ -69,10 +70,11 @@ module _ (m : Making) (entry : Told) (s : Parts) (listed : List (DeviceNumber ×
   op_is : op ≡ erase_of m.geometry m.banks s.banks.target n
   op_is = λ i. erase_of (geo i) (banks_are i) s.banks.target n
 
-  erasing : (old new : List ℕ) (copied : May) → IsHeld l m.numbers old mem copied → MayLeave op old new → IsErasing m.geometry m.banks m.numbers old new mem copied n
-  erasing old new copied held leaves = record {
+  erasing : (old new : List ℕ) (copied : May) → IsSoundImage l old → IsHeld l m.numbers old mem copied → MayLeave op old new → IsErasing m.geometry m.banks m.numbers old new mem copied n
+  erasing old new copied sound held leaves = record {
     shape = shape m entry s listed kept count is.on;
     shared = shared m entry s listed kept count is.on;
+    sound = sound;
     stands = standing m entry s listed kept count (Erase n) made answer f is old copied held;
     phase = phase;
     inside = short m entry s listed kept count (Erase n) made answer f is;
@@ -92,15 +94,15 @@ module _ (m : Making) (entry : Told) (s : Parts) (listed : List (DeviceNumber ×
   flags_same old new copied held leaves = ap (flags_of m.numbers s.banks.log.places s.banks.log.flags) (settled_same old new copied held leaves)
 
   -- WHATEVER IT LEAVES
-  failing : (old new : List ℕ) (copied : May) (stand : Stand) → IsHeld l m.numbers old mem copied → MayLeave op old new → GoesOn mem.stand stand → IsKept l m.numbers old new mem (record mem { stand = stand }) copied
-  failing old new copied stand held leaves goes =
-      erases_fail m.geometry m.banks m.numbers old new mem copied n stand (erasing old new copied held leaves) goes (no_job m entry s listed kept count (Erase n) made answer f is stand)
+  failing : (old new : List ℕ) (copied : May) (stand : Stand) → IsSoundImage l old → IsHeld l m.numbers old mem copied → MayLeave op old new → GoesOn mem.stand stand → IsKept l m.numbers old new mem (record mem { stand = stand }) copied
+  failing old new copied stand sound held leaves goes =
+      erases_fail m.geometry m.banks m.numbers old new mem copied n stand (erasing old new copied sound held leaves) goes (no_job m entry s listed kept count (Erase n) made answer f is stand)
 
   pub step : IsStep op s.fls.flash answer f.flash
   step = is.makes.0
 
   pub cutting : Cutting m entry s listed kept count (Erase n) made answer f is op step mem
-  cutting old image shows leaves = failing old image (copied_of (fs old)) mem.stand shows.held leaves (inl refl)
+  cutting old image sound shows leaves = failing old image (copied_of (fs old)) mem.stand sound shows.held leaves (inl refl)
 
   -- WHILE IT IS ERASED
   pub target : IsEmptyTarget s.banks
@@ -137,10 +139,10 @@ module _ (m : Making) (entry : Told) (s : Parts) (listed : List (DeviceNumber ×
   rest = settled s.banks.log.numbers s.banks.log.places s.banks.log.flags
 
   -- it is done
-  going : (old new : List ℕ) → ShowsCopies m s (Erase n) old → MayLeave op old new → Leaves op Done old new → IsKept l m.numbers old new mem (with_phase (phase_at next b body)) (copied_of (fs old))
-  going old new shows leaves left =
+  going : (old new : List ℕ) → IsSoundImage l old → ShowsCopies m s (Erase n) old → MayLeave op old new → Leaves op Done old new → IsKept l m.numbers old new mem (with_phase (phase_at next b body)) (copied_of (fs old))
+  going old new sound shows leaves left =
       let cop = copied_of (fs old) in
-      let first = erases_go_on m.geometry m.banks m.numbers old new mem cop n (erasing old new cop shows.held leaves) (subst (λ (o : Op). new ≡ after_op o old) op_is left) in
+      let first = erases_go_on m.geometry m.banks m.numbers old new mem cop n (erasing old new cop sound shows.held leaves) (subst (λ (o : Op). new ≡ after_op o old) op_is left) in
       let N = (n + 1) * pages_of_sector m.geometry in
       cond_both (n + 1 == sectors) rest (Erase (n + 1)) (λ (c : Course). IsKept l m.numbers old new mem (with_phase (phase_at c b body)) cop)
       (λ e.
@@ -164,10 +166,10 @@ module _ (m : Making) (entry : Told) (s : Parts) (listed : List (DeviceNumber ×
       cond_both (n + 1 == sectors) rest (Erase (n + 1)) (λ (c : Course). IsCopying c work buffer x)
       (λ e. settled_copying s.banks.log.numbers s.banks.log.places s.banks.log.flags work buffer x) (λ e. tt)
 
-  pub went : (old new : List ℕ) → ShowsCopies m s (Erase n) old → MayLeave op old new → Leaves op Done old new
+  pub went : (old new : List ℕ) → IsSoundImage l old → ShowsCopies m s (Erase n) old → MayLeave op old new → Leaves op Done old new
       → IsKept l m.numbers old new mem (with_phase (phase_at next b body)) (copied_of (fs new)) × IsCopying next (work_in s.banks.copies.tail) s.banks.buffer (fs new)
-  went old new shows leaves left = (
-    subst (λ (x : List Flag). IsKept l m.numbers old new mem (with_phase (phase_at next b body)) (copied_of x)) (sym (flags_same old new (copied_of (fs old)) shows.held leaves)) (going old new shows leaves left),
+  went old new sound shows leaves left = (
+    subst (λ (x : List Flag). IsKept l m.numbers old new mem (with_phase (phase_at next b body)) (copied_of x)) (sym (flags_same old new (copied_of (fs old)) shows.held leaves)) (going old new sound shows leaves left),
     next_copying (work_in s.banks.copies.tail) s.banks.buffer (fs new),
   )
 
@@ -182,6 +184,6 @@ module _ (m : Making) (entry : Told) (s : Parts) (listed : List (DeviceNumber ×
   pub again_same : again ≡ s.banks
   again_same = λ i. record s.banks { course = sym is.course i; log = record s.banks.log { flags = sym target.clear i }; copies = sym target.copies i }
 
-  pub failed : (old new : List ℕ) (stand : Stand) → ShowsCopies m s (Erase n) old → MayLeave op old new → GoesOn mem.stand stand → IsKept l m.numbers old new mem (record mem { stand = stand }) (copied_of (fs new))
-  failed old new stand shows leaves goes =
-      subst (λ (x : List Flag). IsKept l m.numbers old new mem (record mem { stand = stand }) (copied_of x)) (sym (flags_same old new (copied_of (fs old)) shows.held leaves)) (failing old new (copied_of (fs old)) stand shows.held leaves goes)
+  pub failed : (old new : List ℕ) (stand : Stand) → IsSoundImage l old → ShowsCopies m s (Erase n) old → MayLeave op old new → GoesOn mem.stand stand → IsKept l m.numbers old new mem (record mem { stand = stand }) (copied_of (fs new))
+  failed old new stand sound shows leaves goes =
+      subst (λ (x : List Flag). IsKept l m.numbers old new mem (record mem { stand = stand }) (copied_of x)) (sym (flags_same old new (copied_of (fs old)) shows.held leaves)) (failing old new (copied_of (fs old)) stand sound shows.held leaves goes)

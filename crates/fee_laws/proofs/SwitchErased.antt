@@ -28,7 +28,7 @@ module _ (m : Making) (entry : Told) (s : Parts) (listed : List (DeviceNumber ×
       done_by m entry s listed kept count c made f is tt (step_op s.banks c) (step m entry s listed kept count n made Done f is) (memory_of s) (cutting m entry s listed kept count n made Done f is)
       (next m entry s listed kept count n made Done f is) s.banks.log.flags s.banks.copies (b_is m entry s listed kept count n made Done f is)
       (record { takes = λ more. refl; nearer = λ some. absurd (omega arith) })
-      (λ old new shows leaves left. (let both = went m entry s listed kept count n made Done f is old new shows leaves left in record { kept_all = both.0; copying = both.1 }))
+      (λ old new sound shows leaves left. (let both = went m entry s listed kept count n made Done f is old new sound shows leaves left in record { kept_all = both.0; copying = both.1 }))
 
   pub erase_failed : IsStepping m entry s listed kept count c made Failed f → StepTurned Failed m entry s listed kept count c made f
   erase_failed is =
@@ -37,8 +37,8 @@ module _ (m : Making) (entry : Told) (s : Parts) (listed : List (DeviceNumber ×
       let stand = stand_of s.content None (last_by s.job s.last) (given_by s.job s.given) in
       failed_by m entry s listed kept count c made f is (step_op s.banks c) (step m entry s listed kept count n made Failed f is) (memory_of s) (cutting m entry s listed kept count n made Failed f is)
       c s.banks.log.flags s.banks.copies ((λ i. record s.banks { course = Some c; log = record s.banks.log { flags = empty.clear i }; copies = empty.copies i }) ∙ again_is m entry s listed kept count n made Failed f is)
-      (λ old new shows leaves left.
-      (let is' = failed m entry s listed kept count n made Failed f is old new stand shows leaves (stand_goes s.content s.job s.last s.given) in
+      (λ old new sound shows leaves left.
+      (let is' = failed m entry s listed kept count n made Failed f is old new stand sound shows leaves (stand_goes s.content s.job s.last s.given) in
       let path : record (memory_of s) { stand = stand } ≡ record (memory_of s) { phase = phase_shown (Some c) s.banks body; stand = stand } = λ i. record (memory_of s) { phase = phase_shown (is.course i) s.banks body; stand = stand } in
       record {
         kept_all = subst (λ (x : Memory). IsKept (banks_of m) m.numbers old new (memory_of s) x (copied_of (flags_in m s new))) path is';

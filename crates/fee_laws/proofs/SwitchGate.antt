@@ -91,7 +91,7 @@ module _ (m : Making) (entry : Told) (s : Parts) (listed : List (DeviceNumber ×
         gates_fail l m.numbers old new (memory_of s) copied log stand (standing m entry s listed kept count c made answer f is old copied held) phase (page_leaves old new leaves) goes (no_job m entry s listed kept count c made answer f is stand)
 
     pub cutting : Cutting m entry s listed kept count c made answer f is op step (memory_of s)
-    cutting old image shows leaves = failing old image (copied_of (flags_in m s old)) (memory_of s).stand shows.held leaves (inl refl)
+    cutting old image sound shows leaves = failing old image (copied_of (flags_in m s old)) (memory_of s).stand shows.held leaves (inl refl)
 
     pub layout_is : layout_in s.banks ≡ l
     layout_is = λ i. layout_of (geo i) (is.on.sound.made_for.shared i)
@@ -112,7 +112,7 @@ module _ (m : Making) (entry : Told) (s : Parts) (listed : List (DeviceNumber ×
   gate_failed is =
       let stand = stand_of s.content None (last_by s.job s.last) (given_by s.job s.given) in
       failed_by m entry s listed kept count c made f is op (step Failed is) (memory_of s) (cutting Failed is) (Gate true) s.banks.log.flags s.banks.copies (λ i. after_answer (sym is.makes.1 i) c Failed)
-      (λ old new shows leaves left.
+      (λ old new sound shows leaves left.
       (let is' = failing Failed is old new (copied_of (flags_in m s old)) stand shows.held leaves (stand_goes s.content s.job s.last s.given) in
       let path : record (memory_of s) { stand = stand } ≡ record (memory_of s) { phase = Sealing log; stand = stand } = λ i. record (memory_of s) { phase = phase Failed is i; stand = stand } in
       record {

@@ -147,7 +147,7 @@ module _ (m : Making) (entry : Told) (s : Parts) (listed : List (DeviceNumber ×
       (cutting m entry s listed kept count Head made Done f is op (step Done is) 0 page (op_at Done is) (size Done is) (inside Done is) log (phase Done is) (not_gate Done is))
       (Gate false) s.banks.log.flags s.banks.copies (λ i. after_answer (sym is.makes.1 i) Head Done)
       (record { takes = λ more. (let z : false ≡ true = more in cc z); nearer = λ some. (omega arith, omega arith) })
-      (λ old new shows leaves left.
+      (λ old new sound shows leaves left.
       (let cop = copied_of (flags_in m s old) in
       let fits = next_fits l m.numbers old s.banks.target (may_told l m.numbers old mem) s.banks.active s.banks.log (body_of (work_in s.banks.log.tail) s.content) shows.held.banks.old (roomy m entry s listed kept count Head made Done f is).worn in
       let first = heads_go_on l m.numbers old new mem cop log (standing m entry s listed kept count Head made Done f is old cop shows.held) (phase Done is) fits (whole Done is old)

@@ -243,7 +243,7 @@ module _ (m : Making) (entry : Told) (s : Parts) (listed : List (DeviceNumber ×
         let first = done_kept m entry s listed kept count c made answer f is log_k body head 0 tail_k st on small old new cop held'
         (subst (λ (o : Op). MayLeave o old new) op_body leaves) (subst (λ (o : Op). Leaves o Done old new) op_body left) in
         let held = subst (λ (x : May). IsHeld l m.numbers new (record mem { phase = Copying (log_done l.page m.numbers (log_of log_k body)) }) x) (may_is cop) first.held in
-        let both : IsKept l m.numbers old new mem (record mem { phase = Copying (log_done l.page m.numbers (log_of log_k body)) }) cop = record { held = held; keeps = first.keeps } in
+        let both : IsKept l m.numbers old new mem (record mem { phase = Copying (log_done l.page m.numbers (log_of log_k body)) }) cop = record { held = held; keeps = first.keeps; sound = first.sound } in
         subst (λ (x : Phase). IsKept l m.numbers old new mem (record mem { phase = x }) (copied_of (flags_in m s new))) (sym phase_then)
         (subst (λ (x : List Flag). IsKept l m.numbers old new mem (record mem { phase = Copying (log_done l.page m.numbers (log_of log_k body)) }) (copied_of x)) (sym (flags_same old new shows leaves)) both)
 
@@ -283,4 +283,4 @@ marks_go_on m entry s listed kept count made f is changes =
     (next m entry s listed kept count made Done f is changes) s.banks.log.flags (after_step (log_k m entry s listed kept count made Done f is) Done)
     (λ i. after_answer (sym (made_is m entry s listed kept count made Done f is changes) i) (Copy None) Done)
     (record { takes = λ more. refl; nearer = λ some'. absurd (omega arith) })
-    (λ old new shows leaves left. record { kept_all = kept_then m entry s listed kept count made Done f is changes old new shows leaves left; copying = copying_then m entry s listed kept count made Done f is changes old new shows leaves })
+    (λ old new sound shows leaves left. record { kept_all = kept_then m entry s listed kept count made Done f is changes old new shows leaves left; copying = copying_then m entry s listed kept count made Done f is changes old new shows leaves })

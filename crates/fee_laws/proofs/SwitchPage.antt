@@ -79,7 +79,7 @@ module _ (m : Making) (entry : Told) (s : Parts) (listed : List (DeviceNumber ×
     torn = record mem { phase = Erasing 0 }
 
     pub cutting : Cutting m entry s listed kept count c made answer f is op step torn
-    cutting old image shows leaves = failing old image (copied_of (flags_in m s old)) (copied_of (flags_in m s old)) mem.stand shows.held leaves (inl refl)
+    cutting old image sound shows leaves = failing old image (copied_of (flags_in m s old)) (copied_of (flags_in m s old)) mem.stand shows.held leaves (inl refl)
 
     -- IT FAILED
     abbrev pub again : BanksState
@@ -89,7 +89,7 @@ module _ (m : Making) (entry : Told) (s : Parts) (listed : List (DeviceNumber ×
     none_blank = omega arith
 
     pub failing_shows : Showing m entry s listed kept count c made answer f is op step torn cutting again (Erase 0) refl None (last_by s.job s.last) (given_by s.job s.given)
-    failing_shows old new shows leaves left =
+    failing_shows old new sound shows leaves left =
         let stand = stand_of s.content None (last_by s.job s.last) (given_by s.job s.given) in
         let x = record s { banks = again; job = None; last = last_by s.job s.last; given = given_by s.job s.given } in
         let is' = failing old new (copied_of (flags_in m s old)) (copied_of (flags_in m x new)) stand shows.held leaves (stand_goes s.content s.job s.last s.given) in

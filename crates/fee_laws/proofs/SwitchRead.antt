@@ -1,6 +1,6 @@
 -- The turns in which the content is read that is copied next.
 use Rattle.std.specs.Prelude.{IfSome, IsTrue}
-use Rattle.std.proofs.Common.{◌≡◌, ◌≢◌, inl, ◌≤◌, ℕ, List, Option, Some, None, refl, sym, ap, subst}
+use Rattle.std.proofs.Common.{◌≡◌, ◌≢◌, inl, ◌≤◌, ℕ, List, Option, Some, None, refl, sym, ap, subst, arith}
 use Rattle.nv_base.specs.Geometry.{sectors_of_bank}
 use Rattle.nv_base.specs.declared.instance.DeviceNumber.{DeviceNumber}
 use Rattle.fls_model.specs.Told.{Told}
@@ -21,7 +21,7 @@ use Rattle.fee_laws.proofs.Before.{power}
 use Rattle.memif.specs.declared.answer.JobResult.{JobResult}
 use Rattle.memif.specs.Marks.{KeepsAll}
 use Rattle.fls_told.specs.Runs.{HasRun}
-use Rattle.fee_told.specs.Device.{Device, told_of, tells, flash_device}
+use Rattle.fee_told.specs.Device.{Device, told_of, tells_now, flash_device}
 use Rattle.fee_told.specs.FigureLaws.{IsWork}
 use Rattle.fee_laws.specs.declared.job.FeeJob.{FeeJob}
 use Rattle.fee_laws.specs.Inside.{device_of, IsAtWork}
@@ -52,7 +52,7 @@ module _ (m : Making) (entry : Told) (s : Parts) (listed : List (DeviceNumber ×
   abbrev e : Device
   e = device_of m entry t
 
-  pub shows_now : (old : List ℕ) → bytes_now s.fls.flash ≡ Some old → IsTrue (tells d) → ShowsCopies m s c old
+  pub shows_now : (old : List ℕ) → bytes_now s.fls.flash ≡ Some old → IsTrue (tells_now d) → ShowsCopies m s c old
   shows_now old at told =
       subst (λ (o : Option Course). IfSome o (λ x. ShowsCopies m s x old)) course_is
       (now_at s.fls.flash.bytes (λ (x : List ℕ). IfSome s.banks.course (λ y. ShowsCopies m s y x)) old at (on.sound.copies (power m entry s listed kept count on) told))
@@ -82,7 +82,7 @@ module _ (m : Making) (entry : Told) (s : Parts) (listed : List (DeviceNumber ×
         subst (λ (x : May). IsHeld (banks_of m) m.numbers old (memory_of t) x) (sym (may_is old at)) (reading old at (shows_now old at told)).0.held)
 
     started' : AreStarted d e
-    started' = record { same = record { reading = refl; numbers = refl; entry = refl; old = on.sound.device.run.alike; new = run_read.alike }; making = refl; old = on.started; new = on.started }
+    started' = record { same = record { reading = refl; numbers = refl; entry = refl; later = omega arith; old = on.sound.device.run.alike; new = run_read.alike }; making = refl; old = on.started; new = on.started }
 
     same_bytes : (old new : List ℕ) → bytes_now s.fls.flash ≡ Some old → bytes_now s.fls.flash ≡ Some new → old ≡ new
     same_bytes old new a b' = cc (a, b')

@@ -44,6 +44,7 @@ pub kept_both : (l : Layout) (numbers : List (DeviceNumber × ℕ)) (old mid new
 kept_both l numbers old mid new m t u first copied a b = record {
   held = b.held;
   keeps = λ n. keeps_on (slot_at numbers (slots_held l numbers old m) n) (slot_at numbers (slots_held l numbers mid t) n) (slot_at numbers (slots_held l numbers new u) n) (a.keeps n) (b.keeps n);
+  sound = λ sound. b.sound (a.sound sound);
 }
 
 -- FLAGS

@@ -17,7 +17,7 @@ use Rattle.promise_device.specs.Bridge.{may_be_closed}
 use Rattle.promise_device.specs.Image.{HasNoRoomFor}
 use Rattle.fee_told.specs.Slots.{banks_with, may_told}
 use Rattle.fee_told.specs.SlotLaws.{IsHeld}
-use Rattle.fee_told.specs.Device.{tells}
+use Rattle.fee_told.specs.Device.{tells_now}
 use Rattle.fee_laws.specs.Inside.{Parts, body_of, device_of, memory_of}
 use Rattle.fee_laws.specs.Turn.{IsOn}
 use Rattle.fee_laws.specs.Worn.{ShowsRoom, ShowsClosed}
@@ -26,7 +26,7 @@ use Rattle.fee_laws.proofs.WornShown.{active_is, none_is, own_bank}
 use Rattle.fee_laws.proofs.SwitchBegun.{idle_phase}
 use Rattle.fee_laws.proofs.FollowKnown.{HasNoMore, no_more, test}
 
-module _ (m : Making) (entry : Told) (s : Parts) (listed : List (DeviceNumber × ℕ)) (kept count : ℕ) (on : IsOn m entry s listed kept count) (idle : work_in s.banks.log.tail ≡ None) (shut : s.banks.course ≡ None) (bytes : List ℕ) (at : bytes_now s.fls.flash ≡ Some bytes) (told : IsTrue (tells (device_of m entry s))) where
+module _ (m : Making) (entry : Told) (s : Parts) (listed : List (DeviceNumber × ℕ)) (kept count : ℕ) (on : IsOn m entry s listed kept count) (idle : work_in s.banks.log.tail ≡ None) (shut : s.banks.course ≡ None) (bytes : List ℕ) (at : bytes_now s.fls.flash ≡ Some bytes) (told : IsTrue (tells_now (device_of m entry s))) where
   abbrev l : Layout
   l = banks_of m
 

@@ -34,7 +34,7 @@ use Rattle.fee_told.specs.SlotLaws.{IsHeld}
 use Rattle.fls_told.specs.Device.{asked_ops}
 use Rattle.fls_told.specs.Runs.{HasRun, IsWornSince}
 use Rattle.fls_told.proofs.Clocks.{worn_now}
-use Rattle.fee_told.specs.Device.{Device, tells, told_of, clock_of, flash_device}
+use Rattle.fee_told.specs.Device.{Device, tells_now, told_of, clock_of, flash_device}
 use Rattle.fee_told.specs.Kept.{IsKept}
 use Rattle.fee_told.specs.Figures.{left_of as turns_left, ready_of, turns_of, wait_of}
 use Rattle.fee_told.proofs.Kept.{same_places}
@@ -116,12 +116,12 @@ module _ (m : Making) (entry : Told) (s : Parts) (listed : List (DeviceNumber ×
   job_of = subst (λ (o : Option FeeJob). IfSome o (IsJobOf m.numbers)) is.job at_work.job
 
   -- WORN OUT
-  shows_by : (bytes : List ℕ) → bytes_now s.fls.flash ≡ Some bytes → (b : Bool) → tells d ≡ b → KnowsRoom m entry s bytes → ShowsRoom m s bytes
+  shows_by : (bytes : List ℕ) → bytes_now s.fls.flash ≡ Some bytes → (b : Bool) → tells_now d ≡ b → KnowsRoom m entry s bytes → ShowsRoom m s bytes
   shows_by bytes at true told knows = shows_room m entry s listed kept count on is.idle is.shut bytes at told knows.closed
   shows_by bytes at false told knows = knows.unsound told
 
   shows_at : (bytes : List ℕ) → bytes_now s.fls.flash ≡ Some bytes → ShowsRoom m s bytes
-  shows_at bytes at = shows_by bytes at (tells d) refl (now_at s.fls.flash.bytes (KnowsRoom m entry s) bytes at is.bytes)
+  shows_at bytes at = shows_by bytes at (tells_now d) refl (now_at s.fls.flash.bytes (KnowsRoom m entry s) bytes at is.bytes)
 
   last_at : (bytes : List ℕ) → bytes_now s.fls.flash ≡ Some bytes → IsOfLastGeneration m bytes
   last_at bytes at = elim is.worn [
@@ -199,17 +199,17 @@ module _ (m : Making) (entry : Told) (s : Parts) (listed : List (DeviceNumber ×
   abbrev more : May
   more = copied m entry s listed kept count on
 
-  kept_at : (bytes : List ℕ) → bytes_now s.fls.flash ≡ Some bytes → IsTrue (tells d) → IsKept (banks_of m) m.numbers bytes bytes (memory_of s) (memory_of t) more
+  kept_at : (bytes : List ℕ) → bytes_now s.fls.flash ≡ Some bytes → IsTrue (tells_now d) → IsKept (banks_of m) m.numbers bytes bytes (memory_of s) (memory_of t) more
   kept_at bytes at told =
       let held = held_at m entry s listed kept count on bytes at told in
-      record { held = held_then bytes more held; keeps = jobs_keep (banks_of m) m.numbers bytes (memory_of s) (memory_of t) more held (same_places (memory_of s).old) (inr refl) }
+      record { held = held_then bytes more held; keeps = jobs_keep (banks_of m) m.numbers bytes (memory_of s) (memory_of t) more held (same_places (memory_of s).old) (inr refl); sound = λ sound. sound }
 
   same_bytes : (old new : List ℕ) → bytes_now s.fls.flash ≡ Some old → bytes_now s.fls.flash ≡ Some new → old ≡ new
   same_bytes old new a b = cc (a, b)
 
   keeps_all : KeepsAll (told_of d) (told_of e)
   keeps_all = kept_is_told d e more
-      (record { same = record { reading = refl; numbers = refl; entry = refl; old = on.sound.device.run.alike; new = run_on.alike }; making = refl; old = on.started; new = on.started })
+      (record { same = record { reading = refl; numbers = refl; entry = refl; later = omega arith; old = on.sound.device.run.alike; new = run_on.alike }; making = refl; old = on.started; new = on.started })
       (λ old new told. subst (λ (x : List ℕ). IsKept (banks_of m) m.numbers old x (memory_of s) (memory_of t) more) (same_bytes old new told.1 told.2) (kept_at old told.1 told.0))
 
   behind : HoldsBehind e

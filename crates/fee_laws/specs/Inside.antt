@@ -31,7 +31,7 @@ use Rattle.promise_device.specs.Making.{Making, banks_of}
 use Rattle.fee_told.specs.Slots.{Memory, HasJob, settled_in}
 use Rattle.fee_told.specs.SlotLaws.{IsHeld, SamePlaces}
 use Rattle.fls_told.specs.Runs.{HasRun}
-use Rattle.fee_told.specs.Device.{Device, tells, told_of, clock_of, flash_device}
+use Rattle.fee_told.specs.Device.{Device, tells_now, told_of, clock_of, flash_device}
 use Rattle.fee_told.specs.Whole.{HoldsBanks}
 use Rattle.fee_told.specs.Figures.{fixed_for, left_of, ready_of, wait_of}
 use Rattle.fee_laws.specs.declared.job.FeeJob.{FeeJob}
@@ -179,7 +179,7 @@ pub record CountsCuts (entry flash : Told) : Type 0 where
 
 -- while the power is on: where it tells its numbers, a switch's target is as its flags say
 abbrev pub TellsCopies : Making → Told → Parts → Type 0
-TellsCopies m entry s = s.fls.flash.off ≡ false → IsTrue (tells (device_of m entry s)) → IfSome s.fls.flash.bytes (λ b. IfSome s.banks.course (λ c. ShowsCopies m s c b.now))
+TellsCopies m entry s = s.fls.flash.off ≡ false → IsTrue (tells_now (device_of m entry s)) → IfSome s.fls.flash.bytes (λ b. IfSome s.banks.course (λ c. ShowsCopies m s c b.now))
 
 pub record IsSound (m : Making) (entry : Told) (s : Parts) (listed : List (DeviceNumber × ℕ)) (kept count : ℕ) (is_off : Bool) : Type 0 where
   pub made_for : IsMadeFor m s

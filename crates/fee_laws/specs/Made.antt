@@ -1,5 +1,6 @@
 -- A device that was made.
 use Rattle.std.specs.Prelude.{◌≡◌, [], false, true}
+use Rattle.nv_base.specs.Plan.{listed_anew}
 use Rattle.memif.specs.declared.answer.JobResult.TheVariants.{JobOk}
 use Rattle.memif.specs.Told.{PartTold, Ended, nothing_open}
 use Rattle.fls_model.specs.Told.{Told}
@@ -9,7 +10,7 @@ use Rattle.fee_told.specs.Device.{Device, told_of, flash_device}
 
 -- the part of a device over a flash that told this, before its first call
 abbrev pub part_at : Told → PartTold
-part_at entry = record { faults = 0; flash_faults = entry.faults; off = entry.off; planning = entry.planning }
+part_at entry = record { faults = 0; flash_faults = entry.faults; off = entry.off; planning = listed_anew entry.planning }
 
 -- of this, over a flash that told this: it asked for no operation yet, wasn't started, and has nothing open
 pub record IsMadeOf (m : Making) (entry : Told) (d : Device) : Type 0 where

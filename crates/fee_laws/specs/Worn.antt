@@ -15,7 +15,7 @@ use Rattle.fee_switch_laws.specs.Space.{free_pages}
 use Rattle.promise_device.specs.Making.{Making, banks_of}
 use Rattle.promise_device.specs.Bridge.{may_be_closed}
 use Rattle.promise_device.specs.Image.{HasNoRoomFor}
-use Rattle.fee_told.specs.Device.{tells}
+use Rattle.fee_told.specs.Device.{tells_now}
 use Rattle.fee_laws.specs.declared.job.FeeJob.{FeeJob}
 use Rattle.fee_laws.specs.Inside.{Parts, device_of}
 use Rattle.fee_laws.specs.Work.{fits_in}
@@ -37,7 +37,7 @@ ShowsClosed m s bytes =
 -- when the device was made, which bank is active and what room it has.
 pub record KnowsRoom (m : Making) (entry : Told) (s : Parts) (bytes : List ℕ) : Type 0 where
   pub closed : ShowsClosed m s bytes
-  pub unsound : tells (device_of m entry s) ≡ false → ShowsRoom m s bytes
+  pub unsound : tells_now (device_of m entry s) ≡ false → ShowsRoom m s bytes
 
 -- the open job's record has no room, no switch is open, and none can follow
 pub record IsWornNow (m : Making) (entry : Told) (s : Parts) (j : FeeJob) : Type 0 where

@@ -21,10 +21,10 @@ use Rattle.fee_image.specs.BankLaws.{program_of}
 use Rattle.fee_switch.specs.declared.target.Stage.{Stage}
 use Rattle.fee_switch.specs.declared.target.Stage.TheVariants.{Erase, Head, Gate}
 use Rattle.fee_switch.specs.declared.target.Target.{Target}
-use Rattle.fee_switch.specs.Target.{IsTarget, IsWorking, head_of, op_at, phase_of, IsReady, banks_at, TargetsHold, CutsShow}
-use Rattle.fee_image.proofs.Erases.{erases_done, erases_fail}
+use Rattle.fee_switch.specs.Target.{IsTarget, IsWorking, head_of, op_at, phase_of, IsReady, IsSafe, banks_at, TargetsHold, CutsShow}
+use Rattle.fee_image.proofs.Erases.{erases_done, erases_fail, erases_keep_sound}
 use Rattle.fee_image.proofs.Ranges.{gates_stand, programs_stand}
-use Rattle.fee_image.proofs.Seals.{copies_fail, gates_done, gates_fail, heads_done}
+use Rattle.fee_image.proofs.Seals.{copies_fail, copies_keep_sound, gates_done, gates_fail, gates_keep_sound, heads_done}
 use Rattle.fee_image.proofs.Sectors.{layouts_are_legal}
 use Rattle.fee_image.proofs.Shows.{banks_show}
 use Rattle.fee_format.proofs.Torn.{byte_small}
@@ -75,8 +75,8 @@ module _ (t : Target) (numbers : List (DeviceNumber × ℕ)) (old new : List ℕ
   own : (stage : Stage) → MayLeave (op_at t stage) old new → MayLeave (op_at (record t { bank = s.target }) stage) old new
   own stage leaves = subst (λ (k : ℕ). MayLeave (op_at (record t { bank = k }) stage) old new) (sym at) leaves
 
-  erase_fails : (n : ℕ) → n < t.geometry.sectors / t.banks → s.phase ≡ phase_of t (Erase n) log → MayLeave (op_at t (Erase n)) old new → Holds l numbers new s
-  erase_fails n lt phase leaves = erases_fail t.geometry t.banks numbers old new s n is.legal is.shared banks phase lt (own (Erase n) leaves)
+  erase_fails : (n : ℕ) → n < t.geometry.sectors / t.banks → IsSoundImage l old → s.phase ≡ phase_of t (Erase n) log → MayLeave (op_at t (Erase n)) old new → Holds l numbers new s
+  erase_fails n lt sound phase leaves = erases_fail t.geometry t.banks numbers old new s n is.legal is.shared sound banks phase lt (own (Erase n) leaves)
 
   head_fails : s.phase ≡ Copying log → MayLeave (op_at t Head) old new → Holds l numbers new (record s { phase = Erasing 0 })
   head_fails phase leaves =
@@ -105,31 +105,40 @@ module _ (t : Target) (numbers : List (DeviceNumber × ℕ)) (old new : List ℕ
       let here : image_page l new s.target 1 ≡ gate_page l.page = subst (λ (bytes : List ℕ). image_page l bytes s.target 1 ≡ gate_page l.page) (sym done_own) stood.0 in
       gates_done l numbers old new s log next shape banks phase (own Gate leaves) here inside (λ e. other (e ∙ at))
 
-  by_stage : (next : ℕ) → next < t.banks → (next ≡ t.bank → ⊥) → (stage : Stage) (answer : FlashAnswer) → IsWorking (t.geometry.sectors / t.banks) stage → s.phase ≡ phase_of t stage log → IsReady t stage s → MayLeave (op_at t stage) old new → Leaves (op_at t stage) answer old new
+  by_stage : (next : ℕ) → next < t.banks → (next ≡ t.bank → ⊥) → (stage : Stage) (answer : FlashAnswer) → IsWorking (t.geometry.sectors / t.banks) stage → s.phase ≡ phase_of t stage log → IsReady t stage s → IsSafe stage l old → MayLeave (op_at t stage) old new → Leaves (op_at t stage) answer old new
       → Holds l numbers new (banks_at t stage s log next answer)
-  by_stage next inside other (Erase n) Done lt phase ready leaves done =
-      erases_done t.geometry t.banks numbers old new s n is.legal is.shared banks phase lt (own (Erase n) leaves) (subst (λ (k : ℕ). new ≡ after_op (op_at (record t { bank = k }) (Erase n)) old) (sym at) done)
-  by_stage next inside other (Erase n) Failed lt phase ready leaves also = erase_fails n lt phase leaves
-  by_stage next inside other (Erase n) Off lt phase ready leaves also = erase_fails n lt phase leaves
-  by_stage next inside other Head Done lt phase ready leaves done = head_stands phase ready leaves done
-  by_stage next inside other Head Failed lt phase ready leaves also = head_fails phase leaves
-  by_stage next inside other Head Off lt phase ready leaves also = head_fails phase leaves
-  by_stage next inside other Gate Done lt phase ready leaves done = gate_stands next inside other phase leaves done
-  by_stage next inside other Gate Failed lt phase ready leaves also = gates_fail l numbers old new s log shape banks phase (own Gate leaves)
-  by_stage next inside other Gate Off lt phase ready leaves also = gates_fail l numbers old new s log shape banks phase (own Gate leaves)
+  by_stage next inside other (Erase n) Done lt phase ready safe leaves done =
+      erases_done t.geometry t.banks numbers old new s n is.legal is.shared safe banks phase lt (own (Erase n) leaves) (subst (λ (k : ℕ). new ≡ after_op (op_at (record t { bank = k }) (Erase n)) old) (sym at) done)
+  by_stage next inside other (Erase n) Failed lt phase ready safe leaves also = erase_fails n lt safe phase leaves
+  by_stage next inside other (Erase n) Off lt phase ready safe leaves also = erase_fails n lt safe phase leaves
+  by_stage next inside other Head Done lt phase ready safe leaves done = head_stands phase ready leaves done
+  by_stage next inside other Head Failed lt phase ready safe leaves also = head_fails phase leaves
+  by_stage next inside other Head Off lt phase ready safe leaves also = head_fails phase leaves
+  by_stage next inside other Gate Done lt phase ready safe leaves done = gate_stands next inside other phase leaves done
+  by_stage next inside other Gate Failed lt phase ready safe leaves also = gates_fail l numbers old new s log shape banks phase (own Gate leaves)
+  by_stage next inside other Gate Off lt phase ready safe leaves also = gates_fail l numbers old new s log shape banks phase (own Gate leaves)
 
   -- CUTS
-  shown : (x : Banks) → Holds l numbers new x → ImageShows l new x.may × IsSoundImage l new
-  shown x h = (banks_show l numbers new x shape h, h.sound)
+  shown : (x : Banks) → Holds l numbers new x → ImageShows l new x.may
+  shown x h = banks_show l numbers new x shape h
 
-  cut_by_stage : (stage : Stage) → IsWorking (t.geometry.sectors / t.banks) stage → s.phase ≡ phase_of t stage log → MayLeave (op_at t stage) old new → ImageShows l new s.may × IsSoundImage l new
-  cut_by_stage (Erase n) lt phase leaves = shown s (erase_fails n lt phase leaves)
-  cut_by_stage Head lt phase leaves = shown (record s { phase = Erasing 0 }) (head_fails phase leaves)
-  cut_by_stage Gate lt phase leaves = shown s (gates_fail l numbers old new s log shape banks phase (own Gate leaves))
+  cut_by_stage : (stage : Stage) → IsWorking (t.geometry.sectors / t.banks) stage → s.phase ≡ phase_of t stage log → IsSafe stage l old → MayLeave (op_at t stage) old new
+      → ImageShows l new s.may × (IsSoundImage l old → IsSoundImage l new)
+  cut_by_stage (Erase n) lt phase safe leaves = (shown s (erase_fails n lt safe phase leaves), erases_keep_sound t.geometry t.banks old new t.bank n leaves)
+  cut_by_stage Head lt phase safe leaves =
+      let page = bank_head_page l.page (head_of t) in
+      let size : length page ≡ l.page = omega (arith, shape.page, length-replicate {A = ℕ} (l.page - 12) 255) in (
+        shown (record s { phase = Erasing 0 }) (head_fails phase leaves),
+        copies_keep_sound l numbers old new page s 0 log shape banks phase size (omega (arith, shape.pages)) (λ e. omega (arith, e)) (own Head leaves),
+      )
+  cut_by_stage Gate lt phase safe leaves = (
+    shown s (gates_fail l numbers old new s log shape banks phase (own Gate leaves)),
+    gates_keep_sound l numbers old new s log shape banks phase (own Gate leaves),
+  )
 
 pub targets_hold : TargetsHold
 targets_hold t numbers old new s log next answer is holds inside other leaves after =
-    by_stage t numbers old new s log is holds.banks holds.target next inside other t.stage answer is.working holds.phase holds.ready leaves after
+    by_stage t numbers old new s log is holds.banks holds.target next inside other t.stage answer is.working holds.phase holds.ready holds.safe leaves after
 
 pub cuts_show : CutsShow
-cuts_show t numbers old image s log is holds leaves = cut_by_stage t numbers old image s log is holds.banks holds.target t.stage is.working holds.phase leaves
+cuts_show t numbers old image s log is holds leaves = cut_by_stage t numbers old image s log is holds.banks holds.target t.stage is.working holds.phase holds.safe leaves

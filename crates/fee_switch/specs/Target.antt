@@ -10,7 +10,7 @@ use Rattle.fee_format.specs.Formats.{new_format}
 use Rattle.fee_format.specs.declared.bank_head.BankHead.{BankHead}
 use Rattle.fee_format.specs.BankHead.{bank_head_page}
 use Rattle.fee_format.specs.Pages.{gate_page}
-use Rattle.fee_image.specs.Image.{layout_of}
+use Rattle.fee_image.specs.Image.{Layout, layout_of}
 use Rattle.fee_image.specs.Sound.{IsSoundImage}
 use Rattle.fee_image.specs.Log.{Log}
 use Rattle.fee_image.specs.May.{IsWider}
@@ -65,12 +65,18 @@ abbrev pub IsReady : Target → Stage → Banks → Type 0
 IsReady t Head s = (head_of t ≡ next_head s.old) × (t.generation < 2 ^ 32) × IsWider s.copied s.may
 IsReady t _ s = Unit {0}
 
+-- an erase may make another bank stand, but in a sound image
+abbrev pub IsSafe : Stage → Layout → List ℕ → Type 0
+IsSafe (Erase done) l bytes = IsSoundImage l bytes
+IsSafe _ l bytes = Unit {0}
+
 -- the flash's bytes hold banks of which this is the target
 pub record HoldsTarget (t : Target) (numbers : List (DeviceNumber × ℕ)) (bytes : List ℕ) (s : Banks) (log : Log) : Type 0 where
   pub banks : Holds (layout_of t.geometry t.banks) numbers bytes s
   pub target : s.target ≡ t.bank
   pub phase : s.phase ≡ phase_of t t.stage log
   pub ready : IsReady t t.stage s
+  pub safe : IsSafe t.stage (layout_of t.geometry t.banks) bytes
 
 -- the banks after a step, by the flash's answer; where the target stands, the next switch may have any other one
 abbrev pub banks_at : Target → Stage → Banks → Log → ℕ → FlashAnswer → Banks
@@ -91,9 +97,9 @@ TargetsHold =
     → MayLeave (op_of t) old new → Leaves (op_of t) answer old new
     → Holds (layout_of t.geometry t.banks) numbers new (banks_after t s log next answer)
 
--- so a start-up on whatever a cut before or within a step leaves finds what may be found, in sound bytes
+-- so a start-up on whatever a cut before or within a step leaves finds what may be found, in sound bytes where they were sound
 abbrev pub CutsShow : Type 0
 CutsShow =
     (t : Target) (numbers : List (DeviceNumber × ℕ)) (old image : List ℕ) (s : Banks) (log : Log)
     → IsTarget t → HoldsTarget t numbers old s log → MayLeave (op_of t) old image
-    → let l = layout_of t.geometry t.banks in ImageShows l image s.may × IsSoundImage l image
+    → let l = layout_of t.geometry t.banks in ImageShows l image s.may × (IsSoundImage l old → IsSoundImage l image)

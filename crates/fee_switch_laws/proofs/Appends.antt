@@ -13,13 +13,14 @@ use Rattle.fee_format.specs.declared.rec_head.RecHead.{RecHead}
 use Rattle.fee_format.specs.declared.rec_head.RecordKind.{RecordKind}
 use Rattle.fee_image.specs.Bank.{Bank}
 use Rattle.fee_image.specs.Image.{layout_of, bank_in}
+use Rattle.fee_image.specs.Sound.{IsSoundImage}
 use Rattle.fee_image.specs.Log.{Log, HoldsLog}
 use Rattle.fee_image.specs.May.{May}
 use Rattle.fee_image.specs.Step.{page_due}
 use Rattle.fee_image.specs.Banks.{Old, OldBank, Phase, Copying, Banks, Holds, HoldsOld}
 use Rattle.fee_image.specs.Copies.{copied_of}
 use Rattle.fee_image.specs.BankLaws.{TakesAppends, program_of}
-use Rattle.fee_image.proofs.Seals.{old_logs_change, old_logs_go_on}
+use Rattle.fee_image.proofs.Seals.{logs_keep_sound, old_logs_change, old_logs_go_on}
 use Rattle.fee_image.proofs.Sectors.{layouts_are_legal}
 use Rattle.fee_image.proofs.Shows.{banks_show}
 use Rattle.fee_image.proofs.Steps.{next_is_fresh}
@@ -121,6 +122,14 @@ module _ (s : BanksState) (bodies : Bodies) (old : List ℕ) (may copied : May) 
     after : (answer : FlashAnswer) → (answer ≡ Off → ⊥) → Leaves (op_of s.log bodies.append) answer old new → HoldsState (after_step s.log answer) bodies.append new (may_after s.log bodies.append answer may)
     after answer on left = answers_hold s.log bodies.append old new may answer (record { state = active.state; holds = state; work = now.work; page = now.page }) on leaves left
 
+    pub keeps_sound : IsSoundImage (layout_in s) old → IsSoundImage (layout_in s) new
+    keeps_sound sound =
+        let l = layout_in s in
+        let f = next_is_fresh (bank_in l a.head.format a.bank) s.log.numbers old may log held_log (work_is_due s.log bodies.append now.work).0 in
+        let size : length (due_bytes s.log bodies.append) ≡ l.page = subst (λ (g : _). length (due_bytes s.log bodies.append) ≡ g) (λ i. (is.log.shape i).page) now.page.size in
+        logs_keep_sound l old new (due_bytes s.log bodies.append) a.bank (page_due log) (layouts_are_legal s.geometry s.banks is.legal is.shared) size f.low f.high
+        (subst (λ (o : Op). MayLeave o old new) op_is leaves) sound
+
     over : (changed : LogState) (may' : May) → changed.numbers ≡ s.log.numbers → bank_of changed ≡ bank_of s.log → HoldsState changed bodies.append new may'
         → HoldsBanks (record s { log = changed }) bodies new may' copied
     over changed may' numbers same h =
@@ -176,7 +185,7 @@ pub cut_appends_show : CutAppendsShow
 cut_appends_show s bodies old image may copied a is active taking now holds leaves =
     let h = (goes_on s bodies old may copied a is active holds taking now image leaves Failed (λ e. cc) leaves).banks in
     let t : BanksState = record s { log = after_step s.log Failed } in
-    (banks_show (layout_in s) s.log.numbers image (banks_shown t bodies may copied) (layouts_are_legal s.geometry s.banks is.legal is.shared) h, h.sound)
+    (banks_show (layout_in s) s.log.numbers image (banks_shown t bodies may copied) (layouts_are_legal s.geometry s.banks is.legal is.shared) h, keeps_sound s bodies old may copied a is active holds taking now image leaves)
 
 pub appends_given_up : AppendsGivenUp
 appends_given_up s bodies bytes body may copied a is active taking holds =

@@ -11,6 +11,7 @@ use Rattle.fls_model.specs.Op.{MayLeave, after_op}
 use Rattle.fee_format.specs.declared.rec_head.RecHead.{RecHead}
 use Rattle.fee_format.specs.Formats.{new_format}
 use Rattle.fee_image.specs.Image.{IsLegalLayout, bank_in}
+use Rattle.fee_image.specs.Sound.{IsSoundImage}
 use Rattle.fee_image.specs.RecordList.{pages_of_head}
 use Rattle.fee_image.specs.declared.place.Place.{Place}
 use Rattle.fee_image.specs.declared.place.Place.TheVariants.{Content, Invalid, Erased, Unwritten}
@@ -163,7 +164,8 @@ module _ (s : BanksState) (bodies : Bodies) (old new : List ℕ) (may : May) (fs
       advanced_holds x with_mark new may fs (Copy None) (first_stays x []) (record { flags = s.log.flags; is = refl; are = holds.flags })
       (subst (λ (g : List Flag). Held made with_mark new may (Copying (log_of (after_step made.copies Done) [])) g) not_last h)
 
-  pub mark_failed : MayLeave (op_of made.copies []) old new → Held s bodies new may (Erasing 0) (all_clear fs) × Each (λ f. f.copied ≡ false) (all_clear fs)
+  pub mark_failed : MayLeave (op_of made.copies []) old new
+      → Held s bodies new may (Erasing 0) (all_clear fs) × Each (λ f. f.copied ≡ false) (all_clear fs) × (IsSoundImage (layout_in s) old → IsSoundImage (layout_in s) new)
   mark_failed leaves = falls_back made with_mark old new may fs mark 0 true is_made target_made tail_made begins.page phase_made held leaves
 
 pub marks_begin : MarksBegin
@@ -177,5 +179,5 @@ marks_fall_back s bodies old new may fs source number is target begins holds lea
 
 pub cut_marks_show : CutMarksShow
 cut_marks_show s bodies old image may fs source number is target begins holds leaves =
-    let h = (mark_failed s bodies old image may fs source number is target begins holds leaves).0 in
-    (banks_show (layout_in s) s.log.numbers image (banks_in s bodies may (Erasing 0) (all_clear fs)) (layouts_are_legal s.geometry s.banks is.legal is.shared) h, h.sound)
+    let h = mark_failed s bodies old image may fs source number is target begins holds leaves in
+    (banks_show (layout_in s) s.log.numbers image (banks_in s bodies may (Erasing 0) (all_clear fs)) (layouts_are_legal s.geometry s.banks is.legal is.shared) h.0, h.2)

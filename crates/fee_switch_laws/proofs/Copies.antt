@@ -9,6 +9,7 @@ use Rattle.fls_model.specs.Op.{MayLeave, after_op}
 use Rattle.fee_format.specs.declared.rec_head.RecHead.{RecHead}
 use Rattle.fee_format.specs.Formats.{new_format}
 use Rattle.fee_image.specs.Image.{IsLegalLayout, bank_in}
+use Rattle.fee_image.specs.Sound.{IsSoundImage}
 use Rattle.fee_image.specs.RecordList.{pages_of_head}
 use Rattle.fee_image.specs.declared.place.Place.{Place}
 use Rattle.fee_image.specs.LogLaws.{erased_log}
@@ -18,6 +19,7 @@ use Rattle.fee_image.specs.Step.{page_due}
 use Rattle.fee_image.specs.Banks.{Old, Phase, Erasing, Copying, Banks, Holds, HoldsPhase, IsCopying}
 use Rattle.fee_image.specs.Copies.{Flag, Each, copied_of, marked}
 use Rattle.fee_image.proofs.Sectors.{layouts_are_legal, sectors_fill_banks}
+use Rattle.fee_image.proofs.Seals.{copies_keep_sound}
 use Rattle.fee_image.proofs.Shows.{banks_show}
 use Rattle.fee_image.proofs.Steps.{next_is_fresh}
 use Rattle.fee_log.specs.declared.tail.Tail.{Tail}
@@ -113,9 +115,9 @@ again_holds s bodies new may fs are h =
 
 -- THE LAST ERASE
 pub last_erases_stand : LastErasesStand
-last_erases_stand s bodies old new may fs n is course last erasing holds leaves done =
+last_erases_stand s bodies old new may fs n is course last erasing sound holds leaves done =
     let phase = ap (λ (c : Option Course). phase_shown c s bodies.copy) course in
-    let h = by_answer s bodies old new may (copied_of fs) is holds.banks (Erase n) Done (let t : n < sectors_of_bank s.geometry s.banks = omega arith in t) phase tt leaves done in
+    let h = by_answer s bodies old new may (copied_of fs) is holds.banks (Erase n) Done (let t : n < sectors_of_bank s.geometry s.banks = omega arith in t) phase tt sound leaves done in
     let all : (layout_in s).pages ≤ (n + 1) * pages_of_sector s.geometry = subst (λ (k : ℕ). (layout_in s).pages ≤ k * pages_of_sector s.geometry) (sym last) (omega (arith, sectors_fill_banks s.geometry s.banks is.legal is.shared)) in
     let begun = copies_start (layout_in s) s.log.numbers new (banks_in s bodies may (Erasing ((n + 1) * pages_of_sector s.geometry)) fs) ((n + 1) * pages_of_sector s.geometry) fs (layouts_are_legal s.geometry s.banks is.legal is.shared) h refl all erasing.clear in
     let log : erased_log s.log.numbers ≡ log_of s.copies bodies.copy = sym (ap (λ (c : LogState). log_of c bodies.copy) erasing.copies ∙ ap erased_log is.numbers) in
@@ -190,10 +192,12 @@ module _ (s : BanksState) (bodies : Bodies) (old new : List ℕ) (may : May) (fs
       subst (λ (x : Log). Held s bodies new may (Copying x) (flags_copied s.geometry.page sets log.tail fs)) (sym (steps_follow here bodies.copy Done)) h2
 
   pub failed_holds : before.phase ≡ Copying log → IsPageOf s.geometry.page (due_bytes here bodies.copy) → MayLeave (op_of here bodies.copy) old new
-      → Held s bodies new may (Erasing 0) (all_clear fs) × Each (λ f. f.copied ≡ false) (all_clear fs)
+      → Held s bodies new may (Erasing 0) (all_clear fs) × Each (λ f. f.copied ≡ false) (all_clear fs) × (IsSoundImage (layout_in s) old → IsSoundImage (layout_in s) new)
   failed_holds phase page leaves =
       let f = next_is_fresh (bank_in (layout_in s) new_format s.target) s.log.numbers old (copied_of fs) log (copying phase).holds tt in
-      failed_copies_hold (layout_in s) s.log.numbers old new (due_bytes here bodies.copy) before (page_due log) log fs legal holds.banks phase page.size f.high (let low = f.low in λ e. omega arith) leaves
+      let other : page_due log ≡ 1 → ⊥ = (let low = f.low in λ e. omega arith) in
+      let h2 = failed_copies_hold (layout_in s) s.log.numbers old new (due_bytes here bodies.copy) before (page_due log) log fs legal holds.banks phase page.size f.high other leaves in
+      (h2.0, h2.1, copies_keep_sound (layout_in s) s.log.numbers old new (due_bytes here bodies.copy) before (page_due log) log legal holds.banks phase page.size f.high other leaves)
 
 module _ (s : BanksState) (bodies : Bodies) (old new : List ℕ) (may : May) (fs : List Flag) (h : RecHead) (k : ℕ) (sets : Bool) where
   -- the laws of a page, for any log of the target
@@ -206,7 +210,7 @@ module _ (s : BanksState) (bodies : Bodies) (old new : List ℕ) (may : May) (fs
   abbrev FallsBack : LogState → Type 0
   FallsBack c =
       IsPageOf s.geometry.page (due_bytes c bodies.copy) → MayLeave (op_of c bodies.copy) old new → phase_shown s.course s bodies.copy ≡ Copying (log_of c bodies.copy)
-      → Held s bodies new may (Erasing 0) (all_clear fs) × Each (λ f. f.copied ≡ false) (all_clear fs)
+      → Held s bodies new may (Erasing 0) (all_clear fs) × Each (λ f. f.copied ≡ false) (all_clear fs) × (IsSoundImage (layout_in s) old → IsSoundImage (layout_in s) new)
 
   module _ (is : IsBanksState s) (target : IsCopyLog s) (tail : s.copies.tail ≡ Writes h k)
       (page : IsPageOf s.geometry.page (due_bytes s.copies bodies.copy)) (phase : phase_shown s.course s bodies.copy ≡ Copying (log_of s.copies bodies.copy)) (holds : HoldsFlags s bodies old may fs) where
@@ -221,7 +225,8 @@ module _ (s : BanksState) (bodies : Bodies) (old new : List ℕ) (may : May) (fs
         at state page' leaves' done' phase' =
             done_holds s bodies old new may fs (layouts_are_legal s.geometry s.banks is.legal is.shared) h k holds sets copies phase' state page' leaves' done'
 
-    pub falls_back : MayLeave (op_of s.copies bodies.copy) old new → Held s bodies new may (Erasing 0) (all_clear fs) × Each (λ f. f.copied ≡ false) (all_clear fs)
+    pub falls_back : MayLeave (op_of s.copies bodies.copy) old new
+        → Held s bodies new may (Erasing 0) (all_clear fs) × Each (λ f. f.copied ≡ false) (all_clear fs) × (IsSoundImage (layout_in s) old → IsSoundImage (layout_in s) new)
     falls_back leaves = subst FallsBack (sym same) at page leaves phase
       where
         at : FallsBack (log_at s h k)
@@ -251,5 +256,5 @@ copies_fall_back s bodies old new may fs w is target course work holds leaves =
 
 pub cut_copies_show : CutCopiesShow
 cut_copies_show s bodies old image may fs w is target course work holds leaves =
-    let h = (falls_back s bodies old image may fs work.head work.done w.sets is target work.tail work.page (phase_of_page s bodies w course) holds leaves).0 in
-    (banks_show (layout_in s) s.log.numbers image (banks_in s bodies may (Erasing 0) (all_clear fs)) (layouts_are_legal s.geometry s.banks is.legal is.shared) h, h.sound)
+    let h = falls_back s bodies old image may fs work.head work.done w.sets is target work.tail work.page (phase_of_page s bodies w course) holds leaves in
+    (banks_show (layout_in s) s.log.numbers image (banks_in s bodies may (Erasing 0) (all_clear fs)) (layouts_are_legal s.geometry s.banks is.legal is.shared) h.0, h.2)

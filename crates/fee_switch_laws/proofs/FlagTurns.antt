@@ -99,7 +99,7 @@ clear_flags (f ∷ fs) = (refl, clear_flags fs)
 -- while the target is erased the flags count for nothing
 reflagged : (l : Layout) (ns : List (DeviceNumber × ℕ)) (bytes : List ℕ) (s : Banks) (n : ℕ) (copied : May)
     → Holds l ns bytes (record s { phase = Erasing n }) → Holds l ns bytes (record s { phase = Erasing n; copied = copied })
-reflagged l ns bytes s n copied h = record { size = h.size; sound = h.sound; target = h.target; old = h.old; behind = h.behind; phase = h.phase }
+reflagged l ns bytes s n copied h = record { size = h.size; target = h.target; old = h.old; behind = h.behind; phase = h.phase }
 
 pub failed_copies_hold : FailedCopiesHold
 failed_copies_hold l ns old new page s q log fs legal holds phase size lt other leaves =

@@ -40,7 +40,7 @@ module _ (s : BanksState) (bodies : Bodies) (old new : List ℕ) (may copied : M
   target = record { legal = is.legal; shared = is.shared; bank = is.target; working = tt }
 
   held : HoldsTarget (target_at s Gate) s.log.numbers old (banks_shown s bodies may copied) log
-  held = record { banks = holds; target = refl; phase = phase; ready = tt }
+  held = record { banks = holds; target = refl; phase = phase; ready = tt; safe = tt }
 
   inside : target_after s.banks (stood s) < s.banks
   inside = next_inside s.banks s.target is.shared.low is.target

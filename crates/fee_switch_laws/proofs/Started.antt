@@ -3,7 +3,6 @@ use Rattle.std.proofs.Common.{◌≡◌, ◌<◌, ◌≤◌, ◌*◌, ℕ, List,
 use Rattle.std.specs.Prelude.{IfSome}
 use Rattle.nv_base.specs.Geometry.{pages_of_sector}
 use Rattle.fee_image.specs.Image.{IsLegalLayout, active_of}
-use Rattle.fee_image.specs.Sound.{IsSoundImage}
 use Rattle.fee_image.specs.Log.{Log}
 use Rattle.fee_image.specs.May.{May}
 use Rattle.fee_image.specs.Banks.{OldBank, Phase, Idle, Erasing, Holds}
@@ -22,20 +21,20 @@ use Rattle.fee_switch.specs.Banks.{BanksState}
 use Rattle.fee_switch_laws.specs.Shown.{Bodies, old_shown, phase_shown, layout_in}
 use Rattle.fee_switch_laws.specs.BankBytes.{StartsHold, BeginsHold, StartsFind}
 
-module _ (s : BanksState) (bodies : Bodies) (bytes : List ℕ) (copied : May) (legal : IsLegalLayout (layout_in s)) (size : (layout_in s).pages * (layout_in s).page * s.banks ≤ length bytes) (sound : IsSoundImage (layout_in s) bytes) (inside : s.target < s.banks) where
+module _ (s : BanksState) (bodies : Bodies) (bytes : List ℕ) (copied : May) (legal : IsLegalLayout (layout_in s)) (size : (layout_in s).pages * (layout_in s).page * s.banks ≤ length bytes) (inside : s.target < s.banks) where
   by_active : (active : Option ActiveBank) → active_shown active ≡ active_of (layout_in s) bytes → IfSome active (λ a. IsLoadedAs (layout_in s) bytes a.bank a.head s.log)
       → IfSome active (λ a. (a.bank ≡ s.target → ⊥) × (s.log.bank ≡ a.bank))
       → Holds (layout_in s) s.log.numbers bytes (record { old = old_shown active s.log bodies.append; target = s.target; phase = Idle; may = found_alone (layout_in s) bytes; copied = copied })
-  by_active None active loaded other = no_bank_loads (layout_in s) s.log.numbers bytes s.target copied size sound (sym active) inside
+  by_active None active loaded other = no_bank_loads (layout_in s) s.log.numbers bytes s.target copied size (sym active) inside
   by_active (Some a) active loaded other =
       let tail = tail_with s.log.tail bodies.append in
-      let h = banks_load (layout_in s) s.log.numbers bytes a.bank s.target a.head tail copied legal size sound (sym active) inside (λ e. other.0 (sym e)) (loaded.tail bodies.append) in
+      let h = banks_load (layout_in s) s.log.numbers bytes a.bank s.target a.head tail copied legal size (sym active) inside (λ e. other.0 (sym e)) (loaded.tail bodies.append) in
       subst (λ (log : Log). Holds (layout_in s) s.log.numbers bytes (record { old = OldBank a.bank a.head log; target = s.target; phase = Idle; may = found_alone (layout_in s) bytes; copied = copied }))
       (sym (loaded.loaded bodies.append)) h
 
 pub starts_hold : StartsHold
-starts_hold s bodies bytes copied is sound size =
-    let h = by_active s bodies bytes copied (layouts_are_legal s.geometry s.banks is.state.legal is.state.shared) size sound is.state.target s.active is.active is.loaded is.state.active in
+starts_hold s bodies bytes copied is size =
+    let h = by_active s bodies bytes copied (layouts_are_legal s.geometry s.banks is.state.legal is.state.shared) size is.state.target s.active is.active is.loaded is.state.active in
     subst (λ (c : Option Course). Holds (layout_in s) s.log.numbers bytes (record { old = old_shown s.active s.log bodies.append; target = s.target; phase = phase_shown c s bodies.copy; may = found_alone (layout_in s) bytes; copied = copied }))
     (sym is.closed) h
 

@@ -74,12 +74,12 @@ AppendsGoOn =
     → MayLeave (op_of s.log bodies.append) old new → Leaves (op_of s.log bodies.append) answer old new
     → HoldsWork (record s { log = after_step s.log answer }) bodies new (may_after s.log bodies.append answer may) copied
 
--- a start-up on whatever a cut before or within a page leaves finds what may be found, in sound bytes
+-- a start-up on whatever a cut before or within a page leaves finds what may be found, in sound bytes where they were sound
 abbrev pub CutAppendsShow : Type 0
 CutAppendsShow =
     (s : BanksState) (bodies : Bodies) (old image : List ℕ) (may copied : May) (a : ActiveBank)
     → IsBanksState s → IsActiveLog s a → IsTaking s bodies → IsDueNow s bodies.append → HoldsWork s bodies old may copied
-    → MayLeave (op_of s.log bodies.append) old image → ImageShows (layout_in s) image may × IsSoundImage (layout_in s) image
+    → MayLeave (op_of s.log bodies.append) old image → ImageShows (layout_in s) image may × (IsSoundImage (layout_in s) old → IsSoundImage (layout_in s) image)
 
 -- it is given up
 abbrev pub AppendsGivenUp : Type 0

@@ -2,7 +2,6 @@
 use Rattle.std.specs.Prelude.{◌≡◌, ◌≤◌, ◌*◌, ℕ, Bool, List, [], length, Some, None, IfSome}
 use Rattle.fls_model.specs.Op.{Op, MayLeave, after_op}
 use Rattle.fee_image.specs.Image.{active_of}
-use Rattle.fee_image.specs.Sound.{IsSoundImage}
 use Rattle.fee_image.specs.May.{May}
 use Rattle.fee_image.specs.Banks.{ImageShows}
 use Rattle.fee_image.specs.BankLaws.{found_alone}
@@ -21,11 +20,11 @@ pub record IsStarted (s : BanksState) (bytes : List ℕ) : Type 0 where
   pub loaded : IfSome s.active (λ a. IsLoadedAs (layout_in s) bytes a.bank a.head s.log)
   pub closed : s.course ≡ None
 
--- sound bytes hold them, and nothing but what is found may be found
+-- the bytes hold them, and nothing but what is found may be found
 abbrev pub StartsHold : Type 0
 StartsHold =
     (s : BanksState) (bodies : Bodies) (bytes : List ℕ) (copied : May)
-    → IsStarted s bytes → IsSoundImage (layout_in s) bytes → (layout_in s).pages * (layout_in s).page * s.banks ≤ length bytes
+    → IsStarted s bytes → (layout_in s).pages * (layout_in s).page * s.banks ≤ length bytes
     → HoldsBanks s bodies bytes (found_alone (layout_in s) bytes) copied
 
 -- a switch is opened

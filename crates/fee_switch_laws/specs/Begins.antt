@@ -72,9 +72,9 @@ MarksFallBack =
     MayLeave (op_of copies []) old new
     → HoldsFlags (fallen_back (record s { copies = after_step copies Failed }) (Copy None)) bodies new may (all_clear fs) × Each (λ f. f.copied ≡ false) (all_clear fs)
 
--- a start-up on whatever a cut before or within it leaves finds what may be found, in sound bytes
+-- a start-up on whatever a cut before or within it leaves finds what may be found, in sound bytes where they were sound
 abbrev pub CutMarksShow : Type 0
 CutMarksShow =
     (s : BanksState) (bodies : Bodies) (old image : List ℕ) (may : May) (fs : List Flag) (source : Source) (number : DeviceNumber)
     → IsBanksState s → IsCopyLog s → IsMarkBeginning s source number fs → HoldsFlags s bodies old may fs
-    → MayLeave (op_of (begun s.copies (mark_head source number)) []) old image → ImageShows (layout_in s) image may × IsSoundImage (layout_in s) image
+    → MayLeave (op_of (begun s.copies (mark_head source number)) []) old image → ImageShows (layout_in s) image may × (IsSoundImage (layout_in s) old → IsSoundImage (layout_in s) image)

@@ -18,11 +18,11 @@ use Rattle.fee_switch_laws.specs.Flagged.{HoldsFlags, IsErasing, IsCopyLog, IsIn
 use Rattle.fee_switch_laws.specs.Shown.{Bodies, layout_in}
 use Rattle.fee_switch_laws.specs.Targets.{op_in}
 
--- the last erase is done: the copies start with an empty log
+-- the last erase of a sound image is done: the copies start with an empty log
 abbrev pub LastErasesStand : Type 0
 LastErasesStand =
     (s : BanksState) (bodies : Bodies) (old new : List ℕ) (may : May) (fs : List Flag) (n : ℕ)
-    → IsBanksState s → s.course ≡ Some (CourseErase n) → n + 1 ≡ sectors_of_bank s.geometry s.banks → IsErasing s fs → HoldsFlags s bodies old may fs
+    → IsBanksState s → s.course ≡ Some (CourseErase n) → n + 1 ≡ sectors_of_bank s.geometry s.banks → IsErasing s fs → IsSoundImage (layout_in s) old → HoldsFlags s bodies old may fs
     → MayLeave (op_in s (Erase n)) old new → new ≡ after_op (op_in s (Erase n)) old
     → HoldsFlags (advanced s (CourseErase n)) bodies new may fs
 
@@ -44,9 +44,9 @@ CopiesFallBack =
     → HoldsFlags (fallen_back (record s { copies = after_step s.copies Failed }) (Copy (Some w))) bodies new may (all_clear fs)
     × Each (λ f. f.copied ≡ false) (all_clear fs)
 
--- a start-up on whatever a cut before or within a page leaves finds what may be found, in sound bytes
+-- a start-up on whatever a cut before or within a page leaves finds what may be found, in sound bytes where they were sound
 abbrev pub CutCopiesShow : Type 0
 CutCopiesShow =
     (s : BanksState) (bodies : Bodies) (old image : List ℕ) (may : May) (fs : List Flag) (w : Copying)
     → IsBanksState s → IsCopyLog s → s.course ≡ Some (Copy (Some w)) → IsInWork s bodies.copy w fs → HoldsFlags s bodies old may fs
-    → MayLeave (op_of s.copies bodies.copy) old image → ImageShows (layout_in s) image may × IsSoundImage (layout_in s) image
+    → MayLeave (op_of s.copies bodies.copy) old image → ImageShows (layout_in s) image may × (IsSoundImage (layout_in s) old → IsSoundImage (layout_in s) image)

@@ -2,23 +2,24 @@
 use Rattle.std.specs.Prelude.{◌≡◌, ◌<◌, ◌+◌, ◌^◌, ℕ, List, Some}
 use Rattle.nv_base.specs.Geometry.{sectors_of_bank}
 use Rattle.fls_model.specs.Op.{Op, MayLeave, after_op}
+use Rattle.fee_image.specs.Sound.{IsSoundImage}
 use Rattle.fee_image.specs.May.{May, IsWider}
 use Rattle.fee_course.specs.declared.course.Course.TheVariants.{Erase as CourseErase, Head as CourseHead}
 use Rattle.fee_switch.specs.declared.target.Stage.{Stage}
 use Rattle.fee_switch.specs.declared.target.Stage.TheVariants.{Erase, Head}
 use Rattle.fee_switch.specs.Target.{op_at}
 use Rattle.fee_switch.specs.Banks.{BanksState, IsBanksState, target_at, next_generation, advanced, fallen_back}
-use Rattle.fee_switch_laws.specs.Shown.{Bodies, HoldsBanks}
+use Rattle.fee_switch_laws.specs.Shown.{Bodies, layout_in, HoldsBanks}
 
 -- the operation of the target at a stage
 abbrev pub op_in : BanksState → Stage → Op
 op_in s stage = op_at (target_at s stage) stage
 
--- an erase before the last one is done
+-- an erase of a sound image before the last one is done
 abbrev pub ErasesGoOn : Type 0
 ErasesGoOn =
     (s : BanksState) (bodies : Bodies) (old new : List ℕ) (may copied : May) (n : ℕ)
-    → IsBanksState s → s.course ≡ Some (CourseErase n) → n + 1 < sectors_of_bank s.geometry s.banks → HoldsBanks s bodies old may copied
+    → IsBanksState s → s.course ≡ Some (CourseErase n) → n + 1 < sectors_of_bank s.geometry s.banks → IsSoundImage (layout_in s) old → HoldsBanks s bodies old may copied
     → MayLeave (op_in s (Erase n)) old new → new ≡ after_op (op_in s (Erase n)) old
     → HoldsBanks (advanced s (CourseErase n)) bodies new may copied
 
@@ -26,7 +27,7 @@ ErasesGoOn =
 abbrev pub ErasesFail : Type 0
 ErasesFail =
     (s : BanksState) (bodies : Bodies) (old new : List ℕ) (may copied : May) (n : ℕ)
-    → IsBanksState s → s.course ≡ Some (CourseErase n) → n < sectors_of_bank s.geometry s.banks → HoldsBanks s bodies old may copied
+    → IsBanksState s → s.course ≡ Some (CourseErase n) → n < sectors_of_bank s.geometry s.banks → IsSoundImage (layout_in s) old → HoldsBanks s bodies old may copied
     → MayLeave (op_in s (Erase n)) old new
     → HoldsBanks (fallen_back s (CourseErase n)) bodies new may copied
 

@@ -7,6 +7,8 @@ use Rattle.fee_format.specs.declared.bank_head.BankHead.{BankHead}
 use Rattle.fee_format.specs.declared.rec_head.RecHead.{RecHead}
 use Rattle.fee_image.specs.Found.{fits}
 use Rattle.fee_image.specs.Image.{Layout, bank_in, image_page}
+use Rattle.fee_image.specs.LogLaws.{IsFresh}
+use Rattle.fee_image.specs.Sound.{IsSoundImage}
 use Rattle.fee_image.specs.declared.place.Place.{Place}
 use Rattle.fee_image.specs.Log.{Tail, Open, Writes, Owes, Closed, Log, HoldsLog}
 use Rattle.fee_image.specs.May.{May, settling}
@@ -16,7 +18,7 @@ use Rattle.fee_image.specs.Banks.{Old, OldBank, Holds}
 use Rattle.fee_image.proofs.Doubts.{banks_widen, takes_within}
 use Rattle.fee_image.proofs.Logs.{records_begin as image_records_begin}
 use Rattle.fee_image.proofs.Pages.{appends_done, appends_fail as image_appends_fail}
-use Rattle.fee_image.proofs.Seals.{old_logs_change}
+use Rattle.fee_image.proofs.Seals.{logs_keep_sound, old_logs_change}
 use Rattle.fee_image.proofs.Steps.{given_up_holds, next_is_fresh}
 use Rattle.fee_told.specs.Slots.{Memory, banks_with, writes_of, writes_in, IsWorkOf, HasJob, settled_in, may_told}
 use Rattle.fee_told.specs.SlotLaws.{SamePlaces, IsBehindLog, GoesOn}
@@ -136,10 +138,16 @@ module _ (l : Layout) (numbers : List (DeviceNumber × ℕ)) (old new : List ℕ
   abbrev told : May
   told = may_told l numbers old m
 
-  low_page : page_due log < l.pages
-  low_page =
+  fresh : IsFresh (bank_in l h.format k) old (page_due log)
+  fresh =
       let holds = (old_of l numbers old m.target m.old told k h log takes.bank takes.held.banks.old).1 in
-      (next_is_fresh (bank_in l h.format k) numbers old told log holds.holds step.due).high
+      next_is_fresh (bank_in l h.format k) numbers old told log holds.holds step.due
+
+  low_page : page_due log < l.pages
+  low_page = fresh.high
+
+  keeps_sound : IsSoundImage l old → IsSoundImage l new
+  keeps_sound = logs_keep_sound l old new (bytes_due l.page log) k (page_due log) takes.legal step.size fresh.low fresh.high step.leaves
 
   behind : IsBehindLog m.old k (page_due log)
   behind = subst (λ (o : Old). IsBehindLog o k (page_due log)) (sym takes.bank) (λ e. omega arith)
@@ -154,7 +162,7 @@ module _ (l : Layout) (numbers : List (DeviceNumber × ℕ)) (old new : List ℕ
       kept_by l numbers old new m (with_log m k h (log_failed l.page log) stand) copied takes.lengths
       (image_appends_fail l numbers old new (banks_with m told copied) k h log takes.legal takes.held.banks takes.bank takes.takes step.due step.size step.leaves)
       (settled_same (log_failed l.page log) (failed_places l.page log log.tail)) goes (failed_work numbers (log_failed l.page log).places l.page log log.tail stand step.due)
-      (takes_copied l numbers new m.phase (OldBank k h (log_failed l.page log)) copied takes.takes)
+      (takes_copied l numbers new m.phase (OldBank k h (log_failed l.page log)) copied takes.takes) keeps_sound
 
   module _ (stands : image_page l new k (page_due log) ≡ bytes_due l.page log) where
     done_holds : Holds l numbers new (banks_with (with_log m k h (log_done l.page numbers log) m.stand) (may_done l.page told log) copied)
@@ -167,7 +175,7 @@ module _ (l : Layout) (numbers : List (DeviceNumber × ℕ)) (old new : List ℕ
         (settled_same (log_done l.page numbers log) (done_places l.page numbers log log.tail more)) (inl refl)
         (subst (λ (ps : List Place). IsWorkOf numbers ps m.stand (log_done l.page numbers log).tail) (sym (done_places l.page numbers log log.tail more))
         (done_work numbers log.places l.page numbers log log.tail m.stand step.due more (job_by l numbers old m copied k h log takes)))
-        (takes_copied l numbers new m.phase (OldBank k h (log_done l.page numbers log)) copied takes.takes)
+        (takes_copied l numbers new m.phase (OldBank k h (log_done l.page numbers log)) copied takes.takes) keeps_sound
 
     module _ (r : RecHead) (body : List ℕ) (done : ℕ) (writes : log.tail ≡ Writes r body done) (is_end : is_last l.page r done ≡ true) (stand : Stand) where
       done_is : log_done l.page numbers log ≡ record (log_behind l.page log r) { places = noted numbers log.places log.end r }

@@ -14,5 +14,5 @@ attached_is g (x ∷ xs) some = refl
 pub images_attach : ImagesAttach
 images_attach m image some = (
   λ n. ap (λ (i : List ℕ). held_as (banks_of m) i n (length_of m.numbers n)) (attached_is m.geometry image some),
-  λ sound. subst (IsSoundImage (banks_of m)) (sym (attached_is m.geometry image some)) sound,
+  (λ sound. subst (IsSoundImage (banks_of m)) (attached_is m.geometry image some) sound, λ sound. subst (IsSoundImage (banks_of m)) (sym (attached_is m.geometry image some)) sound),
 )

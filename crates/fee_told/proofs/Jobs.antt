@@ -27,7 +27,7 @@ pub banks_start : BanksStart
 banks_start l numbers bytes slots k target h tail copied stand may active other loaded =
     let b = bank_in l h.format k in
     let t : Memory = record { old = OldBank k h (loaded_log b numbers bytes tail); target = target; phase = Idle; stand = stand } in
-    let holds : Holds l numbers bytes (banks_with t (found_alone l bytes) copied) = banks_load l numbers bytes k target h tail copied may.legal may.size may.sound active may.target_in other loaded in
+    let holds : Holds l numbers bytes (banks_with t (found_alone l bytes) copied) = banks_load l numbers bytes k target h tail copied may.legal may.size active may.target_in other loaded in
     record {
       held = held_anew l numbers bytes t (found_alone l bytes) copied may.lengths holds (loaded_work numbers (loaded_log b numbers bytes tail).places b bytes tail stand loaded) tt;
       starts = starts_find l numbers bytes slots t copied may.possible holds may.shut;
@@ -36,7 +36,7 @@ banks_start l numbers bytes slots k target h tail copied stand may active other 
 pub no_bank_starts : NoBankStarts
 no_bank_starts l numbers bytes slots target copied stand may none =
     let t : Memory = record { old = NoBank; target = target; phase = Idle; stand = stand } in
-    let holds : Holds l numbers bytes (banks_with t (found_alone l bytes) copied) = no_bank_loads l numbers bytes target copied may.size may.sound none may.target_in in
+    let holds : Holds l numbers bytes (banks_with t (found_alone l bytes) copied) = no_bank_loads l numbers bytes target copied may.size none may.target_in in
     record {
       held = held_anew l numbers bytes t (found_alone l bytes) copied may.lengths holds tt tt;
       starts = starts_find l numbers bytes slots t copied may.possible holds may.shut;

@@ -6,6 +6,7 @@ use Rattle.memif.specs.Told.{Held, Slot, Stand, Open as OpenJob, Ended, slot_at}
 use Rattle.memif.specs.Marks.{IsPossible, Keeps}
 use Rattle.fee_format.specs.declared.bank_head.BankHead.{BankHead}
 use Rattle.fee_image.specs.Image.{Layout}
+use Rattle.fee_image.specs.Sound.{IsSoundImage}
 use Rattle.fee_image.specs.declared.place.Place.{Place}
 use Rattle.fee_image.specs.Log.{Open, Closed, Log}
 use Rattle.fee_image.specs.May.{May}
@@ -61,10 +62,11 @@ same_places (OldBank k h log) = (refl, refl, refl)
 -- a step behind which no more may be found, and in which the places stay
 pub kept_by : (l : Layout) (numbers : List (DeviceNumber × ℕ)) (old new : List ℕ) (m t : Memory) (copied : May)
     → AreLengths 0 numbers → Holds l numbers new (banks_with t (may_told l numbers old m) copied) → settled_in l numbers new t.old ≡ settled_in l numbers old m.old → GoesOn m.stand t.stand
-    → HasJob numbers t.stand t.old → IsCopied l numbers new t.phase t.old copied → IsKept l numbers old new m t copied
-kept_by l numbers old new m t copied lengths holds same goes job seal = record {
+    → HasJob numbers t.stand t.old → IsCopied l numbers new t.phase t.old copied → (IsSoundImage l old → IsSoundImage l new) → IsKept l numbers old new m t copied
+kept_by l numbers old new m t copied lengths holds same goes job seal sound = record {
   held = held_anew l numbers new t (may_told l numbers old m) copied lengths holds job seal;
   keeps = steps_keep l numbers old new m t copied holds same goes;
+  sound = sound;
 }
 
 -- a change in memory alone
@@ -74,4 +76,5 @@ pub kept_memory : (l : Layout) (numbers : List (DeviceNumber × ℕ)) (bytes : L
 kept_memory l numbers bytes m t before may copied lengths is_held holds same goes job seal = record {
   held = held_anew l numbers bytes t may copied lengths holds job seal;
   keeps = jobs_keep l numbers bytes m t before is_held same goes;
+  sound = λ sound. sound;
 }

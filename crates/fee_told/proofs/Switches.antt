@@ -17,9 +17,9 @@ use Rattle.fee_image.specs.May.{May}
 use Rattle.fee_image.specs.Step.{page_due, bytes_due, log_done, may_done}
 use Rattle.fee_image.specs.Banks.{Old, NoBank, OldBank, Phase, Idle, Erasing, Copying, Sealing, Holds, HoldsOld, HoldsPhase, next_head}
 use Rattle.fee_image.specs.BankLaws.{program_of}
-use Rattle.fee_image.proofs.Erases.{copies_begin as image_copies_begin, erases_done, erases_fail as image_erases_fail, switches_begin as image_switches_begin}
+use Rattle.fee_image.proofs.Erases.{copies_begin as image_copies_begin, erases_done, erases_fail as image_erases_fail, erases_keep_sound, switches_begin as image_switches_begin}
 use Rattle.fee_image.proofs.Pages.{copies_done}
-use Rattle.fee_image.proofs.Seals.{copies_fail as image_copies_fail, gates_done, gates_fail as image_gates_fail, heads_done}
+use Rattle.fee_image.proofs.Seals.{copies_fail as image_copies_fail, copies_keep_sound, gates_done, gates_fail as image_gates_fail, gates_keep_sound, heads_done, logs_keep_sound}
 use Rattle.fee_image.proofs.Steps.{next_is_fresh}
 use Rattle.fee_told.specs.Slots.{Memory, banks_with, IsWorkOf, HasJob, settled_in, may_told, AreCopied, IsCopied}
 use Rattle.fee_told.specs.SlotLaws.{IsHeld, IsBehindLog, GoesOn}
@@ -60,8 +60,8 @@ module _ (g : Geometry) (banks : ℕ) (numbers : List (DeviceNumber × ℕ)) (ol
   erase_fails : (stand : Stand) → GoesOn m.stand stand → HasJob numbers stand m.old → IsKept l numbers old new m (record m { stand = stand }) copied
   erase_fails stand goes job =
       kept_by l numbers old new m (record m { stand = stand }) copied step.stands.lengths
-      (image_erases_fail g banks numbers old new (banks_with m told copied) sector step.shape step.shared step.stands.held.banks step.phase step.inside step.leaves)
-      settled_stay goes job (copied_erasing l numbers new m.phase m.old copied (sector * pages_of_sector g) step.phase)
+      (image_erases_fail g banks numbers old new (banks_with m told copied) sector step.shape step.shared step.sound step.stands.held.banks step.phase step.inside step.leaves)
+      settled_stay goes job (copied_erasing l numbers new m.phase m.old copied (sector * pages_of_sector g) step.phase) (erases_keep_sound g banks old new m.target sector step.leaves)
 
 pub erases_fail : ErasesFail
 erases_fail g banks numbers old new m copied sector stand step goes job = erase_fails g banks numbers old new m copied sector step stand goes job
@@ -72,8 +72,8 @@ erases_go_on g banks numbers old new m copied sector step is =
     let told = may_told l numbers old m in
     let next = (sector + 1) * pages_of_sector g in
     kept_by l numbers old new m (record m { phase = Erasing next }) copied step.stands.lengths
-    (erases_done g banks numbers old new (banks_with m told copied) sector step.shape step.shared step.stands.held.banks step.phase step.inside step.leaves is)
-    (settled_stay g banks numbers old new m copied sector step) (inl refl) step.stands.held.job tt
+    (erases_done g banks numbers old new (banks_with m told copied) sector step.shape step.shared step.sound step.stands.held.banks step.phase step.inside step.leaves is)
+    (settled_stay g banks numbers old new m copied sector step) (inl refl) step.stands.held.job tt (erases_keep_sound g banks old new m.target sector step.leaves)
 
 -- THE TARGET'S PAGES
 behind_target : (l : Layout) (numbers : List (DeviceNumber × ℕ)) (bytes : List ℕ) (t q : ℕ) (o : Old) (may : May) → HoldsOld l numbers bytes t o may → IsBehindLog o t q
@@ -85,7 +85,7 @@ phase_of l numbers bytes m may copied phase is holds = subst (HoldsPhase l numbe
 
 -- an erase's target may be copied to as one likes
 recopied : (l : Layout) (numbers : List (DeviceNumber × ℕ)) (bytes : List ℕ) (m : Memory) (may before copied : May) (n : ℕ) → Holds l numbers bytes (banks_with (record m { phase = Erasing n }) may before) → Holds l numbers bytes (banks_with (record m { phase = Erasing n }) may copied)
-recopied l numbers bytes m may before copied n h = record { size = h.size; sound = h.sound; target = h.target; old = h.old; behind = h.behind; phase = h.phase }
+recopied l numbers bytes m may before copied n h = record { size = h.size; target = h.target; old = h.old; behind = h.behind; phase = h.phase }
 
 module _ (l : Layout) (numbers : List (DeviceNumber × ℕ)) (old new page : List ℕ) (m : Memory) (copied : May) (q : ℕ) (stands : Stands l numbers old m copied) (size : length page ≡ l.page) (lt : q < l.pages) (leaves : MayLeave (program_of l m.target q page) old new) where
   abbrev before : May
@@ -106,6 +106,7 @@ copies_fail l numbers old new page m before copied q log stand stands is size lt
     kept_by l numbers old new m (record m { phase = Erasing 0; stand = stand }) copied stands.lengths
     (recopied l numbers new m told before copied 0 (image_copies_fail l numbers old new page (banks_with m told before) q log stands.legal stands.held.banks is size lt other leaves))
     (page_stays l numbers old new page m before q stands size lt leaves) goes job tt
+    (copies_keep_sound l numbers old new page (banks_with m told before) q log stands.legal stands.held.banks is size lt other leaves)
 
 pub copies_go_on : CopiesGoOn
 copies_go_on l numbers old new m copied log stands is due size leaves done =
@@ -115,6 +116,7 @@ copies_go_on l numbers old new m copied log stands is due size leaves done =
     kept_by l numbers old new m (record m { phase = Copying (log_done l.page numbers log) }) (may_done l.page copied log) stands.lengths
     (copies_done l numbers old new (banks_with m told copied) log stands.legal stands.held.banks is due size leaves done)
     (page_stays l numbers old new (bytes_due l.page log) m copied (page_due log) stands size fresh.high leaves) (inl refl) stands.held.job tt
+    (logs_keep_sound l old new (bytes_due l.page log) m.target (page_due log) stands.legal size fresh.low fresh.high leaves)
 
 pub heads_go_on : HeadsGoOn
 heads_go_on l numbers old new m copied log stands is last copies leaves done =
@@ -126,6 +128,7 @@ heads_go_on l numbers old new m copied log stands is last copies leaves done =
     (heads_done l numbers old new (banks_with m told copied) log stands.legal stands.held.banks is last (copies_are_told l numbers old m copied copied stands.held copies) leaves done)
     (page_stays l numbers old new head m copied 0 stands size lt leaves) (inl refl) stands.held.job
     (still_copied l numbers old new head m copied 0 stands size lt leaves copies)
+    (copies_keep_sound l numbers old new head (banks_with m told copied) 0 log stands.legal stands.held.banks is size lt (λ e. omega (arith, e)) leaves)
 
 -- THE GATE
 seal_of : (l : Layout) (numbers : List (DeviceNumber × ℕ)) (bytes : List ℕ) (m : Memory) (copied : May) (log : Log) → m.phase ≡ Sealing log → IsHeld l numbers bytes m copied → AreCopied l numbers bytes m.old copied
@@ -144,6 +147,7 @@ gates_fail l numbers old new m copied log stand stands is leaves goes job =
     (image_gates_fail l numbers old new (banks_with m told copied) log stands.legal stands.held.banks is leaves)
     (page_stays l numbers old new gate m copied 1 stands size lt leaves) goes job
     (copied_sealing l numbers new m copied log is (still_copied l numbers old new gate m copied 1 stands size lt leaves (seal_of l numbers old m copied log is stands.held)))
+    (gates_keep_sound l numbers old new (banks_with m told copied) log stands.legal stands.held.banks is leaves)
 
 pub gates_end : GatesEnd
 gates_end l numbers old new m copied log next stands is empty leaves done inside other =
@@ -153,4 +157,5 @@ gates_end l numbers old new m copied log next stands is empty leaves done inside
     record {
       held = held_anew l numbers new t copied copied stands.lengths holds (subst (IsWorkOf numbers log.places m.stand) (sym empty) (none_open numbers log.places m.stand)) tt;
       keeps = steps_seal l numbers old new m t copied copied copied stands.held holds (seal_of l numbers old m copied log is stands.held) (inl refl);
+      sound = gates_keep_sound l numbers old new (banks_with m told copied) log stands.legal stands.held.banks is leaves;
     }

@@ -1,11 +1,12 @@
 -- What a turn makes of a device as a whole.
 use Rattle.std.specs.Prelude.{IfSome, IsTrue, if◌then◌else◌}
-use Rattle.std.proofs.Common.{◌≡◌, ℕ, ◌<◌, Bool, true, false, List, length, Option, Some, None, sym, ap, ◌∙◌, subst, arith}
+use Rattle.std.proofs.Common.{◌≡◌, ℕ, ◌<◌, ◌+◌, ◌∷◌, Bool, true, false, List, [], length, Option, Some, None, sym, ap, ◌∙◌, subst, arith, length-append}
 use Rattle.nv_base.specs.declared.mark.Mark.{Mark}
 use Rattle.memif.specs.Told.{Slot, Job, slot_at}
 use Rattle.memif.specs.Marks.{IsPossible, Keeps, DoubtsAt}
 use Rattle.fls_model.specs.Op.{Op, Program, Erase, MayLeave}
-use Rattle.fls_model.specs.Told.{bytes_now}
+use Rattle.fls_model.specs.Told.{Change, bytes_now}
+use Rattle.fee_image.specs.Sound.{IsSoundImage}
 use Rattle.fee_image.specs.May.{held_written}
 use Rattle.promise_device.specs.Making.{banks_of}
 use Rattle.promise_device.specs.Image.{held_in}
@@ -13,12 +14,12 @@ use Rattle.promise_device.proofs.Readings.{sound_flashes_compute}
 use Rattle.fls_told.specs.Device.{slot_with}
 use Rattle.fls_told.specs.Clock.{ImageIsPossible}
 use Rattle.fls_told.specs.Tells.{AreTold, OneSettles}
-use Rattle.fls_told.proofs.Clocks.{clocks_find_now}
+use Rattle.fls_told.proofs.Clocks.{clocks_find_now, now_behind}
 use Rattle.fls_told.proofs.Tells.{tells_doubt, tells_keep, tells_settle}
 use Rattle.fee_told.specs.Slots.{banks_with, slots_held, slots_found, may_told, held_of}
 use Rattle.fee_told.specs.SlotLaws.{Opened}
 use Rattle.fee_told.specs.Device.{Device, layout_in, flash_device, slots_in, told_of}
-use Rattle.fee_told.specs.Whole.{HeldFindsNow, UnstartedFindsNow, CutsAreTold, AreStarted, KeptIsTold, CommitsAreTold, OpensAreTold}
+use Rattle.fee_told.specs.Whole.{HeldFindsNow, UnstartedFindsNow, CutsAreTold, ToldBehind, AreStarted, KeptIsTold, CommitsAreTold, OpensAreTold}
 use Rattle.fee_told.proofs.Held.{images_find}
 use Rattle.fee_told.proofs.Kept.{kept_is_found}
 use Rattle.fee_told.proofs.Steps.{unstarted_is_found}
@@ -63,18 +64,23 @@ unstarted_finds_now d started some = clocks_find_now (flash_device d) (λ told.
 
 -- CUTS
 pub cuts_are_told : CutsAreTold
-cuts_are_told op d copied holds keep = (
+cuts_are_told op d copied holds sound keep = (
   λ told. both_some (bytes_now d.flash) _ _ (λ bytes. (image : List ℕ) → MayLeave op bytes image → ImageIsPossible (flash_device d) bytes image) holds.some (keep told) (λ bytes some kept image leaves.
       let k = kept image leaves in
       let more : 0 < length image = omega (arith, same_size op bytes image leaves) in
       possible_in d bytes image holds.started more (kept_is_found (layout_in d) d.making.numbers bytes image d.memory k.behind k.copied holds.legal k.kept)),
-  λ told. both_some (bytes_now d.flash) _ _ (λ bytes. (image : List ℕ) → MayLeave op bytes image → IsTrue ((flash_device d).reading.is_sound image)) holds.some (keep told) (λ bytes some kept image leaves.
+  λ told. both_some (bytes_now d.flash) _ _ (λ bytes. (image : List ℕ) → MayLeave op bytes image → IsTrue ((flash_device d).reading.is_sound image))
+      (both_some (bytes_now d.flash) _ _ (λ bytes. IsSoundImage (layout_in d) bytes × (0 < length bytes)) holds.some (sound told) (λ bytes some is. ((images_attach d.making bytes some).1.0 ((sound_flashes_compute d.making bytes).0 is), some)))
+      (keep told) (λ bytes was kept image leaves.
       let k = kept image leaves in
-      let more : 0 < length image = omega (arith, same_size op bytes image leaves) in
-      (sound_flashes_compute d.making image).1 ((images_attach d.making image more).1 k.kept.held.banks.sound)),
+      let more : 0 < length image = (let some = was.1 in omega (arith, same_size op bytes image leaves)) in
+      (sound_flashes_compute d.making image).1 ((images_attach d.making image more).1.1 (k.kept.sound was.0))),
 )
 
 -- BEFORE AND AFTER
+pub told_behind : ToldBehind
+told_behind d before change is told = now_behind (flash_device d) (let more : length d.operations ≡ length before + 1 = ap (length {A = Change}) is ∙ length-append before (change ∷ []) in omega arith) told
+
 module _ (d t : Device) (are : AreStarted d t) (old new : List ℕ) where
   was_is : (n : ℕ) → slot_with (flash_device d) old n ≡ slot_at d.making.numbers (slots_held (layout_in d) d.making.numbers old d.memory) n
   was_is n = ap (λ (s : List Slot). slot_at d.making.numbers s n) (slots_are d old are.old)

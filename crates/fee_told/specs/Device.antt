@@ -7,7 +7,7 @@ use Rattle.fee_image.specs.Image.{Layout}
 use Rattle.fee_image.specs.Banks.{Phase, Idle}
 use Rattle.promise_device.specs.Making.{Making, banks_of}
 use Rattle.promise_device.specs.Bridge.{reading_of}
-use Rattle.fls_told.specs.Device.{FlashDevice, tells_held, slots_now, flash_told}
+use Rattle.fls_told.specs.Device.{FlashDevice, tells_held, tells_now as flash_tells_now, slots_now, flash_told}
 use Rattle.fls_told.specs.Clock.{flash_clock}
 use Rattle.fee_told.specs.Slots.{Memory, slots_held, slots_found}
 
@@ -69,8 +69,12 @@ flash_device d = record {
 }
 
 -- WHAT IT TELLS
+-- what its numbers hold, from a sound image on; and before its first operation from any
 abbrev pub tells : Device → Bool
 tells d = tells_held (flash_device d)
+
+abbrev pub tells_now : Device → Bool
+tells_now d = flash_tells_now (flash_device d)
 
 abbrev pub slots_told : Device → Option (List Slot)
 slots_told d = slots_now (flash_device d)

@@ -6,7 +6,6 @@ use Rattle.memif.specs.Told.{Slot, Stand, is_open, slot_at}
 use Rattle.memif.specs.Marks.{IsPossible}
 use Rattle.fee_format.specs.declared.bank_head.BankHead.{BankHead}
 use Rattle.fee_image.specs.Image.{Layout, IsLegalLayout, bank_in, active_of}
-use Rattle.fee_image.specs.Sound.{IsSoundImage}
 use Rattle.fee_image.specs.LogLaws.{loaded_log, IsLoadedTail}
 use Rattle.fee_image.specs.Log.{Tail}
 use Rattle.fee_image.specs.May.{May}
@@ -22,12 +21,11 @@ JobsChange =
     → Stands l numbers bytes m copied → HasJob numbers stand m.old → IsHeld l numbers bytes (record m { stand = stand }) copied
 
 -- A START-UP
--- sound bytes of a flash, in which what was told so far makes possible what a start-up finds
+-- bytes of a flash, in which what was told so far makes possible what a start-up finds
 pub record MayStart (l : Layout) (numbers : List (DeviceNumber × ℕ)) (bytes : List ℕ) (slots : List Slot) (target : ℕ) (stand : Stand) : Type 0 where
   pub lengths : AreLengths 0 numbers
   pub legal : IsLegalLayout l
   pub size : l.pages * l.page * l.banks ≤ length bytes
-  pub sound : IsSoundImage l bytes
   pub target_in : target < l.banks
   pub possible : (n : ℕ) → IsPossible (slot_at numbers slots n) (held_of l numbers bytes n)
   pub shut : is_open stand ≡ false

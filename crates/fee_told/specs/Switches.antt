@@ -10,6 +10,7 @@ use Rattle.fls_model.specs.Op.{MayLeave, after_op}
 use Rattle.fee_format.specs.BankHead.{bank_head_page}
 use Rattle.fee_format.specs.Pages.{gate_page}
 use Rattle.fee_image.specs.Image.{Layout, IsLegalLayout, layout_of, image_page}
+use Rattle.fee_image.specs.Sound.{IsSoundImage}
 use Rattle.fee_image.specs.LogLaws.{erased_log}
 use Rattle.fee_image.specs.Log.{Open, Log}
 use Rattle.fee_image.specs.May.{May, IsAmong}
@@ -41,11 +42,12 @@ CopiesBegin =
     → IsKept l numbers bytes bytes m (record m { phase = Copying (erased_log numbers) }) copied
 
 -- AN ERASE
--- of the target's next sector, and whatever is left of it
+-- of the target's next sector, in a sound image, and whatever is left of it
 pub record IsErasing (g : Geometry) (banks : ℕ) (numbers : List (DeviceNumber × ℕ)) (old new : List ℕ) (m : Memory)
     (copied : May) (sector : ℕ) : Type 0 where
   pub shape : IsLegal g
   pub shared : HasBanks g banks
+  pub sound : IsSoundImage (layout_of g banks) old
   pub stands : Stands (layout_of g banks) numbers old m copied
   pub phase : m.phase ≡ Erasing (sector * pages_of_sector g)
   pub inside : sector < sectors_of_bank g banks

@@ -1,11 +1,11 @@
 -- What a turn makes of a device as a whole: from its banks to what it tells.
-use Rattle.std.specs.Prelude.{◌≡◌, ◌<◌, ℕ, true, false, IsTrue, List, length, IfSome}
+use Rattle.std.specs.Prelude.{◌≡◌, ◌<◌, ◌++◌, ◌∷◌, ℕ, true, false, IsTrue, List, [], length, IfSome}
 use Rattle.nv_base.specs.declared.instance.DeviceNumber.{DeviceNumber}
 use Rattle.memif.specs.Told.{Job}
 use Rattle.memif.specs.Marks.{KeepsAll, Settles, DoubtsAt}
 use Rattle.memif.specs.Clock.{FindsNow}
 use Rattle.fls_model.specs.Op.{Op, MayLeave}
-use Rattle.fls_model.specs.Told.{bytes_now}
+use Rattle.fls_model.specs.Told.{Change, bytes_now}
 use Rattle.fee_format.specs.declared.rec_head.RecHead.{RecHead}
 use Rattle.fee_image.specs.Image.{Layout, IsLegalLayout}
 use Rattle.fee_image.specs.May.{May, held_written}
@@ -15,7 +15,7 @@ use Rattle.fls_told.specs.Runs.{LeavesSound}
 use Rattle.fls_told.specs.Tells.{IsSame, AreTold}
 use Rattle.fee_told.specs.Slots.{Memory}
 use Rattle.fee_told.specs.SlotLaws.{IsHeld, Opened}
-use Rattle.fee_told.specs.Device.{Device, layout_in, flash_device, tells, told_of, clock_of}
+use Rattle.fee_told.specs.Device.{Device, layout_in, flash_device, tells, tells_now, told_of, clock_of}
 use Rattle.fee_told.specs.Kept.{IsKept}
 use Rattle.fee_told.specs.Appends.{IsCommitted}
 
@@ -25,7 +25,7 @@ pub record HoldsBanks (d : Device) (copied : May) : Type 0 where
   pub alike : ToldAlike (flash_device d)
   pub legal : IsLegalLayout (layout_in d)
   pub some : IfSome (bytes_now d.flash) (λ bytes. 0 < length bytes)
-  pub held : IsTrue (tells d) → IfSome (bytes_now d.flash) (λ bytes. IsHeld (layout_in d) d.making.numbers bytes d.memory copied)
+  pub held : IsTrue (tells_now d) → IfSome (bytes_now d.flash) (λ bytes. IsHeld (layout_in d) d.making.numbers bytes d.memory copied)
 
 -- what a start-up would find now is possible by what it tells
 abbrev pub HeldFindsNow : Type 0
@@ -42,17 +42,25 @@ pub record IsKeptSo (l : Layout) (numbers : List (DeviceNumber × ℕ)) (old ima
   pub copied : May
   pub kept : IsKept l numbers old image m behind copied
 
+-- an image that was sound is
+abbrev pub IsSoundNow : Device → Type 0
+IsSoundNow d = IsTrue (tells d) → IfSome (bytes_now d.flash) (λ bytes. IsTrue ((flash_device d).reading.is_sound bytes))
+
 -- whatever a cut of an operation leaves is kept
 abbrev pub CutsKeep : Op → Device → Type 0
 CutsKeep op d =
     IsTrue (tells d) → IfSome (bytes_now d.flash) (λ bytes. (image : List ℕ) → MayLeave op bytes image
     → IsKeptSo (layout_in d) d.making.numbers bytes image d.memory)
 
--- so it is possible by what is told, and sound
+-- so it is possible by what is told, and sound where the bytes are
 abbrev pub CutsAreTold : Type 0
-CutsAreTold = (op : Op) (d : Device) (copied : May) → HoldsBanks d copied → CutsKeep op d → CutsArePossible op (flash_device d) × LeavesSound op (flash_device d)
+CutsAreTold = (op : Op) (d : Device) (copied : May) → HoldsBanks d copied → IsSoundNow d → CutsKeep op d → CutsArePossible op (flash_device d) × LeavesSound op (flash_device d)
 
 -- BEFORE AND AFTER
+-- behind an operation it tells only from a sound image on
+abbrev pub ToldBehind : Type 0
+ToldBehind = (d : Device) (before : List Change) (change : Change) → d.operations ≡ before ++ change ∷ [] → IsTrue (tells_now d) → IsTrue (tells d)
+
 pub record AreStarted (d t : Device) : Type 0 where
   pub same : IsSame (flash_device d) (flash_device t)
   pub making : t.making ≡ d.making

@@ -1,9 +1,10 @@
 -- What the clock of a device tells_held, over each turn.
-use Rattle.std.specs.Prelude.{slice_get, unwrap_or, IsTrue, IfSome, option_map, min, ◌↔◌}
+use Rattle.std.specs.Prelude.{slice_get, unwrap_or, IsTrue, IfSome, is_some, option_map, min, ◌↔◌, ◌==◌, ◌&&◌, ◌||◌}
 use Rattle.std.specs.Option.{option_map_or}
-use Rattle.std.proofs.Common.{◌≡◌, ◌⊎◌, inl, inr, ℕ, zero, suc, ◌<◌, ◌≤◌, ◌+◌, List, [], ◌∷◌, ◌++◌, length, Option, Some, None, refl, sym, ap, ◌∙◌, subst, arith, length-append, take}
+use Rattle.std.proofs.Common.{◌≡◌, ◌⊎◌, inl, inr, ℕ, zero, suc, ◌<◌, ◌≤◌, ◌+◌, Bool, true, false, List, [], ◌∷◌, ◌++◌, length, Option, Some, None, refl, sym, ap, ◌∙◌, subst, arith, length-append, take}
 use Rattle.std.proofs.lemmas.List.{take-append-le, take_all}
-use Rattle.std.proofs.lemmas.Bool.{cases_lt, false≢true}
+use Rattle.std.proofs.lemmas.Bool.{cases_lt, and_from, and_parts, or_cases, false≢true}
+use Rattle.std.proofs.lemmas.Bool.Decides.{nat_tests}
 use Rattle.nv_base.specs.Count.{last_count, Rose}
 use Rattle.memif.specs.Told.{Held, Slot, slot_at}
 use Rattle.memif.specs.Marks.{IsPossible}
@@ -11,12 +12,12 @@ use Rattle.memif.specs.Clock.{When, After, CutIn, GoesOff, ArePossible}
 use Rattle.fls_model.specs.declared.flash.FlashAnswer.{FlashAnswer}
 use Rattle.fls_model.specs.Op.{Op, MayLeave}
 use Rattle.fls_model.specs.Step.{IsChanged}
-use Rattle.fls_model.specs.Told.{ToldBytes, Change, IfBothTold, bytes_now}
+use Rattle.fls_model.specs.Told.{Told, ToldBytes, Change, IfBothTold, bytes_now}
 use Rattle.promise_device.specs.Bridge.{may_be_closed}
 use Rattle.promise_device.specs.FlashRun.{TellsBytes, HasFailed, bytes_after}
 use Rattle.promise_device.specs.Reading.{Reading}
-use Rattle.fls_told.specs.Device.{FlashDevice, flash_run, is_told_sound, tells_held, slot_with, slots_now, flash_told}
-use Rattle.fls_told.specs.Clock.{IsMapOf, FindsAfter, FindsInCut, IsWornFor, may_find_of, off_in_of, MakesNone, ClocksStay, ClocksPass, WornNow, change_of, Makes, turn_of, ImageIsPossible, CutsArePossible, ToldAlike, CountsFailure, ClocksTick, ClocksFindNow}
+use Rattle.fls_told.specs.Device.{FlashDevice, flash_run, is_told_sound, tells_held, told_first, tells_now, slot_with, slots_now, flash_told}
+use Rattle.fls_told.specs.Clock.{IsMapOf, TellsAfter, FindsAfter, FindsInCut, IsWornFor, may_find_of, off_in_of, MakesNone, ClocksStay, ClocksPass, WornNow, change_of, Makes, turn_of, ImageIsPossible, CutsArePossible, ToldAlike, CountsFailure, ClocksTick, ClocksFindNow, TellsFirst}
 
 -- LISTS
 get_front : {X : Type 0} (xs : List X) (c : X) (k : ℕ) → k < length xs → slice_get (xs ++ c ∷ []) k ≡ slice_get xs k
@@ -50,14 +51,56 @@ pub record IsTold (o : Option (List ℕ)) : Type 0 where
 abbrev pub now_of : ToldBytes → List ℕ
 now_of b = b.now
 
-alike_told : (r : Reading) (first now : Option ToldBytes) → IfBothTold first now (λ a b. Unit {0}) → IsTrue (is_told_sound r (option_map now_of first)) → IsTold (option_map now_of now)
-alike_told r (Some a) (Some b) alike told = record { bytes = b.now; is = refl }
-alike_told r (Some a) None alike told = absurd alike
-alike_told r None (Some b) alike told = absurd alike
-alike_told r None None alike told = absurd (false≢true told)
+alike_told : (first now : Option ToldBytes) → IfBothTold first now (λ a b. Unit {0}) → IsTrue (is_some (option_map now_of first)) → IsTold (option_map now_of now)
+alike_told (Some a) (Some b) alike told = record { bytes = b.now; is = refl }
+alike_told (Some a) None alike told = absurd alike
+alike_told None (Some b) alike told = absurd alike
+alike_told None None alike told = absurd (false≢true told)
 
-pub told_now : (d : FlashDevice) → ToldAlike d → IsTrue (tells_held d) → IsTold (bytes_now d.flash)
-told_now d alike told = alike_told d.reading d.entry.bytes d.flash.bytes alike told
+sound_first : (r : Reading) (o : Option (List ℕ)) → IsTrue (is_told_sound r o) → IsTrue (is_some o)
+sound_first r (Some image) told = refl
+sound_first r None told = absurd (false≢true told)
+
+first_told : (d : FlashDevice) → ToldAlike d → IsTrue (told_first d) → IsTold (bytes_now d.flash)
+first_told d alike told = alike_told d.entry.bytes d.flash.bytes alike told
+
+pub held_told : (d : FlashDevice) → ToldAlike d → IsTrue (tells_held d) → IsTold (bytes_now d.flash)
+held_told d alike told = first_told d alike (sound_first d.reading (bytes_now d.entry) told)
+
+-- where it tells what its numbers hold
+eq_of : (m n : ℕ) → (m == n) ≡ true → m ≡ n
+eq_of m n is = grind (arith, nat_tests)
+
+or_last : (a b : Bool) → b ≡ true → (a || b) ≡ true
+or_last true b is = refl
+or_last false b is = is
+
+pub held_now : (d : FlashDevice) → IsTrue (tells_held d) → IsTrue (tells_now d)
+held_now d told = rw told refl
+
+pub first_now : (d : FlashDevice) → IsTrue (told_first d) → length d.operations ≡ 0 → IsTrue (tells_now d)
+first_now d told none = or_last (tells_held d) (told_first d && (length d.operations == 0)) (and_from (told_first d) (length d.operations == 0) told (ap (λ (n : ℕ). n == 0) none))
+
+now_cases : (d : FlashDevice) → IsTrue (tells_now d) → IsTrue (tells_held d) ⊎ (IsTrue (told_first d) × (length d.operations ≡ 0))
+now_cases d told = elim (or_cases (tells_held d) (told_first d && (length d.operations == 0)) told) [
+  | inl held ↦ inl held
+  | inr both ↦ inr (let parts = and_parts (told_first d) (length d.operations == 0) both in (parts.0, eq_of (length d.operations) 0 parts.1))
+]
+
+-- behind an operation only from a sound image on
+pub now_behind : (d : FlashDevice) → 0 < length d.operations → IsTrue (tells_now d) → IsTrue (tells_held d)
+now_behind d some told = elim (now_cases d told) [ inl held ↦ held | inr none ↦ absurd (let n = none.1 in omega (arith, n)) ]
+
+pub told_now : (d : FlashDevice) → ToldAlike d → IsTrue (tells_now d) → IsTold (bytes_now d.flash)
+told_now d alike told = elim (now_cases d told) [ inl held ↦ held_told d alike held | inr none ↦ first_told d alike none.0 ]
+
+after_first : (d : FlashDevice) (k : ℕ) → TellsAfter d k → IsTrue (told_first d)
+after_first d k (inl held) = sound_first d.reading (bytes_now d.entry) held
+after_first d k (inr first) = first.1
+
+after_now : (d : FlashDevice) (k : ℕ) → k ≡ length d.operations → TellsAfter d k → IsTrue (tells_now d)
+after_now d k at (inl held) = held_now d held
+after_now d k at (inr first) = first_now d first.1 (sym at ∙ first.0)
 
 pub if_some : (o : Option (List ℕ)) (P : List ℕ → Type 0) (bytes : List ℕ) → o ≡ Some bytes → IfSome o P → P bytes
 if_some o P bytes is holds = subst (λ (x : Option (List ℕ)). IfSome x P) is holds
@@ -67,8 +110,14 @@ some_if None P holds = tt
 some_if (Some bytes) P holds = holds bytes refl
 
 -- the slots are those of the bytes that are told
-pub slots_are : (d : FlashDevice) (bytes : List ℕ) → IsTrue (tells_held d) → bytes_now d.flash ≡ Some bytes → slots_now d ≡ Some (d.slots bytes)
+pub slots_are : (d : FlashDevice) (bytes : List ℕ) → IsTrue (tells_now d) → bytes_now d.flash ≡ Some bytes → slots_now d ≡ Some (d.slots bytes)
 slots_are d bytes told is = rw told (ap (option_map d.slots) is)
+
+pub tells_first : TellsFirst
+tells_first d alike told none =
+    let now = first_now d told (omega (arith, none)) in
+    let b = told_now d alike now in
+    ap (λ (o : Option (List Slot)). is_some o) (slots_are d b.bytes now b.is)
 
 -- where nothing is told anything is possible
 possible_by : (d : FlashDevice) (o : Option (List Slot)) (m : ℕ → Held) → ((slots : List Slot) → o ≡ Some slots → (n : ℕ) → IsPossible (slot_at d.fixed.numbers slots n) (m n)) → ArePossible (flash_told d) o m
@@ -78,7 +127,7 @@ possible_by d (Some slots) m holds = λ n. holds slots refl n
 pub some_is : {A : Type 0} (x y : A) → Some x ≡ Some y → x ≡ y
 some_is x y e = cc e
 
-pub possible_in : (d : FlashDevice) (bytes image : List ℕ) (m : ℕ → Held) → IsTrue (tells_held d) → bytes_now d.flash ≡ Some bytes → ImageIsPossible d bytes image → IsMapOf d image m → ArePossible (flash_told d) (slots_now d) m
+pub possible_in : (d : FlashDevice) (bytes image : List ℕ) (m : ℕ → Held) → IsTrue (tells_now d) → bytes_now d.flash ≡ Some bytes → ImageIsPossible d bytes image → IsMapOf d image m → ArePossible (flash_told d) (slots_now d) m
 possible_in d bytes image m told is possible finds = possible_by d (slots_now d) m (λ slots are n.
     subst (λ (s : List Slot). IsPossible (slot_at d.fixed.numbers s n) (m n)) (some_is (d.slots bytes) slots (sym (slots_are d bytes told is) ∙ are))
     (subst (λ (h : Held). IsPossible (slot_with d bytes n) h) (sym (finds n)) (possible n)))
@@ -92,11 +141,26 @@ clocks_find_now d holds m finds =
     let f : FindsAfter d (min (length d.operations) last_count) m = finds in
     let at : min (length d.operations) last_count ≡ length d.operations = omega (arith, f.small) in
     let is : bytes_now d.flash ≡ Some f.image = sym (bytes_at_end d) ∙ ap (bytes_after (flash_run d)) (sym at) ∙ f.is in
-    possible_in d f.image f.image m f.told is (if_some (bytes_now d.flash) (λ bytes. ImageIsPossible d bytes bytes) f.image is (holds f.told)) f.finds
+    let told = after_now d (min (length d.operations) last_count) at f.told in
+    possible_in d f.image f.image m told is (if_some (bytes_now d.flash) (λ bytes. ImageIsPossible d bytes bytes) f.image is (holds told)) f.finds
 
 -- WITHOUT AN OPERATION
 pub tells_of : (d t : FlashDevice) → t.reading ≡ d.reading → t.entry ≡ d.entry → tells_held t ≡ tells_held d
 tells_of d t reading entry = λ i. is_told_sound (reading i) (bytes_now (entry i))
+
+first_of : (d t : FlashDevice) → t.entry ≡ d.entry → told_first t ≡ told_first d
+first_of d t entry = ap (λ (e : Told). is_some (bytes_now e)) entry
+
+after_of : (d t : FlashDevice) (k : ℕ) → t.reading ≡ d.reading → t.entry ≡ d.entry → TellsAfter t k → TellsAfter d k
+after_of d t k reading entry (inl held) = inl (sym (tells_of d t reading entry) ∙ held)
+after_of d t k reading entry (inr first) = inr (first.0, sym (first_of d t entry) ∙ first.1)
+
+-- where it tells behind a call it did before
+pub now_before : (d t : FlashDevice) → t.reading ≡ d.reading → t.entry ≡ d.entry → length d.operations ≤ length t.operations → IsTrue (tells_now t) → IsTrue (tells_now d)
+now_before d t reading entry later told = elim (now_cases t told) [
+  | inl held ↦ held_now d (sym (tells_of d t reading entry) ∙ held)
+  | inr none ↦ first_now d (sym (first_of d t entry) ∙ none.0) (let n = none.1 in omega (arith, later, n))
+]
 
 map_of : (d t : FlashDevice) (image : List ℕ) (m : ℕ → Held) → t.reading ≡ d.reading → IsMapOf t image m → IsMapOf d image m
 map_of d t image m reading finds n = finds n ∙ (λ i. (reading i).held image n)
@@ -107,7 +171,7 @@ module _ (d t : FlashDevice) (none : MakesNone d t) where
 
   find_back : (w : When) (m : ℕ → Held) → may_find_of t w m → may_find_of d w m
   find_back (After k) m f = record {
-    told = sym (tells_of d t none.reading none.entry) ∙ f.told;
+    told = after_of d t k none.reading none.entry f.told;
     made = subst (λ (l : List Change). k ≤ length l) none.operations f.made;
     small = f.small;
     image = f.image;
@@ -241,8 +305,8 @@ module _ (op : Op) (answer : FlashAnswer) (d t : FlashDevice) (alike : ToldAlike
 
   find_past : (k : ℕ) (m : ℕ → Held) → k ≤ min count last_count → FindsAfter t k m → FindsAfter d k m
   find_past k m le f =
-      let told : IsTrue (tells_held d) = sym told_same ∙ f.told in
-      let b = told_now d alike told in
+      let told = after_of d t k makes.reading makes.entry f.told in
+      let b = first_told d alike (after_first d k told) in
       let le2 : k ≤ count = omega arith in
       record {
         told = told;
@@ -312,10 +376,10 @@ module _ (op : Op) (answer : FlashAnswer) (d t : FlashDevice) (alike : ToldAlike
   cut_now possible k m le lt f =
       let here : k ≡ count = omega (arith, one_more) in
       let told : IsTrue (tells_held d) = sym told_same ∙ f.told in
-      let b = told_now d alike told in
+      let b = held_told d alike told in
       let same : change ≡ f.leaves.0 = some_is change f.leaves.0 (sym last ∙ ap (λ (n : ℕ). slice_get t.operations n) (sym here) ∙ f.leaves.1) in
       let leaves : MayLeave op b.bytes f.image = subst (λ (x : List ℕ). MayLeave op x f.image) (before_is b.bytes b.is) (subst (λ (c : Change). MayLeave c.op c.before f.image) (sym same) f.leaves.2) in
-      possible_in d b.bytes f.image m told b.is (if_some (bytes_now d.flash) (λ bytes. (image : List ℕ) → MayLeave op bytes image → ImageIsPossible d bytes image) b.bytes b.is (possible told) f.image leaves) (map_of d t f.image m makes.reading f.finds)
+      possible_in d b.bytes f.image m (held_now d told) b.is (if_some (bytes_now d.flash) (λ bytes. (image : List ℕ) → MayLeave op bytes image → ImageIsPossible d bytes image) b.bytes b.is (possible told) f.image leaves) (map_of d t f.image m makes.reading f.finds)
 
   failed_now : CountsFailure answer d t → (k : ℕ) → min count last_count ≤ k → k < min (length t.operations) last_count → HasFailed (flash_run t) k → Rose d.faults t.faults
   failed_now counts k le lt f =

@@ -1,24 +1,27 @@
 -- What ties a device to its flash is kept by each call.
-use Rattle.std.specs.Prelude.{slice_get, unwrap_or, IsTrue, IfSome, option_map, drop}
+use Rattle.std.specs.Prelude.{slice_get, unwrap_or, IsTrue, IfSome, option_map, drop, count_by, min}
 use Rattle.std.specs.List.{list_all, list_any}
-use Rattle.std.proofs.Common.{◌≡◌, ◌⊎◌, inl, inr, ℕ, zero, suc, ◌<◌, ◌≤◌, ◌+◌, Bool, true, false, List, [], ◌∷◌, ◌++◌, length, Option, Some, None, refl, sym, ap, ◌∙◌, subst, arith}
+use Rattle.std.proofs.Common.{◌≡◌, ◌⊎◌, inl, inr, ℕ, zero, suc, ◌<◌, ◌≤◌, ◌+◌, Bool, true, false, List, [], ◌∷◌, ◌++◌, length, Option, Some, None, refl, sym, ap, ◌∙◌, subst, cond, arith}
+use Rattle.std.proofs.lemmas.List.Sums.{sum_by-cons}
 use Rattle.std.proofs.lemmas.Bool.{cases_lt, and_parts, and_from, or_cases, false≢true}
-use Rattle.nv_base.specs.Count.{Rose, WereCounted}
+use Rattle.nv_base.specs.Count.{last_count, next_count, Rose, WereCounted}
+use Rattle.nv_base.specs.Plan.{Planning, withheld_by}
 use Rattle.nv_base.specs.declared.geometry.Geometry.{Geometry}
 use Rattle.fls_model.specs.declared.flash.FlashAnswer.{FlashAnswer}
 use Rattle.fls_model.specs.declared.flash.FlashAnswer.TheVariants.{Done, Failed, Off}
 use Rattle.fls_model.specs.Attach.{IsFilled}
 use Rattle.fls_model.specs.Op.{Op, MayLeave}
+use Rattle.fls_model.specs.Plan.{PlanGoes}
 use Rattle.fls_model.specs.Step.{IsChanged, Leaves, Notes, HasCause}
 use Rattle.fls_model.specs.Told.{Told, ToldBytes, Change, TellsFor, IfBothTold, bytes_now, changes_in}
 use Rattle.promise_device.specs.Bridge.{is_failed, has_failed}
-use Rattle.promise_device.specs.FlashRun.{TellsBytes, IsChain, IsCutImage}
+use Rattle.promise_device.specs.FlashRun.{TellsBytes, IsChain, IsCutImage, is_none_done}
 use Rattle.promise_device.specs.Image.{attached}
 use Rattle.promise_device.specs.Reading.{Reading}
 use Rattle.fls_told.specs.Device.{FlashDevice, flash_run, tells_held}
 use Rattle.fls_told.specs.Clock.{MakesNone, Makes, change_of}
-use Rattle.fls_told.specs.Runs.{CountsCuts, IsWornSince, HasRun, RunsBegin, KeepsRun, RunsStay, counts_fault, LeavesSound, KeepsWorn, RunsGoOn}
-use Rattle.fls_told.proofs.Clocks.{some_if, if_some, IsTold, now_of, told_now, tells_of, early, last, one_more, get_below, some_is, told_before, before_is}
+use Rattle.fls_told.specs.Runs.{CountsCuts, CountsWithheld, IsWornSince, HasRun, RunsBegin, KeepsRun, RunsStay, counts_fault, LeavesSound, KeepsWorn, RunsGoOn}
+use Rattle.fls_told.proofs.Clocks.{some_if, if_some, IsTold, now_of, held_told, tells_of, early, last, one_more, get_below, some_is, told_before, before_is}
 use Rattle.fls_told.proofs.Runs.{told_sound, any_last}
 
 -- IT IS MADE
@@ -82,8 +85,38 @@ runs_begin d made attaches cuts =
       more = omega (arith, at.faults);
       cuts = cuts;
       worn = λ n since is. absurd (let none : Some since ≡ None = sym is ∙ made.worn n in cc none);
+      counted = inl (let none : length d.operations ≡ 0 = ap length made.operations in let ops = at.ops in omega arith);
+      withheld = λ zero'. subst CountsWithheld (sym at.planning) zero';
       none = λ is. (at.ops, at.cuts);
     }
+
+-- COUNTS
+counted_same : (e e' s s' : Told) (n n' : ℕ) → e ≡ e' → s'.ops ≡ s.ops → n' ≡ n → (s.ops + 0 ≡ e.ops + n) ⊎ (last_count ≤ e.ops + n) → (s'.ops + 0 ≡ e'.ops + n') ⊎ (last_count ≤ e'.ops + n')
+counted_same e e' s s' n n' entry ops many (inl all) = (let same : e.ops ≡ e'.ops = ap (λ (x : Told). x.ops) entry in inl (omega arith))
+counted_same e e' s s' n n' entry ops many (inr big) = (let same : e.ops ≡ e'.ops = ap (λ (x : Told). x.ops) entry in inr (omega arith))
+
+counted_more : (e a b n n' e' : ℕ) → e' ≡ e → b ≡ next_count a → n' ≡ n + 1 → (a + 0 ≡ e + n) ⊎ (last_count ≤ e + n) → (b + 0 ≡ e' + n') ⊎ (last_count ≤ e' + n')
+counted_more e a b n n' e' entry next more (inl all) = elim (cases_lt a last_count) [ inl small ↦ inl (omega arith) | inr full ↦ inr (omega arith) ]
+counted_more e a b n n' e' entry next more (inr big) = inr (omega arith)
+
+count_push : (xs : List ℕ) (k : ℕ) → count_by is_none_done (xs ++ k ∷ []) ≡ count_by is_none_done xs + count_by is_none_done (k ∷ [])
+count_push [] k = omega arith
+count_push (x ∷ xs) k =
+    let h : count_by is_none_done (xs ++ k ∷ []) ≡ count_by is_none_done xs + count_by is_none_done (k ∷ []) = count_push xs k in
+    let one : count_by is_none_done (x ∷ xs ++ k ∷ []) ≡ cond (is_none_done x) 1 0 + count_by is_none_done (xs ++ k ∷ []) = sum_by-cons (λ (n : ℕ). cond (is_none_done n) 1 0) x (xs ++ k ∷ []) in
+    let other : count_by is_none_done (x ∷ xs) ≡ cond (is_none_done x) 1 0 + count_by is_none_done xs = sum_by-cons (λ (n : ℕ). cond (is_none_done n) 1 0) x xs in
+    omega (arith, one, other, h)
+
+behind_withheld : (k n : ℕ) (xs : List ℕ) → n ≡ min (count_by is_none_done xs) last_count → withheld_by k n ≡ min (count_by is_none_done (xs ++ k ∷ [])) last_count
+behind_withheld zero n xs is = (let h : count_by is_none_done (xs ++ 0 ∷ []) ≡ count_by is_none_done xs + 1 = count_push xs 0 in omega (arith, h, is))
+behind_withheld (suc k) n xs is = (let h : count_by is_none_done (xs ++ suc k ∷ []) ≡ count_by is_none_done xs + 0 = count_push xs (suc k) in omega (arith, h, is))
+
+withheld_more : (answer : FlashAnswer) (p q : Planning) → PlanGoes answer p q → CountsWithheld p → CountsWithheld q
+withheld_more Done p q nears is = subst CountsWithheld (sym nears.planning) is
+withheld_more Failed p q (inl nears) is = subst CountsWithheld (sym nears.planning) is
+withheld_more Failed p q (inr same) is = subst CountsWithheld (sym same) is
+withheld_more Off p q (inl comes) is = subst CountsWithheld (sym comes.planning) (behind_withheld comes.plan.keep p.withheld p.came is)
+withheld_more Off p q (inr cut) is = cut.withheld ∙ is ∙ ap (λ (l : List ℕ). min (count_by is_none_done l) last_count) (sym cut.came)
 
 -- WITHOUT AN OPERATION
 rose_more : (a b c : ℕ) → Rose a b → b ≤ c → Rose a c
@@ -130,6 +163,10 @@ module _ (d t : FlashDevice) (has : HasRun d) (keeps : KeepsRun d t) where
     more = subst (λ (e : Told). e.faults ≤ t.flash.faults) (sym none.entry) (omega (arith, has.more, keeps.flash_faults));
     cuts = keeps.cuts;
     worn = λ n since is. worn_by n since (keeps.worn n since is);
+    counted = counted_same d.entry t.entry d.flash t.flash (length d.operations) (length t.operations) (sym none.entry) keeps.counts.0 (ap length none.operations) has.counted;
+    withheld = λ zero'. (
+        let was : CountsWithheld d.flash.planning = has.withheld (subst (λ (e : Told). e.planning.withheld ≡ 0) none.entry zero') in
+        keeps.came.1 ∙ was ∙ ap (λ (l : List ℕ). min (count_by is_none_done l) last_count) (sym keeps.came.0));
     none = λ is.
         let was = has.none (sym none.operations ∙ is) in
         (keeps.counts.0 ∙ was.0 ∙ ap (λ (e : Told). e.ops) (sym none.entry), keeps.counts.1 ∙ was.1 ∙ ap (λ (e : Told). e.cuts) (sym none.entry));
@@ -266,7 +303,7 @@ module _ (op : Op) (answer : FlashAnswer) (d t : FlashDevice) (has : HasRun d) (
           let below : k < length t.operations = get_below t.operations k x get in
           let here : k ≡ length d.operations = omega (arith, one_more op answer d t has.alike makes) in
           let same : change ≡ x = some_is change x (sym (last op answer d t has.alike makes) ∙ ap (λ (n : ℕ). slice_get t.operations n) (sym here) ∙ get) in
-          let b = told_now d has.alike (was_told told) in
+          let b = held_told d has.alike (was_told told) in
           leaves_sound b.bytes image (was_told told) b.is
           (subst (λ (o : List ℕ). MayLeave op o image) (before_is op answer d t has.alike makes b.bytes b.is) (subst (λ (c : Change). MayLeave c.op c.before image) (sym same) leaves))
     ]
@@ -297,6 +334,8 @@ module _ (op : Op) (answer : FlashAnswer) (d t : FlashDevice) (has : HasRun d) (
                 (subst (λ (l : List Change). IsTrue (list_all (λ (x : Change). d.reading.may_follow n x.op) (drop since l))) (sym makes.operations)
                 (all_more (λ (x : Change). d.reading.may_follow n x.op) since d.operations change (was.follow small) keeps.0));
           };
+      counted = counted_more d.entry.ops d.flash.ops t.flash.ops (length d.operations) (length t.operations) t.entry.ops (ap (λ (e : Told). e.ops) makes.entry) makes.asked.ops (one_more op answer d t has.alike makes) has.counted;
+      withheld = λ zero'. withheld_more answer d.flash.planning t.flash.planning makes.asked.planning (has.withheld (subst (λ (e : Told). e.planning.withheld ≡ 0) makes.entry zero'));
       none = λ is. absurd (let zero : length t.operations ≡ 0 = ap length is in omega (arith, one_more op answer d t has.alike makes, zero));
     }
 

@@ -1,24 +1,32 @@
 -- What ties a device to its flash, over its calls.
-use Rattle.std.specs.Prelude.{IsTrue, IfSome, IsSome, take, drop, option_map, ◌||◌}
+use Rattle.std.specs.Prelude.{IsTrue, IfSome, IsSome, is_some, take, drop, option_map, ◌||◌}
 use Rattle.std.specs.List.{list_all, list_any}
-use Rattle.std.proofs.Common.{◌≡◌, inl, inr, ℕ, zero, suc, ◌≤◌, ◌+◌, Bool, true, false, List, [], ◌∷◌, length, Option, Some, None, refl, sym, ◌∙◌, subst, arith}
+use Rattle.std.proofs.Common.{◌≡◌, ◌⊎◌, inl, inr, ℕ, zero, suc, ◌≤◌, ◌+◌, Bool, true, false, List, [], ◌∷◌, length, Option, Some, None, refl, sym, ap, ◌∙◌, subst, arith}
 use Rattle.std.proofs.lemmas.Bool.{and_parts, false≢true, or_cases}
 use Rattle.nv_base.specs.Count.{WereCounted}
+use Rattle.memif.specs.Told.{Slot}
 use Rattle.fls_model.specs.Told.{ToldBytes, Change, TellsFor, bytes_now, changes_in}
 use Rattle.promise_device.specs.Bridge.{is_failed, IsWornBy}
 use Rattle.promise_device.specs.FlashRun.{TellsBytes, TellsOperations, HasRoom, AreSeen, bytes_after}
 use Rattle.promise_device.specs.Reading.{BeginsSound}
 use Rattle.promise_device.proofs.FlashRun.{seen_all}
 use Rattle.promise_device.proofs.Closings.{closings_failed}
-use Rattle.fls_told.specs.Device.{FlashDevice, flash_run, is_told_sound, tells_held}
-use Rattle.fls_told.specs.Clock.{IsWornFor}
+use Rattle.fls_told.specs.Device.{FlashDevice, flash_run, is_told_sound, tells_held, told_first}
+use Rattle.fls_told.specs.Clock.{TellsAfter, IsWornFor}
 use Rattle.fls_told.specs.Runs.{HasRun, RunsBridge}
-use Rattle.fls_told.proofs.Clocks.{some_if, if_some}
+use Rattle.fls_told.proofs.Clocks.{some_if, if_some, held_now, slots_are}
 
 -- THE BRIDGE
 sound_told : (d : FlashDevice) → TellsBytes (flash_run d) → BeginsSound d.reading (flash_run d) → IsTrue (tells_held d)
 sound_told d t sound =
     subst (λ (o : Option (List ℕ)). IsTrue (is_told_sound d.reading o)) (sym t.entry) (if_some (bytes_now d.entry) (λ image. IsTrue (d.reading.is_sound image)) t.first t.entry sound)
+
+entry_told : (d : FlashDevice) → TellsBytes (flash_run d) → IsTrue (told_first d)
+entry_told d t = ap (λ (o : Option (List ℕ)). is_some o) t.entry
+
+after_told : (d : FlashDevice) → TellsBytes (flash_run d) → (k : ℕ) → BeginsSound d.reading (flash_run d) ⊎ (k ≡ 0) → TellsAfter d k
+after_told d t k (inl sound) = inl (sound_told d t sound)
+after_told d t k (inr first) = inr (first, entry_told d t)
 
 pub told_sound : (d : FlashDevice) (first : List ℕ) → bytes_now d.entry ≡ Some first → IsTrue (tells_held d) → IsTrue (d.reading.is_sound first)
 told_sound d first is told = subst (λ (o : Option (List ℕ)). IsTrue (is_told_sound d.reading o)) is told
@@ -76,21 +84,26 @@ worn_out d k n has w =
     }
 
 pub runs_bridge : RunsBridge
-runs_bridge cutter d has = record {
-  after = λ t sound k made small. some_if (bytes_after (flash_run d) k) _ (λ image is.
-      record { told = sound_told d t sound; made = made; small = small; image = image; is = is; finds = λ n. refl });
+runs_bridge d has = record {
+  after = λ t k sound made small. some_if (bytes_after (flash_run d) k) _ (λ image is.
+      record { told = after_told d t k sound; made = made; small = small; image = image; is = is; finds = λ n. refl });
   cut = λ t sound k image small leaves. record { told = sound_told d t.bytes sound; small = small; image = image; leaves = leaves; finds = λ n. refl };
+  tells = λ t. entry_told d t;
+  slots = λ t sound. ap (λ (o : Option (List Slot)). is_some o) (slots_are d t.last (held_now d (sound_told d t sound)) t.exit);
   sound = λ t sound. has.sound (sound_told d t sound);
   sound_cut = λ t sound k image small leaves. has.sound_cut (sound_told d t.bytes sound) k image leaves;
   operations = record {
     told_alike = has.alike;
     chain = has.chain;
-    seen = λ t. subst (AreSeen _ 0 t.bytes.last d.operations) (sym (if_changes (changes_in d.flash.bytes) d.operations t.changes has.changes t.told)) (seen_all _ 0 t.bytes.last d.operations);
+    seen = λ t. subst (AreSeen _ 0 t.bytes.last d.operations []) (sym (if_changes (changes_in d.flash.bytes) d.operations t.changes has.changes t.told)) (seen_all _ 0 t.bytes.last d.operations);
+    counted = has.counted;
     told = tells_operations d has;
   };
   ops = refl;
   faults = λ n more. counted n d.faults d.entry.faults d.flash.faults has.faults more;
   cuts = has.cuts;
+  off = λ off. off;
+  withheld = has.withheld;
   failed = λ k small failed. failed;
   worn = λ k n w. worn_out d k n has w;
 }

@@ -1,5 +1,5 @@
 -- What a device tells by the operations of its flash.
-use Rattle.std.specs.Prelude.{◌≡◌, ◌⊎◌, ◌<◌, ◌≤◌, ◌++◌, ◌∷◌, [], ℕ, IsTrue, List, length, take, slice_get, unwrap_or, Some, None, IfSome}
+use Rattle.std.specs.Prelude.{◌≡◌, ◌⊎◌, ◌<◌, ◌≤◌, ◌++◌, ◌∷◌, [], ℕ, true, IsTrue, List, length, take, slice_get, unwrap_or, Some, None, is_some, IfSome}
 use Rattle.nv_base.specs.Count.{last_count, Rose}
 use Rattle.memif.specs.declared.answer.DeviceTurn.{DeviceTurn}
 use Rattle.memif.specs.declared.answer.DeviceTurn.TheVariants as turn
@@ -13,16 +13,20 @@ use Rattle.fls_model.specs.Step.{IsAsked}
 use Rattle.fls_model.specs.Told.{Told, Change, IfBothTold, bytes_now}
 use Rattle.promise_device.specs.Bridge.{may_be_closed}
 use Rattle.promise_device.specs.FlashRun.{TellsBytes, IsCutImage, HasFailed, bytes_after}
-use Rattle.fls_told.specs.Device.{FlashDevice, flash_run, tells_held, slot_with, asked_ops, flash_told}
+use Rattle.fls_told.specs.Device.{FlashDevice, flash_run, tells_held, told_first, tells_now, slot_with, asked_ops, flash_told}
 
 -- THE CLOCK
 -- a map is what a start-up finds in an image
 abbrev pub IsMapOf : FlashDevice → List ℕ → (ℕ → Held) → Type 0
 IsMapOf d image m = (n : ℕ) → m n ≡ d.reading.held image n
 
+-- a moment's bytes are told: always from a sound image on, and before the first operation from any
+abbrev pub TellsAfter : FlashDevice → ℕ → Type 0
+TellsAfter d k = IsTrue (tells_held d) ⊎ ((k ≡ 0) × IsTrue (told_first d))
+
 -- of the bytes once k operations were made
 pub record FindsAfter (d : FlashDevice) (k : ℕ) (m : ℕ → Held) : Type 0 where
-  pub told : IsTrue (tells_held d)
+  pub told : TellsAfter d k
   pub made : k ≤ length d.operations
   pub small : k < last_count
   pub image : List ℕ
@@ -121,4 +125,8 @@ ClocksTick =
 
 abbrev pub ClocksFindNow : Type 0
 ClocksFindNow =
-    (d : FlashDevice) → (IsTrue (tells_held d) → IfSome (bytes_now d.flash) (λ bytes. ImageIsPossible d bytes bytes)) → FindsNow (flash_told d) (flash_clock d)
+    (d : FlashDevice) → (IsTrue (tells_now d) → IfSome (bytes_now d.flash) (λ bytes. ImageIsPossible d bytes bytes)) → FindsNow (flash_told d) (flash_clock d)
+
+-- where its flash told its bytes it tells what its numbers hold until its first operation
+abbrev pub TellsFirst : Type 0
+TellsFirst = (d : FlashDevice) → ToldAlike d → (flash_told d).tells ≡ true → (flash_told d).ops ≡ 0 → is_some (flash_told d).slots ≡ true

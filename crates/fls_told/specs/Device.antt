@@ -1,5 +1,5 @@
 -- A memory device over a flash, whatever it keeps on it, and what it tells of its numbers.
-use Rattle.std.specs.Prelude.{ℕ, min, Bool, false, if◌then◌else◌, List, length, Option, Some, None, option_map}
+use Rattle.std.specs.Prelude.{◌==◌, ◌&&◌, ◌||◌, ℕ, min, Bool, false, if◌then◌else◌, List, length, Option, Some, None, is_some, option_map}
 use Rattle.nv_base.specs.Count.{last_count}
 use Rattle.memif.specs.Told.{Slot, Fixed, Stand, PartTold, DeviceTold, no_part, slot_at}
 use Rattle.fls_model.specs.Told.{Told, Change, bytes_now}
@@ -43,8 +43,16 @@ is_told_sound r (Some image) = r.is_sound image
 abbrev pub tells_held : FlashDevice → Bool
 tells_held d = is_told_sound d.reading (bytes_now d.entry)
 
+-- its flash told its bytes when it was made
+abbrev pub told_first : FlashDevice → Bool
+told_first d = is_some (bytes_now d.entry)
+
+-- then it tells until its first operation, whatever the image
+abbrev pub tells_now : FlashDevice → Bool
+tells_now d = tells_held d || (told_first d && (length d.operations == 0))
+
 abbrev pub slots_now : FlashDevice → Option (List Slot)
-slots_now d = if tells_held d then option_map d.slots (bytes_now d.flash) else None
+slots_now d = if tells_now d then option_map d.slots (bytes_now d.flash) else None
 
 -- what it tells of a number where its flash has these bytes
 abbrev pub slot_with : FlashDevice → List ℕ → ℕ → Slot
@@ -62,6 +70,7 @@ abbrev pub flash_told : FlashDevice → DeviceTold
 flash_told d = record {
   fixed = d.fixed;
   slots = slots_now d;
+  tells = told_first d;
   started = d.started;
   stand = d.stand;
   switching = d.switching;

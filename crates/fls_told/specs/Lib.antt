@@ -3,3 +3,4 @@ pub mod Clock
 pub mod Parts
 pub mod Runs
 pub mod Tells
+pub mod Cases

@@ -1,7 +1,8 @@
 -- What ties a device to its flash, from its making on.
-use Rattle.std.specs.Prelude.{◌≡◌, ◌⊎◌, ◌<◌, ◌≤◌, ◌+◌, ℕ, Bool, IsTrue, List, [], length, drop, Some, None, IfSome}
+use Rattle.std.specs.Prelude.{◌≡◌, ◌⊎◌, ◌<◌, ◌≤◌, ◌+◌, ℕ, min, false, IsTrue, List, [], length, drop, count_by, Some, None, IfSome}
 use Rattle.std.specs.List.{list_all}
 use Rattle.nv_base.specs.Count.{last_count, next_count, Rose, WereCounted}
+use Rattle.nv_base.specs.Plan.{Planning, listed_anew}
 use Rattle.memif.specs.Told.{PartTold}
 use Rattle.fls_model.specs.declared.flash.FlashAnswer.{FlashAnswer}
 use Rattle.fls_model.specs.declared.flash.FlashAnswer.TheVariants.{Failed}
@@ -9,7 +10,7 @@ use Rattle.fls_model.specs.Attach.{IsAttached}
 use Rattle.fls_model.specs.Op.{Op, MayLeave}
 use Rattle.fls_model.specs.Told.{Told, TellsFor, bytes_now, changes_in}
 use Rattle.promise_device.specs.Bridge.{Bridges, has_failed}
-use Rattle.promise_device.specs.FlashRun.{TellsBytes, IsChain, IsCutImage}
+use Rattle.promise_device.specs.FlashRun.{TellsBytes, IsChain, IsCutImage, CountsAll, is_none_done}
 use Rattle.promise_device.specs.Image.{attached}
 use Rattle.promise_device.specs.Reading.{AttachesSound}
 use Rattle.fls_told.specs.Device.{FlashDevice, flash_run, tells_held, flash_told}
@@ -18,6 +19,10 @@ use Rattle.fls_told.specs.Clock.{flash_clock, MakesNone, Makes, ToldAlike}
 -- a flash counts each cut that no plan asked for
 abbrev pub CountsCuts : Told → Told → Type 0
 CountsCuts s t = (n : ℕ) → WereCounted n s.planning.unplanned t.planning.unplanned → WereCounted n s.cuts t.cuts
+
+-- of the planned cuts that came those that let nothing be done are counted
+abbrev pub CountsWithheld : Planning → Type 0
+CountsWithheld p = p.withheld ≡ min (count_by is_none_done p.came) last_count
 
 -- since a moment it is worn out for a number: the image says so now, and only such operations came that may follow
 pub record IsWornSince (d : FlashDevice) (n since : ℕ) : Type 0 where
@@ -40,16 +45,19 @@ pub record HasRun (d : FlashDevice) : Type 0 where
   pub more : d.entry.faults ≤ d.flash.faults
   pub cuts : CountsCuts d.entry d.flash
   pub worn : (n since : ℕ) → d.worn n ≡ Some since → IsWornSince d n since
+  -- the flash counted each operation, and each planned cut that let nothing be done
+  pub counted : CountsAll (flash_run d) []
+  pub withheld : d.entry.planning.withheld ≡ 0 → CountsWithheld d.flash.planning
   -- where it asked for no operation the flash counted none, and no cut
   pub none : d.operations ≡ [] → (d.flash.ops ≡ d.entry.ops) × (d.flash.cuts ≡ d.entry.cuts)
 
 -- its part when it was made
 abbrev pub part_before : FlashDevice → PartTold
-part_before d = record { faults = 0; flash_faults = d.entry.faults; off = d.entry.off; planning = d.entry.planning }
+part_before d = record { faults = 0; flash_faults = d.entry.faults; off = d.entry.off; planning = listed_anew d.entry.planning }
 
--- what it tells of its flash is so
+-- what it tells of its flash is so, with no cutter between them
 abbrev pub RunsBridge : Type 0
-RunsBridge = (cutter : Bool) (d : FlashDevice) → HasRun d → Bridges d.reading cutter (flash_run d) (part_before d) (flash_told d) (flash_clock d)
+RunsBridge = (d : FlashDevice) → HasRun d → Bridges d.reading false (flash_run d) (part_before d) (flash_told d) (flash_clock d)
 
 -- WHAT KEEPS IT
 -- a device that was made: its flash is attached, and it asked for no operation
@@ -67,6 +75,7 @@ pub record KeepsRun (d t : FlashDevice) : Type 0 where
   pub none : MakesNone d t
   pub bytes : t.flash.bytes ≡ d.flash.bytes
   pub counts : (t.flash.ops ≡ d.flash.ops) × (t.flash.cuts ≡ d.flash.cuts)
+  pub came : (t.flash.planning.came ≡ d.flash.planning.came) × (t.flash.planning.withheld ≡ d.flash.planning.withheld)
   pub flash_faults : d.flash.faults ≤ t.flash.faults
   pub faults : WereCounted t.faults t.entry.faults t.flash.faults
   pub cuts : CountsCuts t.entry t.flash

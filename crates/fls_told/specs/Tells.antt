@@ -1,10 +1,10 @@
 -- From what is told of each number to what a call of a device does.
-use Rattle.std.specs.Prelude.{◌≡◌, ◌==◌, ℕ, IsTrue, List, [], Some}
+use Rattle.std.specs.Prelude.{◌≡◌, ◌==◌, ◌≤◌, ℕ, IsTrue, List, [], length, Some}
 use Rattle.nv_base.specs.declared.mark.Mark.{Mark}
 use Rattle.memif.specs.Told.{Slot, IfElse}
 use Rattle.memif.specs.Marks.{Keeps, Doubts, SettlesAs, ComesFrom, KeepsAll, DoubtsAt, Settles, EachNumber}
 use Rattle.fls_model.specs.Told.{bytes_now}
-use Rattle.fls_told.specs.Device.{FlashDevice, tells_held, slot_with, flash_told}
+use Rattle.fls_told.specs.Device.{FlashDevice, tells_now, slot_with, flash_told}
 use Rattle.fls_told.specs.Clock.{ToldAlike}
 
 -- one device, before and after a call
@@ -12,12 +12,13 @@ pub record IsSame (d t : FlashDevice) : Type 0 where
   pub reading : t.reading ≡ d.reading
   pub numbers : t.fixed.numbers ≡ d.fixed.numbers
   pub entry : t.entry ≡ d.entry
+  pub later : length d.operations ≤ length t.operations
   pub old : ToldAlike d
   pub new : ToldAlike t
 
--- the bytes before and after are told
+-- the bytes before and after are told, and what they hold is told behind the call
 abbrev pub AreTold : FlashDevice → FlashDevice → List ℕ → List ℕ → Type 0
-AreTold d t old new = IsTrue (tells_held d) × (bytes_now d.flash ≡ Some old) × (bytes_now t.flash ≡ Some new)
+AreTold d t old new = IsTrue (tells_now t) × (bytes_now d.flash ≡ Some old) × (bytes_now t.flash ≡ Some new)
 
 abbrev pub TellsKeep : Type 0
 TellsKeep =

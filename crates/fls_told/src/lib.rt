@@ -3,5 +3,9 @@
 //!
 //! A device is told here by its reading (`Reading` of `promise_device`), what its flash tells, and the operations that it asked
 //! for. Its laws say that each call keeps the clock and the part as a memory device's, and that what is told holds of the
-//! flash. They are lemmas, and no function stands here; what the bytes mean is left to the device's own crates.
+//! flash. They are lemmas, and its functions are worked cases; what the bytes mean is left to the device's own crates.
 #![tactic(auto)]
+
+mod cases;
+
+pub use cases::{images_found, images_told};

@@ -62,6 +62,7 @@ order_none numbers kept up last given = record {
   wait = λ h. (0, refl, omega arith);
   second = λ h. refl;
   now = finds_now (told_with numbers kept up None last given);
+  told = λ tells none. refl;
 }
 
 figures_of : (numbers : List (DeviceNumber × ℕ)) (j : PlainJob) → place_of numbers j.number.0 ≡ Some j.place → figures_at (plain_fixed numbers) j.number.0 ≡ plain_figures
@@ -75,6 +76,7 @@ order_open numbers kept up j last given at = record {
   wait = λ h. (turns_of j.urgent, refl, turns_few j.urgent);
   second = λ h. refl;
   now = finds_now (told_with numbers kept up (Some j) last given);
+  told = λ tells none. refl;
 }
 
 pub in_order : (numbers : List (DeviceNumber × ℕ)) (kept : List Kept) (up : StartUps) (job : Option PlainJob) (last : JobResult) (given : Option ℕ) (now : DeviceTold) → told_with numbers kept up job last given ≡ now → IsSoundWith numbers kept up job last given → InOrder now no_clock

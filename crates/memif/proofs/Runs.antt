@@ -21,7 +21,7 @@ use Rattle.memif.specs.Marks.{IsPossible, Keeps, Doubts, SettlesAs, IfTold, Doub
 use Rattle.memif.specs.Clock.{Clock, SameClock, ArePossible}
 use Rattle.memif.specs.Calls.{Wish, refusal_of, Opens, Accepts, IsCanceled, Cancels, Turns, IsCut, JobTurns, EndsAs, Writes, Gives, is_read}
 use Rattle.memif.specs.Run.{Made, Known, wish_of, doubted, settled_by, at_one, settles, comes_to, after_call, known_after, known_by, known_of, known_slots, AreKnown, open_job, Ties, CutsAreAllowed, Makes, IsMade, AreMade, IsUrgentKnown, IsCallMade, AllBy}
-use Rattle.memif.proofs.Turning.{none_in, same_lasts, same_told, still_leaves, turn_lasts, works_fixed, is_off_at_off}
+use Rattle.memif.proofs.Turning.{none_in, told_before, same_lasts, same_told, still_leaves, turn_lasts, works_fixed, is_off_at_off}
 
 -- ONE NUMBER
 keeps_more : (a b c : Slot) → Keeps a b → Keeps b c → Keeps a c
@@ -46,12 +46,12 @@ settles_more mark a b c one two = record {
 module _ (numbers : List (DeviceNumber × ℕ)) (known : ℕ → Slot) where
   keeps_known : (o n : Option (List Slot)) → IfTold o n (λ s t. (i : ℕ) → Keeps (slot_at numbers s i) (slot_at numbers t i)) → AreKnown numbers o known → AreKnown numbers n known
   keeps_known (Some s) (Some t) each is = λ i. keeps_more (known i) (slot_at numbers s i) (slot_at numbers t i) (is i) (each i)
-  keeps_known None n each is = absurd is
-  keeps_known (Some s) None each is = absurd each
+  keeps_known None (Some t) each is = absurd each
+  keeps_known o None each is = tt
 
   same_known : (number : ℕ) (n : Option (List Slot)) → AreKnown numbers n known → AreKnown numbers n (at_one number (λ s. s) known)
   same_known number (Some t) is = λ i. elim (cases_Bool (i == number)) [ inl same ↦ rw same (is i) | inr other ↦ rw other (is i) ]
-  same_known number None is = absurd is
+  same_known number None is = tt
 
   changes_known : (number : ℕ) (change : Slot → Slot) (P : Slot → Slot → Type 0) → ((a b c : Slot) → Keeps a b → P b c → Keeps (change a) c) → (o n : Option (List Slot))
       → IfTold o n (λ s t. (i : ℕ) → IfElse (i == number) (P (slot_at numbers s i) (slot_at numbers t i)) (Keeps (slot_at numbers s i) (slot_at numbers t i))) → AreKnown numbers o known → AreKnown numbers n (at_one number change known)
@@ -63,8 +63,8 @@ module _ (numbers : List (DeviceNumber × ℕ)) (known : ℕ → Slot) where
         let now : Keeps (slot_at numbers s i) (slot_at numbers t i) = rw other at (each i) in
         rw other (keeps_more (known i) (slot_at numbers s i) (slot_at numbers t i) (is i) now)
   ]
-  changes_known number change P more None n each is = absurd is
-  changes_known number change P more (Some s) None each is = absurd each
+  changes_known number change P more None (Some t) each is = absurd each
+  changes_known number change P more o None each is = tt
 
 -- with no job that ends all stays as it is known
 stays : (d : DeviceTold) (stand : Stand) (k : Known) → d.stand ≡ stand → Ties d k → Ties d (comes_to (result_of stand) k)
@@ -87,6 +87,7 @@ module _ (c : DeviceCall) (old : DeviceTold) (clock : Clock) (new : DeviceTold) 
   nothing_made same clocks makes = record {
     makes = makes;
     fixed = ap (λ (d : DeviceTold). d.fixed) same;
+    told = λ is. ap (λ (d : DeviceTold). is_some d.slots) (sym same) ∙ is;
     ties = λ k ties. stays new new.stand k refl (subst (λ (d : DeviceTold). Ties d k) (sym same) ties);
     urgent = λ before known. subst (λ (d : DeviceTold). IsUrgentKnown before d.stand) (sym same) known;
     lasts = same_told old clock new clock_new same clocks;
@@ -97,6 +98,10 @@ module _ (c : DeviceCall) (old : DeviceTold) (clock : Clock) (new : DeviceTold) 
   doubts_known : (j : Job) (mark : Option Mark) (known : ℕ → Slot) → DoubtsAt j.number mark old new → AreKnown old.fixed.numbers old.slots known → AreKnown old.fixed.numbers new.slots (at_one j.number (doubted mark) known)
   doubts_known j None known marks is = same_known old.fixed.numbers known j.number new.slots (keeps_known old.fixed.numbers known old.slots new.slots marks is)
   doubts_known j (Some mark) known marks is = changes_known old.fixed.numbers known j.number (doubted (Some mark)) (Doubts mark) (doubts_more mark) old.slots new.slots marks is
+
+  doubts_told : (number : ℕ) (mark : Option Mark) → DoubtsAt number mark old new → is_some new.slots ≡ true → is_some old.slots ≡ true
+  doubts_told number None marks = told_before (λ n s t. Keeps s t) old new marks
+  doubts_told number (Some mark) marks = told_before (λ n s t. IfElse (n == number) (Doubts mark s t) (Keeps s t)) old new marks
 
   ops_stay : (w : Wish) → Opens w.job old new → new.ops ≡ old.ops
   ops_stay w opens = ap (λ (d : DeviceTold). d.ops) opens.only
@@ -112,6 +117,7 @@ module _ (c : DeviceCall) (old : DeviceTold) (clock : Clock) (new : DeviceTold) 
       record {
         makes = rw is (accepts.0.0, stand);
         fixed = fixed;
+        told = doubts_told w.job.number w.job.mark opens.marks;
         ties = λ k ties. rw is (record { slots = known_at old new (at_one w.job.number (doubted w.job.mark) k.slots) fixed (doubts_known w.job w.job.mark k.slots opens.marks ties.slots); job = ap open_job stand });
         urgent = λ before known. rw (is, stand) refl;
         lasts = same_lasts old clock new clock_new (ops_stay w opens) (ap (λ (d : DeviceTold). d.first.faults) opens.only) (ap (λ (d : DeviceTold). d.second.faults) opens.only) accepts.1.same;
@@ -143,6 +149,7 @@ cancel_made old clock new clock_new cancels = elim (cases_Bool (is_open old.stan
         record {
           makes = (refl, inr closed);
           fixed = fixed;
+          told = told_before (λ n s t. Keeps s t) old new is.marks;
           ties = λ k ties. rw stand (record { slots = known_at old new k.slots fixed (keeps_known old.fixed.numbers k.slots old.slots new.slots is.marks ties.slots); job = refl });
           urgent = λ before known. none_urgent before new.stand closed;
           lasts = same_lasts old clock new clock_new parts (ap (λ (d : DeviceTold). d.first.faults) is.only) (ap (λ (d : DeviceTold). d.second.faults) is.only) cancels.1.same;
@@ -176,6 +183,17 @@ module _ (old : DeviceTold) (clock : Clock) (new : DeviceTold) (clock_new : Cloc
   ends_job j None JobPending given k ends = absurd ends.1
   ends_job j (Some mark) JobPending given k ends = absurd ends.0
   ends_job j mark result given k ends = refl
+
+  ends_told : (number : ℕ) (mark : Option Mark) (r : JobResult) (given : List ℕ) → EndsAs mark number r given old new → (is_none mark ≡ true → new.slots ≡ old.slots) → is_some new.slots ≡ true → is_some old.slots ≡ true
+  ends_told number None r given ends same is = ap (λ (s : Option (List Slot)). is_some s) (sym (same refl)) ∙ is
+  ends_told number (Some mark) JobOk given ends same is = told_before (λ n s t. IfElse (n == number) (SettlesAs mark s t) (Keeps s t)) old new ends.0 is
+  ends_told number (Some mark) JobFailed given ends same is = told_before (λ n s t. Keeps s t) old new ends.0 is
+  ends_told number (Some mark) result given ends same is = absurd ends.0
+
+  turn_told : (p : Part) (a b : Stand) → JobTurns p a b old new clock_new → (is_read a ≡ true → new.slots ≡ old.slots) → is_some new.slots ≡ true → is_some old.slots ≡ true
+  turn_told p (Open j) (Open j') turns same is = told_before (λ n s t. Keeps s t) old new turns.1 is
+  turn_told p (Open j) (Ended r given) turns same is = ends_told j.number j.mark r given turns.0 same is
+  turn_told p (Ended r given) b turns same is = told_before (λ n s t. Keeps s t) old new turns.1 is
 
   turn_ties : (p : Part) (a b : Stand) → old.stand ≡ a → new.stand ≡ b → new.fixed ≡ old.fixed → JobTurns p a b old new clock_new → (is_read a ≡ true → new.slots ≡ old.slots) → (k : Known) → Ties old k → Ties new (comes_to (result_of b) k)
   turn_ties p (Open j) (Open j') was is fixed turns same k ties = record {
@@ -212,6 +230,7 @@ module _ (old : DeviceTold) (clock : Clock) (new : DeviceTold) (clock_new : Cloc
       record {
         makes = (refl, (Worked, (turns.0.0, near)));
         fixed = works_fixed p old new clock_new works;
+        told = turn_told p old.stand new.stand works.job (λ is. (works.read is).1);
         ties = turn_ties p old.stand new.stand refl refl (works_fixed p old new clock_new works) works.job (λ is. (works.read is).1);
         urgent = turn_urgent p old.stand new.stand works.job;
         lasts = (turn_lasts Worked old clock new clock_new turns).0;
@@ -224,6 +243,7 @@ module _ (old : DeviceTold) (clock : Clock) (new : DeviceTold) (clock_new : Cloc
         record {
           makes = (refl, (Off, (turns.0.0, is_off_at_off old clock new clock_new turns, same.0)));
           fixed = same.1;
+          told = told_before (λ n s t. Keeps s t) old new cut.0.marks;
           ties = λ k ties. stays new new.stand k refl (record {
             slots = known_at old new k.slots same.1 (keeps_known old.fixed.numbers k.slots old.slots new.slots cut.0.marks ties.slots);
             job = ap open_job same.0 ∙ ties.job;
@@ -262,9 +282,9 @@ made_push old [] m now made one = (subst (λ (d : DeviceTold). IsMade d m) made 
 made_push old (x ∷ run) m now made one = (made.0, made_push x.device run m now made.1 one)
 
 -- what was possible before a call is allowed by what was known
-possible : (d : DeviceTold) (slots : Option (List Slot)) (known : ℕ → Slot) (m : ℕ → Held) → AreKnown d.fixed.numbers slots known → ArePossible d slots m → (n : ℕ) → IsPossible (known n) (m n)
-possible d None known m is all n = absurd is
-possible d (Some s) known m is all n = elim (all n) [ inl same ↦ inl (same ∙ (is n).settled) | inr doubt ↦ inr ((is n).doubts (m n) doubt) ]
+possible : (d : DeviceTold) (slots : Option (List Slot)) (known : ℕ → Slot) (m : ℕ → Held) → is_some slots ≡ true → AreKnown d.fixed.numbers slots known → ArePossible d slots m → (n : ℕ) → IsPossible (known n) (m n)
+possible d None known m tells is all n = cc
+possible d (Some s) known m tells is all n = elim (all n) [ inl same ↦ inl (same ∙ (is n).settled) | inr doubt ↦ inr ((is n).doubts (m n) doubt) ]
 
 -- what a run keeps
 pub record IsKept (begun : DeviceTold) (asked : List DeviceCall) (shown : List DeviceStep) (run : List Made) (now : DeviceTold) (clock : Clock) : Type 0 where
@@ -274,8 +294,8 @@ pub record IsKept (begun : DeviceTold) (asked : List DeviceCall) (shown : List D
   pub fixed : now.fixed ≡ begun.fixed
   pub ops : begun.ops ≤ now.ops
   pub times : AllBy now.ops run
-  pub ends : is_some begun.slots ≡ true → Ties now (known_after (known_of begun) run)
-  pub cuts : is_some begun.slots ≡ true → CutsAreAllowed (known_of begun) begun run now clock
+  pub ends : is_some now.slots ≡ true → Ties now (known_after (known_of begun) run)
+  pub cuts : is_some now.slots ≡ true → CutsAreAllowed (known_of begun) begun run now clock
 
 pub begins : (d : DeviceTold) (clock : Clock) → is_open d.stand ≡ false → IsKept d [] [] [] d clock
 begins d clock closed = record {
@@ -308,13 +328,13 @@ goes_on begun calls steps run c s old clock new clock_new kept is_result is_ops 
       fixed = made.fixed ∙ kept.fixed;
       ops = omega (arith, kept.ops, made.lasts.ops);
       times = all_push new.ops run m (omega arith) (all_more old.ops new.ops run made.lasts.ops kept.times);
-      ends = λ tells. subst (Ties new) (sym (after_push (known_of begun) run m)) (subst (λ (r : JobResult). Ties new (after_call c s.taken r (known_after (known_of begun) run))) (sym is_result) (made.ties (known_after (known_of begun) run) (kept.ends tells)));
+      ends = λ tells. subst (Ties new) (sym (after_push (known_of begun) run m)) (subst (λ (r : JobResult). Ties new (after_call c s.taken r (known_after (known_of begun) run))) (sym is_result) (made.ties (known_after (known_of begun) run) (kept.ends (made.told tells))));
       cuts = λ tells o map le lt finds n.
           let late = by_late o (known_of begun) run m lt in
           elim (cases_lt o old.ops) [
-            | inl past ↦ subst (λ (e : Known). IsPossible (e.slots n) (map n)) (sym late) (kept.cuts tells o map le past (made.lasts.past.cut o map past finds) n)
+            | inl past ↦ subst (λ (e : Known). IsPossible (e.slots n) (map n)) (sym late) (kept.cuts (made.told tells) o map le past (made.lasts.past.cut o map past finds) n)
             | inr now ↦
                 let all = by_all o (known_of begun) run (all_more old.ops o run now kept.times) in
-                subst (λ (e : Known). IsPossible (e.slots n) (map n)) (sym (late ∙ all)) (possible old old.slots (known_after (known_of begun) run).slots map (kept.ends tells).slots (made.cut o map now lt finds) n)
+                subst (λ (e : Known). IsPossible (e.slots n) (map n)) (sym (late ∙ all)) (possible old old.slots (known_after (known_of begun) run).slots map (made.told tells) (kept.ends (made.told tells)).slots (made.cut o map now lt finds) n)
           ];
     }

@@ -4,11 +4,11 @@ use Rattle.std.specs.List.{Contains}
 use Rattle.memif.specs.declared.answer.DeviceTurn.TheVariants.{Idle, Worked, Off}
 use Rattle.memif.specs.declared.answer.DeviceTurn.{DeviceTurn}
 use Rattle.memif.specs.Told.{DeviceTold, PartTold, Slot, Held, Part, First, Second, part_at, with_part, slot_at, Stand, Open, Ended, is_open, is_off, figures_at}
-use Rattle.memif.specs.Marks.{IfTold}
+use Rattle.memif.specs.Marks.{IfTold, EachNumber}
 use Rattle.memif.specs.Clock.{Clock, SameClock, Past, After, CutIn, ArePossible, Ticks}
 use Rattle.memif.specs.Calls.{Works, IsCut, Turns, InOrder, JobTurns}
 use Rattle.memif.specs.Trials.{AreSettled, Lasts, IsFaultless}
-use Rattle.std.specs.Prelude.{◌||◌}
+use Rattle.std.specs.Prelude.{◌||◌, is_some}
 use Rattle.std.proofs.lemmas.Bool.{cases_lt}
 use Rattle.std.proofs.Math.Nat.{eq-or-lt_of_le}
 use Rattle.nv_base.specs.Count.{Rose}
@@ -17,14 +17,22 @@ use Rattle.nv_base.specs.Count.{Rose}
 pub none_in : (h : Held) → Contains [] h → ⊥
 none_in h has = absurd (omega (arith, has.1))
 
+-- what is told behind a call was told before it
+pub told_before : (P : ℕ → Slot → Slot → Type 0) (old new : DeviceTold) → EachNumber P old new → is_some new.slots ≡ true → is_some old.slots ≡ true
+told_before P old new each = by old.slots new.slots each
+  where
+    by : (s t : Option (List Slot)) → IfTold s t (λ u v. (n : ℕ) → P n (slot_at old.fixed.numbers u n) (slot_at old.fixed.numbers v n)) → is_some t ≡ true → is_some s ≡ true
+    by (Some u) (Some v) each is = refl
+    by None (Some v) each is = absurd each
+    by s None each is = cc
+
 settled_at : (d : DeviceTold) (old new : Option (List Slot)) (m : ℕ → Held) → IfTold old new (λ s t. (n : ℕ) → (slot_at d.fixed.numbers t n).doubts ≡ []) → ArePossible d new m → AreSettled d new m
 settled_at d (Some s) (Some t) m clear possible = λ n. elim (possible n) [
   | inl same ↦ same
   | inr has ↦ absurd (none_in (m n) (subst (λ (l : List Held). Contains l (m n)) (clear n) has))
 ]
-settled_at d (Some s) None m clear possible = absurd clear
 settled_at d None (Some t) m clear possible = absurd clear
-settled_at d None None m clear possible = tt
+settled_at d o None m clear possible = tt
 
 -- A COUNT THAT ROSE
 pub rose_before : (a b c : ℕ) → Rose a b → b ≤ c → Rose a c

@@ -57,6 +57,8 @@ pub record InOrder (d : DeviceTold) (c : Clock) : Type 0 where
   pub wait : urgent_first d.fixed d.stand ≡ false → (w : ℕ) × (d.wait ≡ Some w) × (w ≤ 2)
   pub second : d.fixed.two ≡ false → d.second ≡ no_part
   pub now : FindsNow d c
+  -- what it holds is told until the first operation, at least
+  pub told : d.tells ≡ true → d.ops ≡ 0 → is_some d.slots ≡ true
 
 -- behind any call but a turn: the clock is as it was
 pub record ClockStays (clock : Clock) (new : DeviceTold) (clock_new : Clock) : Type 0 where

@@ -31,11 +31,11 @@ pub record ComesFrom (old new : Slot) : Type 0 where
   pub doubts : (h : Held) → Contains new.doubts h → IsPossible old h
 
 -- ALL NUMBERS
--- a fact on the slots before and after, where they are told; they are told after a call exactly where they were before
+-- a fact on the slots before and after, where they are told after a call; then they were before it
 abbrev pub IfTold : Option (List Slot) → Option (List Slot) → (List Slot → List Slot → Type 0) → Type 0
+IfTold old None P = Unit {0}
+IfTold None (Some new) P = ⊥
 IfTold (Some old) (Some new) P = P old new
-IfTold None None P = Unit {0}
-IfTold old new P = ⊥
 
 -- a fact on the slot of each number, before and after
 abbrev pub EachNumber : (ℕ → Slot → Slot → Type 0) → DeviceTold → DeviceTold → Type 0

@@ -1,5 +1,5 @@
 -- A device in memory.
-use Rattle.std.specs.Prelude.{◌≡◌, ◌≢◌, ℕ, false, List, [], Some, map}
+use Rattle.std.specs.Prelude.{◌≡◌, ◌≢◌, ℕ, true, false, List, [], Some, map}
 use Rattle.nv_base.specs.declared.instance.DeviceNumber.{DeviceNumber}
 use Rattle.memif.specs.declared.answer.DeviceTurn.{DeviceTurn}
 use Rattle.memif.specs.declared.answer.DeviceTurn.TheVariants.{Off}
@@ -20,6 +20,7 @@ abbrev pub plain_store : List (DeviceNumber × ℕ) → DeviceTold
 plain_store numbers = record {
   fixed = plain_fixed numbers;
   slots = Some (map (λ n. no_slot) numbers);
+  tells = true;
   started = false;
   stand = Ended JobOk [];
   switching = false;

@@ -90,14 +90,14 @@ abbrev pub known_of : DeviceTold → Known
 known_of d = record { slots = known_slots d.fixed.numbers d.slots; job = None }
 
 abbrev pub AreKnown : List (DeviceNumber × ℕ) → Option (List Slot) → (ℕ → Slot) → Type 0
-AreKnown numbers None known = ⊥
+AreKnown numbers None known = Unit {0}
 AreKnown numbers (Some slots) known = (n : ℕ) → Keeps (known n) (slot_at numbers slots n)
 
 abbrev pub open_job : Stand → Option Job
 open_job (Open j) = Some j
 open_job (Ended result given) = None
 
--- what is settled is as it is known, each doubt is known, and so is the open job
+-- where it is told, what is settled is as it is known and each doubt is known; and so is the open job
 pub record Ties (d : DeviceTold) (k : Known) : Type 0 where
   pub slots : AreKnown d.fixed.numbers d.slots k.slots
   pub job : open_job d.stand ≡ k.job
@@ -137,9 +137,9 @@ pub record IsRun (old : DeviceTold) (asked : List DeviceCall) (shown : List Devi
   pub calls : map (λ m. m.call) run ≡ asked
   pub steps : map (λ m. m.step) run ≡ shown
   pub made : AreMade old run new
-  -- where it is told what the numbers hold, the end is as it is known, and so is each cut
-  pub ends : is_some old.slots ≡ true → Ties new (known_after (known_of old) run)
-  pub cuts : is_some old.slots ≡ true → CutsAreAllowed (known_of old) old run new clock
+  -- where it is told to the end what the numbers hold, the end is as it is known, and so is each cut
+  pub ends : is_some new.slots ≡ true → Ties new (known_after (known_of old) run)
+  pub cuts : is_some new.slots ≡ true → CutsAreAllowed (known_of old) old run new clock
 
 -- ON THE WAY
 abbrev pub asks_urgent : Option Wish → Bool
@@ -159,6 +159,8 @@ IsUrgentKnown urgent (Ended result given) = Unit {0}
 pub record IsCallMade (c : DeviceCall) (taken : Bool) (old : DeviceTold) (clock : Clock) (new : DeviceTold) (clock_new : Clock) : Type 0 where
   pub makes : Makes (wish_of c) c taken old new
   pub fixed : new.fixed ≡ old.fixed
+  -- what is told behind it was told before
+  pub told : is_some new.slots ≡ true → is_some old.slots ≡ true
   pub ties : (k : Known) → Ties old k → Ties new (after_call c taken (result_of new.stand) k)
   pub urgent : (before : Bool) → IsUrgentKnown before old.stand → IsUrgentKnown (urgent_after c taken before) new.stand
   pub lasts : Lasts old clock new clock_new

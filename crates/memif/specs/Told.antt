@@ -71,6 +71,8 @@ pub record DeviceTold : Type 0 where
   pub fixed : Fixed
   -- what the numbers hold, in their order, where it is told
   pub slots : Option (List Slot)
+  -- it is told until the first changing operation, at least
+  pub tells : Bool
   -- the last start-up answered Ok
   pub started : Bool
   pub stand : Stand

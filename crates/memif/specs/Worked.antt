@@ -2,6 +2,7 @@
 use Rattle.std.specs.Prelude.{◌≡◌, ◌+◌, ℕ, Bool, true, false, List, [], ◌∷◌, Some, None}
 use Rattle.nv_base.specs.declared.instance.DeviceNumber.{DeviceNumber}
 use Rattle.nv_base.specs.declared.mark.Mark.TheVariants.{Content}
+use Rattle.nv_base.specs.Plan.{no_planning}
 use Rattle.memif.specs.declared.answer.JobResult.{JobResult}
 use Rattle.memif.specs.declared.answer.JobResult.TheVariants.{JobOk, JobFailed, JobPending}
 use Rattle.memif.specs.declared.run.DeviceCall.{DeviceCall}
@@ -51,6 +52,10 @@ after_failure = record (at_rest doubtful) { stand = Ended JobFailed [] }
 abbrev pub after_success : DeviceTold
 after_success = record (at_rest (clear new_content)) { ops = 1 }
 
+-- it doesn't tell any more what its numbers hold
+abbrev pub silent : DeviceTold → DeviceTold
+silent d = record d { slots = None }
+
 -- one start-up more
 abbrev pub started_once_more : DeviceTold → DeviceTold
 started_once_more d = record d { started = true; starts = d.starts + 1 }
@@ -61,11 +66,11 @@ faulty d = record d { first = record no_part { faults = 1; flash_faults = 1 } }
 
 -- a power cut is planned for the operation that comes next, with none of its bytes done
 abbrev pub planned : DeviceTold → DeviceTold
-planned d = record d { first = record no_part { planning = record { plan = Some (record { left = 1; keep = 0 }); takes = 0; unplanned = 0 } } }
+planned d = record d { first = record no_part { planning = record no_planning { plan = Some (record { left = 1; keep = 0 }) } } }
 
--- the power is off, and no plan stands
+-- the power is off: the planned cut came, and none of its operation's bytes is done
 abbrev pub without_power : DeviceTold → DeviceTold
-without_power d = record d { first = record no_part { off = true } }
+without_power d = record d { first = record no_part { off = true; planning = record no_planning { came = 0 ∷ []; withheld = 1 } } }
 
 -- a device of two parts, whose number is of the second one
 abbrev pub of_two : DeviceTold → DeviceTold

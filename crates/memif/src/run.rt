@@ -80,7 +80,7 @@ fn urgent_after(call: &DeviceCall, taken: bool, before: bool) -> bool
 }
 
 /// Makes the calls in order on a device with no open job, but no cancel of an urgent job, and tells what stood after
-/// each. Where the device tells what its numbers hold: after the last call that is what the jobs that ended with `JobOk`
+/// each. Where the device tells to the end what its numbers hold: after the last call that is what the jobs that ended with `JobOk`
 /// settled, in order; and whatever a start-up may find after a power cut at any operation of the run, each number has
 /// what was settled then, or what a job may have left since.
 pub fn run_calls<D: MemDevice>(

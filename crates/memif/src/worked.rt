@@ -10,7 +10,7 @@ ghost use Rattle.memif.specs.Marks.{IsPossible, Keeps, Doubts, SettlesAs, ComesF
 ghost use Rattle.memif.specs.Calls.{refusal_of, Reads, Accepts, StartsUp, Turns, FaultsGrow};
 ghost use Rattle.memif.specs.Plain.{no_clock};
 ghost use Rattle.memif.specs.Run.{known_after, known_by};
-ghost use Rattle.memif.specs.Worked.{one_number, old_content, new_content, doubtful, clear, unstarted, at_rest, at_work, at_own_work, started_once_more, the_read, the_write, after_failure, after_success, faulty, planned, without_power, of_two, old_stands, fails_first, writing, known_before};
+ghost use Rattle.memif.specs.Worked.{one_number, old_content, new_content, doubtful, clear, unstarted, at_rest, at_work, at_own_work, started_once_more, the_read, the_write, after_failure, after_success, faulty, planned, without_power, of_two, old_stands, fails_first, silent, behind, writing, known_before};
 
 /// Worked cases of refusals, states and results.
 pub fn worked_answers()
@@ -48,6 +48,13 @@ pub fn worked_run()
     ensures at_the_first { (known_by 0 known_before writing).slots 128 ≡ doubtful }
     ensures at_the_second { (known_by 1 known_before writing).slots 128 ≡ doubtful }
     ensures at_the_end { (known_after known_before writing).slots 128 ≡ clear new_content }
+{}
+
+/// When a device may stop to tell what its numbers hold: with its first operation, and not before it; and it never begins.
+pub fn worked_telling()
+    ensures stops_with_an_operation { Turns Worked (at_work the_write doubtful) no_clock (silent after_success) no_clock }
+    ensures stops_before_one { ¬ Accepts (record { job = the_read; length = None }) (Ok tt) (at_rest doubtful) no_clock (silent (at_work the_read doubtful)) no_clock }
+    ensures begins { ¬ Accepts (record { job = the_read; length = None }) (Ok tt) (silent (behind 1)) no_clock (record (at_work the_read doubtful) { ops = 1 }) no_clock }
 {}
 
 /// What no device does: it doesn't go on for ever by faults, fail without a cause or by a fault of another part, let an

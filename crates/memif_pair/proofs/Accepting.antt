@@ -95,6 +95,7 @@ module _ (a : DeviceTold) (ca : Clock) (b : DeviceTold) (cb : Clock) (last : Boo
         only = λ i. record new_first {
           fixed = fixed_both (fixed_first i) b.fixed;
           started = (ap (λ (d : DeviceTold). d.started) opens.only) i && b.started;
+          tells = (ap (λ (d : DeviceTold). d.tells) opens.only) i && b.tells;
           switching = (ap (λ (d : DeviceTold). (told_both d b false course).switching) opens.only) i;
           starts = (ap (λ (d : DeviceTold). d.starts) opens.only) i;
           first = (ap (λ (d : DeviceTold). d.first) opens.only) i;
@@ -169,6 +170,7 @@ module _ (a : DeviceTold) (ca : Clock) (b : DeviceTold) (cb : Clock) (last : Boo
       opens_second = record {
         only = λ i. record new_second {
           fixed = fixed_both a.fixed (fixed_second i);
+          tells = a.tells && (ap (λ (d : DeviceTold). d.tells) opens.only) i;
           started = a.started && (ap (λ (d : DeviceTold). d.started) opens.only) i;
           switching = (ap (λ (d : DeviceTold). (told_both a d true course).switching) opens.only) i;
           second = (ap (λ (d : DeviceTold). d.first) opens.only) i;

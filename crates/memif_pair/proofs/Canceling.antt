@@ -26,6 +26,7 @@ module _ (a b : DeviceTold) (course : List Bool) (anew : DeviceTold) (t : AreTog
       only = λ i. record (told_both anew b false course) {
         fixed = fixed_both (fixed_first i) b.fixed;
         started = (ap (λ (d : DeviceTold). d.started) canceled.only) i && b.started;
+        tells = (ap (λ (d : DeviceTold). d.tells) canceled.only) i && b.tells;
         switching = (ap (λ (d : DeviceTold). (told_both d b false course).switching) canceled.only) i;
         starts = (ap (λ (d : DeviceTold). d.starts) canceled.only) i;
         first = (ap (λ (d : DeviceTold). d.first) canceled.only) i;
@@ -64,6 +65,7 @@ module _ (a b : DeviceTold) (course : List Bool) (bnew : DeviceTold) (t : AreTog
     canceled_second = record {
       only = λ i. record (told_both a bnew true course) {
         fixed = fixed_both a.fixed (fixed_second i);
+        tells = a.tells && (ap (λ (d : DeviceTold). d.tells) canceled.only) i;
         started = a.started && (ap (λ (d : DeviceTold). d.started) canceled.only) i;
         switching = (ap (λ (d : DeviceTold). (told_both a d true course).switching) canceled.only) i;
         second = (ap (λ (d : DeviceTold). d.first) canceled.only) i;

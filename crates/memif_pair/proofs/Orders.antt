@@ -1,13 +1,13 @@
 -- What holds of a pair at any time.
 use Rattle.std.specs.Prelude.{min, is_some, ◌&&◌, ◌^◌}
-use Rattle.std.proofs.Common.{◌≡◌, ℕ, ◌<◌, Bool, true, false, if◌then◌else◌, List, length, refl, sym, ap, ◌∙◌, subst, arith}
+use Rattle.std.proofs.Common.{◌≡◌, ℕ, ◌<◌, Bool, true, false, if◌then◌else◌, List, [], ◌∷◌, length, Option, Some, None, refl, sym, ap, ◌∙◌, subst, arith}
 use Rattle.nv_base.specs.Count.{last_count}
 use Rattle.nv_base.specs.declared.job.DeviceOp.{DeviceOp}
 use Rattle.nv_base.specs.declared.job.DeviceOp.TheVariants.{Read, Write, Invalidate, Erase}
-use Rattle.memif.specs.Told.{DeviceTold, Fixed, Figures, Part, First, Second, Stand, Open, Ended, no_figures, figures_at, length_of, is_open, most_of, most_open, op_of, part_of}
+use Rattle.memif.specs.Told.{DeviceTold, Fixed, Figures, Slot, Part, First, Second, Stand, Open, Ended, no_figures, figures_at, length_of, is_open, most_of, most_open, op_of, part_of}
 use Rattle.memif.specs.Clock.{Clock, After}
 use Rattle.memif.specs.Calls.{InOrder, urgent_first, is_first}
-use Rattle.memif_pair.specs.Pair.{told_both, fixed_both, is_second, ArePair, numbers_in, in_both}
+use Rattle.memif_pair.specs.Pair.{told_both, fixed_both, slots_both, is_second, ArePair, numbers_in, in_both}
 use Rattle.memif_pair.specs.PairClock.{IsCourse, own}
 use Rattle.memif_pair.specs.Laws.{pair_clock}
 use Rattle.memif_pair.specs.Together.{IsOwnJob}
@@ -63,6 +63,22 @@ urgent_of a b (Open j) of none =
 urgent_of a b (Ended result given) of none = refl
 
 -- IN ORDER
+-- where both tell what they hold until their first operation, so does the pair
+pub told_before_any : (a : DeviceTold) (ca : Clock) (b : DeviceTold) (cb : Clock) (course : List Bool) → IsCourse a b course → InOrder a ca → InOrder b cb
+    → (a.tells && b.tells) ≡ true → min (length course) last_count ≡ 0 → is_some (slots_both a.fixed b.fixed a.slots b.slots) ≡ true
+told_before_any a ca b cb [] is one two tells none =
+    let (first, second) = both a.tells b.tells tells in some a.slots b.slots (one.told first (sym is.first)) (two.told second (sym is.second))
+  where
+    both : (p q : Bool) → (p && q) ≡ true → (p ≡ true) × (q ≡ true)
+    both true q is = (refl, is)
+    both false q is = cc
+
+    some : (s t : Option (List Slot)) → is_some s ≡ true → is_some t ≡ true → is_some (slots_both a.fixed b.fixed s t) ≡ true
+    some (Some s) (Some t) p q = refl
+    some (Some s) None p q = q
+    some None t p q = p
+told_before_any a ca b cb (x ∷ course) is one two tells none = absurd (omega (arith, none))
+
 pub order_first : (a : DeviceTold) (ca : Clock) (b : DeviceTold) (cb : Clock) (course : List Bool) → ArePair a b → IsCourse a b course
     → IsFirstJob b a.stand → is_open b.stand ≡ false → InOrder a ca → InOrder b cb → InOrder (told_both a b false course) (pair_clock ca b cb course)
 order_first a ca b cb course pair is of closed one two =
@@ -74,6 +90,7 @@ order_first a ca b cb course pair is of closed one two =
       ready = one.ready;
       wait = λ none. one.wait (urgent_of a b a.stand of none);
       second = λ wrong. cc;
+      told = told_before_any a ca b cb course is one two;
       now = λ m finds.
           let end : min (length course) last_count ≡ length course = (let small = finds.small in omega (arith, small)) in
           let first : own false course (min (length course) last_count) ≡ a.ops = ap (own false course) end ∙ is.first in

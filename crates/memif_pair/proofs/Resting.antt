@@ -87,7 +87,7 @@ module _ (a : DeviceTold) (ca : Clock) (anew : DeviceTold) (ca_new : Clock) (b :
 
     works_rest : Works First old new (pair_clock ca_new b cb next)
     works_rest = record {
-      only = λ i. record new { fixed = fixed_both (fixed i) b.fixed; started = (ap (λ (d : DeviceTold). d.started) works.only) i && b.started; starts = (ap (λ (d : DeviceTold). d.starts) works.only) i };
+      only = λ i. record new { fixed = fixed_both (fixed i) b.fixed; started = (ap (λ (d : DeviceTold). d.started) works.only) i && b.started; tells = (ap (λ (d : DeviceTold). d.tells) works.only) i && b.tells; starts = (ap (λ (d : DeviceTold). d.starts) works.only) i };
       up = λ i. works.up i && up some i;
       of = is_first_of old.fixed old.stand no_job;
       part = part_both a ca anew ca_new b cb course next pair is goes fixed false works.part;
@@ -101,7 +101,7 @@ module _ (a : DeviceTold) (ca : Clock) (anew : DeviceTold) (ca_new : Clock) (b :
   cut_rest cut =
       let fixed : anew.fixed ≡ a.fixed = ap (λ (d : DeviceTold). d.fixed) cut.only in
       record {
-        only = λ i. record new { fixed = fixed_both (fixed i) b.fixed; started = (ap (λ (d : DeviceTold). d.started) cut.only) i && b.started; starts = (ap (λ (d : DeviceTold). d.starts) cut.only) i; stand = stand_same (ap (λ (d : DeviceTold). d.stand) cut.only) i };
+        only = λ i. record new { fixed = fixed_both (fixed i) b.fixed; started = (ap (λ (d : DeviceTold). d.started) cut.only) i && b.started; tells = (ap (λ (d : DeviceTold). d.tells) cut.only) i && b.tells; starts = (ap (λ (d : DeviceTold). d.starts) cut.only) i; stand = stand_same (ap (λ (d : DeviceTold). d.stand) cut.only) i };
         of = is_first_of old.fixed old.stand no_job;
         part = part_both a ca anew ca_new b cb course next pair is goes fixed true cut.part;
         no_read = never_read old.stand no_job;

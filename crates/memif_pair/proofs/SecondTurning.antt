@@ -144,7 +144,7 @@ module _ (a : DeviceTold) (ca : Clock) (b : DeviceTold) (cb : Clock) (bnew : Dev
 
     works_behind : a.started ≡ true → Works First b bnew cb_new → Works Second old new (pair_clock ca bnew cb_new next)
     works_behind up works = record {
-      only = λ i. record new { fixed = fixed_both a.fixed (fixed i); started = a.started && (ap (λ (d : DeviceTold). d.started) works.only) i };
+      only = λ i. record new { fixed = fixed_both a.fixed (fixed i); tells = a.tells && (ap (λ (d : DeviceTold). d.tells) works.only) i; started = a.started && (ap (λ (d : DeviceTold). d.started) works.only) i };
       up = λ i. up i && works.up i;
       of = of_second;
       part = part_behind false works.part;
@@ -158,7 +158,7 @@ module _ (a : DeviceTold) (ca : Clock) (b : DeviceTold) (cb : Clock) (bnew : Dev
     -- a cut, and a turn while the power is off
     cut_behind : IsCut First b bnew → IsCut Second old new
     cut_behind cut = record {
-      only = λ i. record new { fixed = fixed_both a.fixed (fixed i); started = a.started && (ap (λ (d : DeviceTold). d.started) cut.only) i; stand = (ap (λ (d : DeviceTold). d.stand) cut.only) i };
+      only = λ i. record new { fixed = fixed_both a.fixed (fixed i); tells = a.tells && (ap (λ (d : DeviceTold). d.tells) cut.only) i; started = a.started && (ap (λ (d : DeviceTold). d.started) cut.only) i; stand = (ap (λ (d : DeviceTold). d.stand) cut.only) i };
       of = of_second;
       part = part_behind true cut.part;
       no_read = cut.no_read;

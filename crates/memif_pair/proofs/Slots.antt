@@ -13,11 +13,9 @@ pub each_two : (P : ℕ → Slot → Slot → Type 0) (f g : Fixed) (s u t v : O
     → IfTold s u (λ x y. (n : ℕ) → is_second g.numbers n ≡ false → P n (slot_at f.numbers x n) (slot_at f.numbers y n))
     → IfTold t v (λ x y. (n : ℕ) → is_second g.numbers n ≡ true → P n (slot_at g.numbers x n) (slot_at g.numbers y n))
     → IfTold (slots_both f g s t) (slots_both f g u v) (λ x y. (n : ℕ) → P n (slot_at (numbers_in f g) x n) (slot_at (numbers_in f g) y n))
-each_two P f g None None t v one two = tt
-each_two P f g (Some s) None t v one two = absurd one
+each_two P f g s None t v one two = tt
 each_two P f g None (Some u) t v one two = absurd one
-each_two P f g (Some s) (Some u) None None one two = tt
-each_two P f g (Some s) (Some u) (Some t) None one two = absurd two
+each_two P f g (Some s) (Some u) t None one two = tt
 each_two P f g (Some s) (Some u) None (Some v) one two = absurd two
 each_two P f g (Some s) (Some u) (Some t) (Some v) one two = λ n.
     subst (λ (x : Slot). P n x (slot_at (numbers_in f g) (listed_in f g (slot_at f.numbers u) (slot_at g.numbers v)) n)) (sym (slot_is f g s t n))
@@ -37,8 +35,7 @@ each_stays P g second (Some t) self slots = λ n of. self n (slot_at slots.numbe
 -- a fact on each number is one on each of one device
 pub each_own : (P : ℕ → Slot → Slot → Type 0) (g slots : Fixed) (second : Bool) (s u : Option (List Slot)) → IfTold s u (λ x y. (n : ℕ) → P n (slot_at slots.numbers x n) (slot_at slots.numbers y n))
     → IfTold s u (λ x y. (n : ℕ) → is_second g.numbers n ≡ second → P n (slot_at slots.numbers x n) (slot_at slots.numbers y n))
-each_own P g slots second None None each = tt
-each_own P g slots second (Some s) None each = absurd each
+each_own P g slots second s None each = tt
 each_own P g slots second None (Some u) each = absurd each
 each_own P g slots second (Some s) (Some u) each = λ n of. each n
 

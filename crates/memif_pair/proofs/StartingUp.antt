@@ -79,6 +79,7 @@ module _ (one two : Result (Unit {0}) StartFault) (last last_new : Bool) (a : De
     record {
       only = λ i. record new {
         fixed = fixed_both (fixed_a i) (fixed_b i);
+        tells = (ap (λ (d : DeviceTold). d.tells) first.only) i && (ap (λ (d : DeviceTold). d.tells) second.only) i;
         stand = stand_is last_new i;
         switching = (ap (λ (d : DeviceTold). d.switching) first.only) i || (ap (λ (d : DeviceTold). d.switching) second.only) i;
         starts = (ap (λ (d : DeviceTold). d.starts) first.only) i;

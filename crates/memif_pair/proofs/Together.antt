@@ -11,7 +11,7 @@ use Rattle.memif_pair.specs.Laws.{pair_clock}
 use Rattle.memif_pair.specs.Together.{AreTogether, IsOwnJob}
 use Rattle.memif_pair.proofs.Ticking.{possible_both}
 use Rattle.memif_pair.proofs.Clocks.{same_both}
-use Rattle.memif_pair.proofs.Orders.{figures_are, most_same, most_closed, order_first}
+use Rattle.memif_pair.proofs.Orders.{figures_are, most_same, most_closed, order_first, told_before_any}
 
 -- FIGURES OF THE SECOND DEVICE
 pub figures_second : (f g : Fixed) (n : ℕ) → is_second g.numbers n ≡ true → figures_at (fixed_both f g) n ≡ record (figures_at g n) { part = Second }
@@ -57,6 +57,7 @@ order_second a ca b cb course pair is of closed one two =
       wait = λ none. one.wait (urgent_closed a.fixed a.stand closed);
       second = λ wrong. cc wrong;
       now = now_both a ca b cb true course pair is one two;
+      told = told_before_any a ca b cb course is one two;
     }
 
 no_own : (second : Bool) (b : DeviceTold) (stand : Stand) → is_open stand ≡ false → IsOwnJob second b stand

@@ -34,8 +34,7 @@ keeps_self s = record { settled = refl; doubts = λ h has. has }
 pub each_both : (P : ℕ → Slot → Slot → Type 0) (f g : Fixed) (s u t : Option (List Slot)) → ((n : ℕ) (x : Slot) → is_second g.numbers n ≡ true → P n x x)
     → IfTold s u (λ x y. (n : ℕ) → P n (slot_at f.numbers x n) (slot_at f.numbers y n))
     → IfTold (slots_both f g s t) (slots_both f g u t) (λ x y. (n : ℕ) → P n (slot_at (numbers_in f g) x n) (slot_at (numbers_in f g) y n))
-each_both P f g None None t self each = tt
-each_both P f g (Some s) None t self each = absurd each
+each_both P f g s None t self each = tt
 each_both P f g None (Some u) t self each = absurd each
 each_both P f g (Some s) (Some u) None self each = tt
 each_both P f g (Some s) (Some u) (Some t) self each = λ n.
@@ -220,7 +219,7 @@ module _ (a : DeviceTold) (ca : Clock) (anew : DeviceTold) (ca_new : Clock) (b :
 
       pub works_both : Works First old new (pair_clock ca_new b cb next)
       works_both = record {
-        only = λ i. record new { fixed = fixed_both (fixed i) b.fixed; started = started_same i && b.started; starts = (ap (λ (d : DeviceTold). d.starts) works.only) i };
+        only = λ i. record new { fixed = fixed_both (fixed i) b.fixed; started = started_same i && b.started; tells = (ap (λ (d : DeviceTold). d.tells) works.only) i && b.tells; starts = (ap (λ (d : DeviceTold). d.starts) works.only) i };
         up = λ i. works.up i && up i;
         of = subst (λ (s : Stand). IsOf First old.fixed s) (sym on) (tt, sym (ap (λ (x : Figures). x.part) (figures_first a.fixed b.fixed j.number of)));
         part = part_both false works.part;
@@ -234,7 +233,7 @@ module _ (a : DeviceTold) (ca : Clock) (anew : DeviceTold) (ca_new : Clock) (b :
     -- a cut, and a turn while the power is off
     cut_both : a.stand ≡ Open j → IsCut First a anew → IsCut First old new
     cut_both on cut = record {
-      only = λ i. record new { fixed = fixed_both (fixed i) b.fixed; started = (ap (λ (d : DeviceTold). d.started) cut.only) i && b.started; starts = (ap (λ (d : DeviceTold). d.starts) cut.only) i; stand = (ap (λ (d : DeviceTold). d.stand) cut.only) i };
+      only = λ i. record new { fixed = fixed_both (fixed i) b.fixed; started = (ap (λ (d : DeviceTold). d.started) cut.only) i && b.started; tells = (ap (λ (d : DeviceTold). d.tells) cut.only) i && b.tells; starts = (ap (λ (d : DeviceTold). d.starts) cut.only) i; stand = (ap (λ (d : DeviceTold). d.stand) cut.only) i };
       of = subst (λ (s : Stand). IsOf First old.fixed s) (sym on) (tt, sym (ap (λ (x : Figures). x.part) (figures_first a.fixed b.fixed j.number of)));
       part = part_both true cut.part;
       no_read = cut.no_read;

@@ -39,6 +39,12 @@ HasOffAt h n = IsTrue (list_any (is_off_at n) h)
 abbrev pub is_of : Part → Fixed → ℕ → Bool
 is_of p f block = is_part p (part_of_block f block)
 
+-- What a history keeps up to the first operation, over a device that tells until then what its numbers hold: its start-ups list
+-- what is found, and it is the block machine's.
+pub record KeepsEarly (c : Configuration) (cap : ℕ) (h : List Entry) (clock : Clock) : Type 0 where
+  pub found : (marks : List (Instance × Mark)) (held : ℕ → Held) → Contains h (Found marks 0) → clock.may_find (After 0) held → Lists c marks (marks_in held)
+  pub legal : IsLegal c cap (up_to 0 h)
+
 -- The device is told before the first start-up and now, its clock now. A count that stands at its end tells no moment.
 pub record KeepsOver (c : Configuration) (cap : ℕ) (h : List Entry) (before : Part → PartTold) (now : DeviceTold) (clock : Clock) : Type 0 where
   -- a power cut before or within any operation that was asked for leaves marks that the history up to then allows

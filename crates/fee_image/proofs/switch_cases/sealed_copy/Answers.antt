@@ -8,7 +8,6 @@ use Rattle.fee_image.specs.LogCases.{numbers}
 use Rattle.fee_image.specs.Log.{Open}
 use Rattle.fee_image.specs.SwitchCases.{sealing}
 use Rattle.fee_image.proofs.Logs.{loaded_logs_hold}
-use Rattle.fee_image.proofs.Soundness.{sound_images_compute}
 use Rattle.fee_image.proofs.switch_cases.sealed_copy.Goals as goal
 
 -- behind the record each bank is blank
@@ -44,7 +43,6 @@ returns-clause-held c =
     let bytes = sealing (pages 1 255) in
     record {
       size = omega arith;
-      sound = (sound_images_compute small bytes).0 refl;
       target = omega arith;
       old = (
         (λ e. omega (arith, e)),

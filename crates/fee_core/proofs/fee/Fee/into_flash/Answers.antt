@@ -1,5 +1,5 @@
 use Rattle.std.specs.Prelude.{IfSome}
-use Rattle.std.proofs.Common.{◌≡◌, ◌≤◌, ℕ, [], ap, ◌∙◌, sym, subst}
+use Rattle.std.proofs.Common.{◌≡◌, ◌≤◌, ℕ, false, [], ap, ◌∙◌, sym, subst}
 use Rattle.nv_base.specs.Geometry.{sectors_of_bank}
 use Rattle.memif.specs.Told.{First, figures_at}
 use Rattle.fee_course.specs.Course.{most_turns}
@@ -18,16 +18,16 @@ use Rattle.fee_core.proofs.Telling.{all_first}
 use Rattle.fee_core.proofs.fee.Fee.into_flash.Goals as goal
 
 pub returns-clause-bridge : goal.returns-clause-bridge
-returns-clause-bridge g c cutter =
+returns-clause-bridge g c =
     let m = g.O.Origin.making in
     let entry = g.O.Origin.entry in
     let p = c.self.inside.parts in
     let d = device_of m entry p.parts in
     let told = g.F.Flash.told c.into_flash.result in
     let same = c.into_flash.ensures ∙ ap (λ (w : Whole). w.parts.fls.flash) c.parts.view_is in
-    let holds = runs_bridge cutter (flash_device d) c.self.invariant.parts.device.run in
-    let out = subst (λ (x : Told). Bridges (reading_of m) cutter (record { entry = entry; exit = x; operations = p.parts.operations }) (part_at entry) (told_of d) (clock_of d)) (sym same) holds in
-    subst (λ (x : Device). Bridges (reading_of m) cutter (record { entry = entry; exit = told; operations = x.operations }) (part_at entry) (told_of x) (clock_of x)) c.self.view_is out
+    let holds = runs_bridge (flash_device d) c.self.invariant.parts.device.run in
+    let out = subst (λ (x : Told). Bridges (reading_of m) false (record { entry = entry; exit = x; operations = p.parts.operations }) (part_at entry) (told_of d) (clock_of d)) (sym same) holds in
+    subst (λ (x : Device). Bridges (reading_of m) false (record { entry = entry; exit = told; operations = x.operations }) (part_at entry) (told_of x) (clock_of x)) c.self.view_is out
 
 pub returns-clause-geometry : goal.returns-clause-geometry
 returns-clause-geometry g c =
