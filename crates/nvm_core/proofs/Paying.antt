@@ -33,6 +33,7 @@ use Rattle.nvm_laws.specs.job_progress.Hand.{HandState}
 use Rattle.nvm_laws.specs.job_progress.JobInHand.{IsInHand, IsPaired}
 use Rattle.nvm_laws.specs.job_progress.Begins.{hand_for}
 use Rattle.nvm_laws.specs.Keeps.{StackKeeps, StaysKept}
+use Rattle.nvm_laws.proofs.Keeping.{slots_told, stays_told}
 use Rattle.nvm_laws.specs.Halves.{IsHalf, AddsPost}
 use Rattle.nvm_laws.specs.Turns.{hand_by, AddsBy}
 use Rattle.nvm_laws.specs.declared.turned.Turned.{Turned}
@@ -139,7 +140,7 @@ module _ (desk desk_new : DeskState) (h : HandState) (d : DeviceTold) (clock clo
   pays : (slack : ℕ) → AreTried slack → (n m : ℕ) → n + (m + slack) ≤ now → ArePaid of desk.config clock.worn m at_first desk.entries
       → IsPaid of desk.config clock_new.worn n now (desk.entries ++ e ∷ [])
   pays slack tried n m within paid =
-      let new = keeps (rebased q n before) (kept_from before desk h d clock kept n (record { faults = m; counted = inl (omega (arith, within)); pay = paid }) (tried n m within paid)) in
+      let new = stays_told desk (Some h) d clock desk_new None d clock_new keeps (rebased q n before) (kept_from before desk h d clock kept n (record { faults = m; counted = inl (omega (arith, within)); pay = paid }) (tried n m within paid)) (slots_told before desk (Some h) d clock kept) in
       subst (λ (k : ℕ). IsPaid of desk.config clock_new.worn k now (desk.entries ++ e ∷ [])) (here q n before)
       (subst (λ (es : List Entry). IsPaid of desk.config clock_new.worn (rebased q n before q).faults now es) entries
       (subst (λ (c : Configuration). IsPaid of c clock_new.worn (rebased q n before q).faults now desk_new.entries) config (new.keeps.over.paid q)))

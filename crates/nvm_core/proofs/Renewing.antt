@@ -1,5 +1,5 @@
 -- A new history over the same device.
-use Rattle.std.specs.Prelude.{IsSome, IsTrue, ◌↔◌}
+use Rattle.std.specs.Prelude.{IsTrue, ◌↔◌}
 use Rattle.std.proofs.Common.{◌≡◌, ◌≢◌, ℕ, false, true, List, [], ◌∷◌, ◌++◌, Option, refl, ap, ◌∙◌}
 use Rattle.nvm_laws.specs.nv_base.declared.mark.Mark.{Mark}
 use Rattle.nvm_laws.specs.memif.Told.{DeviceTold, Part, PartTold}
@@ -13,6 +13,7 @@ use Rattle.nv_desk_state.specs.Next.{IsNextEntry}
 use Rattle.nvm_laws.specs.nv_desk.Desk.{DeskState, first_desk, state_of}
 use Rattle.nvm_laws.specs.job_progress.Hand.{HandState}
 use Rattle.nvm_laws.specs.Halves.{IsAtRest}
+use Rattle.nvm_laws.specs.nvm_device_laws.Turn.{TellsSlots}
 use Rattle.nvm_laws.specs.Keeps.{StackKeeps}
 use Rattle.nvm_found.specs.Found.{Finds}
 use Rattle.nvm_found.proofs.Allowed.{found_marks_keep}
@@ -38,7 +39,7 @@ not_at_rest e desk d is some =
 -- what the new history begins with keeps to the one before it
 pub marks_stay : (desk mid new : DeskState) (hand : Option HandState) (d d_new : DeviceTold) (clock : Clock) (marks : List (Instance × Mark)) (ops : ℕ)
     → mid ≡ first_desk desk.config desk.cap → new.entries ≡ mid.entries ++ Found marks ops ∷ [] → Finds marks d d_new
-    → (before : Part → PartTold) → IsSome d.slots → StackKeeps before desk hand d clock → MarksStay desk new
+    → (before : Part → PartTold) → TellsSlots d_new → StackKeeps before desk hand d clock → MarksStay desk new
 marks_stay desk mid new hand d d_new clock marks ops empty more finds before tells kept = record {
   marks = marks;
   ops = ops;

@@ -1,11 +1,12 @@
 -- What a new history over the same device is.
-use Rattle.std.specs.Prelude.{◌≡◌, ℕ, List, [], ◌∷◌, Option, IsSome}
+use Rattle.std.specs.Prelude.{◌≡◌, ℕ, List, [], ◌∷◌, Option}
 use Rattle.nvm_laws.specs.nv_base.declared.mark.Mark.{Mark}
 use Rattle.nvm_laws.specs.memif.Told.{DeviceTold, Part, PartTold}
 use Rattle.nvm_laws.specs.memif.Clock.{Clock}
 use Rattle.nvm_laws.specs.block_machine.Words.{Instance, Found}
 use Rattle.nvm_laws.specs.promise_blocks.Marks.{KeepsMarks}
 use Rattle.nvm_found.specs.Found.{listed_in}
+use Rattle.nvm_laws.specs.nvm_device_laws.Turn.{TellsSlots}
 use Rattle.nvm_laws.specs.nv_desk.Desk.{DeskState}
 use Rattle.nvm_laws.specs.job_progress.Hand.{HandState}
 use Rattle.nvm_laws.specs.Halves.{IsAtRest}
@@ -38,7 +39,7 @@ pub record MarksStay (old new : DeskState) : Type 0 where
   pub keep : KeepsMarks old.config old.entries (listed_in marks)
 
 -- so it is where the device tells what it holds, and the history so far kept its half of the promise
-abbrev pub RenewalKeeps : Renewed → DeskState → Option HandState → DeviceTold → Clock → DeskState → Type 0
-RenewalKeeps (renewed.Ready history) old hand d clock new =
-    (before : Part → PartTold) → IsSome d.slots → StackKeeps before old hand d clock → MarksStay old new
-RenewalKeeps r old hand d clock new = Unit {0}
+abbrev pub RenewalKeeps : Renewed → DeskState → Option HandState → DeviceTold → Clock → DeskState → DeviceTold → Type 0
+RenewalKeeps (renewed.Ready history) old hand d clock new d_new =
+    (before : Part → PartTold) → TellsSlots d_new → StackKeeps before old hand d clock → MarksStay old new
+RenewalKeeps r old hand d clock new d_new = Unit {0}

@@ -25,7 +25,7 @@ use nvm_laws::{Act, Turned};
 /// Does the first of these: where the power is off, nothing; the Post of a finished job; the Pick of an immediate job over
 /// a standard one; the start of the next operation of the job in hand; the Pick, or the Post without a Pick, that comes
 /// next. It makes no turn of the device, adds at most one entry, and takes no memory.
-#[tactic(auto, using(nvm_laws::proofs::memif::Turning::same_clock))]
+#[tactic(auto, using(nvm_laws::proofs::memif::Turning::same_clock, nvm_laws::proofs::Keeping::stays_still))]
 pub fn first_half<D: MemDevice, C: SyncCalls>(
     front: &mut Front,
     hand: &mut Option<Hand>,

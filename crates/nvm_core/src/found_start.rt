@@ -1,5 +1,6 @@
 // A start-up.
 ghost use Rattle.std.specs.Prelude.{◌≡◌, ◌≤◌, ◌+◌, length, IfErr, OnOk, OnErr};
+ghost use Rattle.nvm_laws.specs.memif.Calls.{InOrder};
 ghost use Rattle.nvm_laws.specs.memif.Trials.{Lasts};
 ghost use Rattle.nvm_found.specs.Found.{FailsToFind};
 ghost use Rattle.nvm_core.specs.FoundStart.{IsListed, StartKeeps};
@@ -23,6 +24,7 @@ pub fn start_up<D: MemDevice>(
     ensures failed { OnErr result (FailsToFind (D.told device.old) (D.told device.new)) }
     ensures room { IfErr result (λ again. again ≡ room) }
     ensures lasts { Lasts (D.told device.old) (D.clock device.old) (D.told device.new) (D.clock device.new) }
+    ensures order { InOrder (D.told device.new) (D.clock device.new) }
     ensures keeps { StartKeeps result desk.old desk.new (D.told device.old) (D.clock device.old) (D.told device.new) (D.clock device.new) }
 {
     match room.find(device) {

@@ -47,7 +47,7 @@ impl<D: MemDevice, C: SyncCalls + Drop> Stack<D, C> {
     pub fn renew(&mut self, alloc: Global) -> Renewed
         requires ready { self.old.ready ≡ true }
         ensures renews { Renews D.told result self.old self.new }
-        ensures keeps { RenewalKeeps result self.old.desk self.old.hand (D.told self.old.device) (D.clock self.old.device) self.new.desk }
+        ensures keeps { RenewalKeeps result self.old.desk self.old.hand (D.told self.old.device) (D.clock self.old.device) self.new.desk (D.told self.new.device) }
         ensures lasts { Lasts (D.told self.old.device) (D.clock self.old.device) (D.told self.new.device) (D.clock self.new.device) }
     {
         if !self.is_at_rest() {

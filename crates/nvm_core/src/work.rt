@@ -41,7 +41,7 @@ pub(crate) fn go_on<D: MemDevice>(desk: &Desk, hand: &mut Option<Hand>, device: 
 }
 
 // The same of its hand.
-#[tactic(auto, using(nvm_laws::proofs::memif::Turning::same_clock))]
+#[tactic(auto, using(nvm_laws::proofs::memif::Turning::same_clock, nvm_laws::proofs::Keeping::stays_still))]
 fn go_on_with<D: MemDevice>(desk: &Desk, hand: &mut Hand, device: &mut D)
     requires paired { IsInHand desk.now.config (state_of desk.now) hand.old (D.told device.old) }
     requires unfinished { is_finished hand.old.step ≡ false }

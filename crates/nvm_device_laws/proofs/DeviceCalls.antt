@@ -27,7 +27,7 @@ use Rattle.block_machine.specs.Legal.{IsAllowed}
 use Rattle.promise_blocks.specs.Counts.{count_due}
 use Rattle.promise_blocks.specs.OverDevice.{HasStarted}
 use Rattle.nvm_device_laws.specs.Pairing.{Allows, Agrees, Pairs, IsStaged, IsFor}
-use Rattle.nvm_device_laws.specs.Turn.{Keeps, Stays, StartsStay, StaysWith, StaysBy, settled_by, TurnsKeep, ListsSettled, down, StartUpsKeep}
+use Rattle.nvm_device_laws.specs.Turn.{Keeps, Stays, StartsStay, StaysWith, StaysBy, settled_by, TurnsKeep, TellsSlots, ListsSettled, down, StartUpsKeep}
 use Rattle.nvm_device_laws.proofs.Pairings as pairs
 use Rattle.nvm_device_laws.proofs.Writes.{due_plain, found_plain, due_wrote, due_other, found_wrote, due_found, found_found}
 use Rattle.nvm_device_laws.proofs.Pushed.{FindsPossible, Goes, base_called, begins_push, begins_with, off_before, off_now}
@@ -88,7 +88,7 @@ module _ (old : DeviceTold) (clock : Clock) (new : DeviceTold) (clock_new : Cloc
 
   stays_same : new ≡ old → SameClock clock clock_new
       → FindsPossible new clock_new → Stays old clock new clock_new
-  stays_same same clocks finds c cap h before started keeps =
+  stays_same same clocks finds c cap h before started keeps told =
       let slots : new.slots ≡ old.slots = ap (λ (d : DeviceTold). d.slots) same in
       call_keeps c cap h before old clock new clock_new keeps (goes_same same clocks finds)
       (inl started) (λ k off. (clocks.off_in k).0 off)
@@ -118,9 +118,9 @@ module _ (old : DeviceTold) (clock : Clock) (new : DeviceTold) (clock_new : Cloc
 
   pub start_stays : (w : Wish) (answer : Result (Unit {0}) DeviceRefusal) → Accepts w answer old clock new clock_new
       → StartsStay w old clock new clock_new
-  start_stays w (Err refusal) accepts c cap h before started staged keeps = stays_same accepts.0.1 accepts.1.same
-      (λ held. accepts.1.order.now held) c cap h before started keeps
-  start_stays w (Ok u) accepts c cap h before started staged keeps =
+  start_stays w (Err refusal) accepts c cap h before started staged keeps told = stays_same accepts.0.1 accepts.1.same
+      (λ held. accepts.1.order.now held) c cap h before started keeps told
+  start_stays w (Ok u) accepts c cap h before started staged keeps told =
       let opens = accepts.0.1 in
       call_keeps c cap h before old clock new clock_new keeps (goes_opened w.job opens accepts.1)
       (inl started) (λ k off. (accepts.1.same.off_in k).0 off)
@@ -128,14 +128,14 @@ module _ (old : DeviceTold) (clock : Clock) (new : DeviceTold) (clock_new : Cloc
       (λ has up. agrees has)
     where
       agrees : HasStarted h → Pairs Agrees c (after c h) (count_due h keeps.base) old.fixed.numbers new.slots
-      agrees has = pairs.agrees_started c (after c h) (count_due h keeps.base) old new w.job.number w.job.mark staged accepts.0.1.marks
+      agrees has = pairs.agrees_started c (after c h) (count_due h keeps.base) old new w.job.number w.job.mark staged told accepts.0.1.marks
           (keeps.settled has (started_at old w.job.number w.length accepts.0.0))
 
   pub read_stays : (w : Wish) (answer : Result (Unit {0}) DeviceRefusal) → w.job.mark ≡ None
       → Accepts w answer old clock new clock_new → Stays old clock new clock_new
-  read_stays w answer none accepts c cap h before started keeps =
+  read_stays w answer none accepts c cap h before started keeps told =
       start_stays w answer accepts c cap h before started
-      (subst (λ (o : Option Mark). IsStaged c (after c h) w.job.number o) (sym none) tt) keeps
+      (subst (λ (o : Option Mark). IsStaged c (after c h) w.job.number o) (sym none) tt) keeps told
 
   -- A CANCEL
   faults_canceled : IsCanceled old new → (p : Part) → (part_at p new).faults ≡ (part_at p old).faults
@@ -153,17 +153,17 @@ module _ (old : DeviceTold) (clock : Clock) (new : DeviceTold) (clock_new : Cloc
   ]
 
   pub cancel_stays : Cancels old clock new clock_new → Stays old clock new clock_new
-  cancel_stays cancels c cap h before started keeps = elim (cases_Bool (is_open old.stand)) [
+  cancel_stays cancels c cap h before started keeps told = elim (cases_Bool (is_open old.stand)) [
     | inl on ↦
         let is : IsCanceled old new = rw on at cancels.0 in
         call_keeps c cap h before old clock new clock_new keeps (goes_canceled cancels)
         (inl started) (λ k off. (cancels.1.same.off_in k).0 off)
-        (λ has. pairs.allows_keep c (after c h) (count_due h keeps.base) old.fixed.numbers old.slots new.slots is.marks (keeps.marks has))
-        (λ has up. pairs.agrees_keep c (after c h) (count_due h keeps.base) old.fixed.numbers old.slots new.slots is.marks
+        (λ has. pairs.allows_keep c (after c h) (count_due h keeps.base) old.fixed.numbers old.slots new.slots told is.marks (keeps.marks has))
+        (λ has up. pairs.agrees_keep c (after c h) (count_due h keeps.base) old.fixed.numbers old.slots new.slots told is.marks
         (keeps.settled has (ap (λ (d : DeviceTold). d.started) (sym is.only) ∙ up)))
     | inr off ↦
         let same : new ≡ old = rw off at cancels.0 in
-        stays_same same cancels.1.same (λ held. cancels.1.order.now held) c cap h before started keeps
+        stays_same same cancels.1.same (λ held. cancels.1.order.now held) c cap h before started keeps told
   ]
 
   -- A START-UP
@@ -190,11 +190,11 @@ module _ (old : DeviceTold) (clock : Clock) (new : DeviceTold) (clock_new : Cloc
 
   pub start_up_keeps : (answer : Result (Unit {0}) StartFault) → StartsUp answer old clock new clock_new
       → StartUpsKeep answer old clock new clock_new
-  start_up_keeps (Err fault) up = λ c cap h before keeps.
+  start_up_keeps (Err fault) up = λ c cap h before keeps told.
       call_keeps c cap h before (down old) clock new clock_new keeps
       (goes_with false new.started (goes_up (Err fault) up))
       (inr (up_ops (Err fault) up)) (λ k off. (up.clock_stays.same.off_in k).0 off)
-      (λ has. pairs.allows_come c (after c h) (count_due h keeps.base) old.fixed.numbers old.slots new.slots up.marks (keeps.marks has))
+      (λ has. pairs.allows_come c (after c h) (count_due h keeps.base) old.fixed.numbers old.slots new.slots told up.marks (keeps.marks has))
       (λ has on. absurd (not_both new.started up.comes_to.0 on))
   start_up_keeps (Ok u) up = λ c cap h before marks first allowed lists keeps.
       let fixed : new.fixed ≡ old.fixed = ap (λ (d : DeviceTold). d.fixed) up.only in
@@ -236,7 +236,7 @@ module _ (old : DeviceTold) (clock : Clock) (new : DeviceTold) (clock_new : Cloc
       (ap (λ (d : DeviceTold). d.ops) arms.0 ∙ is.ops) (λ p. omega (arith, faults p)) arms.1.same (λ held. arms.1.order.now held)
 
   pub arm_stays : (which nth keep : ℕ) → Arms which nth keep old clock new clock_new → Stays old clock new clock_new
-  arm_stays which nth keep arms c cap h before started keeps =
+  arm_stays which nth keep arms c cap h before started keeps told =
       let is = armed_is which nth keep old in
       let slots : new.slots ≡ old.slots = ap (λ (d : DeviceTold). d.slots) arms.0 ∙ is.slots in
       call_keeps c cap h before old clock new clock_new keeps (goes_armed which nth keep arms)
@@ -313,16 +313,16 @@ module _ (old : DeviceTold) (clock : Clock) (new : DeviceTold) (clock_new : Cloc
 
     -- no mark is settled
     keeps_on : KeepsAll old new → Stays old clock new clock_new
-    keeps_on marks c cap h before started keeps =
+    keeps_on marks c cap h before started keeps told =
         call_keeps c cap h before old clock new clock_new keeps (goes_worked p works ticks finds)
         (inl started) (stays_off p ticks)
-        (λ has. pairs.allows_keep c (after c h) (count_due h keeps.base) old.fixed.numbers old.slots new.slots marks (keeps.marks has))
-        (λ has up. pairs.agrees_keep c (after c h) (count_due h keeps.base) old.fixed.numbers old.slots new.slots marks (keeps.settled has (started_before up)))
+        (λ has. pairs.allows_keep c (after c h) (count_due h keeps.base) old.fixed.numbers old.slots new.slots told marks (keeps.marks has))
+        (λ has up. pairs.agrees_keep c (after c h) (count_due h keeps.base) old.fixed.numbers old.slots new.slots told marks (keeps.settled has (started_before up)))
 
     -- a mark is
     settles_on : (number : ℕ) (mark : Mark) → Settles number mark old new
         → StaysWith (Wrote (instance_of (record { 0 = number })) mark (device.ops_of new)) old clock new clock_new
-    settles_on number mark marks c cap h before started allowed keeps =
+    settles_on number mark marks c cap h before started allowed keeps told =
         let e : Entry = Wrote (instance_of (record { 0 = number })) mark (device.ops_of new) in
         call_with c cap h before old clock new clock_new keeps (goes_worked p works ticks finds) e
         (inl started) refl allowed (λ of s. refl)
@@ -343,7 +343,7 @@ module _ (old : DeviceTold) (clock : Clock) (new : DeviceTold) (clock_new : Cloc
         agrees = pairs.agrees_wrote c cap (after c h) (count_due h keeps.base) old.fixed.numbers number mark (device.ops_of new) due
             (λ i same. due_wrote h (instance_of (record { 0 = number })) mark (device.ops_of new) keeps.base i (pairs.same_number i number same))
             (λ i other. due_other h (instance_of (record { 0 = number })) mark (device.ops_of new) keeps.base i (pairs.other_number i number other))
-            allowed old.slots new.slots marks (keeps.settled started works.up)
+            allowed old.slots new.slots told marks (keeps.settled started works.up)
 
     ended : (j : Job) (mark : Option Mark) (r : JobResult) (given : List ℕ) → EndsAs mark j.number r given old new
         → (is_none mark ≡ true → new.slots ≡ old.slots)
@@ -374,9 +374,9 @@ module _ (old : DeviceTold) (clock : Clock) (new : DeviceTold) (clock_new : Cloc
       → IsAllowed c cap (after c h) (Off (device.ops_of new)) → Keeps c cap h before old clock
       → Goes old clock new clock_new
       → ((k : ℕ) → clock_new.off_in k → clock.off_in k ⊎ (device.ops_of new ≡ next_count k))
-      → KeepsAll old new → (new.started ≡ true → old.started ≡ true)
+      → KeepsAll old new → (new.started ≡ true → old.started ≡ true) → TellsSlots new
       → Keeps c cap (h ++ Off (device.ops_of new) ∷ []) before new clock_new
-  off_with c cap h before started allowed keeps goes off marks up =
+  off_with c cap h before started allowed keeps goes off marks up told =
       let e : Entry = Off (device.ops_of new) in
       call_with c cap h before old clock new clock_new keeps goes e (inl started) refl allowed (λ of s. refl)
       (begins_push h e started keeps.over.begins) (λ other ops held is. absurd (no_found_off (device.ops_of new) ops other is))
@@ -388,15 +388,15 @@ module _ (old : DeviceTold) (clock : Clock) (new : DeviceTold) (clock_new : Cloc
       keeps.base (λ ops found is small was. base_called c cap h before old clock new clock_new keeps goes ops found (sym (found_plain h e refl) ∙ is) small was)
       (pairs.pairs_due Allows c (step c (after c h) e) (count_due h keeps.base) (count_due (h ++ e ∷ []) keeps.base) old.fixed.numbers (λ n. due_plain h e keeps.base n refl) new.slots
       (pairs.allows_entry c cap (after c h) (count_due h keeps.base) old.fixed.numbers e refl allowed new.slots
-      (pairs.allows_keep c (after c h) (count_due h keeps.base) old.fixed.numbers old.slots new.slots marks (keeps.marks started))))
+      (pairs.allows_keep c (after c h) (count_due h keeps.base) old.fixed.numbers old.slots new.slots told marks (keeps.marks started))))
       (λ on. pairs.pairs_due Agrees c (step c (after c h) e) (count_due h keeps.base) (count_due (h ++ e ∷ []) keeps.base) old.fixed.numbers (λ n. due_plain h e keeps.base n refl) new.slots
       (pairs.agrees_entry c cap (after c h) (count_due h keeps.base) old.fixed.numbers e refl allowed new.slots
-      (pairs.agrees_keep c (after c h) (count_due h keeps.base) old.fixed.numbers old.slots new.slots marks (keeps.settled started (up on)))))
+      (pairs.agrees_keep c (after c h) (count_due h keeps.base) old.fixed.numbers old.slots new.slots told marks (keeps.settled started (up on)))))
 
   cut_with : (p : Part) → IsCut p old new → Ticks p turn.Off old clock new clock_new
       → FindsPossible new clock_new
       → StaysWith (Off (device.ops_of new)) old clock new clock_new
-  cut_with p cut ticks finds c cap h before started allowed keeps =
+  cut_with p cut ticks finds c cap h before started allowed keeps told =
       off_with c cap h before started allowed keeps (goes_cut p cut ticks finds)
       (λ k off. elim (ticks.off k off) [
         | inl before ↦ inl before.0
@@ -405,7 +405,7 @@ module _ (old : DeviceTold) (clock : Clock) (new : DeviceTold) (clock_new : Cloc
           | inr one ↦ omega (arith, now.0, one)
         ])
       ])
-      cut.marks (λ up. started_cut p cut ∙ up)
+      cut.marks (λ up. started_cut p cut ∙ up) told
 
   pub turn_keeps : (answer : DeviceTurn) → Turns answer old clock new clock_new → TurnsKeep answer old clock new clock_new
   turn_keeps turn.Idle turns =
@@ -417,11 +417,11 @@ module _ (old : DeviceTold) (clock : Clock) (new : DeviceTold) (clock_new : Cloc
       (stays_same same turns.0.2 (λ held. turns.1.now held))
   turn_keeps turn.Worked turns = by_part turns.0.1.0 turns.0.1.1 turns.0.1.2 (λ held. turns.1.now held)
   turn_keeps turn.Off turns = elim turns.0.1.1 [
-    | inl still_off ↦ (λ c cap h before started allowed keeps.
+    | inl still_off ↦ (λ c cap h before started allowed keeps told.
         let same : new ≡ old = still_off.2 in
         off_with c cap h before started allowed keeps (goes_same same still_off.3 (λ held. turns.1.now held))
         (λ k off. inl ((still_off.3.off_in k).0 off))
         (keeps_same old.fixed.numbers old.slots new.slots (ap (λ (d : DeviceTold). d.slots) same))
-        (λ up. ap (λ (d : DeviceTold). d.started) (sym same) ∙ up))
+        (λ up. ap (λ (d : DeviceTold). d.started) (sym same) ∙ up) told)
     | inr cut ↦ cut_with turns.0.1.0 cut.0 cut.1 (λ held. turns.1.now held)
   ]

@@ -65,8 +65,8 @@ module _ (old : DeviceTold) (clock : Clock) (new : DeviceTold) (clock_new : Cloc
   keeps_down : Goes old clock new clock_new → new.ops ≡ old.ops
       → ((k : ℕ) → clock_new.off_in k → clock.off_in k) → KeepsAll old new
       → StaysDown old clock new clock_new
-  keeps_down goes ops off marks c cap h before keeps = stays_down c cap h before goes ops off
-      (λ due. pairs.allows_keep c (after c h) due old.fixed.numbers old.slots new.slots marks) keeps
+  keeps_down goes ops off marks c cap h before keeps told = stays_down c cap h before goes ops off
+      (λ due. pairs.allows_keep c (after c h) due old.fixed.numbers old.slots new.slots told marks) keeps
 
   same_down : new ≡ old → SameClock clock clock_new
       → FindsPossible new clock_new
@@ -77,10 +77,10 @@ module _ (old : DeviceTold) (clock : Clock) (new : DeviceTold) (clock_new : Cloc
 
   pub start_up_down : (answer : Result (Unit {0}) StartFault) → StartsUp answer old clock new clock_new
       → StaysDown old clock new clock_new
-  start_up_down answer up c cap h before keeps = stays_down c cap h before
+  start_up_down answer up c cap h before keeps told = stays_down c cap h before
       (goes_up old clock new clock_new answer up) (up_ops old clock new clock_new answer up)
       (λ k off. (up.clock_stays.same.off_in k).0 off)
-      (λ due. pairs.allows_come c (after c h) due old.fixed.numbers old.slots new.slots up.marks) keeps
+      (λ due. pairs.allows_come c (after c h) due old.fixed.numbers old.slots new.slots told up.marks) keeps
 
   pub read_down : (w : Wish) (answer : Result (Unit {0}) DeviceRefusal) → w.job.mark ≡ None → Accepts w answer old clock new clock_new
       → StaysDown old clock new clock_new

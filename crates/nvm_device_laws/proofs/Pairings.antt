@@ -1,5 +1,5 @@
 -- What the slots of a device and the cells of the machine keep of one another.
-use Rattle.std.specs.Prelude.{◌==◌, ◌/◌, ◌%◌, if◌then◌else◌}
+use Rattle.std.specs.Prelude.{◌==◌, ◌/◌, ◌%◌, if◌then◌else◌, is_some}
 use Rattle.std.specs.List.{Contains}
 use Rattle.std.specs.Option.{option_map_or, option_and_then}
 use Rattle.std.proofs.Common.{◌≡◌, ◌≢◌, ℕ, Bool, true, false, List, [], ◌∷◌, ◌++◌, Option, Some, None, refl, sym, ap, ◌∙◌, subst, inl, inr}
@@ -101,31 +101,34 @@ agrees_doubted due cell more slot is =
     record { settled = is.settled; count = is.count; doubts = λ held has. doubted_stands cell more due held (is.doubts held has) }
 
 -- ALL NUMBERS
+not_told : false ≡ true → ⊥
+not_told is = cc
+
 module _ (c : Configuration) (s : State) (due : ℕ → ℕ) (numbers : List (DeviceNumber × ℕ)) where
   pub pairs_on : (P Q : ℕ → Cell → Slot → Type 0) (R : Slot → Slot → Type 0)
       → ((n : ℕ) (cell : Cell) (a b : Slot) → P n cell a → R a b → Q n cell b) → (o n : Option (List Slot))
-      → IfTold o n (λ u v. (i : ℕ) → R (slot_at numbers u i) (slot_at numbers v i)) → Pairs P c s due numbers o → Pairs Q c s due numbers n
-  pairs_on P Q R on (Some u) (Some v) each pairs = λ x has. let (y, at, is) = pairs x has in
+      → is_some n ≡ true → IfTold o n (λ u v. (i : ℕ) → R (slot_at numbers u i) (slot_at numbers v i)) → Pairs P c s due numbers o → Pairs Q c s due numbers n
+  pairs_on P Q R on (Some u) (Some v) told each pairs = λ x has. let (y, at, is) = pairs x has in
       (y, at, on (due x.0.0) y.cell (slot_at numbers u x.0.0) (slot_at numbers v x.0.0) is (each x.0.0))
-  pairs_on P Q R on None n each pairs = absurd pairs
-  pairs_on P Q R on (Some u) None each pairs = absurd each
+  pairs_on P Q R on None n told each pairs = absurd pairs
+  pairs_on P Q R on (Some u) None told each pairs = absurd (not_told told)
 
   pub pairs_more : (P Q : ℕ → Cell → Slot → Type 0) → ((n : ℕ) (cell : Cell) (a : Slot) → P n cell a → Q n cell a)
       → (o : Option (List Slot)) → Pairs P c s due numbers o → Pairs Q c s due numbers o
   pairs_more P Q more (Some u) pairs = λ x has. let (y, at, is) = pairs x has in (y, at, more (due x.0.0) y.cell (slot_at numbers u x.0.0) is)
   pairs_more P Q more None pairs = absurd pairs
 
-  pub allows_keep : (o n : Option (List Slot))
+  pub allows_keep : (o n : Option (List Slot)) → is_some n ≡ true
       → IfTold o n (λ u v. (i : ℕ) → Keeps (slot_at numbers u i) (slot_at numbers v i)) → Pairs Allows c s due numbers o
       → Pairs Allows c s due numbers n
   allows_keep = pairs_on Allows Allows Keeps allows_kept
 
-  pub agrees_keep : (o n : Option (List Slot))
+  pub agrees_keep : (o n : Option (List Slot)) → is_some n ≡ true
       → IfTold o n (λ u v. (i : ℕ) → Keeps (slot_at numbers u i) (slot_at numbers v i)) → Pairs Agrees c s due numbers o
       → Pairs Agrees c s due numbers n
   agrees_keep = pairs_on Agrees Agrees Keeps agrees_kept
 
-  pub allows_come : (o n : Option (List Slot))
+  pub allows_come : (o n : Option (List Slot)) → is_some n ≡ true
       → IfTold o n (λ u v. (i : ℕ) → ComesFrom (slot_at numbers u i) (slot_at numbers v i))
       → Pairs Allows c s due numbers o → Pairs Allows c s due numbers n
   allows_come = pairs_on Allows Allows ComesFrom allows_from
@@ -142,12 +145,12 @@ module _ (c : Configuration) (s : State) (due : ℕ → ℕ) (numbers : List (De
   doubts_at (Some x) y is some = let same : x ≡ y = cc in subst (λ (z : InstanceState). z.cell.doubts ≢ []) same some
   doubts_at None y is some = absurd some
 
-  agrees_doubts : (number : ℕ) (mark : Mark) → IsStaged c s number (Some mark) → (o n : Option (List Slot))
+  agrees_doubts : (number : ℕ) (mark : Mark) → IsStaged c s number (Some mark) → (o n : Option (List Slot)) → is_some n ≡ true
       → IfTold o n (λ u v. (i : ℕ)
       → IfElse (i == number) (Doubts mark (slot_at numbers u i) (slot_at numbers v i))
       (Keeps (slot_at numbers u i) (slot_at numbers v i)))
       → Pairs Agrees c s due numbers o → Pairs Agrees c s due numbers n
-  agrees_doubts number mark staged (Some u) (Some v) each pairs = λ x has.
+  agrees_doubts number mark staged (Some u) (Some v) told each pairs = λ x has.
       let (y, at, is) = pairs x has in (
         y,
         at,
@@ -162,8 +165,8 @@ module _ (c : Configuration) (s : State) (due : ℕ → ℕ) (numbers : List (De
               agrees_kept (due x.0.0) y.cell (slot_at numbers u x.0.0) (slot_at numbers v x.0.0) is now
         ],
       )
-  agrees_doubts number mark staged None n each pairs = absurd pairs
-  agrees_doubts number mark staged (Some u) None each pairs = absurd each
+  agrees_doubts number mark staged None n told each pairs = absurd pairs
+  agrees_doubts number mark staged (Some u) None told each pairs = absurd (not_told told)
 
 -- the same counts are due
 module _ (P : ℕ → Cell → Slot → Type 0) (c : Configuration) (s : State) (due then_due : ℕ → ℕ) (numbers : List (DeviceNumber × ℕ)) (same : (n : ℕ) → then_due n ≡ due n) where
@@ -174,10 +177,10 @@ module _ (P : ℕ → Cell → Slot → Type 0) (c : Configuration) (s : State) 
 
 -- a job was accepted
 module _ (c : Configuration) (s : State) (due : ℕ → ℕ) (old new : DeviceTold) (number : ℕ) where
-  pub agrees_started : (mark : Option Mark) → IsStaged c s number mark → DoubtsAt number mark old new
+  pub agrees_started : (mark : Option Mark) → IsStaged c s number mark → is_some new.slots ≡ true → DoubtsAt number mark old new
       → Pairs Agrees c s due old.fixed.numbers old.slots → Pairs Agrees c s due old.fixed.numbers new.slots
-  agrees_started None staged doubts pairs = agrees_keep c s due old.fixed.numbers old.slots new.slots doubts pairs
-  agrees_started (Some mark) staged doubts pairs = agrees_doubts c s due old.fixed.numbers number mark staged old.slots new.slots doubts pairs
+  agrees_started None staged told doubts pairs = agrees_keep c s due old.fixed.numbers old.slots new.slots told doubts pairs
+  agrees_started (Some mark) staged told doubts pairs = agrees_doubts c s due old.fixed.numbers number mark staged old.slots new.slots told doubts pairs
 
 -- ENTRIES
 -- an entry that is no start-up and no Wrote
@@ -248,12 +251,12 @@ module _ (c : Configuration) (cap : ℕ) (s : State) (due : ℕ → ℕ) (number
   -- the count that is due is one more for that number
   pub agrees_wrote : (number : ℕ) (mark : Mark) (ops : ℕ) (then_due : ℕ → ℕ)
       → ((i : ℕ) → (i == number) ≡ true → then_due i ≡ more_writes 1 (due i)) → ((i : ℕ) → (i == number) ≡ false → then_due i ≡ due i)
-      → IsAllowed c cap s (Wrote (instance_of (record { 0 = number })) mark ops) → (o n : Option (List Slot))
+      → IsAllowed c cap s (Wrote (instance_of (record { 0 = number })) mark ops) → (o n : Option (List Slot)) → is_some n ≡ true
       → IfTold o n (λ u v. (i : ℕ)
       → IfElse (i == number) (SettlesAs mark (slot_at numbers u i) (slot_at numbers v i))
       (Keeps (slot_at numbers u i) (slot_at numbers v i)))
       → Pairs Agrees c s due numbers o → Pairs Agrees c (step c s (Wrote (instance_of (record { 0 = number })) mark ops)) then_due numbers n
-  agrees_wrote number mark ops then_due one rest allowed (Some u) (Some v) each pairs = λ x has.
+  agrees_wrote number mark ops then_due one rest allowed (Some u) (Some v) told each pairs = λ x has.
       let e : Entry = Wrote (instance_of (record { 0 = number })) mark ops in
       let (y, at, is) = pairs x has in (
         record y { cell = cell_by c s (instance_of x.0) y.cell e },
@@ -269,8 +272,8 @@ module _ (c : Configuration) (cap : ℕ) (s : State) (due : ℕ → ℕ) (number
               (agrees_kept (due x.0.0) y.cell (slot_at numbers u x.0.0) (slot_at numbers v x.0.0) is now)
         ],
       )
-  agrees_wrote number mark ops then_due one rest allowed None n each pairs = absurd pairs
-  agrees_wrote number mark ops then_due one rest allowed (Some u) None each pairs = absurd each
+  agrees_wrote number mark ops then_due one rest allowed None n told each pairs = absurd pairs
+  agrees_wrote number mark ops then_due one rest allowed (Some u) None told each pairs = absurd (not_told told)
 
 -- what is settled for a number
 abbrev pub settled_counts : List (DeviceNumber × ℕ) → Option (List Slot) → ℕ → ℕ

@@ -1,5 +1,5 @@
 -- What a history over a device keeps from turn to turn, and what each entry and each call of the device does to it.
-use Rattle.std.specs.Prelude.{◌≡◌, ◌⊎◌, ◌<◌, ◌≤◌, ℕ, Bool, true, false, length, List, [], ◌∷◌, ◌++◌, Contains, Option, Some, None, Result, Ok, Err}
+use Rattle.std.specs.Prelude.{◌≡◌, ◌⊎◌, ◌<◌, ◌≤◌, ℕ, Bool, true, false, length, List, [], ◌∷◌, ◌++◌, Contains, Option, Some, None, is_some, Result, Ok, Err}
 use Rattle.block_machine.specs.nv_base.Count.{last_count}
 use Rattle.block_machine.specs.nv_base.Entry.{ops_of}
 use Rattle.block_machine.specs.nv_base.Marks.{instance_of}
@@ -80,23 +80,27 @@ abbrev pub mark_wish : ℕ → Mark → Wish
 mark_wish number mark = record { job = record { number = number; mark = Some mark; urgent = false }; length = None }
 
 -- CALLS
--- a call keeps all with the history that stands
+-- what the numbers hold is told
+abbrev pub TellsSlots : DeviceTold → Type 0
+TellsSlots d = is_some d.slots ≡ true
+
+-- a call behind which that is told keeps all with the history that stands
 abbrev pub Stays : DeviceTold → Clock → DeviceTold → Clock → Type 0
 Stays old clock new clock_new =
     (c : Configuration) (cap : ℕ) (h : List Entry) (before : Part → PartTold) → HasStarted h → Keeps c cap h before old clock
-    → Keeps c cap h before new clock_new
+    → TellsSlots new → Keeps c cap h before new clock_new
 
 -- so does the start of a job, where its mark is one that the machine's job took
 abbrev pub StartsStay : Wish → DeviceTold → Clock → DeviceTold → Clock → Type 0
 StartsStay w old clock new clock_new =
     (c : Configuration) (cap : ℕ) (h : List Entry) (before : Part → PartTold) → HasStarted h → IsStaged c (after c h) w.job.number w.job.mark
-    → Keeps c cap h before old clock → Keeps c cap h before new clock_new
+    → Keeps c cap h before old clock → TellsSlots new → Keeps c cap h before new clock_new
 
 -- one that asks for an entry keeps all with that entry, where the machine allows it
 abbrev pub StaysWith : Entry → DeviceTold → Clock → DeviceTold → Clock → Type 0
 StaysWith e old clock new clock_new =
     (c : Configuration) (cap : ℕ) (h : List Entry) (before : Part → PartTold) → HasStarted h → IsAllowed c cap (after c h) e
-    → Keeps c cap h before old clock → Keeps c cap (h ++ e ∷ []) before new clock_new
+    → Keeps c cap h before old clock → TellsSlots new → Keeps c cap (h ++ e ∷ []) before new clock_new
 
 -- the entry of a job that was open and ended well, if it settled a mark
 abbrev pub wrote_by : ℕ → Option Mark → ℕ → Option Entry
@@ -135,13 +139,14 @@ StartUpsKeep (Ok _) old clock new clock_new =
     → IsAllowed c cap (after c h) (Found marks (device.ops_of new)) → ListsSettled c marks new.fixed.numbers new.slots
     → Keeps c cap h before (down old) clock → Keeps c cap (h ++ Found marks (device.ops_of new) ∷ []) before new clock_new
 StartUpsKeep (Err _) old clock new clock_new =
-    (c : Configuration) (cap : ℕ) (h : List Entry) (before : Part → PartTold) → Keeps c cap h before (down old) clock → Keeps c cap h before new clock_new
+    (c : Configuration) (cap : ℕ) (h : List Entry) (before : Part → PartTold) → Keeps c cap h before (down old) clock → TellsSlots new
+    → Keeps c cap h before new clock_new
 
 -- until there is its entry, a call keeps all with the history that stands
 abbrev pub StaysDown : DeviceTold → Clock → DeviceTold → Clock → Type 0
 StaysDown old clock new clock_new =
     (c : Configuration) (cap : ℕ) (h : List Entry) (before : Part → PartTold) → Keeps c cap h before (down old) clock
-    → Keeps c cap h before (down new) clock_new
+    → TellsSlots new → Keeps c cap h before (down new) clock_new
 
 -- a start-up may follow at any time
 abbrev pub ComesDown : DeviceTold → Clock → Type 0

@@ -24,6 +24,7 @@ abbrev pub at_rest : ℕ → DeviceTold
 at_rest left = record {
   fixed = fixed;
   slots = None;
+  tells = false;
   started = true;
   stand = Ended JobOk [];
   switching = false;

@@ -1,6 +1,6 @@
 -- The Found of what was found may come behind a history.
-use Rattle.std.specs.Prelude.{◌==◌, IsSome}
-use Rattle.std.proofs.Common.{◌≡◌, ℕ, suc, ◌+◌, ◌/◌, ◌≤◌, true, List, [], ◌∷◌, map, length, Option, Some, None, IfSome, refl, sym, ap, ◌∙◌, subst, arith}
+use Rattle.std.specs.Prelude.{◌==◌, is_some}
+use Rattle.std.proofs.Common.{◌≡◌, ℕ, suc, ◌+◌, ◌/◌, ◌≤◌, true, false, List, [], ◌∷◌, map, length, Option, Some, None, IfSome, refl, sym, ap, ◌∙◌, subst, arith}
 use Rattle.std.specs.List.{Contains, list_all}
 use Rattle.std.proofs.lemmas.Bool.{eq-eqb}
 use Rattle.block_machine.specs.nv_base.Marks.{instance_of, listed}
@@ -21,7 +21,7 @@ use Rattle.block_machine.specs.Legal.{IsAllowed, IsFound, MayBeFound, marks_of, 
 use Rattle.promise_blocks.specs.OverDevice.{HasStarted}
 use Rattle.promise_blocks.specs.Counts.{count_due}
 use Rattle.nvm_device_laws.specs.Pairing.{Allows, Pairs}
-use Rattle.nvm_device_laws.specs.Turn.{Keeps, ListsSettled, down}
+use Rattle.nvm_device_laws.specs.Turn.{Keeps, TellsSlots, ListsSettled, down}
 use Rattle.block_laws.proofs.HistoryLaws.{entries_are_counted}
 use Rattle.block_laws.proofs.OwnInstances.{found_may_stand}
 use Rattle.nvm_device_laws.proofs.Behind.{is_behind}
@@ -55,12 +55,13 @@ each_whole c marks (x ∷ xs) whole own = list_more c (instance_of x.0) (listed_
     (each_whole c marks xs (λ y (k, few, is). whole y (suc k, omega (arith, few), is)) (λ y (k, few, is). own y (suc k, omega (arith, few), is)))
 
 -- WHAT IS SETTLED
-settled_list : (c : Configuration) (marks : List (Instance × Mark)) (numbers : List (DeviceNumber × ℕ)) (P : List Slot → List Slot → Type 0)
-    → (o n : Option (List Slot)) → IfTold o n P → IsSome o → numbers ≡ lengths_of c → IfSome n (AreHeld numbers marks)
-    → ListsSettled c marks numbers n
-settled_list c marks numbers P (Some u) (Some v) each told same held = λ x has. held x (subst (λ ns. Contains ns x) (sym same) has)
-settled_list c marks numbers P (Some u) None each told same held = absurd each
-settled_list c marks numbers P None n each told same held = cc
+settled_list : (c : Configuration) (marks : List (Instance × Mark)) (numbers : List (DeviceNumber × ℕ)) (n : Option (List Slot)) → is_some n ≡ true
+    → numbers ≡ lengths_of c → IfSome n (AreHeld numbers marks) → ListsSettled c marks numbers n
+settled_list c marks numbers (Some v) told same held = λ x has. held x (subst (λ ns. Contains ns x) (sym same) has)
+settled_list c marks numbers None told same held = absurd (not_told told)
+  where
+    not_told : false ≡ true → ⊥
+    not_told is = cc
 
 -- what was possible before may stand
 found_stands : (c : Configuration) (s : State) (due : ℕ → ℕ) (marks : List (Instance × Mark)) (numbers : List (DeviceNumber × ℕ))
@@ -70,7 +71,7 @@ found_stands : (c : Configuration) (s : State) (due : ℕ → ℕ) (marks : List
 found_stands c s due marks numbers (Some u) (Some v) each pairs lists x has =
     let (y, at, allows) = pairs x has in
     rw (at, lists x has) (allows (slot_at numbers v x.0.0).settled (each x.0.0).settled).mark
-found_stands c s due marks numbers (Some u) None each pairs lists x has = absurd each
+found_stands c s due marks numbers (Some u) None each pairs lists x has = absurd lists
 found_stands c s due marks numbers None n each pairs lists x has = absurd pairs
 
 -- so it keeps to the history
@@ -80,7 +81,7 @@ found_marks_keep c cap h before old clock new marks finds told has keeps =
     let numbers : new.fixed.numbers ≡ old.fixed.numbers = ap (λ (f : Fixed). f.numbers) was.fixed in
     let configured : new.fixed.numbers ≡ lengths_of c = numbers ∙ keeps.device.numbers in
     let settled : ListsSettled c marks new.fixed.numbers new.slots =
-    settled_list c marks new.fixed.numbers (λ u v. (i : ℕ) → ComesFrom (slot_at old.fixed.numbers u i) (slot_at old.fixed.numbers v i)) old.slots new.slots was.marks told configured finds.held in
+    settled_list c marks new.fixed.numbers new.slots told configured finds.held in
     keeps_marks c cap h (λ n. record never_written { mark = listed_in marks n }) keeps.device.rules keeps.over.legal
     (found_stands c (after c h) (count_due h keeps.base) marks old.fixed.numbers old.slots new.slots was.marks (keeps.marks has)
     (subst (λ ns. ListsSettled c marks ns new.slots) numbers settled))
@@ -93,14 +94,14 @@ first_found c (e ∷ es) marks later = later tt
 
 module _ (c : Configuration) (cap : ℕ) (h : List Entry) (before : Part → PartTold)
     (old : DeviceTold) (clock : Clock) (new : DeviceTold) (marks : List (Instance × Mark)) where
-  pub found_allowed : Finds marks old new → IsSome old.slots → length h + 2 ≤ cap → Keeps c cap h before (down old) clock
+  pub found_allowed : Finds marks old new → TellsSlots new → length h + 2 ≤ cap → Keeps c cap h before (down old) clock
       → IsAllowed c cap (after c h) (Found marks (device.ops_of new)) × ListsSettled c marks new.fixed.numbers new.slots
   found_allowed finds told fits keeps =
       let was = finds.up.restarted in
       let numbers : new.fixed.numbers ≡ old.fixed.numbers = ap (λ (f : Fixed). f.numbers) was.fixed in
       let configured : new.fixed.numbers ≡ lengths_of c = numbers ∙ keeps.device.numbers in
       let settled : ListsSettled c marks new.fixed.numbers new.slots =
-      settled_list c marks new.fixed.numbers (λ u v. (i : ℕ) → ComesFrom (slot_at old.fixed.numbers u i) (slot_at old.fixed.numbers v i)) old.slots new.slots was.marks told configured finds.held in
+      settled_list c marks new.fixed.numbers new.slots told configured finds.held in
       let listed_old : ListsSettled c marks old.fixed.numbers new.slots = subst (λ ns. ListsSettled c marks ns new.slots) numbers settled in
       let (few, started) = is_behind old clock c cap h before keeps in
       let now : device.ops_of new ≡ device.ops_of old = was.ops in

@@ -73,11 +73,9 @@ told_more : (P Q R : Slot → Slot → Type 0) → ((a b c : Slot) → P a b →
     → IfTold o n (λ u v. (i : ℕ) → R (slot_at numbers u i) (slot_at numbers v i))
 told_more P Q R more numbers (Some u) (Some v) (Some w) one two = λ i.
     more (slot_at numbers u i) (slot_at numbers v i) (slot_at numbers w i) (one i) (two i)
-told_more P Q R more numbers (Some u) (Some v) None one two = absurd two
-told_more P Q R more numbers (Some u) None n one two = absurd one
-told_more P Q R more numbers None (Some v) n one two = absurd one
-told_more P Q R more numbers None None (Some w) one two = absurd two
-told_more P Q R more numbers None None None one two = tt
+told_more P Q R more numbers None (Some v) (Some w) one two = absurd one
+told_more P Q R more numbers o None (Some w) one two = absurd two
+told_more P Q R more numbers o m None one two = tt
 
 abbrev pub Each : (Slot → Slot → Type 0) → DeviceTold → DeviceTold → Type 0
 Each P old new = EachNumber (λ n s t. P s t) old new
@@ -109,15 +107,16 @@ clear_more a b c clear two = no_doubts c.doubts (λ h has. subst (λ (l : List H
 
 -- A DEVICE
 -- what a read leaves of a device that was started up
-pub up_more : (a b c : DeviceTold) → c.fixed ≡ b.fixed → c.ops ≡ b.ops → c.starts ≡ b.starts → c.started ≡ b.started → PartReads b.first c.first
+pub up_more : (a b c : DeviceTold) → c.fixed ≡ b.fixed → c.ops ≡ b.ops → c.starts ≡ b.starts → c.tells ≡ b.tells → c.started ≡ b.started → PartReads b.first c.first
     → PartReads b.second c.second → KeepsAll b c → IsUp a b → IsUp a c
-up_more a b c fixed ops starts started first second marks up =
+up_more a b c fixed ops starts tells started first second marks up =
     let was = up.restarted in
     record {
       restarted = record {
         fixed = fixed ∙ was.fixed;
         ops = ops ∙ was.ops;
         starts = starts ∙ was.starts;
+        tells = tells ∙ was.tells;
         first = powers_on a.first b.first c.first was.first first;
         second = powers_on a.second b.second c.second was.second second;
         marks = each_more ComesFrom Keeps ComesFrom comes_more a b c was.fixed was.marks marks;

@@ -88,18 +88,7 @@ pub first_set : (d : DeviceTold) (ps : List Place) (i : ℕ) (p : Place) → i <
     → FirstHeld d (i + 1) (set ps i p)
 first_set d ps i p few held one = subst (λ (n : ℕ). FirstHeld d n (set ps i p)) (sym (add-one i)) (set_told d.fixed.numbers d.slots ps i p few held one)
 
-before_told : (numbers : List (DeviceNumber × ℕ)) (o n : Option (List Slot)) (p : Place)
-    → IfTold o n (λ u v. (i : ℕ) → Keeps (slot_at numbers u i) (slot_at numbers v i))
-    → IfSome n (λ slots. IsHeldIn numbers slots p) → IfSome o (λ slots. IsHeldIn numbers slots p)
-before_told numbers (Some u) (Some v) p each held = held ∙ ap (λ (h : Held). h.mark) (each p.number.0).settled
-before_told numbers (Some u) None p each held = absurd each
-before_told numbers None n p each held = tt
-
 -- reads leave what is held
-pub held_before : (a b : DeviceTold) (p : Place) → b.fixed ≡ a.fixed → KeepsAll a b → IsHeld b p → IsHeld a p
-held_before a b p fixed each held = before_told a.fixed.numbers a.slots b.slots p each
-    (subst (λ (f : Fixed). IfSome b.slots (λ slots. IsHeldIn f.numbers slots p)) fixed held)
-
 first_kept : (numbers : List (DeviceNumber × ℕ)) (u v : List Slot) (i : ℕ) (ps : List Place)
     → ((k : ℕ) → Keeps (slot_at numbers u k) (slot_at numbers v k)) → FirstHeldIn numbers u i ps → FirstHeldIn numbers v i ps
 first_kept numbers u v zero ps each held = tt

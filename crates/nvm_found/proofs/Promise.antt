@@ -1,5 +1,6 @@
 -- What the start-up and its reads keep.
-use Rattle.std.proofs.Common.{◌≡◌, ℕ, false, List, [], ◌∷◌, ◌++◌, length, map, IfSome, Option, Some, None, Result, Ok, Err, sym, ap, ◌∙◌, subst, inl, inr}
+use Rattle.std.proofs.Common.{◌≡◌, ℕ, true, false, List, [], ◌∷◌, ◌++◌, length, map, IfSome, Option, Some, None, Result, Ok, Err, refl, sym, ap, ◌∙◌, subst, inl, inr}
+use Rattle.std.specs.Prelude.{is_some}
 use Rattle.std.specs.Result.{OnOk}
 use Rattle.block_machine.specs.nv_base.declared.instance.DeviceNumber.{DeviceNumber}
 use Rattle.memif.specs.Told as device
@@ -26,6 +27,11 @@ lists_before c marks numbers (Some u) (Some v) each lists = λ x has. lists x ha
 lists_before c marks numbers None (Some v) each lists = absurd each
 lists_before c marks numbers o None each lists = absurd lists
 
+-- where marks are listed as they are settled, that is told
+lists_told : (c : Configuration) (marks : List (Instance × Mark)) (numbers : List (DeviceNumber × ℕ)) (o : Option (List Slot)) → ListsSettled c marks numbers o → is_some o ≡ true
+lists_told c marks numbers (Some u) lists = refl
+lists_told c marks numbers None lists = absurd lists
+
 -- the reads keep what the start-up asks for
 pub ups_more : (old : DeviceTold) (clock : Clock) (mid : DeviceTold) (clock_mid : Clock) (new : DeviceTold) (clock_new : Clock)
     → StartUpsKeep (Ok tt) old clock mid clock_mid → ReadsOn mid clock_mid new clock_new → StartUpsKeep (Ok tt) old clock new clock_new
@@ -37,7 +43,8 @@ ups_more old clock mid clock_mid new clock_new ups reads c cap h before marks fi
     (subst (λ (n : ℕ). IsAllowed c cap (after c h) (Found marks n)) now allowed)
     (lists_before c marks mid.fixed.numbers mid.slots new.slots reads.marks (subst (λ ns. ListsSettled c marks ns new.slots) numbers lists)) keeps in
     subst (λ (n : ℕ). Keeps c cap (h ++ Found marks n ∷ []) before new clock_new) (sym now)
-    (reads.stays c cap (h ++ Found marks (device.ops_of mid) ∷ []) before (started_push h (Found marks (device.ops_of mid))) before_reads)
+    (reads.stays c cap (h ++ Found marks (device.ops_of mid) ∷ []) before (started_push h (Found marks (device.ops_of mid))) before_reads
+    (lists_told c marks new.fixed.numbers new.slots lists))
 
 pub on_ok : {T E : Type 0} (r : Result T E) {P Q : Type 0} → (P → Q) → OnOk r P → OnOk r Q
 on_ok (Ok v) f p = f p

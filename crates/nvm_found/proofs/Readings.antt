@@ -15,7 +15,7 @@ use Rattle.memif.specs.Told.{DeviceTold, Fixed, Slot, Part, First, Second, part_
 use Rattle.memif.specs.Marks.{Keeps, KeepsAll, IfTold}
 use Rattle.memif.specs.Clock.{Clock, SameClock}
 use Rattle.memif.specs.Trials.{Lasts}
-use Rattle.memif.proofs.Turning.{lasts_more, rose_since, same_lasts, still_lasts, turn_lasts}
+use Rattle.memif.proofs.Turning.{lasts_more, rose_since, told_before, same_lasts, still_lasts, turn_lasts}
 use Rattle.memif.specs.Calls.{PartTurns, Accepts, Opens, StartsUp, Turns, Works, JobTurns, EndsAs, Reads, ReadsAt, Gives, is_read, refusal_of}
 use Rattle.block_machine.specs.Words.{Entry}
 use Rattle.nvm_device_laws.specs.Turn.{Stays, StaysBy, StaysDown, TurnsKeep, settled_by, read_wish}
@@ -42,8 +42,8 @@ reads_more a ca b cb c ct one two = record {
   marks = keeps_all_more a b c one.fixed one.marks two.marks;
   ops = two.ops ∙ one.ops;
   up = λ begun is. two.up begun (one.up begun is);
-  stays = λ x cap h before started keeps. two.stays x cap h before started (one.stays x cap h before started keeps);
-  down = λ x cap h before keeps. two.down x cap h before (one.down x cap h before keeps);
+  stays = λ x cap h before started keeps told. two.stays x cap h before started (one.stays x cap h before started keeps (told_before (λ n s t. Keeps s t) b c two.marks told)) told;
+  down = λ x cap h before keeps told. two.down x cap h before (one.down x cap h before keeps (told_before (λ n s t. Keeps s t) b c two.marks told)) told;
   lasts = lasts_more a ca b cb c ct one.lasts two.lasts;
 }
 
@@ -69,7 +69,7 @@ module _ (number size : ℕ) (old : DeviceTold) (clock : Clock) (new : DeviceTol
         fixed = fixed;
         marks = opens.marks;
         ops = ap (λ (d : DeviceTold). d.ops) opens.only;
-        up = λ begun is. up_more begun old new fixed (ap (λ (d : DeviceTold). d.ops) opens.only) (ap (λ (d : DeviceTold). d.starts) opens.only) (ap (λ (d : DeviceTold). d.started) opens.only) (part_same old.first new.first first) (part_same old.second new.second second) opens.marks is;
+        up = λ begun is. up_more begun old new fixed (ap (λ (d : DeviceTold). d.ops) opens.only) (ap (λ (d : DeviceTold). d.starts) opens.only) (ap (λ (d : DeviceTold). d.tells) opens.only) (ap (λ (d : DeviceTold). d.started) opens.only) (part_same old.first new.first first) (part_same old.second new.second second) opens.marks is;
         stays = stays;
         down = down;
         lasts = same_lasts old clock new clock_new (ap (λ (d : DeviceTold). d.ops) opens.only) (ap (λ (d : DeviceTold). d.first.faults) opens.only) (ap (λ (d : DeviceTold). d.second.faults) opens.only) same;
@@ -98,16 +98,10 @@ none_settled j (Ended JobOk given) ops none = rw none refl
 none_settled j (Ended r given) ops none = refl
 
 -- what it holds stands, as it was before
-reads_at : (number : ℕ) (numbers : List (DeviceNumber × ℕ)) (o n : Option (List Slot)) (outcome : JobResult) (given : List ℕ)
-    → (a b : DeviceTold) → a.fixed.numbers ≡ numbers → b.fixed.numbers ≡ numbers
-    → IfTold o n (λ u v. (i : ℕ) → Keeps (slot_at numbers u i) (slot_at numbers v i))
-    → ReadsAt number n outcome given b → ReadsAt number o outcome given a
-reads_at number numbers (Some u) (Some v) outcome given a b na nb each reads =
-    let there : Reads (slot_at numbers v number).settled.mark outcome given = subst (λ ns. Reads (slot_at ns v number).settled.mark outcome given) nb reads in
-    subst (λ ns. Reads (slot_at ns u number).settled.mark outcome given) (sym na)
-    (subst (λ (h : device.Held). Reads h.mark outcome given) (each number).settled there)
-reads_at number numbers (Some u) None outcome given a b na nb each reads = absurd each
-reads_at number numbers None n outcome given a b na nb each reads = tt
+reads_at : (number : ℕ) (o n : Option (List Slot)) (outcome : JobResult) (given : List ℕ) (a b : DeviceTold) → n ≡ o → b.fixed ≡ a.fixed
+    → ReadsAt number o outcome given a → ReadsAt number n outcome given b
+reads_at number (Some u) n outcome given a b same fixed reads = rw same (subst (λ (f : Fixed). Reads (slot_at f.numbers u number).settled.mark outcome given) (sym fixed) reads)
+reads_at number None n outcome given a b same fixed reads = rw same tt
 
 some_mark : (o : Option Mark) → o ≡ None → o ≢ None → ⊥
 some_mark o none some = some none
@@ -134,6 +128,10 @@ module _ (old : DeviceTold) (new : DeviceTold) (clock_new : Clock) where
   works_starts First works = ap (λ (d : DeviceTold). d.starts) works.only
   works_starts Second works = ap (λ (d : DeviceTold). d.starts) works.only
 
+  works_tells : (p : Part) → Works p old new clock_new → new.tells ≡ old.tells
+  works_tells First works = ap (λ (d : DeviceTold). d.tells) works.only
+  works_tells Second works = ap (λ (d : DeviceTold). d.tells) works.only
+
   -- a fault of it is one since the device was as it was once
   has_fault : (p : Part) (begun : DeviceTold) → IsUp begun old → Rose (part_at p old).faults (part_at p new).faults → HasFault begun new
   has_fault First begun up rose = inl (rose_since begun.first.faults old.first.faults new.first.faults up.restarted.first.faults.faults rose)
@@ -147,7 +145,7 @@ module _ (old : DeviceTold) (new : DeviceTold) (clock_new : Clock) where
         fixed = works_fixed p works;
         marks = marks;
         ops = (works.read read).0;
-        up = λ begun is. up_more begun old new (works_fixed p works) (works.read read).0 (works_starts p works) (works_started p works) (first_reads p works read) (second_reads p works read) marks is;
+        up = λ begun is. up_more begun old new (works_fixed p works) (works.read read).0 (works_starts p works) (works_tells p works) (works_started p works) (first_reads p works read) (second_reads p works read) marks is;
         stays = stays;
         down = down;
         lasts = lasts;
@@ -195,7 +193,7 @@ module _ (number size : ℕ) (begun : DeviceTold) (clock_begun : Clock) (old : D
       subst (λ (n : ℕ). EndsAs None n outcome given old new) job_is.0 (subst (λ (m : Option Mark). EndsAs m j.number outcome given old new) job_is.1 turns.0) in
       let fixed = so.reads.fixed in
       record {
-        held = reads_at number begun.fixed.numbers begun.slots old.slots outcome given begun old refl (ap (λ (f : Fixed). f.numbers) fixed) so.reads.marks ends.0;
+        held = reads_at number old.slots new.slots outcome given old new (works.read is_reading).1 (works_fixed old new clock_new p works) ends.0;
         gives = subst (λ (n : Option ℕ). Gives outcome n given) (ap (λ (f : Fixed). length_of f.numbers number) fixed ∙ configured) ends.1;
         fault = λ failed first up. elim (turns.1 failed) [
           | inl rose ↦ has_fault old new clock_new p first (so.reads.up first up) rose
@@ -262,6 +260,7 @@ restarts answer old clock new clock_new up = record {
   fixed = ap (λ (d : DeviceTold). d.fixed) up.only;
   ops = ap (λ (d : DeviceTold). d.ops) up.only;
   starts = ap (λ (d : DeviceTold). d.starts) up.only;
+  tells = ap (λ (d : DeviceTold). d.tells) up.only;
   first = up.first;
   second = up.second;
   marks = up.marks;

@@ -1,5 +1,5 @@
 -- What a start-up with its reads leaves of a device, and the marks that it finds.
-use Rattle.std.specs.Prelude.{◌≡◌, ◌⊎◌, ◌≤◌, ◌+◌, ℕ, true, false, length, List, [], ◌∷◌, ◌++◌, Contains, IfSome, IsSome, Result, Ok, Err}
+use Rattle.std.specs.Prelude.{◌≡◌, ◌⊎◌, ◌≤◌, ◌+◌, ℕ, true, false, length, List, [], ◌∷◌, ◌++◌, Contains, IfSome, Result, Ok, Err}
 use Rattle.block_machine.specs.nv_base.Count.{Rose}
 use Rattle.block_machine.specs.nv_base.Marks.{instance_of, listed}
 use Rattle.block_machine.specs.nv_base.declared.instance.Instance.{Instance}
@@ -17,7 +17,7 @@ use Rattle.block_machine.specs.Steps.{after}
 use Rattle.block_machine.specs.Legal.{IsAllowed}
 use Rattle.promise_blocks.specs.OverDevice.{HasStarted}
 use Rattle.promise_blocks.specs.Marks.{KeepsMarks}
-use Rattle.nvm_device_laws.specs.Turn.{Keeps, down}
+use Rattle.nvm_device_laws.specs.Turn.{Keeps, TellsSlots, down}
 
 -- THE DEVICE
 -- whatever is answered: no operation is made and no cut begins, the start-up is counted, a plan is dropped, and each number's
@@ -26,6 +26,7 @@ pub record IsRestarted (old new : DeviceTold) : Type 0 where
   pub fixed : new.fixed ≡ old.fixed
   pub ops : new.ops ≡ old.ops
   pub starts : new.starts ≡ old.starts + 1
+  pub tells : new.tells ≡ old.tells
   pub first : PowersUp old.first new.first
   pub second : PowersUp old.second new.second
   pub marks : EachNumber (λ n s t. ComesFrom s t) old new
@@ -78,20 +79,20 @@ abbrev pub listed_in : List (Instance × Mark) → ℕ → Mark
 listed_in marks n = listed_mark marks (instance_of (record { 0 = n }))
 
 -- THE PROMISE
--- What is found keeps to the history that stands, where the device tells what it holds.
+-- What is found keeps to the history that stands, where the device tells what it holds, then too.
 abbrev pub FoundMarksKeep : Type 1
 FoundMarksKeep =
     (c : Configuration) (cap : ℕ) (h : List Entry) (before : Part → PartTold) (old : DeviceTold) (clock : Clock) (new : DeviceTold)
-    (marks : List (Instance × Mark)) → Finds marks old new → IsSome old.slots → HasStarted h → Keeps c cap h before old clock
+    (marks : List (Instance × Mark)) → Finds marks old new → TellsSlots new → HasStarted h → Keeps c cap h before old clock
     → KeepsMarks c h (listed_in marks)
 
--- Where the device tells what it holds and the entry fits with an Off behind it, the Found of these marks is allowed, and
--- keeps all, the first before any operation. At a fault the history that stands keeps all, until a start-up answers Ok.
+-- Where the device tells what it holds, then too, and the entry fits with an Off behind it, the Found of these marks is allowed,
+-- and keeps all, the first before any operation. At a fault the history that stands keeps all, until a start-up answers Ok.
 abbrev pub FindsKeep : {E : Type 0} → Result (List (Instance × Mark)) E → DeviceTold → Clock → DeviceTold → Clock → Type 0
 FindsKeep (Ok marks) old clock new clock_new =
-    (c : Configuration) (cap : ℕ) (h : List Entry) (before : Part → PartTold) → IsSome old.slots → HasStarted h ⊎ (new.ops ≡ 0)
+    (c : Configuration) (cap : ℕ) (h : List Entry) (before : Part → PartTold) → TellsSlots new → HasStarted h ⊎ (new.ops ≡ 0)
     → length h + 2 ≤ cap → Keeps c cap h before (down old) clock
     → IsAllowed c cap (after c h) (Found marks (device.ops_of new)) × Keeps c cap (h ++ Found marks (device.ops_of new) ∷ []) before new clock_new
 FindsKeep (Err fault) old clock new clock_new =
     (c : Configuration) (cap : ℕ) (h : List Entry) (before : Part → PartTold) → Keeps c cap h before (down old) clock
-    → Keeps c cap h before (down new) clock_new
+    → TellsSlots new → Keeps c cap h before (down new) clock_new

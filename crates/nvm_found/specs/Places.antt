@@ -90,6 +90,6 @@ HasFault begun new = Rose begun.first.faults new.first.faults ⊎ Rose begun.sec
 
 -- what a read of a number came to
 pub record ReadComesTo (number size : ℕ) (old : DeviceTold) (outcome : JobResult) (given : List ℕ) (new : DeviceTold) : Type 0 where
-  pub held : ReadsAt number old.slots outcome given old
+  pub held : ReadsAt number new.slots outcome given new
   pub gives : Gives outcome (Some size) given
   pub fault : outcome ≡ JobFailed → (begun : DeviceTold) → IsUp begun old → HasFault begun new

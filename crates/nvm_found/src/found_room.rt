@@ -96,7 +96,7 @@ fn read_all<D: MemDevice>(device: &mut D, places: &mut [Place]) -> Result<(), St
     ensures whole { AreWhole places.new }
     ensures ready { IsReady (D.told device.new) }
     ensures reads { ReadsOn (D.told device.old) (D.clock device.old) (D.told device.new) (D.clock device.new) }
-    ensures held { OnOk result (FirstHeld (D.told device.old) (length places.new) places.new) }
+    ensures held { OnOk result (FirstHeld (D.told device.new) (length places.new) places.new) }
     ensures fault { OnErr result ((begun : _) → IsUp begun (D.told device.old) → HasFault begun (D.told device.new)) }
 {
     for place in places.iter_mut() {

@@ -56,7 +56,7 @@ impl Place {
         ensures whole { IsWhole self.new }
         ensures ready { IsReady (D.told device.new) }
         ensures reads { ReadsOn (D.told device.old) (D.clock device.old) (D.told device.new) (D.clock device.new) }
-        ensures held { OnOk result (IsHeld (D.told device.old) self.new) }
+        ensures held { OnOk result (IsHeld (D.told device.new) self.new) }
         ensures fault { OnErr result ((begun : _) → IsUp begun (D.told device.old) → HasFault begun (D.told device.new)) }
     {
         match device.mark_kind(self.number) {

@@ -23,6 +23,7 @@ use Rattle.nvm_device_laws.proofs.Pushed.{started_push}
 use Rattle.job_progress.proofs.Asking.{asked_hand, pending_stay}
 use Rattle.nvm_laws.specs.Keeps.{StackKeeps}
 use Rattle.nvm_laws.specs.Entries.{AsksKeep}
+use Rattle.nvm_laws.proofs.Keeping.{keeps_with}
 use Rattle.nvm_laws.proofs.Operations.{held}
 use Rattle.nvm_laws.proofs.Ordering.{order_asked, starts_push}
 
@@ -81,5 +82,5 @@ module _ (d : DeviceTold) (clock : Clock) (old : DeskState) (caller : ℕ) (r : 
 
 pub asks_keep : (d : DeviceTold) (clock : Clock)
     → AsksKeep d clock
-asks_keep d clock old new hand caller r reply adds allowed before kept =
-    asked_keeps d clock old caller r reply allowed before new hand adds kept
+asks_keep d clock old new hand caller r reply adds allowed =
+    keeps_with old new hand hand (Ask caller r reply) d clock adds (λ driver. cc) (λ before. asked_keeps d clock old caller r reply allowed before new hand adds)

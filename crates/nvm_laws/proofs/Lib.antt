@@ -1,6 +1,8 @@
 mod Numbers
 pub mod Operations
 pub mod Refusing
+pub mod Keeping
+mod Telling
 pub mod Numbered
 pub mod Picking
 mod Paying

@@ -4,24 +4,28 @@ use Rattle.std.proofs.Common.{◌≡◌, ℕ, Bool, true, false, List, [], ◌�
 use Rattle.block_machine.specs.nv_base.declared.job.JobStep.TheVariants as step
 use Rattle.memif.specs.Told.{DeviceTold, Stand, ops_of, Part, part_at, PartTold}
 use Rattle.memif.specs.Clock.{Clock}
-use Rattle.block_machine.specs.Words.{Entry, Pick, JobKind, ReadJob, ReqResult, FromDevice, Configuration}
+use Rattle.block_machine.specs.Words.{Entry, Pick, JobKind, Taken, ReadJob, ReqResult, FromDevice, Configuration}
 use Rattle.block_machine.specs.State.{State, Job}
 use Rattle.block_machine.specs.Results.{took_none}
 use Rattle.block_machine.specs.Steps.{after}
+use Rattle.block_machine.specs.Legal.{IsAllowed}
 use Rattle.promise_blocks.specs.OverDevice.{is_of}
 use Rattle.promise_blocks.specs.Payment.{IsPaid}
 use Rattle.nvm_device_laws.specs.Turn.{Keeps}
 use Rattle.nvm_device_laws.specs.Tries.{TriesArePaid}
 use Rattle.job_programs.specs.Program.{step_of}
-use Rattle.nv_desk.specs.Desk.{DeskState}
+use Rattle.nv_desk.specs.Desk.{DeskState, state_of}
+use Rattle.job_progress.specs.Hand.{HandState}
 use Rattle.job_progress.specs.JobInHand.{FitsMarks, HandFits, program_for}
 use Rattle.job_progress.specs.Begins.{hand_by, hand_for}
 use Rattle.nvm_device_laws.proofs.Called.{entries_keep}
 use Rattle.nvm_device_laws.proofs.PaidTries.{tries_begin}
 use Rattle.nvm_device_laws.proofs.Pushed.{started_push}
+use Rattle.nvm_laws.specs.Halves.{Adds}
 use Rattle.nvm_laws.specs.Turns.{hand_in}
 use Rattle.nvm_laws.specs.Keeps.{StackKeeps}
 use Rattle.nvm_laws.specs.Entries.{PicksKeep}
+use Rattle.nvm_laws.proofs.Keeping.{keeps_with, timed_at}
 use Rattle.nvm_laws.proofs.Ordering.{order_push, starts_push}
 
 -- THE HAND OF A JOB ON WHICH NOTHING WAS DONE
@@ -58,8 +62,10 @@ paid_by d clock c s h before paid None = tt
 paid_by d clock c s h before paid (Some j) = tries_begin d clock c h before (hand_for c s j).program (done_is c s j (took_none j.taken)) (failures_are c s j (took_none j.taken)) paid
 
 -- THE PICK
-pub picks_keep : (d : DeviceTold) (clock : Clock) → PicksKeep d clock
-picks_keep d clock old new hand block kind taken adds allowed before kept =
+picked_keeps : (d : DeviceTold) (clock : Clock) (old new : DeskState) (hand : Option HandState) (block : ℕ) (kind : JobKind) (taken : Taken)
+    → Adds (Pick block kind taken (ops_of d)) old new → IsAllowed old.config old.cap (state_of old) (Pick block kind taken (ops_of d)) → (before : Part → PartTold)
+    → StackKeeps before old hand d clock → StackKeeps before new (hand_in new) d clock
+picked_keeps d clock old new hand block kind taken adds allowed before kept =
     subst (λ (x : DeskState). StackKeeps before x (hand_in x) d clock) (sym adds) (record {
       started = started_push old.entries e;
       keeps = keeps_now;
@@ -77,3 +83,8 @@ picks_keep d clock old new hand block kind taken adds allowed before kept =
 
     keeps_now : Keeps old.config old.cap (old.entries ++ e ∷ []) before d clock
     keeps_now = entries_keep d clock old.config old.cap old.entries before e kept.started kept.keeps refl allowed refl tt
+
+pub picks_keep : (d : DeviceTold) (clock : Clock) → PicksKeep d clock
+picks_keep d clock old new hand block kind taken adds allowed =
+    keeps_with old new hand (hand_in new) (Pick block kind taken (ops_of d)) d clock adds (timed_at (Pick block kind taken (ops_of d)) d.ops refl)
+    (picked_keeps d clock old new hand block kind taken adds allowed)

@@ -27,9 +27,10 @@ use Rattle.job_progress.proofs.Fitting.{ends_are_explained, ends_are_of_programs
 use Rattle.nvm_device_laws.proofs.Called.{entries_keep}
 use Rattle.nvm_device_laws.proofs.PaidPosts.{posts_are_paid}
 use Rattle.nvm_device_laws.proofs.Pushed.{started_push}
-use Rattle.nvm_laws.specs.Keeps.{StackKeeps}
+use Rattle.nvm_laws.specs.Keeps.{StackKeeps, StaysKept}
 use Rattle.nvm_laws.specs.Entries.{PostsKeep, SkippedKeep}
 use Rattle.nvm_laws.proofs.Operations.{same_job}
+use Rattle.nvm_laws.proofs.Keeping.{keeps_with, timed_at}
 use Rattle.nvm_laws.proofs.Ordering.{order_push, starts_push}
 use Rattle.nvm_laws.proofs.Paying.{pays_free, free_alone, free_refused, free_unfailed, none_result, only_none, over_by}
 
@@ -116,14 +117,16 @@ module _ (d : DeviceTold) (clock : Clock) (old : DeskState) (h : HandState) (j :
 
 pub posts_keep : (d : DeviceTold) (clock : Clock)
     → PostsKeep d clock
-posts_keep d clock old new h j r source told behind hand is over post before kept =
-    posted_keeps d clock old h j r source hand is over before kept new told behind post
+posts_keep d clock old new h j r source told behind hand is over post =
+    keeps_with old new (Some h) None (Post (job_block j) post.result post.given post.refused (ops_of d)) d clock post.adds
+    (timed_at (Post (job_block j) post.result post.given post.refused (ops_of d)) d.ops refl)
+    (λ before kept. posted_keeps d clock old h j r source hand is over before kept new told behind post)
 
 -- WITHOUT A PICK
 module _ (d : DeviceTold) (clock : Clock) (old new : DeskState) (told behind : List Told)
-    (none : (state_of old).hand ≡ None) (before : Part → PartTold) (kept : StackKeeps before old None d clock) where
-  alone : (block : ℕ) (ram : Bool) (ended : Answer) → IsPosted (Unit {0}) block ram ended (ops_of d) old new told behind → StackKeeps before new None d clock
-  alone block ram ended post =
+    (none : (state_of old).hand ≡ None) where
+  alone : (before : Part → PartTold) (block : ℕ) (ram : Bool) (ended : Answer) → IsPosted (Unit {0}) block ram ended (ops_of d) old new told behind → StackKeeps before old None d clock → StackKeeps before new None d clock
+  alone before block ram ended post kept =
       subst (λ (x : DeskState). StackKeeps before x None d clock) (sym post.adds) (record {
         started = started_push old.entries e;
         keeps = entries_keep d clock old.config old.cap old.entries before e kept.started kept.keeps refl (post.allowed tt) refl
@@ -138,14 +141,18 @@ module _ (d : DeviceTold) (clock : Clock) (old new : DeskState) (told behind : L
       e : Entry
       e = Post block post.result post.given post.refused (ops_of d)
 
-  pub alone_by : (n : Next) → IsPostedNext n (ops_of d) old new told behind → StackKeeps before new None d clock
-  alone_by (PostMember sw id) post = alone id true (unpicked_result (own_of old.config (state_of old) id) sw.writes) post
-  alone_by (EndSweep sw) post = alone 0 false (sweep_result sw, None) post
+  alone_kept : (block : ℕ) (ram : Bool) (ended : Answer) → IsPosted (Unit {0}) block ram ended (ops_of d) old new told behind → StaysKept old None d clock new None d clock
+  alone_kept block ram ended post = keeps_with old new None None (Post block post.result post.given post.refused (ops_of d)) d clock post.adds
+      (timed_at (Post block post.result post.given post.refused (ops_of d)) d.ops refl) (λ before. alone before block ram ended post)
+
+  pub alone_by : (n : Next) → IsPostedNext n (ops_of d) old new told behind → StaysKept old None d clock new None d clock
+  alone_by (PostMember sw id) post = alone_kept id true (unpicked_result (own_of old.config (state_of old) id) sw.writes) post
+  alone_by (EndSweep sw) post = alone_kept 0 false (sweep_result sw, None) post
   alone_by Nothing post = absurd post
   alone_by (PickJob x) post = absurd post
   alone_by (BeginSweep sw) post = absurd post
   alone_by (PickMember sw id) post = absurd post
 
 pub skipped_keep : (d : DeviceTold) (clock : Clock) → SkippedKeep d clock
-skipped_keep d clock old new told behind none post before kept =
-    alone_by d clock old new told behind none before kept (next_of old.config (state_of old)) post
+skipped_keep d clock old new told behind none post =
+    alone_by d clock old new told behind none (next_of old.config (state_of old)) post

@@ -33,6 +33,8 @@ use Rattle.nvm_device_laws.proofs.Pushed.{Goes}
 use Rattle.nvm_laws.specs.Keeps.{StackKeeps}
 use Rattle.nvm_laws.specs.Calls.{StartsKeep, CancelsKeep}
 use Rattle.nvm_laws.proofs.Operations.{own, same_job}
+use Rattle.nvm_laws.proofs.Keeping.{keeps_at}
+use Rattle.nvm_laws.proofs.Telling.{accepts_tell, cancels_tell}
 use Rattle.nvm_laws.proofs.Ordering.{order_stays, starts_stay}
 
 -- THE MARK OF THE JOB
@@ -133,29 +135,29 @@ accepted_same old clock new clock_new w (Err refusal) accepts = (ap (λ (d : Dev
 
 pub starts_keep : (old : DeviceTold) (clock : Clock) (new : DeviceTold) (clock_new : Clock) (w : Wish) (answer : Result (Unit {0}) DeviceRefusal)
     → Accepts w answer old clock new clock_new → StartsKeep w old clock new clock_new
-starts_keep old clock new clock_new w answer accepts desk h op i names at is asked before kept = record {
+starts_keep old clock new clock_new w answer accepts desk h op i names at is asked = keeps_at desk desk (Some h) (Some (with_start h)) old clock new clock_new refl (accepts_tell old clock new clock_new w answer accepts) (λ before kept told. record {
   started = kept.started;
   keeps = start_stays old clock new clock_new w answer accepts desk.config desk.cap desk.entries before kept.started
-      (subst (λ (j : device.Job). IsStaged desk.config (state_of desk) j.number j.mark) (sym asked) (staged before desk h op i names old clock is kept)) kept.keeps;
+      (subst (λ (j : device.Job). IsStaged desk.config (state_of desk) j.number j.mark) (sym asked) (staged before desk h op i names old clock is kept)) kept.keeps told;
   fits = fits_on desk.config (state_of desk) h old new op i at kept.fits;
   paid = start_tries old clock new clock_new w answer accepts desk.config desk.cap desk.entries before h.program kept.keeps kept.paid;
   order = order_stays old clock new clock_new (accepted_goes old clock new clock_new w answer accepts).fixed (accepted_goes old clock new clock_new w answer accepts).past.of_second desk.config desk.entries
       (accepted_same old clock new clock_new w answer accepts).0 kept.order;
   starts = starts_stay old new (accepted_goes old clock new clock_new w answer accepts).faults desk.entries kept.starts (accepted_same old clock new clock_new w answer accepts).1;
-}
+})
 
 -- a read has no mark
 pub reads_keep : (old : DeviceTold) (clock : Clock) (new : DeviceTold) (clock_new : Clock) (w : Wish) (answer : Result (Unit {0}) DeviceRefusal)
     → w.job.mark ≡ None → Accepts w answer old clock new clock_new → StartsKeep w old clock new clock_new
-reads_keep old clock new clock_new w answer none accepts desk h op i names at is asked before kept = record {
+reads_keep old clock new clock_new w answer none accepts desk h op i names at is asked = keeps_at desk desk (Some h) (Some (with_start h)) old clock new clock_new refl (accepts_tell old clock new clock_new w answer accepts) (λ before kept told. record {
   started = kept.started;
-  keeps = read_stays old clock new clock_new w answer none accepts desk.config desk.cap desk.entries before kept.started kept.keeps;
+  keeps = read_stays old clock new clock_new w answer none accepts desk.config desk.cap desk.entries before kept.started kept.keeps told;
   fits = fits_on desk.config (state_of desk) h old new op i at kept.fits;
   paid = start_tries old clock new clock_new w answer accepts desk.config desk.cap desk.entries before h.program kept.keeps kept.paid;
   order = order_stays old clock new clock_new (accepted_goes old clock new clock_new w answer accepts).fixed (accepted_goes old clock new clock_new w answer accepts).past.of_second desk.config desk.entries
       (accepted_same old clock new clock_new w answer accepts).0 kept.order;
   starts = starts_stay old new (accepted_goes old clock new clock_new w answer accepts).faults desk.entries kept.starts (accepted_same old clock new clock_new w answer accepts).1;
-}
+})
 
 -- A CANCEL
 canceled_same : (old : DeviceTold) (clock : Clock) (new : DeviceTold) (clock_new : Clock) → Cancels old clock new clock_new → (new.ops ≡ old.ops) × (new.starts ≡ old.starts)
@@ -166,12 +168,12 @@ canceled_same old clock new clock_new cancels = by (is_open old.stand) cancels.0
     by false is = (ap (λ (d : DeviceTold). d.ops) is, ap (λ (d : DeviceTold). d.starts) is)
 
 pub cancels_keep : (old : DeviceTold) (clock : Clock) (new : DeviceTold) (clock_new : Clock) → Cancels old clock new clock_new → CancelsKeep old clock new clock_new
-cancels_keep old clock new clock_new cancels desk hand before kept = record {
+cancels_keep old clock new clock_new cancels desk hand = keeps_at desk desk hand None old clock new clock_new refl (cancels_tell old clock new clock_new cancels) (λ before kept told. record {
   started = kept.started;
-  keeps = cancel_stays old clock new clock_new cancels desk.config desk.cap desk.entries before kept.started kept.keeps;
+  keeps = cancel_stays old clock new clock_new cancels desk.config desk.cap desk.entries before kept.started kept.keeps told;
   fits = tt;
   paid = tt;
   order = order_stays old clock new clock_new (goes_canceled old clock new clock_new cancels).fixed (goes_canceled old clock new clock_new cancels).past.of_second desk.config desk.entries
       (canceled_same old clock new clock_new cancels).0 kept.order;
   starts = starts_stay old new (goes_canceled old clock new clock_new cancels).faults desk.entries kept.starts (canceled_same old clock new clock_new cancels).1;
-}
+})

@@ -14,6 +14,8 @@ use Rattle.job_progress.specs.JobInHand.{FitsMarks, HandFits}
 use Rattle.nvm_device_laws.proofs.DeviceCalls.{arm_stays, goes_armed}
 use Rattle.nvm_device_laws.proofs.DeviceTries.{arm_tries}
 use Rattle.nvm_laws.specs.Calls.{ArmsKeep}
+use Rattle.nvm_laws.proofs.Keeping.{keeps_at}
+use Rattle.nvm_laws.proofs.Telling.{arms_tell}
 use Rattle.nvm_laws.proofs.Ordering.{order_stays, starts_stay}
 
 pub fits_stay : (c : Configuration) (s : State) (hand : Option HandState) (old new : DeviceTold) → new.stand ≡ old.stand → HandFits c s hand old → HandFits c s hand new
@@ -45,14 +47,14 @@ armed_starts which nth keep d = by (which == 0) (which == 1)
 
 pub arms_keep : (old : DeviceTold) (clock : Clock) (new : DeviceTold) (clock_new : Clock) (which nth keep : ℕ)
     → Arms which nth keep old clock new clock_new → ArmsKeep old clock new clock_new
-arms_keep old clock new clock_new which nth keep arms desk hand before kept =
+arms_keep old clock new clock_new which nth keep arms desk hand = keeps_at desk desk hand hand old clock new clock_new refl (arms_tell old clock new clock_new which nth keep arms) (λ before kept told.
     let goes = goes_armed old clock new clock_new which nth keep arms in
     let same = armed_starts which nth keep old in
     record {
       started = kept.started;
-      keeps = arm_stays old clock new clock_new which nth keep arms desk.config desk.cap desk.entries before kept.started kept.keeps;
+      keeps = arm_stays old clock new clock_new which nth keep arms desk.config desk.cap desk.entries before kept.started kept.keeps told;
       fits = fits_stay desk.config (state_of desk) hand old new (ap (λ (d : DeviceTold). d.stand) arms.0 ∙ armed_stand which nth keep old) kept.fits;
       paid = paid_stays old clock new clock_new (arm_tries old clock new clock_new which nth keep arms) desk.config desk.cap desk.entries before kept.keeps hand kept.paid;
       order = order_stays old clock new clock_new goes.fixed goes.past.of_second desk.config desk.entries (ap (λ (d : DeviceTold). d.ops) arms.0 ∙ same.0) kept.order;
       starts = starts_stay old new goes.faults desk.entries kept.starts (ap (λ (d : DeviceTold). d.starts) arms.0 ∙ same.1);
-    }
+    })

@@ -17,7 +17,7 @@ use Rattle.block_machine.specs.Steps.{step}
 use Rattle.promise_blocks.specs.Counts.{count_due}
 use Rattle.promise_blocks.specs.Operations.{AreOfJobs, AreStartsTold, start_ups_in}
 use Rattle.nvm_device_laws.specs.Outcomes.{outcome_by, OutcomesFit}
-use Rattle.nvm_device_laws.specs.Turn.{StaysBy, TurnsKeep, settled_by, wrote_by}
+use Rattle.nvm_device_laws.specs.Turn.{StaysBy, TurnsKeep, TellsSlots, settled_by, wrote_by}
 use Rattle.nvm_device_laws.specs.Tries.{TriesArePaid, TriesStay, TriesGoOn, is_post}
 use Rattle.nv_desk.specs.Desk.{DeskState, state_of}
 use Rattle.job_progress.specs.Hand.{HandState, ended}
@@ -30,11 +30,13 @@ use Rattle.nvm_device_laws.proofs.FittingOutcomes.{outcomes_fit}
 use Rattle.nvm_device_laws.proofs.PaidTries.{tries_stay_with}
 use Rattle.nvm_device_laws.proofs.Pushed.{started_push}
 use Rattle.nvm_laws.specs.Turns.{entry_by, AddsBy, hand_by}
-use Rattle.nvm_laws.specs.Keeps.{StackKeeps}
+use Rattle.nvm_laws.specs.Keeps.{StackKeeps, StaysKept}
 use Rattle.nvm_laws.specs.Calls.{DeviceTurnsKeep}
 use Rattle.nvm_laws.proofs.Operations.{is_block}
 use Rattle.nvm_laws.proofs.Staying.{fits_stay, paid_stays}
 use Rattle.nvm_laws.proofs.Ending.{ended_fits, index, listed, next, number_is, read_has_none, small_index}
+use Rattle.nvm_laws.proofs.Keeping.{StillTells, keeps_at, keeps_behind, timed_at}
+use Rattle.nvm_laws.proofs.Telling.{turns_tell}
 use Rattle.nvm_laws.proofs.Ordering.{order_push, starts_push, turn_ordered}
 
 -- WHERE THE JOBS STAND
@@ -88,7 +90,7 @@ fits_off c s (Some h) d ops fits = λ j held. record { fit = (fits j held).fit; 
 module _ (old : DeviceTold) (clock : Clock) (new : DeviceTold) (clock_new : Clock)
     (tries : TriesStay old clock new clock_new) (goes_on : TriesGoOn old clock new clock_new) (outcomes : OutcomesFit old new)
     (before : Part → PartTold) (desk desk_new : DeskState) (hand : Option HandState)
-    (up : old.started ≡ true) (paired : IsPaired desk.config (state_of desk) hand old) (kept : StackKeeps before desk hand old clock)
+    (up : old.started ≡ true) (told : TellsSlots new) (paired : IsPaired desk.config (state_of desk) hand old) (kept : StackKeeps before desk hand old clock)
     (order : AreOfJobs desk.config desk.entries new clock_new) (starts : AreStartsTold desk.entries new) where
   abbrev ArePaidAt : List Entry → Option HandState → Type 0
   ArePaidAt entries held = IfSome held (λ x. TriesArePaid desk.config clock_new.worn before new entries x.program)
@@ -102,7 +104,7 @@ module _ (old : DeviceTold) (clock : Clock) (new : DeviceTold) (clock_new : Cloc
       → HandFits desk.config (state_by desk.config (state_of desk) e) held new → ArePaidAt desk.entries held → StackKeeps before desk_new held new clock_new
   made None plain stays adds held fits paid = subst (λ (x : DeskState). StackKeeps before x held new clock_new) (sym adds) (record {
     started = kept.started;
-    keeps = stays desk.config desk.cap desk.entries before kept.started kept.keeps;
+    keeps = stays desk.config desk.cap desk.entries before kept.started kept.keeps told;
     fits = fits;
     paid = paid;
     order = order;
@@ -110,7 +112,7 @@ module _ (old : DeviceTold) (clock : Clock) (new : DeviceTold) (clock_new : Cloc
   })
   made (Some e) plain stays adds held fits paid = subst (λ (x : DeskState). StackKeeps before x held new clock_new) (sym adds.0) (record {
     started = started_push desk.entries e;
-    keeps = stays desk.config desk.cap desk.entries before kept.started adds.1 kept.keeps;
+    keeps = stays desk.config desk.cap desk.entries before kept.started adds.1 kept.keeps told;
     fits = subst (λ (t : State). HandFits desk.config t held new) (sym (histories_step desk.config desk.entries e)) fits;
     paid = paid_with e plain.0 held paid;
     order = order_push new clock_new desk.config desk.entries e plain.1 order;
@@ -204,8 +206,29 @@ module _ (old : DeviceTold) (clock : Clock) (new : DeviceTold) (clock_new : Cloc
 
 pub device_turns_keep : (old : DeviceTold) (clock : Clock) (new : DeviceTold) (clock_new : Clock) (answer : DeviceTurn)
     → Turns answer old clock new clock_new → DeviceTurnsKeep answer old clock new clock_new
-device_turns_keep old clock new clock_new answer turns desk desk_new hand up paired on adds before kept =
-    let ordered = turn_ordered old clock new clock_new before desk hand kept.keeps paired on kept.order kept.starts answer turns in
-    turned old clock new clock_new (turn_tries old clock new clock_new answer turns) (turn_goes_on old clock new clock_new answer turns)
-    (outcomes_fit old clock new clock_new answer turns) before desk desk_new hand up paired kept ordered.order ordered.starts answer turns
-    (turn_keeps old clock new clock_new answer turns) adds
+device_turns_keep old clock new clock_new answer turns desk desk_new hand up paired on adds =
+    by (entry_by answer old.stand new.stand (ops_of new)) (of_answer answer) adds
+  where
+    kept_now : (before : Part → PartTold) → StackKeeps before desk hand old clock → TellsSlots new → StackKeeps before desk_new (hand_by old.stand new.stand hand) new clock_new
+    kept_now before kept told =
+        let ordered = turn_ordered old clock new clock_new before desk hand kept.keeps paired on kept.order kept.starts answer turns in
+        turned old clock new clock_new (turn_tries old clock new clock_new answer turns) (turn_goes_on old clock new clock_new answer turns)
+        (outcomes_fit old clock new clock_new answer turns) before desk desk_new hand up told paired kept ordered.order ordered.starts answer turns
+        (turn_keeps old clock new clock_new answer turns) adds
+
+    of_answer : (answer : DeviceTurn) → IsOfTurn (ops_of new) (entry_by answer old.stand new.stand (ops_of new))
+    of_answer turn.Off = (refl, refl, refl)
+    of_answer turn.Idle = of_turn old.stand new.stand (ops_of new)
+    of_answer turn.Worked = of_turn old.stand new.stand (ops_of new)
+
+    by : (e : Option Entry) → IsOfTurn (ops_of new) e → AddsBy e desk desk_new
+        → StaysKept desk hand old clock desk_new (hand_by old.stand new.stand hand) new clock_new
+    by None of same = keeps_at desk desk_new hand (hand_by old.stand new.stand hand) old clock new clock_new same (turns_tell old clock new clock_new answer turns) kept_now
+    by (Some e) of add = record {
+      told = still.told;
+      tells = still.tells;
+      kept = λ before. keeps_behind before desk desk_new (hand_by old.stand new.stand hand) (StackKeeps before desk hand old clock) e old clock new clock_new add.0 (timed_at e new.ops of.1) still (kept_now before);
+    }
+      where
+        still : StillTells old clock new clock_new
+        still = turns_tell old clock new clock_new answer turns

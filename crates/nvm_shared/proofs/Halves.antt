@@ -12,6 +12,7 @@ use Rattle.nvm_core.specs.job_progress.Hand.{HandState}
 use Rattle.nvm_core.specs.job_progress.JobInHand.{HandFits}
 use Rattle.nvm_core.specs.nvm_laws.Ties.{IsTied}
 use Rattle.nvm_core.specs.nvm_laws.Turns.{AddsBy, hand_by}
+use Rattle.nvm_core.specs.nvm_device_laws.Turn.{TellsSlots}
 use Rattle.nvm_core.specs.nvm_laws.Keeps.{StaysKept}
 use Rattle.nvm_core.specs.nvm_laws.declared.turned.Act.TheVariants.{Device}
 use Rattle.nvm_core.specs.nvm_laws.declared.turned.Turned.{Turned}
@@ -24,6 +25,7 @@ use Rattle.nvm_core.proofs.Serving.{nearer_by}
 use Rattle.nvm_core.proofs.Working.{turned_works}
 use Rattle.nvm_core.proofs.nvm_laws.Working.{hands_are_small}
 use Rattle.nvm_core.proofs.nvm_laws.DueAsking.{requests_keep_due_in_hand}
+use Rattle.nvm_core.proofs.nvm_laws.Keeping.{stays_more}
 use Rattle.nvm_shared.specs.Behind.{HandIsPending}
 use Rattle.nvm_shared.specs.declared.terms.Terms.{Terms}
 use Rattle.nvm_shared.specs.Locked.{LockedState, desk_with}
@@ -52,8 +54,8 @@ module _ {D C : Type 0} (told : D → DeviceTold) (clock : D → Clock) (copies 
     pub stands : Behind t v.seen x now.hand (told now.device) (clock now.device)
     stands = behind t v u x now.hand (told now.device) (clock now.device) enters drives.pending drives.tied
 
-    pub fits : x.tells ≡ true → HandFits x.desk.config (state_of x.desk) now.hand (told now.device)
-    fits = fits_behind t v.seen x now.hand (told now.device) (clock now.device) stands drives.kept
+    pub fits : (t.tells ≡ true → TellsSlots (told self.device)) → x.tells ≡ true → HandFits x.desk.config (state_of x.desk) now.hand (told now.device)
+    fits telling = fits_behind t v.seen x now.hand (told now.device) (clock now.device) stands drives.kept (subst (λ (s : DriverState D C). t.tells ≡ true → TellsSlots (told s.device)) (sym view) telling)
 
   -- THE SECOND
   module _ (turned : DeviceTurn) (s : DriverState D C) (of_self : MayEnd told clock copies t.tells turned (desk_with t v.seen) s self) where
@@ -86,7 +88,7 @@ module _ {D C : Type 0} (told : D → DeviceTold) (clock : D → Clock) (copies 
       keeps =
           subst (λ (z : DeskState). StaysKept (desk_with t v.seen) s.hand (told s.device) (clock s.device) z hand (told now.device) (clock now.device)) desk
           (subst (λ (h : Option HandState). StaysKept (desk_with t v.seen) s.hand (told s.device) (clock s.device) y.desk h (told now.device) (clock now.device)) (sym goes)
-          (λ before kept. may.turned.keeps x.desk y.desk s.hand stood.stands.tied.up stood.stands.tied.paired may.started (takes.adds (told s.device) is_behind) before (stood.stands.kept before kept)))
+          (stays_more _ _ _ _ _ _ _ _ _ _ _ _ stood.stands.kept (may.turned.keeps x.desk y.desk s.hand stood.stands.tied.up stood.stands.tied.paired may.started (takes.adds (told s.device) is_behind))))
 
       pub drives_on : HandIsPending (state_of y.desk) → NextIsPending y.desk.config (state_of y.desk) → Drives told clock copies t.tells (desk_with t seen) (driver_of now.device now.copies hand)
       drives_on pending next = record {
@@ -94,7 +96,7 @@ module _ {D C : Type 0} (told : D → DeviceTold) (clock : D → Clock) (copies 
         pending = subst (λ (z : DeskState). HandIsPending (state_of z)) desk pending;
         next = subst (λ (z : DeskState). NextIsPending z.config (state_of z)) desk next;
         synchronized = subst (λ (z : C). AreSynchronized t.config (copies z)) (sym same_copies) may.drives.synchronized;
-        kept = λ told_now. let (before, kept) = may.drives.kept told_now in (before, keeps before kept);
+        kept = λ told_now. let (before, kept) = may.drives.kept told_now in (before, keeps.kept before kept);
       }
 
       turns : TurnsDevice answer (told s.device) (clock s.device) (told now.device) (clock now.device)

@@ -10,7 +10,7 @@ use Rattle.nvm_core.specs.nvm_found.Found.{Finds}
 use Rattle.nvm_core.specs.nv_desk.Desk.{DeskState, first_desk}
 use Rattle.nvm_core.specs.job_progress.Hand.{HandState}
 use Rattle.nvm_core.specs.nvm_laws.declared.turned.FoundAnswer.TheVariants as found
-use Rattle.nvm_core.specs.nvm_laws.Keeps.{StackKeeps}
+use Rattle.nvm_core.specs.nvm_laws.Keeps.{StackKeepsAsTold}
 use Rattle.nvm_core.specs.Stack.{StackState, first_stack}
 use Rattle.nvm_core.specs.StartUps.{StartsKeep, StartsUp}
 use Rattle.turn_gate.specs.declared.pass.View.{View}
@@ -45,11 +45,13 @@ module _ {D C : Type 0} (told : D → DeviceTold) (clock : D → Clock) (copies 
   abbrev pub Keeps : Type 0
   Keeps = StartsKeep found.Ready (first_desk c cap) (told device) (clock device) new.desk (told new.device) (clock new.device)
 
-  pub kept : Keeps → TellsAtFirst c cap (told device) (clock device) → (before : Part → PartTold) × StackKeeps before new.desk None (told new.device) (clock new.device)
-  kept keeps tells = (tells.2.0, keeps tells.2.0 tells.0 (inr (up.finds.up.restarted.ops ∙ tells.1)) tells.2.1)
+  pub kept : Keeps → TellsAtFirst c cap (told device) (clock device) → (before : Part → PartTold) × StackKeepsAsTold before new.desk None (told new.device) (clock new.device)
+  kept keeps tells = (tells.2.0, keeps tells.2.0 (λ told_now. inr (up.finds.up.restarted.ops ∙ tells.1)) tells.2.1)
 
   pub legal : Keeps → TellsAtFirst c cap (told device) (clock device) → IsLegal new.desk.config new.desk.cap new.desk.entries
-  legal keeps tells = (kept keeps tells).1.keeps.over.legal
+  legal keeps tells =
+      let kept_now = (kept keeps tells).1 in
+      (kept_now.all (kept_now.begun (up.finds.up.restarted.tells ∙ tells.0) (up.finds.up.restarted.ops ∙ tells.1))).keeps.over.legal
 
   abbrev pub driver : DriverState D C
   driver = record { device = new.device; copies = new.copies; hand = new.hand }
@@ -70,7 +72,7 @@ module _ {D C : Type 0} (told : D → DeviceTold) (clock : D → Clock) (copies 
         pending = is.pending;
         next = is.next;
         synchronized = is.synchronized;
-        kept = λ now. subst (λ (h : Option HandState). (before : Part → PartTold) × StackKeeps before new.desk h (told new.device) (clock new.device))
+        kept = λ now. subst (λ (h : Option HandState). (before : Part → PartTold) × StackKeepsAsTold before new.desk h (told new.device) (clock new.device))
             (sym (ap (λ (s : StackState D C). s.hand) up.only)) (kept keeps (premise now));
       } in record {
         terms = is.terms ∙ ap (λ (s : StackState D C). terms_at s.desk tells) up.only;

@@ -36,7 +36,7 @@ taken_in (Pick block kind t ops) = t
 taken_in e = TookNothing
 
 -- WHAT IT TOOK
-module _ (IsStore : ℕ → List ℕ → Type 0) (block : ℕ) (old new : List Told) (wanted got count : ℕ) where
+module _ (IsStore : ℕ → List ℕ → Type 0) (c : Configuration) (block : ℕ) (old new : List Told) (wanted got count : ℕ) where
   abbrev stale : Taken
   stale = TookStale wanted got count
 
@@ -44,25 +44,25 @@ module _ (IsStore : ℕ → List ℕ → Type 0) (block : ℕ) (old new : List T
   Older = (x : List ℕ) × IsStore got x
 
   for_write : (d : BlockDesc) (b : BlockState) (j : Job) (content : Option (List ℕ × ℕ)) (synchronized : Bool)
-      → IsCopied IsStore block old new (copies_out_by WriteJob content synchronized) stale → TakesForWrite d b j content synchronized stale → Older
+      → IsCopied IsStore c block old new (copies_out_by WriteJob content synchronized) stale → TakesForWrite d b j content synchronized stale → Older
   for_write d b j (Some x) synchronized is takes = cc
-  for_write d b j None true is takes = is
+  for_write d b j None true is takes = is.from
   for_write d b j None false is takes = cc
 
   by_kind : (d : BlockDesc) (b : BlockState) (j : Job) (kind : JobKind)
-      → IsCopied IsStore block old new (copies_out_by kind j.content (is_synchronized d.ram)) stale → TakesBy d b j kind stale → Older
+      → IsCopied IsStore c block old new (copies_out_by kind j.content (is_synchronized d.ram)) stale → TakesBy d b j kind stale → Older
   by_kind d b j WriteJob is takes = for_write d b j j.content (is_synchronized d.ram) is takes
   by_kind d b j kind is takes = cc
 
-  older : (c : Configuration) (s : State) (kind : JobKind) (n : Next) → IsCopied IsStore block old new (copies_out_next c n) stale → MayPick c s block kind stale n → Older
-  older c s kind (PickJob j) is may = by_kind (desc_of c (job_block j)) (block_at s (job_block j)) j (kind_of j) is may.takes
-  older c s kind (PickMember sw id) is may =
+  older : (s : State) (kind : JobKind) (n : Next) → IsCopied IsStore c block old new (copies_out_next c n) stale → MayPick c s block kind stale n → Older
+  older s kind (PickJob j) is may = by_kind (desc_of c (job_block j)) (block_at s (job_block j)) j (kind_of j) is may.takes
+  older s kind (PickMember sw id) is may =
       let j = member_job c sw id in
       by_kind (desc_of c (job_block j)) (block_at s (job_block j)) j (kind_of j) is may.takes
-  older c s kind (BeginSweep sw) is may = let none = may.takes_nothing in cc
-  older c s kind (PostMember sw id) is may = absurd may
-  older c s kind (EndSweep sw) is may = absurd may
-  older c s kind Nothing is may = absurd may
+  older s kind (BeginSweep sw) is may = let none = may.takes_nothing in cc
+  older s kind (PostMember sw id) is may = absurd may
+  older s kind (EndSweep sw) is may = absurd may
+  older s kind Nothing is may = absurd may
 
 -- THE FIRST HALF OF A TURN
 pub stale_shown : {D C : Type 0} (told : D → DeviceTold) (copies : C → List Told) (is_store : C → ℕ → ℕ → List ℕ → Type 0) (looked : C → C → ℕ → ℕ → Type 0)
@@ -74,7 +74,7 @@ stale_shown told copies is_store looked desk desk_new old new begins front block
     let (at, picked) = begins.half.half in
     let same = same_last d.entries front _ (Pick block kind (TookStale wanted got count) ops) (sym (ap (λ (x : DeskState). x.entries) picked.adds) ∙ last) in
     let took : picked.taken ≡ TookStale wanted got count = ap taken_in same in
-    let found = older (λ m x. is_store new.copies at m x × looked old.copies new.copies at m) at (copies old.copies) (copies new.copies) wanted got count d.config (state_of d) picked.kind n
-    (subst (λ (t : Taken). IsCopied (λ m x. is_store new.copies at m x × looked old.copies new.copies at m) at (copies old.copies) (copies new.copies) (copies_out_next d.config n) t) took picked.copied)
+    let found = older (λ m x. is_store new.copies at m x × looked old.copies new.copies at m) d.config at (copies old.copies) (copies new.copies) wanted got count (state_of d) picked.kind n
+    (subst (λ (t : Taken). IsCopied (λ m x. is_store new.copies at m x × looked old.copies new.copies at m) d.config at (copies old.copies) (copies new.copies) (copies_out_next d.config n) t) took picked.copied)
     (subst (λ (t : Taken). MayPick d.config (state_of d) at picked.kind t n) took picked.allowed.1) in
     subst (λ (k : ℕ). looked old.copies new.copies k got) (ap block_in same) found.1.1

@@ -17,6 +17,7 @@ use Rattle.nvm_core.specs.nvm_laws.Ties.{IsTied}
 use Rattle.nvm_core.proofs.block_laws.HistoryLaws.{histories_step}
 use Rattle.nvm_core.proofs.job_progress.Asking.{asks_keep_hands, pending_stay}
 use Rattle.nvm_core.proofs.nvm_laws.Asking.{asks_keep}
+use Rattle.nvm_core.proofs.nvm_laws.Keeping.{stays_more, stays_still}
 use Rattle.nvm_shared.specs.Written.{AreWritten}
 use Rattle.nvm_shared.specs.Behind.{AreAsks, AsksLeavePower, HandIsPending, StandsBehind, AsksStandBehind, with_more}
 
@@ -81,7 +82,7 @@ module _ (d : DeviceTold) (clock : Clock) where
   many : (tells : Bool) (desk : DeskState) (hand : Option HandState) (more : List Entry) → AreAsks more → AreWritten tells desk.config desk.cap (state_of desk) more
       → HandIsPending (state_of desk) → IsTied desk hand d → StandsBehind desk (with_more desk more) hand d clock
   many tells desk hand [] are written pending tied = subst (λ (x : DeskState). StandsBehind desk x hand d clock) (none_by desk)
-      (record { tied = tied; pending = pending; power = refl; kept = λ before kept. kept })
+      (record { tied = tied; pending = pending; power = refl; kept = stays_still desk hand d clock })
   many tells desk hand (Ask caller r reply ∷ es) are written pending tied =
       let first = one desk hand caller r reply written.0 pending tied in
       let next = with_more desk (Ask caller r reply ∷ []) in
@@ -91,7 +92,7 @@ module _ (d : DeviceTold) (clock : Clock) where
         tied = behind.tied;
         pending = behind.pending;
         power = behind.power ∙ first.power;
-        kept = λ before kept. behind.kept before (first.kept before kept);
+        kept = stays_more _ _ _ _ _ _ _ _ _ _ _ _ first.kept behind.kept;
       })
   many tells desk hand (e ∷ es) are written pending tied = let off : false ≡ true = are.0 in cc
 

@@ -11,7 +11,8 @@ use Rattle.nvm_core.specs.nv_desk.Desk.{DeskState, state_of}
 use Rattle.nvm_core.specs.job_progress.Hand.{HandState}
 use Rattle.nvm_core.specs.job_progress.JobInHand.{HandFits}
 use Rattle.nvm_core.specs.nvm_laws.Ties.{IsTied}
-use Rattle.nvm_core.specs.nvm_laws.Keeps.{StackKeeps}
+use Rattle.nvm_core.specs.nvm_device_laws.Turn.{TellsSlots}
+use Rattle.nvm_core.specs.nvm_laws.Keeps.{StackKeepsAsTold}
 use Rattle.atomic_table.proofs.Lists.{at_last, at_longer}
 use Rattle.turn_gate.specs.Entries.{Note, StartsWith, AllAgree, OpenFrom}
 use Rattle.turn_gate.specs.Pass.{IsKin, grown, went_out}
@@ -76,9 +77,10 @@ behind t v u x hand d clock enters pending tied =
 
 -- the job in hand still fits what the device holds
 pub fits_behind : (t : Terms) (seen : List Entry) (x : LockedState) (hand : Option HandState) (d : DeviceTold) (clock : Clock) → Behind t seen x hand d clock
-    → (t.tells ≡ true → (before : Part → PartTold) × StackKeeps before (desk_with t seen) hand d clock) → x.tells ≡ true → HandFits x.desk.config (state_of x.desk) hand d
-fits_behind t seen x hand d clock behind kept told =
-    let (before, keeps) = kept (ap (λ (s : Terms). s.tells) (sym behind.terms) ∙ told) in (behind.stands.kept before keeps).fits
+    → (t.tells ≡ true → (before : Part → PartTold) × StackKeepsAsTold before (desk_with t seen) hand d clock) → (t.tells ≡ true → TellsSlots d) → x.tells ≡ true → HandFits x.desk.config (state_of x.desk) hand d
+fits_behind t seen x hand d clock behind kept telling told =
+    let tells : t.tells ≡ true = ap (λ (s : Terms). s.tells) (sym behind.terms) ∙ told in
+    let (before, keeps) = kept tells in ((behind.stands.kept.kept before keeps).all (telling tells)).fits
 
 -- WHAT THE PASS LEARNS
 -- w is u outside, with an entry more or none

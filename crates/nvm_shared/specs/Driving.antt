@@ -12,7 +12,7 @@ use Rattle.nvm_core.specs.nv_desk_copies.Front.{AreSynchronized}
 use Rattle.nvm_core.specs.job_progress.Hand.{HandState}
 use Rattle.nvm_core.specs.nvm_laws.Ties.{IsTied}
 use Rattle.nvm_core.specs.nvm_laws.Turns.{AddsBy, hand_by}
-use Rattle.nvm_core.specs.nvm_laws.Keeps.{StackKeeps, StaysKept}
+use Rattle.nvm_core.specs.nvm_laws.Keeps.{StackKeepsAsTold, StaysKept}
 use Rattle.nvm_core.specs.nvm_laws.declared.turned.Act.{Act}
 use Rattle.nvm_core.specs.nvm_laws.declared.turned.Act.TheVariants.{Ended, Device}
 use Rattle.nvm_core.specs.nvm_laws.declared.turned.Turned.{Turned}
@@ -47,13 +47,14 @@ abbrev pub stack_of : {D C : Type 0} → DeskState → DriverState D C → Stack
 stack_of desk s = stack_with desk s.hand s.device s.copies
 
 module _ {D C : Type 0} (told : D → DeviceTold) (clock : D → Clock) (copies : C → List Told) where
-  -- The parts are tied to a desk, and where the device tells what it holds the promise is kept.
+  -- The parts are tied to a desk, and where it was picked that the device tells what it holds, the promise is kept, as far as it
+  -- tells that now.
   pub record Drives (tells : Bool) (desk : DeskState) (s : DriverState D C) : Type 0 where
     pub tied : IsTied desk s.hand (told s.device)
     pub pending : HandIsPending (state_of desk)
     pub next : NextIsPending desk.config (state_of desk)
     pub synchronized : AreSynchronized desk.config (copies s.copies)
-    pub kept : tells ≡ true → (before : Part → PartTold) × StackKeeps before desk s.hand (told s.device) (clock s.device)
+    pub kept : tells ≡ true → (before : Part → PartTold) × StackKeepsAsTold before desk s.hand (told s.device) (clock s.device)
 
   -- The pass of this stack that has the mark, with the parts that are tied to what it has seen.
   pub record IsDriverOf (shared : SharedState) (pass : PassValue) (s : DriverState D C) : Type 0 where

@@ -1,5 +1,5 @@
 -- A shared stack at its beginning and at its end.
-use Rattle.std.specs.Prelude.{◌≡◌, ◌⊎◌, ◌<◌, ℕ, Bool, List, [], ◌∷◌, IsSome}
+use Rattle.std.specs.Prelude.{◌≡◌, ◌⊎◌, ◌<◌, ℕ, Bool, true, List, [], ◌∷◌}
 use Rattle.nvm_core.specs.memif.Told.{DeviceTold, Part, PartTold}
 use Rattle.nvm_core.specs.memif.Clock.{Clock}
 use Rattle.nvm_core.specs.block_machine.Words.{Entry, Instance, Mark, Found, Configuration}
@@ -11,7 +11,7 @@ use Rattle.nvm_core.specs.nvm_laws.Ties.{IsTied}
 use Rattle.nvm_core.specs.nvm_laws.declared.turned.FoundAnswer.TheVariants as found
 use Rattle.nvm_core.specs.nvm_laws.DueLaws.{NextIsPending}
 use Rattle.nvm_core.specs.Stack.{StackState}
-use Rattle.nvm_core.specs.StartUps.{KeepsDown, StartsKeep, StartsUp}
+use Rattle.nvm_core.specs.StartUps.{DownKeepsAsTold, StartsKeep, StartsUp}
 use Rattle.turn_gate.specs.Pass.{beginner, knows}
 use Rattle.nvm_shared.specs.Behind.{HandIsPending}
 use Rattle.nvm_shared.specs.declared.terms.Terms.{Terms}
@@ -21,9 +21,9 @@ use Rattle.nvm_shared.specs.Locked.{terms_of, desk_with}
 use Rattle.nvm_shared.specs.Passes.{SharedState, PassValue, IsUserOf}
 use Rattle.nvm_shared.specs.Driving.{DriverState, Drives, stack_of}
 
--- it tells what it holds, nothing was asked of it, and the promise is kept so far
+-- it tells what it holds until the first operation, at least, nothing was asked of it, and the promise is kept so far
 abbrev pub TellsAtFirst : Configuration → ℕ → DeviceTold → Clock → Type 0
-TellsAtFirst c cap d clock = IsSome d.slots × (d.ops ≡ 0) × ((before : Part → PartTold) × KeepsDown before (first_desk c cap) d clock)
+TellsAtFirst c cap d clock = (d.tells ≡ true) × (d.ops ≡ 0) × ((before : Part → PartTold) × DownKeepsAsTold before (first_desk c cap) d clock)
 
 -- one start-up and no more
 abbrev pub IsFirst : List Entry → Type 0

@@ -18,6 +18,7 @@ ghost use Rattle.nvm_shared.specs.Behind.{AreAsks, with_more};
 ghost use Rattle.nvm_shared.specs.Locked.{desk_with};
 ghost use Rattle.nvm_shared.specs.Passes.{IsUserOf, LearnsHalf, LearnsTurn};
 ghost use Rattle.nvm_shared.specs.Stale.{StaleIsShown};
+ghost use Rattle.nvm_core.specs.nvm_device_laws.Turn.{TellsSlots};
 ghost use Rattle.nvm_shared.specs.Driving.{DriverState, IsDriverOf, BeginsTurn, IsTurned, EndsTurn, MayEnd, ServesDue, TurnsBehind, stack_of};
 
 use crate::shared::{Shared, StackPass};
@@ -62,6 +63,7 @@ impl<D: MemDevice, C: SyncCalls + Drop> Driver<D, C> {
     /// The first half of a turn, under the lock: all but the device's own turn.
     pub fn begin<W: Wait>(&mut self, rt: &W, shared: &Shared, pass: &mut StackPass) -> Act
         requires driver { IsDriverOf D.told D.clock C.told shared.now pass.old self.old }
+        requires telling { shared.now.terms.tells ≡ true → TellsSlots (D.told self.old.device) }
         ensures driver { IsDriverOf D.told D.clock C.told shared.now pass.new self.new }
         ensures begins { BeginsTurn D.told C.told C.is_store C.looked result (desk_with shared.now.terms (knows pass.old).seen) (desk_with shared.now.terms (knows pass.new).seen) self.old self.new }
         ensures keeps { StaysKept (desk_with shared.now.terms (knows pass.old).seen) self.old.hand (D.told self.old.device) (D.clock self.old.device) (desk_with shared.now.terms (knows pass.new).seen) self.new.hand (D.told self.new.device) (D.clock self.new.device) }
@@ -116,6 +118,7 @@ impl<D: MemDevice, C: SyncCalls + Drop> Driver<D, C> {
     /// A whole turn, behind requests of others before each half.
     pub fn turn<W: Wait>(&mut self, rt: &W, shared: &Shared, pass: &mut StackPass) -> Turned
         requires driver { IsDriverOf D.told D.clock C.told shared.now pass.old self.old }
+        requires telling { shared.now.terms.tells ≡ true → TellsSlots (D.told self.old.device) }
         ensures driver { IsDriverOf D.told D.clock C.told shared.now pass.new self.new }
         ensures parts { (knows pass.new).parts ≡ (knows pass.old).parts }
         ensures keeps { StaysKept (desk_with shared.now.terms (knows pass.old).seen) self.old.hand (D.told self.old.device) (D.clock self.old.device) (desk_with shared.now.terms (knows pass.new).seen) self.new.hand (D.told self.new.device) (D.clock self.new.device) }

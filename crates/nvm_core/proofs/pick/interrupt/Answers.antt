@@ -1,6 +1,7 @@
 use Rattle.std.proofs.Common.{None}
 use Rattle.nvm_laws.specs.nv_desk.Desk.{state_of}
 use Rattle.nvm_laws.proofs.DueTurning.{next_is}
+use Rattle.nvm_laws.proofs.Keeping.{stays_more}
 use Rattle.nvm_laws.proofs.Starting.{cancels_keep}
 use Rattle.nvm_core.proofs.TyingBefore.{held_in}
 use Rattle.nvm_core.proofs.WorkingBefore.{cancel_leaves}
@@ -28,4 +29,5 @@ pub returns-clause-device : goal.returns-clause-device
 returns-clause-device g c = cancel_leaves _ _ _ _ c.cancel.ensures
 
 pub returns-clause-keeps : goal.returns-clause-keeps
-returns-clause-keeps g c before kept = c.pick.ensures.keeps None before (cancels_keep (g.D.MemDevice.told c.args.device.now) (g.D.MemDevice.clock c.args.device.now) _ _ c.cancel.ensures c.args.front.now.desk c.args.hand.now before kept)
+returns-clause-keeps g c = stays_more _ _ _ _ _ _ _ _ _ _ _ _
+    (cancels_keep (g.D.MemDevice.told c.args.device.now) (g.D.MemDevice.clock c.args.device.now) _ _ c.cancel.ensures c.args.front.now.desk c.args.hand.now) (c.pick.ensures.keeps None)

@@ -1,7 +1,7 @@
 use Rattle.std.proofs.Common.{◌<◌, ◌∙◌, length, sym, ap, arith}
 use Rattle.memif.specs.Told.{Fixed}
 use Rattle.nvm_found.proofs.Readings.{reads_more}
-use Rattle.nvm_found.proofs.PlaceLists.{whole_at, whole_set, numbers_set, configured_in, first_set, held_before}
+use Rattle.nvm_found.proofs.PlaceLists.{whole_at, whole_set, numbers_set, configured_in, first_set, first_after}
 use Rattle.nvm_found.proofs.found_room.read_all.Goals as goal
 
 pub find-requires-clause-whole : goal.find-requires-clause-whole
@@ -29,13 +29,14 @@ returns-in_err-find-clause-reads g c = reads_more _ _ _ _ _ _ c.loop-place.invar
 pub loop-place-preserved : goal.loop-place-preserved
 loop-place-preserved g c =
     let few : c.loop-place.place-index < length c.loop-place.places = omega (arith, c.loop-place-test.true, c.loop-place.auto.places) in
-    let begun = g.D.MemDevice.told c.args.device.now in
+    let new = g.D.MemDevice.told c.find.new.device in
     let so = c.loop-place.invariant in
     record {
       numbers = numbers_set c.loop-place.places c.loop-place.place-index c.find.new.self c.place-item.result few c.find.ensures.number ∙ so.numbers;
       whole = whole_set c.loop-place.places c.loop-place.place-index c.find.new.self so.whole c.find.ensures.whole;
       ready = c.find.ensures.ready;
       reads = reads_more _ _ _ _ _ _ so.reads c.find.ensures.reads;
-      held = first_set begun c.loop-place.places c.loop-place.place-index c.find.new.self few so.held
-          (held_before begun (g.D.MemDevice.told c.loop-place.device) c.find.new.self so.reads.fixed so.reads.marks c.in_ok-find.ensures.held);
+      held = first_set new c.loop-place.places c.loop-place.place-index c.find.new.self few
+          (first_after (g.D.MemDevice.told c.loop-place.device) new c.loop-place.place-index c.loop-place.places c.find.ensures.reads.fixed c.find.ensures.reads.marks so.held)
+          c.in_ok-find.ensures.held;
     }

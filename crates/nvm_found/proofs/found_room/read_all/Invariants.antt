@@ -8,5 +8,5 @@ invariant-loop-place g l = record {
   whole : AreWhole l.places;
   ready : IsReady (g.D.MemDevice.told l.device);
   reads : ReadsOn (g.D.MemDevice.told l.fn.device) (g.D.MemDevice.clock l.fn.device) (g.D.MemDevice.told l.device) (g.D.MemDevice.clock l.device);
-  held : FirstHeld (g.D.MemDevice.told l.fn.device) l.place-index l.places;
+  held : FirstHeld (g.D.MemDevice.told l.device) l.place-index l.places;
 }

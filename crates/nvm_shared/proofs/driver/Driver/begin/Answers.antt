@@ -4,10 +4,11 @@ use Rattle.turn_gate.specs.Pass.{knows}
 use Rattle.nvm_core.specs.nv_desk_copies.Front.{AreSynchronized}
 use Rattle.nvm_core.specs.nv_desk.Desk.{DeskState, state_of}
 use Rattle.nvm_core.specs.nvm_laws.Ties.{IsTied}
-use Rattle.nvm_core.specs.nvm_laws.Keeps.{StackKeeps, StaysKept}
+use Rattle.nvm_core.specs.nvm_laws.Keeps.{StackKeepsAsTold, StaysKept}
 use Rattle.nvm_core.specs.nvm_laws.declared.turned.Act.{Act}
 use Rattle.nvm_core.specs.nvm_laws.DueLaws.{NextIsPending}
 use Rattle.nvm_core.proofs.nvm_laws.DueHalves.{first_halves_serve}
+use Rattle.nvm_core.proofs.nvm_laws.Keeping.{stays_more}
 use Rattle.nvm_shared.specs.Behind.{HandIsPending}
 use Rattle.nvm_core.specs.nvm_laws.Work.{program_in_hand}
 use Rattle.nvm_core.specs.Lowers.{HalfLeft}
@@ -36,7 +37,7 @@ first_half-act-requires-clause-fits g c =
     let e = c.enter-value.ensures in
     fits g.D.MemDevice.told g.D.MemDevice.clock g.C.SyncCalls.told c.args.shared.now.terms (knows c.args.pass.now) (knows c.enter-value.new.pass) c.enter-value.result
     (record { own = c.requires.driver.own.root; root = e.root; seen = e.seen; starts = e.starts; agree = e.agree; mark = c.requires.driver.mark; open_now = e.open; kin = e.same; written = c.len-number.ensures.written })
-    c.args.self.now (driver_of c.self.inside.device c.self.inside.copies c.self.inside.hand) c.self.view_is c.requires.driver.drives
+    c.args.self.now (driver_of c.self.inside.device c.self.inside.copies c.self.inside.hand) c.self.view_is c.requires.driver.drives c.requires.telling
 
 pub leave-requires-clause-adds : goal.leave-requires-clause-adds
 leave-requires-clause-adds g c =
@@ -49,7 +50,7 @@ leave-requires-clause-adds g c =
     let enters : Enters t v u x = record { own = c.requires.driver.own.root; root = e.root; seen = e.seen; starts = e.starts; agree = e.agree; mark = c.requires.driver.mark; open_now = e.open; kin = e.same; written = c.len-number.ensures.written } in
     let new = c.first_half-act.new.self in
     extended t v u x new x.tells enters (half_writes x.tells c.first_half-act.result _ _ x.desk new.desk _ _ _ c.first_half-act.ensures.half.half
-    (fits g.D.MemDevice.told g.D.MemDevice.clock g.C.SyncCalls.told t v u x enters c.args.self.now (driver_of inside.device inside.copies inside.hand) c.self.view_is c.requires.driver.drives))
+    (fits g.D.MemDevice.told g.D.MemDevice.clock g.C.SyncCalls.told t v u x enters c.args.self.now (driver_of inside.device inside.copies inside.hand) c.self.view_is c.requires.driver.drives c.requires.telling))
 
 pub returns : goal.returns
 returns g c =
@@ -70,7 +71,7 @@ returns g c =
     let enters : Enters t v u x = record { own = c.requires.driver.own.root; root = e.root; seen = e.seen; starts = e.starts; agree = e.agree; mark = c.requires.driver.mark; open_now = e.open; kin = e.same; written = c.len-number.ensures.written } in
     let drive = drives told clocks copies t v u x enters c.args.self.now now c.self.view_is c.requires.driver.drives in
     let b = stands told clocks copies t v u x enters c.args.self.now now c.self.view_is c.requires.driver.drives in
-    let writes = half_writes x.tells c.first_half-act.result _ _ x.desk new.self.desk _ _ _ half.half.half (fits told clocks copies t v u x enters c.args.self.now now c.self.view_is c.requires.driver.drives) in
+    let writes = half_writes x.tells c.first_half-act.result _ _ x.desk new.self.desk _ _ _ half.half.half (fits told clocks copies t v u x enters c.args.self.now now c.self.view_is c.requires.driver.drives c.requires.telling) in
     let w = knows c.leave.new.pass in
     let l = left t v u w x new.self x.tells enters (record { same = c.leave.ensures.same; more = c.leave.ensures.more }) writes in
     let desk : new.self.desk ≡ desk_with t w.seen = desk_behind t x new.self w.seen b.terms half.terms l.seen in
@@ -103,12 +104,12 @@ returns g c =
           pending = subst (λ (y : DeskState). HandIsPending (state_of y)) desk c.len-len.ensures.pending;
           next = subst (λ (y : DeskState). NextIsPending y.config (state_of y)) desk c.len-len.ensures.next;
           synchronized = subst (λ (s : Terms). AreSynchronized s.config (copies new.copies)) b.terms half.synchronized;
-          kept = λ told_now. let (before, kept) = drive.kept told_now in (before, subst (λ (y : DeskState). StackKeeps before y new.hand (told new.device) clock_new) desk (half.keeps before (b.stands.kept before kept)));
+          kept = λ told_now. let (before, kept) = drive.kept told_now in (before, subst (λ (y : DeskState). StackKeepsAsTold before y new.hand (told new.device) clock_new) desk (half.keeps.kept before (b.stands.kept.kept before kept)));
         };
       };
       keeps = subst (λ (s : DriverState g.row.D.Denot g.row.C.Denot). StaysKept (desk_with t v.seen) s.hand (told s.device) (clocks s.device) (desk_with t w.seen) new.hand (told new.device) clock_new) c.self.view_is
           (subst (λ (y : DeskState). StaysKept (desk_with t v.seen) inside.hand d clock y new.hand (told new.device) clock_new) desk
-          (λ before kept. half.keeps before (b.stands.kept before kept)));
+          (stays_more _ _ _ _ _ _ _ _ _ _ _ _ b.stands.kept half.keeps));
       left = subst (λ (s : DriverState g.row.D.Denot g.row.C.Denot). HalfLeft c.first_half-act.result (program_in_hand s.hand) (told s.device) (program_in_hand new.hand) (told new.device)) c.self.view_is half.left;
       clock = subst (λ (s : DriverState g.row.D.Denot g.row.C.Denot). SameClock (clocks s.device) clock_new) c.self.view_is half.clock;
       stays_over = λ first h. half.stays_over first (subst (λ (s : DriverState g.row.D.Denot g.row.C.Denot). g.C.SyncCalls.over first s.copies) (sym c.self.view_is) h);

@@ -4,6 +4,7 @@ use Rattle.nvm_core.specs.memif.Told.{DeviceTold}
 use Rattle.nvm_core.proofs.memif.Turning.{lasts_more}
 use Rattle.nvm_core.specs.nvm_device_laws.Cuts.{CutsInATurnKeep}
 use Rattle.turn_gate.specs.Pass.{knows}
+use Rattle.nvm_core.proofs.nvm_laws.Keeping.{stays_more}
 use Rattle.nvm_shared.specs.Locked.{desk_with}
 use Rattle.nvm_shared.specs.Behind.{with_more}
 use Rattle.nvm_core.proofs.Leaving.{ended_takes, turn_takes}
@@ -77,7 +78,7 @@ returns-in-Device g c =
     record {
       driver = behind.driver;
       parts = behind.learns.parts ∙ is.learns.parts;
-      keeps = λ before kept. ends.keeps before (is.keeps before kept);
+      keeps = stays_more _ _ _ _ _ _ _ _ _ _ _ _ is.keeps ends.keeps;
       turns = inr (
         desk_between,
         between,
