@@ -1,6 +1,6 @@
 // Where bytes go.
-ghost use Rattle.std.specs.Prelude.{ℕ, List, Option};
-ghost use Rattle.nv_streams.specs.Sink.{IsPut, IsFailedPut};
+ghost use Rattle.std.specs.Prelude.{ℕ};
+ghost use Rattle.nv_streams.specs.Sink.{Written, IsPut, IsFailedPut};
 
 /// The answer of a sink: the whole piece was written, or a fault of its own.
 #[derive(Clone, Copy, PartialEq, Eq)]
@@ -11,8 +11,8 @@ pub enum SinkAnswer {
 
 /// A sink of bytes that counts its faults.
 pub trait Sink {
-    /// The bytes that were written, where it tells them.
-    ghost written: { Self → Option (List ℕ) };
+    /// The bytes that were written, and in which pieces, where it tells them.
+    ghost written: { Self → Written };
 
     /// The faults so far. A count at the end of its 64 bits stands still, and is read as risen.
     ghost faults: { Self → ℕ };

@@ -1,12 +1,13 @@
 // A sink over a writer of std.
-ghost use Rattle.std.specs.Prelude.{◌≡◌, ℕ, List, Option};
+ghost use Rattle.std.specs.Prelude.{◌≡◌, ℕ, None};
+ghost use Rattle.nv_streams.specs.Sink.{Written};
 
 use crate::{Sink, SinkAnswer};
 use std::io::{ErrorKind, Write};
 
-/// A sink over a writer. It tells the bytes that its writer tells, so none of a file or a terminal. Each error of the
-/// writer is a fault, but an interrupted call is made again; a write that takes none of a nonempty piece is a fault too.
-/// It never flushes: its writer is to hold nothing back.
+/// A sink over a writer. It tells the bytes that its writer tells, so none of a file or a terminal, and no pieces. Each error
+/// of the writer is a fault, but an interrupted call is made again; a write that takes none of a nonempty piece is a fault
+/// too. It never flushes: its writer is to hold nothing back.
 #[derive(Drop)]
 pub struct StdSink<W: Write> {
     writer: W,
@@ -16,7 +17,7 @@ pub struct StdSink<W: Write> {
 impl<W: Write> StdSink<W> {
     /// A sink over this writer, with no fault yet.
     pub fn make(writer: W) -> StdSink<W>
-        ensures written { ⟦<StdSink<W> as Sink>⟧.written result ≡ W.contents writer }
+        ensures written { ⟦<StdSink<W> as Sink>⟧.written result ≡ record { bytes = W.contents writer; pieces = None } }
         ensures faults { ⟦<StdSink<W> as Sink>⟧.faults result ≡ 0 }
     {
         StdSink { writer, faults: 0 }
@@ -24,7 +25,7 @@ impl<W: Write> StdSink<W> {
 }
 
 impl<W: Write> Sink for StdSink<W> {
-    ghost written = { λ s. W.contents s.writer };
+    ghost written = { λ s. record { bytes = W.contents s.writer; pieces = None } };
 
     ghost faults = { λ s. s.faults };
 
