@@ -1,20 +1,22 @@
 -- The run of a cutter, and that of the flash within it.
-use Rattle.std.specs.Prelude.{IsTrue, IfSome, IsSome, option_map, slice_get}
+use Rattle.std.specs.Prelude.{IsTrue, IfSome, IsSome, option_map, slice_get, min, count_by}
 use Rattle.std.specs.Option.{option_map_or}
-use Rattle.std.proofs.Common.{◌≡◌, inl, inr, ℕ, ◌+◌, true, List, length, Option, Some, None, refl, sym, ap, ◌∙◌, subst, arith}
-use Rattle.fee_core.specs.nv_base.Count.{Rose, WereCounted}
+use Rattle.std.proofs.Common.{◌≡◌, ◌⊎◌, inl, inr, ℕ, zero, suc, ◌≤◌, ◌+◌, Bool, true, false, List, length, Option, Some, None, refl, sym, ap, ◌∙◌, subst, arith}
+use Rattle.std.proofs.lemmas.Bool.{cases_lt}
+use Rattle.fee_core.specs.nv_base.Count.{Rose, WereCounted, last_count}
 use Rattle.fee_core.specs.nv_base.declared.geometry.Geometry.{Geometry}
 use Rattle.fee_core.specs.memif.Clock.{After}
 use Rattle.fee_core.specs.fls_model.Told.{Told, ToldBytes, Change, TellsFor, IfBothTold, bytes_now, changes_in}
 use Rattle.fls_devices.specs.Cutter.{Cutting, cutting, planning_of, told_cutting, OnlyCuts}
 use Rattle.fls_devices.specs.Journal.{Journaled, HaveParts, merged, bytes_over, empty_journal}
+use Rattle.fls_devices.specs.Overlay.{ops_over}
 use Rattle.fee_core.specs.promise_device.Reading.{Reading, BeginsSound}
-use Rattle.fee_core.specs.promise_device.Bridge.{IsWornBy}
-use Rattle.fee_core.specs.promise_device.FlashRun.{TellsBytes, TellsOperations, HasRoom, AreSeen, bytes_after}
-use Rattle.fee_core.specs.fls_told.Device.{FlashDevice}
+use Rattle.fee_core.specs.promise_device.Bridge.{IsWornBy, cuts_of}
+use Rattle.fee_core.specs.promise_device.FlashRun.{TellsBytes, TellsOperations, HasRoom, AreSeen, bytes_after, is_none_done}
+use Rattle.fee_core.specs.fls_told.Device.{FlashDevice, flash_told}
 use Rattle.fee_core.specs.fls_told.Clock.{flash_clock}
 use Rattle.nvm_flash.specs.CutterLaws.{run_over, run_within, HandsBack, DevicesBridge}
-use Rattle.nvm_flash.proofs.CutterSeen.{OffsKept, offs_kept, seen_merged}
+use Rattle.nvm_flash.proofs.CutterSeen.{OffsKept, offs_kept, keeps_of, seen_merged}
 
 -- WHAT IS TOLD OF THE BYTES
 same_bytes : (j : Journaled) (g : Geometry) (b : Option ToldBytes) → option_map (λ (x : ToldBytes). x.now) (bytes_over j g b) ≡ option_map (λ (x : ToldBytes). x.now) b
@@ -92,7 +94,7 @@ if_told None P x is has = cc
 abbrev was_kept : FlashDevice → ℕ → Type 0
 was_kept d k = IsTrue true × (flash_clock d).off_in k
 
-seen_within : (inner : Told) (c : Cutting) (d : FlashDevice) → OnlyCuts c → HandsBack d c → (t : TellsOperations (run_within inner c d.operations)) → AreSeen (was_kept d) 0 t.bytes.last d.operations t.changes
+seen_within : (inner : Told) (c : Cutting) (d : FlashDevice) → OnlyCuts c → HandsBack d c → (t : TellsOperations (run_within inner c d.operations)) → AreSeen (was_kept d) 0 t.bytes.last d.operations (cuts_of true (flash_told d)) t.changes
 seen_within inner c d only hands t =
     let g = c.flash.inner.geometry in
     let all : List Change = merged g c.flash.journal.events t.changes t.bytes.last in
@@ -100,8 +102,9 @@ seen_within inner c d only hands t =
     let same : all ≡ d.operations = if_told (changes_in (told_cutting c).bytes) (λ (changes : List Change). changes ≡ d.operations) all told hands.changes in
     let parts : HaveParts g c.flash.journal.events t.changes = if_told (changes_in c.flash.inner.bytes) (HaveParts g c.flash.journal.events) t.changes t.told only.flash.parts in
     let offs : OffsKept (was_kept d) 0 d.operations = offs_kept (was_kept d) 0 d.operations (λ i x at off. (refl, inr (x, subst (λ (n : ℕ). slice_get d.operations n ≡ Some x) (omega arith) at, off))) in
-    subst (λ (xs : List Change). AreSeen (was_kept d) 0 t.bytes.last xs t.changes) same
-    (seen_merged (was_kept d) g t.bytes.last c.flash.journal.events t.changes 0 parts only.events (subst (OffsKept (was_kept d) 0) (sym same) offs))
+    subst (λ (cuts : List ℕ). AreSeen (was_kept d) 0 t.bytes.last d.operations cuts t.changes) (ap (λ (x : Told). x.planning.came) hands.told)
+    (subst (λ (xs : List Change). AreSeen (was_kept d) 0 t.bytes.last xs (keeps_of c.flash.journal.events) t.changes) same
+    (seen_merged (was_kept d) g t.bytes.last c.flash.journal.events t.changes 0 parts only.events (subst (OffsKept (was_kept d) 0) (sym same) offs)))
 
 -- COUNTS
 counted_within : (n a b own : ℕ) → own ≡ 0 → WereCounted n (a + 0) (b + own) → WereCounted n a b
@@ -111,6 +114,20 @@ counted_within n a b own none (inr big) = inr (omega arith)
 rose_within : (a b own : ℕ) → own ≡ 0 → Rose (a + 0) (b + own) → Rose a b
 rose_within a b own none (inl more) = inl (omega arith)
 rose_within a b own none (inr big) = inr (omega (arith, big.0), omega (arith, big.1))
+
+-- each operation was counted by the cutter, and by the flash but those that were withheld
+counts_all : (w few a b n : ℕ) → w ≡ min few last_count → (ops_over b w + 0 ≡ ops_over a 0 + n) ⊎ (last_count ≤ ops_over a 0 + n)
+    → (b + few ≡ a + n) ⊎ (last_count ≤ a + n)
+counts_all w few a b n is (inr end) = inr end
+counts_all zero few a b n is (inl all) = let none : few ≡ 0 = omega (arith, is) in inl (omega (arith, none, all))
+counts_all (suc w) few a b n is (inl all) = elim (cases_lt (b + suc w) last_count) [
+  | inl small ↦ let same : suc w ≡ few = omega (arith, is, small) in inl (omega (arith, all, same, small))
+  | inr end ↦ inr (omega (arith, all, end))
+]
+
+off_within : (x y : Bool) → (y ≡ false → x ≡ false) → x ≡ true → y ≡ true
+off_within x true on off = refl
+off_within x false on off = absurd (let never : true ≡ false = sym off ∙ on refl in cc never)
 
 worn_within : (r : Reading) (inner : Told) (cuts : ℕ) (c : Cutting) (operations : List Change) (k n : ℕ) → OnlyCuts c
     → IsWornBy r (run_over inner cuts c operations) k n → IsWornBy r (run_within inner c operations) k n
@@ -125,26 +142,32 @@ worn_within r inner cuts c operations k n only w = record {
 
 -- THE BRIDGE
 pub devices_bridge : DevicesBridge
-devices_bridge r cutter inner cuts c d before only hands first b =
+devices_bridge r inner cuts c d before only hands first none b =
     let up = tells_over inner cuts c d.operations in
     let all = operations_over inner cuts c d.operations in
     let sound = sound_over r inner cuts c d.operations in
     let last : (planning_of c).unplanned ≡ d.flash.planning.unplanned = ap (λ (t : Told). t.planning.unplanned) hands.told in
     record {
-      after = λ t s k made small.
-          as_same (λ image. (flash_clock d).may_find (After k) (r.held image)) _ _ (same_after inner cuts c d.operations k) (b.after (up t) (sound s) k made small);
+      after = λ t k s made small.
+          as_same (λ image. (flash_clock d).may_find (After k) (r.held image)) _ _ (same_after inner cuts c d.operations k) (b.after (up t) k (elim s [ inl is ↦ inl (sound is) | inr start ↦ inr start ]) made small);
       cut = λ t s k image small leaves. b.cut (all t) (sound s) k image small leaves;
+      tells = λ t. b.tells (up t);
+      slots = λ t s. b.slots (up t) (sound s);
       sound = λ t s. as_same (λ image. IsTrue (r.is_sound image)) _ _ (same_exit c) (b.sound (up t) (sound s));
       sound_cut = λ t s k image small leaves. b.sound_cut (all t) (sound s) k image small leaves;
       operations = record {
         told_alike = alike (empty_journal cuts) c.flash.journal inner.geometry c.flash.inner.geometry inner.bytes c.flash.inner.bytes b.operations.told_alike;
         chain = λ t. b.operations.chain (up t);
         seen = seen_within inner c d only hands;
+        counted = counts_all c.flash.withheld (count_by is_none_done (flash_told d).first.planning.came) inner.ops c.flash.inner.ops (length d.operations)
+            (ap (λ (x : Told). x.planning.withheld) hands.told ∙ b.withheld none) b.operations.counted;
         told = operations_within inner cuts c d.operations b.operations.told;
       };
       ops = b.ops;
       faults = λ n more. counted_within n inner.faults c.flash.inner.faults c.flash.faults only.faults (b.faults n more);
       failed = b.failed;
       cuts = λ n more. subst (λ (x : ℕ). WereCounted n x c.flash.inner.cuts) first (subst (WereCounted n before.planning.unplanned) (sym last) more);
+      off = λ off. subst (λ (x : Bool). x ≡ true) (ap (λ (x : Told). x.off) hands.told) (off_within c.flash.inner.off c.flash.off only.flash.power off);
+      withheld = b.withheld;
       worn = λ k n w. worn_within r inner cuts c d.operations k n only (b.worn k n w);
     }

@@ -1,6 +1,6 @@
 -- The device is taken apart.
 use Rattle.std.specs.Prelude.{IfSome, min, option_map}
-use Rattle.std.proofs.Common.{◌≡◌, ◌≤◌, ◌+◌, ◌⊎◌, ℕ, Bool, true, false, List, [], ◌∷◌, Option, Some, None, length, refl, sym, ap, ◌∙◌, subst, inl, inr, arith}
+use Rattle.std.proofs.Common.{◌≡◌, ◌≤◌, ◌+◌, ◌⊎◌, ℕ, true, false, List, [], ◌∷◌, Option, Some, None, length, refl, sym, ap, ◌∙◌, subst, inl, inr, arith}
 use Rattle.std.proofs.Math.Nat.{eq-or-lt_of_le}
 use Rattle.fee_core.specs.nv_base.Count.{last_count, Rose}
 use Rattle.fee_core.specs.nv_base.declared.geometry.Geometry.{Geometry}
@@ -38,17 +38,18 @@ none_made n (x ∷ xs) is none = absurd (omega (arith, is, none))
 
 pub back : (c : Configuration) (inner : Told) (cuts : ℕ) (making : Making) (entry exit : Told) (k : Cutting) (d : Device) → IsOrigin c inner cuts making entry → OnlyCuts k → exit ≡ k.flash.inner
     → told_cutting k ≡ d.flash → IfSome (changes_in (told_cutting k).bytes) (λ changes. changes ≡ d.operations) → (d.operations ≡ [] → ((told_cutting k).ops ≡ entry.ops) × ((told_cutting k).cuts ≡ entry.cuts)) → entry.faults ≤ (told_cutting k).faults
-    → (told_cutting k).geometry ≡ making.geometry → AreOfFirst d → ((cutter : Bool) → Bridges (reading_of making) cutter (record { entry = entry; exit = told_cutting k; operations = d.operations }) (part_at entry) (told_of d) (clock_of d))
+    → (told_cutting k).geometry ≡ making.geometry → AreOfFirst d → Bridges (reading_of making) false (record { entry = entry; exit = told_cutting k; operations = d.operations }) (part_at entry) (told_of d) (clock_of d)
     → IsBack c inner exit (part_at entry) (told_of d) (clock_of d)
 back c inner cuts making entry exit k d origin only is_exit told changes none more shape parts bridge =
     subst (λ (e : Told). IsBack c inner exit (part_at e) (told_of d) (clock_of d)) (sym origin.over)
     (subst (λ (x : Told). IsBack c inner x (part_at (told_cutting (cutting inner cuts))) (told_of d) (clock_of d)) (sym is_exit) (record {
       operations = d.operations;
-      bridges = devices_bridge (reading_of (making_of c)) true inner cuts k (flash_device d) (part_at (told_cutting (cutting inner cuts))) only (record { told = told; changes = changes }) refl
-          (subst (λ (m : Making). Bridges (reading_of m) true (record { entry = told_cutting (cutting inner cuts); exit = told_cutting k; operations = d.operations }) (part_at (told_cutting (cutting inner cuts))) (told_of d) (clock_of d)) origin.made_for
-          (subst (λ (e : Told). Bridges (reading_of making) true (record { entry = e; exit = told_cutting k; operations = d.operations }) (part_at e) (told_of d) (clock_of d)) origin.over (bridge true)));
+      bridges = devices_bridge (reading_of (making_of c)) inner cuts k (flash_device d) (part_at (told_cutting (cutting inner cuts))) only (record { told = told; changes = changes }) refl refl
+          (subst (λ (m : Making). Bridges (reading_of m) false (record { entry = told_cutting (cutting inner cuts); exit = told_cutting k; operations = d.operations }) (part_at (told_cutting (cutting inner cuts))) (told_of d) (clock_of d)) origin.made_for
+          (subst (λ (e : Told). Bridges (reading_of making) false (record { entry = e; exit = told_cutting k; operations = d.operations }) (part_at e) (told_of d) (clock_of d)) origin.over bridge));
       parts = parts;
       geometry = shape ∙ ap (λ (m : Making). m.geometry) origin.made_for;
+      no_plan = only.no_plan;
       faults = (tells_within k only).1 ∙ ap (λ t. t.faults) told;
       more = let over = ap (λ t. t.faults) origin.over in let within = (tells_within k only).1 in omega (arith, over, within, more);
       none = λ no_ops unplanned.

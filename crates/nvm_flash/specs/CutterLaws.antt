@@ -1,5 +1,5 @@
 -- From the run of a cutter to the run of the flash within it.
-use Rattle.std.specs.Prelude.{◌≡◌, ℕ, Bool, true, List, IfSome}
+use Rattle.std.specs.Prelude.{◌≡◌, ℕ, true, false, List, IfSome}
 use Rattle.fee_core.specs.memif.Told.{PartTold}
 use Rattle.fee_core.specs.fls_model.Told.{Told, Change, changes_in}
 use Rattle.fls_devices.specs.Cutter.{Cutting, cutting, told_cutting, OnlyCuts}
@@ -22,11 +22,11 @@ pub record HandsBack (d : FlashDevice) (c : Cutting) : Type 0 where
   pub told : told_cutting c ≡ d.flash
   pub changes : IfSome (changes_in (told_cutting c).bytes) (λ changes. changes ≡ d.operations)
 
--- What any device over a flash tells of the cutter is so of the flash within it, but for the operations that the cutter kept
--- from it.
+-- What any device over a flash tells of the cutter is so of the flash within it, but for the operations that the cutter broke
+-- off, of each of which the flash saw as many bytes as its cut let be done.
 abbrev pub DevicesBridge : Type 0
 DevicesBridge =
-    (r : Reading) (cutter : Bool) (inner : Told) (cuts : ℕ) (c : Cutting) (d : FlashDevice) (before : PartTold)
-    → OnlyCuts c → HandsBack d c → before.planning.unplanned ≡ inner.cuts
-    → Bridges r cutter (run_over inner cuts c d.operations) before (flash_told d) (flash_clock d)
+    (r : Reading) (inner : Told) (cuts : ℕ) (c : Cutting) (d : FlashDevice) (before : PartTold)
+    → OnlyCuts c → HandsBack d c → before.planning.unplanned ≡ inner.cuts → before.planning.withheld ≡ 0
+    → Bridges r false (run_over inner cuts c d.operations) before (flash_told d) (flash_clock d)
     → Bridges r true (run_within inner c d.operations) before (flash_told d) (flash_clock d)

@@ -1,5 +1,5 @@
 -- A stack over a flash, from its making on.
-use Rattle.std.specs.Prelude.{◌≡◌, ◌≢◌, ◌≤◌, ℕ, true, List, [], length, IfSome}
+use Rattle.std.specs.Prelude.{◌≡◌, ◌≢◌, ◌≤◌, ℕ, true, false, List, [], length, None, IfSome}
 use Rattle.fee_core.specs.nv_base.Count.{Rose}
 use Rattle.fee_core.specs.nv_base.Geometry.{size_of}
 use Rattle.nvm_core.specs.block_config.Config.{Configuration}
@@ -50,6 +50,8 @@ pub record IsBack (c : Configuration) (inner exit : Told) (before : PartTold) (n
   -- all numbers are of its one part
   pub parts : (n : ℕ) → (figures_at now.fixed n).part ≡ First
   pub geometry : exit.geometry ≡ c.geometry
+  -- no plan stands in the flash while its power is on
+  pub no_plan : exit.off ≡ false → exit.planning.plan ≡ None
   pub faults : exit.faults ≡ now.first.flash_faults
   pub more : inner.faults ≤ exit.faults
   pub none : now.ops ≡ 0 → now.first.planning.unplanned ≡ inner.cuts → (operations ≡ []) × (exit.ops ≡ inner.ops) × (exit.cuts ≡ inner.cuts)

@@ -2,7 +2,7 @@
 use Rattle.std.proofs.Common.{◌≡◌, ◌==◌, ℕ, zero, suc, Bool, true, false, if◌then◌else◌, List, [], ◌∷◌, ◌++◌, length, drop, slice_index, codes, Option, Some, None, refl, sym, ap, ◌∙◌, append_assoc}
 use Rattle.std.proofs.lemmas.Bool.{eqb-true}
 use Rattle.std.specs.Fmt.{decimal}
-use Rattle.std.specs.List.{flat_map, list_all}
+use Rattle.std.specs.List.{concat, flat_map, list_all}
 use Rattle.nv_base.specs.Result.{code_of}
 use Rattle.nv_base.specs.declared.instance.Instance.{Instance}
 use Rattle.nv_base.specs.declared.mark.Mark.{Mark}
@@ -17,7 +17,7 @@ use Rattle.nv_base.specs.declared.entry.Entry.{Entry}
 use Rattle.nv_base.specs.declared.entry.Entry.TheVariants.{Ask, Pick, Wrote, Post, Off, Found}
 use Rattle.nvm_script.specs.Words.{content_text, mark_text, store_text, request_text, reply_text, job_text, taken_text, given_text, refused_text}
 use Rattle.nvm_script.specs.Lines.{found_text, entry_line, end_line}
-use Rattle.nvm_script.specs.Printed.{HasNoStore, CountsTries, IsPrinted, history_text, BeginsNoEntry, LinesTellEntries, LinesLeaveOut, TextsTellHistories, EndsBeginNoEntry}
+use Rattle.nvm_script.specs.Printed.{HasNoStore, CountsTries, IsPrinted, history_lines, history_text, BeginsNoEntry, LinesTellEntries, LinesLeaveOut, TextsTellHistories, EndsBeginNoEntry}
 use Rattle.nvm_script.specs.Values.{IsNumber, IsContent, IsTakenValue, IsGivenValue, IsInstanceValue, AreMarkValues, IsEntryValue}
 use Rattle.nvm_script.proofs.ContentLaws.{is_content_byte, content_bytes, content-lacks, content_from, content_from-text}
 use Rattle.nvm_script.proofs.Fields.{before, behind, before-field, behind-field, number_to, number_to-field, behind-number}
@@ -334,6 +334,11 @@ lines_tell_entries tries a b s t is_a is_b e =
 
 pub lines_leave_out : LinesLeaveOut
 lines_leave_out = (λ caller block store other bytes reply. refl, λ block asked got count other ops job. refl)
+
+-- the lines joined are the text
+pub lines_joined : (h : List Entry) → concat (history_lines h) ≡ history_text h
+lines_joined [] = refl
+lines_joined (e ∷ h) = ap (λ (l : List ℕ). entry_line e ++ l) (lines_joined h)
 
 lines-append : (e : Entry) (es : List Entry) (s : List ℕ) → history_text (e ∷ es) ++ s ≡ entry_line e ++ (history_text es ++ s)
 lines-append e es s = append_assoc (entry_line e) (history_text es) s

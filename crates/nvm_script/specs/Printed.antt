@@ -1,5 +1,5 @@
 -- What the text of a history tells: each of its entries, whole.
-use Rattle.std.specs.Prelude.{◌≡◌, ℕ, List, [], ◌∷◌, ◌++◌, Some}
+use Rattle.std.specs.Prelude.{◌≡◌, ℕ, List, [], ◌∷◌, ◌++◌, map, Some}
 use Rattle.std.specs.List.{flat_map}
 use Rattle.nv_base.specs.declared.request.Request.TheVariants.{Write}
 use Rattle.nv_base.specs.declared.request.Reply.{Reply}
@@ -45,7 +45,11 @@ LinesLeaveOut =
     ((caller block store other : ℕ) (bytes : List ℕ) (reply : Reply) → entry_line (Ask caller (Write block (Some bytes) store) reply) ≡ entry_line (Ask caller (Write block (Some bytes) other) reply))
     × ((block asked got count other ops : ℕ) (job : JobKind) → entry_line (Pick block job (Stale asked got count) ops) ≡ entry_line (Pick block job (Stale asked got other) ops))
 
--- the lines of a history
+-- the lines of a history, one for each entry
+abbrev pub history_lines : List Entry → List (List ℕ)
+history_lines h = map entry_line h
+
+-- and joined
 abbrev pub history_text : List Entry → List ℕ
 history_text h = flat_map entry_line h
 

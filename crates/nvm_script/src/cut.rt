@@ -1,6 +1,6 @@
 // A text before and after a byte.
-ghost use Rattle.std.specs.Prelude.{◌≡◌, ◌==◌, ◌+◌, ◌<◌, ◌≤◌, length, position, option_copied, IfSome};
-ghost use Rattle.nvm_script.specs.Cut.{cut_at};
+ghost use Rattle.std.specs.Prelude.{◌≡◌, ◌==◌, ◌+◌, ◌<◌, ◌≤◌, ◌∷◌, length, take, drop, position, option_copied, IfSome};
+ghost use Rattle.nvm_script.specs.Cut.{cut_at, cut_lines};
 
 use memchr::memchr;
 
@@ -29,6 +29,7 @@ pub fn line_length(text: &[u8]) -> usize
     requires { 0 < length text.now }
     ensures some { 0 < result }
     ensures most { result ≤ length text.now }
+    ensures first { cut_lines text.now ≡ take result text.now ∷ cut_lines (drop result text.now) }
 {
     match memchr(b'\n', text) {
         Some(at) => at + 1,

@@ -94,7 +94,7 @@ no_fault r steps looks [] is one calm order = λ fault. calm.no_fault (subst (λ
 no_fault r steps looks (e ∷ es) is one calm order = λ fault. subst (λ (x : End). RunsBy r.configuration steps looks x (e ∷ es)) fault (subst (λ (x : Course). Follows r x (e ∷ es)) is order)
 
 pub callers_are_served : CallersAreServed
-callers_are_served most r steps looks is one order calm = record {
+callers_are_served r steps looks is one order calm = record {
   ends = no_fault r steps looks r.history is one calm order;
   rests = λ other. rests_by (is_at_rest (after r.configuration r.history)) (after r.configuration r.history).off (ended r steps looks r.history is other order) (is_on r.configuration at_first r.history calm.entries refl);
 }

@@ -14,15 +14,15 @@ use Rattle.promise_blocks.specs.Payment.{Worn, ArePaid, IsPaid, price_for, every
 use Rattle.promise_blocks.specs.OverDevice.{HasStarted, HasOffAt, is_of}
 use Rattle.promise_device.specs.Image.{held_in, IsSoundFlash}
 use Rattle.promise_device.specs.Reading.{BeginsSound}
-use Rattle.promise_device.specs.FlashRun.{TellsBytes, StartsSound, IsCutImage, bytes_after}
-use Rattle.promise_device.specs.Bridge.{IsWornOut, reading_of}
+use Rattle.promise_device.specs.FlashRun.{TellsBytes, StartsSound, IsCutImage, AreOperations, bytes_after}
+use Rattle.promise_device.specs.Bridge.{IsWornOut, reading_of, cuts_of}
 use Rattle.promise_device.proofs.FlashRun.{seen_more}
 use Rattle.promise_device.proofs.Readings.{sound_flashes_compute, sound_starts_compute, worn_banks_compute}
 use Rattle.promise_run.specs.Run.{Run, alone, cap, has_cutter}
-use Rattle.promise_run.specs.Promise.{CutsCount, Keeps, Promise, StartUpsFind, making_of}
+use Rattle.promise_run.specs.Promise.{CutsCount, Keeps, MayBeKept, Promise, StartUpsFind, making_of}
 use Rattle.promise_run.proofs.Founds.{last_soon}
 use Rattle.promise_run.proofs.Paid.{excused_too}
-use Rattle.promise_run.specs.Halves.{BlockHalf, DeviceHalf, HalvesMakeIt, beyond_end}
+use Rattle.promise_run.specs.Halves.{BlockHalf, DeviceHalf, HalvesMakeIt, EarlyMakesIt, beyond_end}
 
 -- PAYMENT
 -- a price among these blocks is a price among all where all are among these
@@ -79,7 +79,7 @@ lists r before now clock block device tells sound marks ops has small =
     let within : ops ≤ length r.flash.operations = omega (arith, block.over.counted (Found marks ops) ops has refl, device.ops) in
     if_told (bytes_after r.flash ops) (λ image. clock.may_find (After ops) (held_in (making_of c) image)) _
     (λ image finds. block.over.found marks ops (held_in (making_of c) image) has small finds)
-    (device.after tells (sound_starts_compute (making_of c) r.flash sound) ops within small)
+    (device.after tells ops (inl (sound_starts_compute (making_of c) r.flash sound)) within small)
 
 exits : (r : Run) (before : Part → PartTold) (now : DeviceTold) (clock : Clock) → BlockHalf (alone r) before now clock → DeviceHalf r (before First) now (beyond_end clock)
     → TellsBytes r.flash → StartsSound (making_of r.configuration) r.flash → HasStarted r.history → length r.flash.operations < last_count → IfSome (bytes_now r.flash.exit) (Keeps r.configuration r.history)
@@ -89,7 +89,7 @@ exits r before now clock block device tells sound started small =
     let all : now.ops ≡ n = omega (arith, device.ops) in
     let told : bytes_after r.flash n ≡ bytes_now r.flash.exit = ap (λ (o : Option Change). option_map_or (λ x. Some x.before) o (bytes_now r.flash.exit)) (past r.flash.operations) in
     let finds : IfSome (bytes_now r.flash.exit) (λ image. clock.may_find (After n) (held_in (making_of c) image)) =
-    subst (λ (b : Option (List ℕ)). IfSome b (λ image. clock.may_find (After n) (held_in (making_of c) image))) told (device.after tells (sound_starts_compute (making_of c) r.flash sound) n (omega arith) small) in
+    subst (λ (b : Option (List ℕ)). IfSome b (λ image. clock.may_find (After n) (held_in (making_of c) image))) told (device.after tells n (inl (sound_starts_compute (making_of c) r.flash sound)) (omega arith) small) in
     both_told (bytes_now r.flash.exit) (λ image. clock.may_find (After n) (held_in (making_of c) image)) (IsSoundFlash (making_of c)) (Keeps c r.history)
     (λ image is whole. record {
       marks = block.over.at_end (held_in (making_of c) image) started (omega (arith, device.ops)) (subst (λ (k : ℕ). clock.may_find (After k) (held_in (making_of c) image)) (sym all) is);
@@ -97,6 +97,15 @@ exits r before now clock block device tells sound started small =
     })
     finds (if_told (bytes_now r.flash.exit) (λ image. IsTrue ((reading_of (making_of c)).is_sound image)) (IsSoundFlash (making_of c)) (λ image is. (sound_flashes_compute (making_of c) image).0 is)
     (device.sound tells (sound_starts_compute (making_of c) r.flash sound)))
+
+-- UNTIL THE FIRST OPERATION
+pub begins_well : (clock : Clock) → EarlyMakesIt clock
+begins_well clock r before now early device tells = record {
+  found = λ marks has. if_told (bytes_after r.flash 0) (λ image. clock.may_find (After 0) (held_in (making_of r.configuration) image)) _
+      (λ image finds. early.found marks (held_in (making_of r.configuration) image) has finds)
+      (device.after tells 0 (inr refl) (omega arith) (omega arith));
+  legal = early.legal;
+}
 
 -- THE COUNTS
 cuts_count : (r : Run) (before : Part → PartTold) (now : DeviceTold) (clock : Clock) → BlockHalf (alone r) before now clock → DeviceHalf r (before First) now (beyond_end clock)
@@ -110,7 +119,7 @@ cuts_count r before now clock block device tells sound cuts k ops image small cu
     if_told (bytes_after r.flash ops) (λ first. clock.may_find (After ops) (held_in (making_of c) first)) _
     (λ first finds. block.over.counts k ops (held_in (making_of c) first) (held_in (making_of c) image) small
     (was_asked (length r.flash.operations) now.ops k small within device.ops) (cuts k image small cut) last finds)
-    (device.after tells (sound_starts_compute (making_of c) r.flash sound) ops (omega (arith, soon, within)) (omega (arith, soon, small)))
+    (device.after tells ops (inl (sound_starts_compute (making_of c) r.flash sound)) (omega (arith, soon, within)) (omega (arith, soon, small)))
 
 -- over one flash
 of_one : (clock : Clock) (r : Run) (before : Part → PartTold) (now : DeviceTold) → BlockHalf (alone r) before now clock → DeviceHalf r (before First) now (beyond_end clock) → Promise (alone r)
@@ -129,13 +138,14 @@ of_one clock r before now block device = record {
   block_machine = block.over.legal;
   faults = pays (is_of First now.fixed) block.one r.configuration clock.worn (IsWornOut (making_of r.configuration) r.flash) (before First).faults now.first.faults r.flash.entry.faults r.flash.exit.faults r.history (λ k n worn. worn_banks_compute (making_of r.configuration) r.flash k n (device.worn k n worn)) device.faults (block.over.paid First);
   refusals = block.refusals;
-  off = device.cuts _ block.off;
-  operations = λ started. record {
+  off = (block.off.0, block.off.1, device.cuts block.off.0 block.off.2);
+  operations = λ started. subst (AreOperations r.configuration.geometry r.flash (MayBeKept r)) block.came (record {
     told_alike = device.operations.told_alike;
     chain = device.operations.chain;
-    seen = λ t. seen_more (λ k. IsTrue (has_cutter r.course) × ((last_count ≤ k) ⊎ clock.off_in k)) _ 0 t.bytes.last r.flash.operations t.changes (λ k is. (is.0, told k is.1)) (device.operations.seen t);
+    seen = λ t. seen_more (λ k. IsTrue (has_cutter r.course) × ((last_count ≤ k) ⊎ clock.off_in k)) _ 0 t.bytes.last r.flash.operations (cuts_of (has_cutter r.course) now) t.changes (λ k is. (is.0, told k is.1)) (device.operations.seen t);
+    counted = device.operations.counted;
     told = device.operations.told;
-  };
+  });
   begins = block.over.begins;
   counted = λ e ops has is. omega (arith, block.over.counted e ops has is, device.ops);
 }

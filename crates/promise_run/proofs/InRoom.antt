@@ -12,8 +12,7 @@ use Rattle.script_walks.specs.Words.{Step, StepKind, AskStep, Store, Turn, Drain
 use Rattle.promise_blocks.specs.OverDevice.{HasStarted, BeginsBefore}
 use Rattle.promise_device.specs.FlashRun.{FlashRun, TellsOperations, HasRoom, IsCutImage}
 use Rattle.promise_run.specs.Beside.{Beside}
-use Rattle.promise_run.specs.Completeness.{turns_of, is_drain}
-use Rattle.promise_run.specs.InRoom.{RoomSuffices, MadeFewTurns, TurnsMakeFew}
+use Rattle.promise_run.specs.InRoom.{RoomSuffices, MadeFewTurns, TurnsMakeFew, turns_of, is_drain}
 use Rattle.promise_run.specs.Promise.{Promise, CutsKeep, CutsCount, OperationsAre}
 use Rattle.promise_run.specs.Run.{Run, Course, Played, HasOrder, LeavesFlashes}
 use Rattle.promise_run.specs.Turns.{Moment, Move, moment_behind, moment_after, AreTurnsMade, AreMovesOf, AreMoves, BeginsAt, HasTurns}

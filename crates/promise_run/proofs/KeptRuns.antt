@@ -1,6 +1,7 @@
 -- Runs that keep the promise.
 use Rattle.std.specs.Prelude.{Contains, IfSome}
-use Rattle.std.proofs.Common.{◌≡◌, ℕ, zero, suc, ◌≤◌, true, IsTrue, List, [], ◌∷◌, replicate, Option, Some, None, refl, sym, ap, subst, ◌∙◌, inl, arith, ◌⊎◌, inr}
+use Rattle.std.proofs.Common.{◌≡◌, ◌==◌, ℕ, zero, suc, ◌≤◌, true, IsTrue, List, [], ◌∷◌, replicate, Option, Some, None, refl, sym, ap, subst, ◌∙◌, inl, arith, ◌⊎◌, inr}
+use Rattle.std.proofs.lemmas.Bool.{cases_Bool}
 use Rattle.block_machine.specs.nv_base.declared.instance.DeviceNumber.{DeviceNumber}
 use Rattle.block_machine.specs.nv_base.Count.{last_count, next_count}
 use Rattle.block_machine.specs.nv_base.Entry.{ops_of}
@@ -29,7 +30,8 @@ use Rattle.promise_device.specs.Making.{banks_of}
 use Rattle.promise_device.specs.Image.{attached, held_as}
 use Rattle.promise_device.specs.FlashRun.{IsCutImage, IsChain, AreSeen, bytes_after}
 use Rattle.fee_image.specs.Sound.{IsSoundImage}
-use Rattle.promise_run.specs.Run.{cap, RefusalsExplain}
+use Rattle.promise_run.specs.Run.{cap}
+use Rattle.promise_run.specs.Refusals.{RefusesAsAsked}
 use Rattle.promise_run.specs.Promise.{CutsCount, Promise, Keeps, counts_by, StartUpsFind, found_by, making_of}
 use Rattle.promise_run.specs.Cases.{small, blank, taken, kept_write}
 
@@ -179,16 +181,17 @@ chains : (first last : List ℕ) → [] ≡ first → blank ≡ last → IsChain
 chains first last a b = subst (λ (f : List ℕ). IsChain (attached small.geometry f) kept_write.flash.operations last) a
     (subst (λ (l : List ℕ). IsChain blank kept_write.flash.operations l) b (refl, (blank, (record { size = refl; front = refl; back = refl }, grown_same 160), refl)))
 
-stays_back : (last : List ℕ) (changes : List Change) → blank ≡ last → [] ≡ changes → AreSeen (λ k. IsTrue true × ((last_count ≤ k) ⊎ HasOffAt whole (next_count k))) 0 last kept_write.flash.operations changes
-stays_back last changes a b = subst (λ (cs : List Change). AreSeen (λ k. IsTrue true × ((last_count ≤ k) ⊎ HasOffAt whole (next_count k))) 0 last kept_write.flash.operations cs) b (((refl, inr refl), refl, sym a), refl)
+stays_back : (last : List ℕ) (changes : List Change) → blank ≡ last → [] ≡ changes
+    → AreSeen (λ k. IsTrue true × ((last_count ≤ k) ⊎ HasOffAt whole (next_count k))) 0 last kept_write.flash.operations (0 ∷ []) changes
+stays_back last changes a b =
+    subst (λ (cs : List Change). AreSeen (λ k. IsTrue true × ((last_count ≤ k) ⊎ HasOffAt whole (next_count k))) 0 last kept_write.flash.operations (0 ∷ []) cs) b
+    (inr ([], [], record { off = ((refl, inr refl), refl); keep = 0; first = refl; part = (refl, sym a) }, (refl, refl)))
 
-no_refusals : (id : ℕ) → RefusalsExplain small kept_write.course whole id
-no_refusals id zero = omega arith
-no_refusals id (suc zero) = omega arith
-no_refusals id (suc (suc zero)) = omega arith
-no_refusals id (suc (suc (suc zero))) = omega arith
-no_refusals id (suc (suc (suc (suc zero)))) = omega arith
-no_refusals id (suc (suc (suc (suc (suc n))))) = omega arith
+no_refusals : (id : ℕ) → RefusesAsAsked small kept_write.course whole id
+no_refusals id = elim (cases_Bool (2 == id)) [
+  | inl own ↦ rw own (0, (0, refl, (0, (tt, refl), (0, (tt, (tt, refl)), (0, (tt, refl), refl)))))
+  | inr other ↦ rw other (0, (0, refl, (0, (tt, refl), (0, (tt, (tt, refl)), (0, (tt, refl), refl)))))
+]
 
 is_legal : IsLegal small cap whole
 is_legal = (
@@ -215,11 +218,12 @@ write_keeps computes makes stays bits sound erased = record {
   block_machine = is_legal;
   faults = record { faults = 0; counted = inl (omega arith); pay = inl (omega arith, inl (omega arith, inl (omega arith, inl (omega arith, inl (omega arith, tt))))) };
   refusals = no_refusals;
-  off = inl (omega arith);
+  off = (0, inl (_, [], refl, inl (omega arith), refl, (refl, refl)), inl (omega arith));
   operations = λ started. record {
     told_alike = tt;
     chain = λ t. chains t.first t.last (some_list [] t.first t.entry) (some_list blank t.last t.exit);
     seen = λ t. stays_back t.bytes.last t.changes (some_list blank t.bytes.last t.bytes.exit) (some_changes [] t.changes t.told);
+    counted = inl refl;
     told = λ room. record { bytes = room.bytes; changes = []; told = refl };
   };
   begins = refl;

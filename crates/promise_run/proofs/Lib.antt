@@ -2,6 +2,8 @@ mod Founds
 pub mod PlannedCuts
 mod CutsThatCome
 pub mod Paid
+mod RefusedRuns
+pub mod RefusalsPaid
 pub mod Counted
 pub mod CalmPosts
 pub mod Composition

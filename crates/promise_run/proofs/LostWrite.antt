@@ -12,7 +12,6 @@ use Rattle.block_machine.specs.State.{State, Job}
 use Rattle.block_machine.specs.Blocks.{instance_at, job_block, mark_of}
 use Rattle.block_machine.specs.History.{MayStandIn}
 use Rattle.block_machine.specs.StartUp.{at_first}
-use Rattle.block_machine.specs.Prices.{prices_in_refusals}
 use Rattle.block_machine.specs.Steps.{after, after_from}
 use Rattle.block_machine.specs.Accepted.{IsAccepted, IsNotOlder, HasTaken}
 use Rattle.block_machine.specs.Legal.{IsLegal}
@@ -22,8 +21,9 @@ use Rattle.promise_blocks.specs.OverDevice.{HasOffAt, TellsAtMost}
 use Rattle.promise_device.specs.Making.{banks_of}
 use Rattle.promise_device.specs.Image.{attached}
 use Rattle.promise_device.specs.FlashRun.{IsChain, AreSeen, AreOperations}
-use Rattle.promise_run.specs.Run.{cap, HasOrder, RefusalsExplain, has_cutter}
-use Rattle.promise_run.specs.Promise.{Keeps, StartUpsFind, FailuresArePaid, found_by, making_of}
+use Rattle.promise_run.specs.Run.{cap, HasOrder, has_cutter}
+use Rattle.promise_run.specs.Refusals.{RefusesAsAsked}
+use Rattle.promise_run.specs.Promise.{BeginsWell, Keeps, StartUpsFind, FailuresArePaid, found_by, making_of}
 use Rattle.promise_run.specs.Cases.{small, one, begun, operations, taken, lost_write}
 use Rattle.promise_run.proofs.KeptRuns.{every, at_most, some_list, some_changes, tells, each}
 
@@ -120,20 +120,21 @@ is_legal = (
   ),
 )
 
+-- until the first operation the history is that of the Pick
+pub begins_well : BeginsWell lost_write
+begins_well = record {
+  found = λ marks has. start_ups_find marks 0 has (omega arith);
+  legal = let all = is_legal in (all.0, (all.1.0, (all.1.1.0, tt)));
+}
+
 pub is_paid : FailuresArePaid lost_write lost_write.beside
 is_paid = record { faults = 0; counted = inl (omega arith); pay = inl (omega arith, inl (omega arith, inl (omega arith, inl (omega arith, inl (omega arith, tt))))) }
 
-posted_none : (id : ℕ) → prices_in_refusals small id whole ≡ 0
-posted_none id = elim (cases_Bool (2 == id)) [
-  | inl own ↦ rw own refl
-  | inr other ↦ rw other refl
+pub no_refusals : (id : ℕ) → RefusesAsAsked small lost_write.course whole id
+no_refusals id = elim (cases_Bool (2 == id)) [
+  | inl own ↦ rw own (0, (0, (tt, refl), (0, (tt, (tt, (tt, refl))), refl)))
+  | inr other ↦ rw other (0, (0, (tt, refl), (0, (tt, (tt, (tt, refl))), refl)))
 ]
-
-pub no_refusals : (id : ℕ) → RefusalsExplain small lost_write.course whole id
-no_refusals id zero = omega arith
-no_refusals id (suc zero) = omega arith
-no_refusals id (suc (suc zero)) = omega (arith, posted_none id)
-no_refusals id (suc (suc (suc n))) = omega (arith, posted_none id)
 
 chains : (first last : List ℕ) → begun 0 ≡ first → begun 4 ≡ last → IsChain (attached small.geometry first) operations last
 chains first last a b = subst (λ (f : List ℕ). IsChain (attached small.geometry f) operations last) a
@@ -142,14 +143,16 @@ chains first last a b = subst (λ (f : List ℕ). IsChain (attached small.geomet
 abbrev Kept : ℕ → Type 0
 Kept k = IsTrue (has_cutter lost_write.course) × ((last_count ≤ k) ⊎ HasOffAt whole (next_count k))
 
-seen : (last : List ℕ) (changes : List Change) → operations ≡ changes → AreSeen Kept 0 last operations changes
-seen last changes a = subst (λ (cs : List Change). AreSeen Kept 0 last operations cs) a (inl (inl refl, inl (inl refl, inl (inl refl, inl (inl refl, inl (inl refl, refl))))))
+seen : (last : List ℕ) (changes : List Change) → operations ≡ changes → AreSeen Kept 0 last operations [] changes
+seen last changes a =
+    subst (λ (cs : List Change). AreSeen Kept 0 last operations [] cs) a (inl (_, refl, inl (_, refl, inl (_, refl, inl (_, refl, inl ([], refl, (refl, refl)))))))
 
-pub are_operations : AreOperations small.geometry lost_write.flash Kept
+pub are_operations : AreOperations small.geometry lost_write.flash Kept []
 are_operations = record {
   told_alike = tt;
   chain = λ t. chains t.first t.last (some_list (begun 0) t.first t.entry) (some_list (begun 4) t.last t.exit);
   seen = λ t. seen t.bytes.last t.changes (some_changes operations t.changes t.told);
+  counted = inl refl;
   told = λ h. absurd (let told = h.room.0 in cc told);
 }
 

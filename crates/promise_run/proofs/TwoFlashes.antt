@@ -11,7 +11,7 @@ use Rattle.promise_blocks.specs.Marks.{Lists, marks_in}
 use Rattle.promise_device.specs.Making.{banks_of}
 use Rattle.promise_device.specs.Image.{attached, held_in}
 use Rattle.promise_device.specs.FlashRun.{IsCutImage, bytes_after}
-use Rattle.promise_run.specs.Run.{RefusalsExplain}
+use Rattle.promise_run.specs.Refusals.{RefusesAsAsked}
 use Rattle.promise_run.specs.Beside.{Beside, AreCutImages, is_beside, ops_of}
 use Rattle.promise_run.specs.Promise.{KeepBoth, OperationsAre, Promise, held_both, making_of}
 use Rattle.promise_run.specs.Cases.{blank, holds_block_2, one, quiet, quiet_beside, small, two, unchanged}
@@ -58,9 +58,8 @@ exit_keeps sound erased = record {
   sound_beside = refl;
 }
 
-none_refused : (id : ℕ) → RefusalsExplain small quiet.course h id
-none_refused id zero = omega arith
-none_refused id (suc n) = omega arith
+none_refused : (id : ℕ) → RefusesAsAsked small quiet.course h id
+none_refused id = (0, refl)
 
 pub both_keep : BlankIsSound → BlankHasErased → Promise (quiet_beside one one)
 both_keep sound erased = record {
@@ -72,18 +71,23 @@ both_keep sound erased = record {
   block_machine = (record { room = omega arith; grows = omega arith; lists = refl; lengths = refl; stands = tt }, tt);
   faults = (record { faults = 0; counted = inl (omega arith); pay = inl (omega arith, tt) }, record { faults = 0; counted = inl (omega arith); pay = inl (omega arith, tt) });
   refusals = none_refused;
-  off = inl (omega arith);
+  off = (0, (refl, refl), inl (omega arith));
   operations = λ started. (
+    [],
+    [],
+    (refl, refl),
     record {
       told_alike = tt;
       chain = λ t. sym (some_list blank t.last t.exit) ∙ ap (attached small.geometry) (some_list [] t.first t.entry);
-      seen = λ t. sym (some_changes [] t.changes t.told);
+      seen = λ t. (refl, sym (some_changes [] t.changes t.told));
+      counted = inl refl;
       told = λ room. record { bytes = room.bytes; changes = []; told = refl };
     },
     record {
       told_alike = tt;
       chain = λ t. sym (some_list one t.last t.exit) ∙ ap (attached small.geometry) (some_list one t.first t.entry);
-      seen = λ t. sym (some_changes [] t.changes t.told);
+      seen = λ t. (refl, sym (some_changes [] t.changes t.told));
+      counted = inl refl;
       told = λ room. record { bytes = room.bytes; changes = []; told = refl };
     },
   );
@@ -93,4 +97,4 @@ both_keep sound erased = record {
 
 -- its bytes changed, and no operation changed them
 pub not_changed : OperationsAre (quiet_beside one two) (quiet_beside one two).beside → ⊥
-not_changed are = let same : two ≡ one = are.1.chain (record { first = one; entry = refl; last = two; exit = refl }) in cc same
+not_changed are = let same : two ≡ one = are.4.chain (record { first = one; entry = refl; last = two; exit = refl }) in cc same

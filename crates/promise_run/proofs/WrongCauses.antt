@@ -1,6 +1,6 @@
 -- Runs that break the promise by what they say caused a failure or a cut.
 use Rattle.std.specs.Prelude.{Contains, unwrap_or}
-use Rattle.std.proofs.Common.{◌≡◌, ◌⊎◌, ◌+◌, ℕ, zero, suc, ◌<◌, ◌≤◌, IsTrue, List, [], take, replicate, Option, Some, None, refl, sym, ap, subst, inl, inr, arith}
+use Rattle.std.proofs.Common.{◌≡◌, ◌⊎◌, ◌+◌, ℕ, zero, suc, ◌<◌, ◌≤◌, IsTrue, List, [], ◌∷◌, take, replicate, Option, Some, None, refl, sym, ap, subst, inl, inr, arith}
 use Rattle.block_machine.specs.nv_base.Count.{WereCounted}
 use Rattle.block_machine.specs.nv_base.Marks.{number_of}
 use Rattle.block_machine.specs.Words.{NotOk}
@@ -15,17 +15,55 @@ use Rattle.fee_image.specs.Image.{bank_in}
 use Rattle.promise_device.specs.Making.{banks_of}
 use Rattle.promise_device.specs.Image.{HasNoRoomFor}
 use Rattle.promise_device.specs.Bridge.{may_be_closed, IsWornOut}
-use Rattle.promise_run.specs.Run.{offs_of_flash}
+use Rattle.promise_run.specs.Run.{DueCut, CutsExplain}
 use Rattle.promise_run.specs.Promise.{FailuresArePaid, making_of}
 use Rattle.promise_run.proofs.WrongMarks.{only_zero}
-use Rattle.promise_run.specs.Cases.{small, tried_twice, image_of, taken, off_without_a_cut, failed_behind, worn_but_roomy, worn_long_ago, worn_and_full}
+use Rattle.promise_run.specs.Cases.{small, tried_twice, image_of, taken, off_without_a_cut, cut_within, cut_twice, failed_behind, worn_but_roomy, worn_long_ago, worn_and_full}
+
+keep_of : Option DueCut → ℕ
+keep_of (Some p) = p.keep
+keep_of None = 0
+
+due_of : Option DueCut → ℕ
+due_of (Some p) = p.due
+due_of None = 0
+
+first_of : List ℕ → ℕ
+first_of (k ∷ ks) = k
+first_of [] = 0
 
 few_counted : (n m : ℕ) → m ≤ 1 → WereCounted n 0 m → n ≤ m
 few_counted n m few (inl is) = omega (arith, is)
 few_counted n m few (inr full) = omega (arith, full, few)
 
-pub no_off_without_a_cut : WereCounted (offs_of_flash off_without_a_cut.course off_without_a_cut.history) 0 0 → ⊥
-no_off_without_a_cut counted = let few : 1 ≤ 0 = few_counted 1 0 (omega arith) counted in omega (arith, few)
+-- CUTS
+none_counted : (n others : ℕ) → others ≡ suc n → WereCounted others 0 0 → ⊥
+none_counted n others is counted = let few = few_counted others 0 (omega arith) counted in omega (arith, few, is)
+
+pub no_off_without_a_cut : CutsExplain off_without_a_cut.course off_without_a_cut.history [] 0 0 → ⊥
+no_off_without_a_cut (others, inl (p, rest, plan, due, keeps, more), counted) = cc plan
+no_off_without_a_cut (others, inr (n, is, rest), counted) = none_counted n others is counted
+
+-- a cut that lets another number of bytes be done than the step said isn't planned, nor is one that comes too soon
+pub not_15 : CutsExplain (cut_within 1 15).course (cut_within 1 15).history (15 ∷ []) 0 0 → ⊥
+unfolding keep_of first_of
+not_15 (others, inl (p, rest, plan, due, keeps, more), counted) = let is : p.keep ≡ 16 = ap keep_of (sym plan) in let kept : 15 ≡ p.keep = ap first_of keeps in omega (arith, is, kept)
+not_15 (others, inr (n, is, rest), counted) = none_counted n others is counted
+
+pub just_16 : CutsExplain (cut_within 1 16).course (cut_within 1 16).history (16 ∷ []) 0 0
+just_16 = (0, inl (_, [], refl, inl (omega arith), refl, (refl, refl)), inl (omega arith))
+
+pub not_too_soon : CutsExplain (cut_within 2 16).course (cut_within 2 16).history (16 ∷ []) 0 0 → ⊥
+unfolding due_of
+not_too_soon (others, inl (p, rest, plan, inl due, keeps, more), counted) = let is : p.due ≡ 2 = ap due_of (sym plan) in omega (arith, is, due)
+not_too_soon (others, inl (p, rest, plan, inr last, keeps, more), counted) = omega (arith, last)
+not_too_soon (others, inr (n, is, rest), counted) = none_counted n others is counted
+
+-- one plan is of one cut alone
+pub not_twice : CutsExplain cut_twice.course cut_twice.history (16 ∷ 16 ∷ []) 0 0 → ⊥
+not_twice (others, inl (p, rest, plan, due, keeps, inl (q, ks, none, soon, again, more)), counted) = cc none
+not_twice (others, inl (p, rest, plan, due, keeps, inr (n, is, more)), counted) = none_counted n others is counted
+not_twice (others, inr (n, is, more), counted) = none_counted n others is counted
 
 -- THE WORN BANK
 abbrev roomy : List ℕ

@@ -10,7 +10,7 @@ use Rattle.block_machine.specs.History.{up_to}
 use Rattle.promise_blocks.specs.Counts.{KeepsCounts}
 use Rattle.promise_device.specs.Making.{banks_of}
 use Rattle.promise_device.specs.FlashRun.{FlashRun, TellsBytes}
-use Rattle.promise_run.specs.Promise.{CutsCount, StartUpsFind, CutsKeep, counts_by, ExitKeeps, found_by, making_of}
+use Rattle.promise_run.specs.Promise.{BeginsWell, CutsCount, StartUpsFind, CutsKeep, counts_by, ExitKeeps, found_by, making_of}
 use Rattle.promise_run.specs.Cases.{BreaksBy, small, blank, begun, operations, made_up_mark, other_dataset, lost_write}
 
 from_blank : (f : FlashRun) (last : List ℕ) → bytes_now f.entry ≡ Some [] → bytes_now f.exit ≡ Some last → TellsBytes f
@@ -19,6 +19,12 @@ from_blank f last entry exit = record { first = []; entry = entry; last = last; 
 no_made_up_mark : BlankHasErased → StartUpsFind made_up_mark made_up_mark.beside → ⊥
 no_made_up_mark erased finds =
     let listed = finds _ 0 (0, omega arith, refl) (omega arith) (record { 0 = 128 }, 4) (2, omega arith, refl) in
+    let none : found_by small blank 128 ≡ Erased = ap (λ (h : Held). h.mark) (erased (banks_of (making_of small)) 320 128 4) in
+    cc (listed ∙ none)
+
+pub made_up_early : BlankHasErased → BeginsWell made_up_mark → ⊥
+made_up_early erased well =
+    let listed = well.found _ (0, omega arith, refl) (record { 0 = 128 }, 4) (2, omega arith, refl) in
     let none : found_by small blank 128 ≡ Erased = ap (λ (h : Held). h.mark) (erased (banks_of (making_of small)) 320 128 4) in
     cc (listed ∙ none)
 

@@ -1,5 +1,5 @@
 -- A second device of a run, beside the one over banks, over a flash of its own.
-use Rattle.std.specs.Prelude.{◌≡◌, ◌+◌, ℕ, zero, suc, Bool, true, false, if◌then◌else◌, List, Some}
+use Rattle.std.specs.Prelude.{◌≡◌, ◌⊎◌, ◌+◌, ℕ, zero, suc, Bool, true, false, if◌then◌else◌, List, [], ◌∷◌, Some}
 use Rattle.std.specs.Bool.{beq}
 use Rattle.block_machine.specs.Words.{Entry, Configuration}
 use Rattle.block_machine.specs.Steps.{after}
@@ -31,3 +31,8 @@ abbrev pub AreCutImages : Configuration → List Entry → FlashRun → Beside �
 AreCutImages c h f b k image other = IfElse (is_beside c h b k)
     ((bytes_after f (ops_of false c h b k) ≡ Some image) × IsCutImage b.flash (ops_of true c h b k) other)
     (IsCutImage f (ops_of false c h b k) image × (bytes_after b.flash (ops_of true c h b k) ≡ Some other))
+
+-- the planned cuts of both, in their order
+abbrev pub IsMerged : List ℕ → List ℕ → List ℕ → Type 0
+IsMerged own other [] = (own ≡ []) × (other ≡ [])
+IsMerged own other (k ∷ ks) = ((rest : List ℕ) × (own ≡ k ∷ rest) × IsMerged rest other ks) ⊎ ((rest : List ℕ) × (other ≡ k ∷ rest) × IsMerged own rest ks)

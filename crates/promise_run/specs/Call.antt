@@ -1,14 +1,13 @@
 -- The call that a run belongs to.
-use Rattle.std.specs.Prelude.{◌≡◌, ◌⊎◌, ℕ, List, [], ◌++◌, length, take, codes, Option, None, IfSome, Ok}
-use Rattle.std.specs.Io.KnownBytes.{Appends}
-use Rattle.nv_streams.specs.Sink.{AppendsPrefix}
+use Rattle.std.specs.Prelude.{◌≡◌, ◌⊎◌, ℕ, List, [], ◌∷◌, ◌++◌, length, take, codes, Option, None, IfSome, Ok}
+use Rattle.nv_streams.specs.Sink.{Written, Puts, PutsPart}
 use Rattle.block_machine.specs.block_config.Reading.{meaning_of}
 use Rattle.fls_model.specs.Told.{Told}
 use Rattle.nvm_script.specs.declared.script.Mode.{Mode}
 use Rattle.nvm_script.specs.declared.script.Mode.TheVariants as mode
 use Rattle.script_walks.specs.Words.{Step}
 use Rattle.nvm_script.specs.Lines.{end_line}
-use Rattle.nvm_script.specs.Printed.{history_text}
+use Rattle.nvm_script.specs.Printed.{history_lines}
 use Rattle.nvm_script.specs.Script.{IsScript, first_line, later_lines}
 use Rattle.block_machine.specs.Words.{Entry}
 use Rattle.promise_run.specs.Run.{Run, Course, Played, Ran, End, Whole, FlashFault, HistoryFull, Memory}
@@ -21,8 +20,8 @@ pub record Call : Type 0 where
   pub status : ℕ
   pub entry : Told
   pub exit : Told
-  pub written : Option (List ℕ)
-  pub written_after : Option (List ℕ)
+  pub written : Written
+  pub written_after : Written
 
 -- the steps of the script, made and left
 abbrev pub IsCourseOf : Mode → List Step → Course → Type 0
@@ -51,17 +50,17 @@ last_line FlashFault h = codes "flash fault\n"
 last_line HistoryFull h = codes "history full\n"
 last_line Memory h = codes ""
 
--- the text of a run: that of its history, and its last line
-abbrev pub text_of : Run → List ℕ
-text_of r = history_text r.history ++ last_line r.end r.history
+-- the text of a run, line by line: that of its history, and its last line
+abbrev pub text_of : Run → List (List ℕ)
+text_of r = history_lines r.history ++ last_line r.end r.history ∷ []
 
--- The output is this text, the lines of these entries with a last one; at want of memory some of the entries' lines, from the
--- first on, and where the output failed, with status 6 in place of another one, a beginning of the text.
-abbrev pub EndsWith : List Entry → List ℕ → Call → End → Type 0
-EndsWith entries text call Memory = (call.status ≡ 8) × ((n : ℕ) × Appends call.written call.written_after (history_text (take n entries)))
+-- The output is this text, the lines of these entries with a last one, and each line is one put; at want of memory some of the
+-- entries' lines, from the first on, and where the output failed, with status 6 in place of another one, a beginning of the text.
+abbrev pub EndsWith : List Entry → List (List ℕ) → Call → End → Type 0
+EndsWith entries text call Memory = (call.status ≡ 8) × ((n : ℕ) × Puts call.written call.written_after (history_lines (take n entries)))
 EndsWith entries text call end =
-    ((call.status ≡ status_of_end end) × Appends call.written call.written_after text)
-    ⊎ ((call.status ≡ 6) × AppendsPrefix call.written call.written_after text)
+    ((call.status ≡ status_of_end end) × Puts call.written call.written_after text)
+    ⊎ ((call.status ≡ 6) × PutsPart call.written call.written_after text)
 
 -- the output of a run's call is that of the run
 abbrev pub Ends : Call → Run → End → Type 0

@@ -13,7 +13,9 @@ use Rattle.fee_format.specs.Pages.{gate_page}
 use Rattle.fee_format.specs.BankHead.{bank_head_page}
 use Rattle.fee_format.specs.RecHead.{rec_head_page}
 use Rattle.fee_format.specs.declared.rec_head.RecordKind.TheVariants as record_kind
+use Rattle.nv_streams.specs.MemorySink.{told_pieces}
 use Rattle.nvm_script.specs.declared.script.Mode.TheVariants as mode
+use Rattle.nvm_script.specs.Printed.{history_lines}
 use Rattle.script_walks.specs.Words.{Step, StepKind, AskStep, Store, Turn, Drain, Restart, Cut, Await}
 use Rattle.block_machine.specs.Words.{Fine, NotOk, Content, Write, SetLock, Status, WriteAll, CancelWriteAll, Accepted, StatusIs, WriteJob, WriteAllJob, TookNothing, TookContent, TookStale, Entry, Ask, Pick, Wrote, Post, Off, Found, BlockDesc, Dataset, Sync, Configuration}
 use Rattle.script_walks.specs.Looks.{Look}
@@ -73,6 +75,7 @@ plays steps flash = record {
   end = Whole;
   history = Found [] 0 ∷ flat_map (λ x. x.1) steps;
   flash = flash;
+  cuts = [];
   beside = None;
 }
 
@@ -115,6 +118,14 @@ made_up_mark = record quiet { history = Found ((record { block = 2; index = 0 },
 -- the power goes off, though nothing cut it
 abbrev pub off_without_a_cut : Run
 off_without_a_cut = plays ((Drain, Off 0 ∷ []) ∷ []) (unchanged [] blank)
+
+-- a cut that is planned for the nth operation, of which 16 bytes are to be done, comes with the first, of which so many were
+abbrev pub cut_within : ℕ → ℕ → Run
+cut_within nth done = record (plays ((Cut nth 16, []) ∷ (Drain, Off 1 ∷ []) ∷ []) (unchanged [] blank)) { cuts = done ∷ [] }
+
+-- the power goes off twice, and one cut was planned
+abbrev pub cut_twice : Run
+cut_twice = record (plays ((Cut 1 16, []) ∷ (Drain, Off 1 ∷ []) ∷ (Drain, Off 1 ∷ []) ∷ []) (unchanged [] blank)) { cuts = 16 ∷ 16 ∷ [] }
 
 -- the application stores `one` and asks for a write of synchronized RAM; the Pick takes what it says
 abbrev pub copied : Entry → Run
@@ -185,8 +196,8 @@ worn_and_full = failed_on (image_of 4294967295 (record_of 77 one ++ record_of 77
 -- on a flash of no bytes a write begins with the erase of bank 0, which a planned cut keeps from the flash; then a restart
 abbrev pub kept_write : Run
 kept_write =
-    plays ((Cut 1 0, []) ∷ asks_one ∷ (Drain, picks_one ∷ Off 1 ∷ []) ∷ (Restart, Found [] 1 ∷ []) ∷ [])
-    (record { entry = tells [] (Some []); exit = tells blank (Some []); operations = record { op = Erase 0 160; before = blank; answer = FlashOff } ∷ [] })
+    record (plays ((Cut 1 0, []) ∷ asks_one ∷ (Drain, picks_one ∷ Off 1 ∷ []) ∷ (Restart, Found [] 1 ∷ []) ∷ [])
+    (record { entry = tells [] (Some []); exit = tells blank (Some []); operations = record { op = Erase 0 160; before = blank; answer = FlashOff } ∷ [] })) { cuts = 0 ∷ [] }
 
 -- the same, over a flash that doesn't tell its operations any more, though it had room for one
 abbrev pub untold_write : Run
@@ -210,7 +221,7 @@ operations =
 abbrev pub lost_write : Run
 lost_write =
     plays (asks_one ∷ (Drain, picks_one ∷ written_at 4) ∷ [])
-    (record { entry = tells (begun 0) None; exit = tells (begun 4) (Some operations); operations = operations })
+    (record { entry = tells (begun 0) None; exit = record (tells (begun 4) (Some operations)) { ops = 5 }; operations = operations })
 
 -- CALLERS
 -- a run of these callers' steps, with these looks of the driver: a start-up that finds nothing, and these entries
@@ -384,11 +395,15 @@ abbrev pub EndsWith : Option Entry → Type 0
 EndsWith e = EndsCanceled (after small (Found [] 0 ∷ Ask 0 WriteAll Accepted ∷ Pick 0 WriteAllJob TookNothing 0 ∷ Ask 0 CancelWriteAll Accepted ∷ [])) e
 
 -- A CALL
--- `play` of the demo configuration without a step, with this status and this output
+-- `play` of the demo configuration without a step, with this status and an output of these pieces
 abbrev pub demo_run : Run
 demo_run = record quiet { configuration = demo_config }
 
-abbrev pub demo_call : ℕ → List ℕ → Call
-demo_call status text =
+abbrev pub demo_call : ℕ → List (List ℕ) → Call
+demo_call status pieces =
     let f = demo_run.flash in
-    record { mode = mode.Play; input = Some (codes "@demo"); status = status; entry = f.entry; exit = f.exit; written = Some []; written_after = Some text }
+    record { mode = mode.Play; input = Some (codes "@demo"); status = status; entry = f.entry; exit = f.exit; written = told_pieces []; written_after = told_pieces pieces }
+
+-- its last line in two pieces
+abbrev pub last_in_two : List (List ℕ)
+last_in_two = history_lines demo_run.history ++ codes "end 1" ∷ codes "\n" ∷ []

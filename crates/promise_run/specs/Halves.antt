@@ -1,20 +1,24 @@
 -- The two halves of the promise: what is said over any device, and what ties the device to its flash.
 use Rattle.std.specs.Prelude.{◌≡◌, ◌⊎◌, ◌≤◌, ℕ, true, None}
-use Rattle.block_machine.specs.nv_base.Count.{last_count, WereCounted}
+use Rattle.block_machine.specs.nv_base.Count.{last_count}
 use Rattle.memif.specs.Told.{Part, PartTold, DeviceTold, First}
 use Rattle.memif.specs.Clock.{Clock}
-use Rattle.promise_blocks.specs.OverDevice.{KeepsOver, is_of}
-use Rattle.promise_device.specs.Bridge.{Bridges, reading_of}
-use Rattle.promise_run.specs.Run.{Run, cap, HasOrder, offs_of_flash, has_cutter, RefusalsExplain}
-use Rattle.promise_run.specs.Promise.{Promise, making_of}
+use Rattle.promise_blocks.specs.OverDevice.{KeepsOver, KeepsEarly, is_of}
+use Rattle.promise_device.specs.FlashRun.{TellsBytes}
+use Rattle.promise_device.specs.Bridge.{Bridges, reading_of, cuts_of}
+use Rattle.promise_run.specs.Run.{Run, cap, HasOrder, has_cutter, CutsExplain}
+use Rattle.promise_run.specs.Refusals.{RefusesAsAsked}
+use Rattle.promise_run.specs.Promise.{Promise, BeginsWell, making_of}
 
 -- what the stack promises of a run over any device of one part, as it is told before the first start-up and at the end
 pub record BlockHalf (r : Run) (before : Part → PartTold) (now : DeviceTold) (clock : Clock) : Type 0 where
   pub alone : r.beside ≡ None
   pub order : HasOrder r r.history
   pub over : KeepsOver r.configuration cap r.history before now clock
-  pub refusals : (id : ℕ) → RefusalsExplain r.configuration r.course r.history id
-  pub off : WereCounted (offs_of_flash r.course r.history) (before First).planning.unplanned now.first.planning.unplanned
+  pub refusals : (id : ℕ) → RefusesAsAsked r.configuration r.course r.history id
+  pub off : CutsExplain r.course r.history r.cuts (before First).planning.unplanned now.first.planning.unplanned
+  -- the planned cuts that came are those that it tells
+  pub came : cuts_of (has_cutter r.course) now ≡ r.cuts
   -- each block is of its one part
   pub one : (block : ℕ) → is_of First now.fixed block ≡ true
 
@@ -25,6 +29,11 @@ DeviceHalf r before now clock = Bridges (reading_of (making_of r.configuration))
 -- what is told of where the power went off; past the end of the count it may have gone off in any operation
 abbrev pub beyond_end : Clock → Clock
 beyond_end clock = record clock { off_in = λ k. (last_count ≤ k) ⊎ clock.off_in k }
+
+-- until the first operation, over a flash that tells its bytes
+abbrev pub EarlyMakesIt : Clock → Type 0
+EarlyMakesIt clock =
+    (r : Run) (before : PartTold) (now : DeviceTold) → KeepsEarly r.configuration cap r.history clock → DeviceHalf r before now (beyond_end clock) → TellsBytes r.flash → BeginsWell r
 
 -- both halves make the promise
 abbrev pub HalvesMakeIt : Clock → Type 0

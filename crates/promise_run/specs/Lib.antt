@@ -1,5 +1,7 @@
 pub mod Beside
 pub mod Run
+pub mod Refusals
+pub mod RefusalLaws
 pub mod Promise
 pub mod Halves
 pub mod Life
@@ -10,3 +12,4 @@ pub mod JobTurns
 pub mod InRoom
 pub mod Texts
 pub mod Cases
+pub mod RefusedCases

@@ -1,6 +1,6 @@
 -- What the stack promises of each run. Its fields, read one after another, are one sentence, and behind it the bookkeeping.
 use Rattle.std.specs.Prelude.{◌≡◌, ◌⊎◌, ◌<◌, ◌≤◌, ◌+◌, ℕ, Bool, true, false, not, if◌then◌else◌, IsTrue, List, length, Contains, Option, Some, None, IfSome}
-use Rattle.block_machine.specs.nv_base.Count.{last_count, next_count, WereCounted}
+use Rattle.block_machine.specs.nv_base.Count.{last_count, next_count}
 use Rattle.block_machine.specs.nv_base.Held.{Held}
 use Rattle.block_machine.specs.nv_base.Marks.{instance_of}
 use Rattle.block_machine.specs.block_config.Banks.{bank_count}
@@ -19,8 +19,9 @@ use Rattle.promise_device.specs.FlashRun.{TellsBytes, TellsOperations, StartsSou
 use Rattle.promise_device.specs.Making.{Making}
 use Rattle.promise_device.specs.Reading.{BeginsSound}
 use Rattle.promise_device.specs.Bridge.{IsWornOut, IsWornBy}
-use Rattle.promise_run.specs.Beside.{Beside, AreCutImages, is_beside, ops_of}
-use Rattle.promise_run.specs.Run.{Run, cap, HasOrder, of_flashes, offs_of_flash, has_cutter, RefusalsExplain}
+use Rattle.promise_run.specs.Beside.{Beside, AreCutImages, IsMerged, is_beside, ops_of}
+use Rattle.promise_run.specs.Run.{Run, cap, HasOrder, of_flashes, has_cutter, CutsExplain}
+use Rattle.promise_run.specs.Refusals.{RefusesAsAsked}
 
 -- the device is made for this configuration, over the banks that a configuration has
 abbrev pub making_of : Configuration → Making
@@ -57,6 +58,11 @@ StartUpsFind r None =
 StartUpsFind r (Some b) =
     TellsBytes b.flash → BeginsSound b.reading b.flash → (marks : List (Instance × Mark)) (ops : ℕ) → Contains r.history (Found marks ops) → ops < last_count
     → IfBothAfter r b ops (λ image other. Lists r.configuration marks (marks_in (held_both r.configuration b image other)))
+
+-- Until the first operation, whatever the image: each start-up lists what stands in the bytes, and the history is the block machine's.
+pub record BeginsWell (r : Run) : Type 0 where
+  pub found : (marks : List (Instance × Mark)) → Contains r.history (Found marks 0) → IfSome (bytes_after r.flash 0) (λ image. Lists r.configuration marks (found_by r.configuration image))
+  pub legal : IsLegal r.configuration cap (up_to 0 r.history)
 
 -- each image that a power cut may leave keeps to the history up to then
 abbrev pub CutsKeep : Run → Option Beside → Type 0
@@ -99,12 +105,13 @@ pub record MayBeKeptOf (r : Run) (b : Beside) (second : Bool) (n : ℕ) : Type 0
   pub number : ops_of second r.configuration r.history b operation ≡ n
   pub kept : MayBeKept r operation
 
--- the operations are those of the flash, but for these
+-- The operations are those of the flash, but for these, of each of which so much was done as its cut says. Of two flashes each
+-- has its own cuts.
 abbrev pub OperationsAre : Run → Option Beside → Type 0
-OperationsAre r None = AreOperations r.configuration.geometry r.flash (MayBeKept r)
+OperationsAre r None = AreOperations r.configuration.geometry r.flash (MayBeKept r) r.cuts
 OperationsAre r (Some b) =
-    AreOperations r.configuration.geometry r.flash (MayBeKeptOf r b false)
-    × AreOperations b.reading.geometry b.flash (MayBeKeptOf r b true)
+    (own other : List ℕ) × IsMerged own other r.cuts × AreOperations r.configuration.geometry r.flash (MayBeKeptOf r b false) own
+    × AreOperations b.reading.geometry b.flash (MayBeKeptOf r b true) other
 
 -- the flash's faults pay for each failure, but where the flash is worn out; each flash's for its own blocks
 abbrev pub FailuresArePaid : Run → Option Beside → Type 0
@@ -128,10 +135,10 @@ pub record Promise (r : Run) : Type 0 where
   pub block_machine : IsLegal r.configuration cap r.history
   -- a failure result comes only from counted faults, refused copies or what the flash holds written.
   pub faults : FailuresArePaid r r.beside
-  pub refusals : (id : ℕ) → RefusalsExplain r.configuration r.course r.history id
+  pub refusals : (id : ℕ) → RefusesAsAsked r.configuration r.course r.history id
   -- An Off is planned, or the flash counted a cut.
-  pub off : WereCounted (offs_of_flash r.course r.history) (of_flashes (λ f. f.entry.cuts) r) (of_flashes (λ f. f.exit.cuts) r)
-  -- The operations are those of the flash, but for one at each Off that a planned cut kept from it; the entries count them.
+  pub off : CutsExplain r.course r.history r.cuts (of_flashes (λ f. f.entry.cuts) r) (of_flashes (λ f. f.exit.cuts) r)
+  -- The operations are those of the flash, but for one at each planned cut, of which so many bytes were done; the entries count them.
   pub operations : HasStarted r.history → OperationsAre r r.beside
   pub begins : BeginsBefore r.history
   pub counted : TellsAtMost (of_flashes (λ f. length f.operations) r) r.history

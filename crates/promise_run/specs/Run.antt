@@ -1,17 +1,16 @@
 -- One run of the program, from the attach of its flash on, and how it follows its script.
-use Rattle.std.specs.Prelude.{◌≡◌, ◌⊎◌, ◌<◌, ◌≤◌, ◌+◌, ℕ, not, Bool, true, false, IsTrue, List, [], ◌∷◌, ◌++◌, take, nat_le, ◌||◌, ◌==◌, if◌then◌else◌, sum_by, count_by, Option, Some, None}
+use Rattle.std.specs.Prelude.{◌≡◌, ◌⊎◌, ◌<◌, ◌≤◌, ◌+◌, ℕ, zero, suc, not, Bool, true, false, IsTrue, List, [], ◌∷◌, ◌++◌, map, take, ◌==◌, if◌then◌else◌, sum_by, Option, Some, None}
 use Rattle.std.specs.Option.{option_map_or}
-use Rattle.block_machine.specs.nv_base.Count.{last_count, Rose}
+use Rattle.block_machine.specs.nv_base.Count.{last_count, Rose, WereCounted}
 use Rattle.block_machine.specs.nv_base.declared.geometry.Geometry.{Geometry}
 use Rattle.block_machine.specs.nv_base.Entry.{ops_behind}
 use Rattle.fls_model.specs.Told.{Told, IfBothTold, bytes_now}
-use Rattle.script_walks.specs.Words.{Step, StepKind, AskStep, Cut, Refuse, Restart}
+use Rattle.script_walks.specs.Words.{Step, StepKind, AskStep, Cut, Restart}
 use Rattle.block_machine.specs.Words.{Entry, Off, Configuration}
 use Rattle.block_machine.specs.State.{State}
 use Rattle.block_machine.specs.Reply.{fits}
-use Rattle.block_machine.specs.Prices.{prices_in_refusals}
 use Rattle.block_machine.specs.Steps.{after, after_from}
-use Rattle.script_walks.specs.Walk.{IsWalkOf, joined}
+use Rattle.script_walks.specs.Walk.{IsWalkOf}
 use Rattle.script_walks.specs.Looks.{Look}
 use Rattle.script_walks.specs.Runs.{IsRun, IsWholeRun, IsFullRun}
 use Rattle.promise_device.specs.Image.{attached}
@@ -42,6 +41,8 @@ pub record Run : Type 0 where
   pub end : End
   pub history : List Entry
   pub flash : FlashRun
+  -- of each planned power cut that came, in their order, how many bytes of its operation it let be done
+  pub cuts : List ℕ
   -- the second device, if there is one
   pub beside : Option Beside
 
@@ -146,51 +147,48 @@ HasOrder r [] = EndsBefore r.flash r.beside r.end × MadeNothing r.course × Lea
 HasOrder r (e ∷ es) = Follows r r.course (e ∷ es)
 
 -- POWER CUTS
--- the operations at which the cut comes that is planned, if one is
-abbrev pub plan_after : StepKind → Option ℕ → ℕ → Option ℕ
-plan_after (Cut nth keep) plan ops = Some (ops + nth)
+-- a planned power cut: how many operations are made when it comes, at the least, and how many bytes of the last it lets be done
+pub record DueCut : Type 0 where
+  pub due : ℕ
+  pub keep : ℕ
+
+-- the one that stands from a step on, if one does
+abbrev pub plan_after : StepKind → Option DueCut → ℕ → Option DueCut
+plan_after (Cut zero keep) plan ops = plan
+plan_after (Cut (suc n) keep) plan ops = Some (record { due = ops + suc n; keep = keep })
 plan_after Restart plan ops = None
 plan_after kind plan ops = plan
 
--- the cut was planned, and not for later
-abbrev pub is_paid : Option ℕ → ℕ → Bool
-is_paid (Some due) ops = nat_le due ops || nat_le last_count ops
-is_paid None ops = false
+-- a step is made, or an entry comes
+pub data Event : Type 0 where
+  Made : StepKind → Event
+  Added : Entry → Event
 
-abbrev pub is_off : Entry → Bool
-is_off (Off ops) = true
-is_off e = false
+-- each step with the entries of its piece behind it
+abbrev pub events_of : List Step → List (List Entry) → List Event
+events_of (x ∷ xs) (p ∷ ps) = Made x.kind ∷ map Added p ++ events_of xs ps
+events_of xs ps = []
 
-abbrev pub unpaid_off : Option ℕ → Entry → ℕ
-unpaid_off plan (Off ops) = if is_paid plan ops then 0 else 1
-unpaid_off plan e = 0
+-- in `run` no step plans a cut
+abbrev pub events_in : Course → List Entry → List Event
+events_in (Played made pieces left) h = events_of made pieces
+events_in (Ran steps looks) h = map Added h
 
--- the Offs of these steps' pieces that no step planned
-abbrev pub unpaid_offs : Option ℕ → ℕ → List Step → List (List Entry) → ℕ
-unpaid_offs plan ops (x ∷ xs) (p ∷ ps) =
-    let planned = plan_after x.kind plan ops in
-    sum_by (unpaid_off planned) p + unpaid_offs planned (ops_behind ops p) xs ps
-unpaid_offs plan ops xs ps = 0
+-- Each Off is the cut that is planned, and not for later, whose bytes are the next of these; or it is one of so many others.
+-- Behind it none is planned.
+abbrev pub CutsAre : Option DueCut → ℕ → List Event → (cuts : List ℕ) → (others : ℕ) → Type 0
+CutsAre plan ops [] cuts others = (cuts ≡ []) × (others ≡ 0)
+CutsAre plan ops (Made kind ∷ es) cuts others = CutsAre (plan_after kind plan ops) ops es cuts others
+CutsAre plan ops (Added (Off now) ∷ es) cuts others =
+    ((p : DueCut) × (rest : List ℕ) × (plan ≡ Some p) × ((p.due ≤ now) ⊎ (last_count ≤ now)) × (cuts ≡ p.keep ∷ rest) × CutsAre None now es rest others)
+    ⊎ ((n : ℕ) × (others ≡ suc n) × CutsAre None now es cuts n)
+CutsAre plan ops (Added e ∷ es) cuts others = CutsAre plan (ops_behind ops (e ∷ [])) es cuts others
 
--- the Offs of a run that the flash itself must have counted
-abbrev pub offs_of_flash : Course → List Entry → ℕ
-offs_of_flash (Played made pieces left) h = unpaid_offs None 0 made pieces
-offs_of_flash (Ran steps looks) h = count_by is_off h
+-- the Offs of a run are these planned cuts, and others that were counted between two values of a count
+abbrev pub CutsExplain : Course → List Entry → (cuts : List ℕ) → (before after : ℕ) → Type 0
+CutsExplain course h cuts before after = (others : ℕ) × CutsAre None 0 (events_in course h) cuts others × WereCounted others before after
 
 -- in `play` a planned cut keeps its operation from the flash
 abbrev pub has_cutter : Course → Bool
 has_cutter (Played made pieces left) = true
 has_cutter (Ran steps looks) = false
-
--- REFUSED COPIES
--- the copies of a block that this step lets be refused
-abbrev pub refusals_of : ℕ → StepKind → ℕ
-refusals_of id (Refuse block count) = if block == id then count else 0
-refusals_of id kind = 0
-
--- Up to each step, the Posts of a block tell of no more refused copies than its `refuse` steps asked for. In `run` no copy
--- is refused.
-abbrev pub RefusalsExplain : Configuration → Course → List Entry → ℕ → Type 0
-RefusalsExplain c (Played made pieces left) h id =
-    (n : ℕ) → prices_in_refusals c id (take 1 h ++ joined (take n pieces)) ≤ sum_by (λ x. refusals_of id x.kind) (take n made)
-RefusalsExplain c (Ran steps looks) h id = prices_in_refusals c id h ≡ 0

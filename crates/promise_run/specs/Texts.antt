@@ -10,7 +10,7 @@ pub record IsPrinted (call : Call) : Type 0 where
   pub input : List ℕ
   pub read : call.input ≡ Some input
   pub before : List ℕ
-  pub written : call.written ≡ Some before
+  pub written : call.written.bytes ≡ Some before
   pub no_fault : call.status ≢ 6
   pub no_want : call.status ≢ 8
 

@@ -1,19 +1,20 @@
 // Runs that keep the promise, and runs that break it.
-ghost use Rattle.std.specs.Prelude.{ℕ, [], true, false, Some, None};
-ghost use Rattle.block_machine.specs.nv_base.Count.{WereCounted};
-ghost use Rattle.nvm_script.specs.Printed.{history_text};
+ghost use Rattle.std.specs.Prelude.{ℕ, [], ◌∷◌, true, false, Some, None};
+ghost use Rattle.nvm_script.specs.Printed.{history_lines};
+ghost use Rattle.std.specs.List.{concat};
 ghost use Rattle.block_machine.specs.Legal.{IsLegal};
 ghost use Rattle.promise_blocks.specs.OverDevice.{BeginsBefore, TellsAtMost};
 ghost use Rattle.promise_device.specs.FlashRun.{AreOperations};
-ghost use Rattle.promise_run.specs.Run.{cap, HasOrder, RefusalsExplain, offs_of_flash};
-ghost use Rattle.promise_run.specs.Promise.{OperationsAre, Promise, StartUpsFind, CutsCount, CutsKeep, ExitKeeps, FailuresArePaid, MayBeKept};
+ghost use Rattle.promise_run.specs.Run.{cap, HasOrder, CutsExplain};
+ghost use Rattle.promise_run.specs.Refusals.{RefusesAsAsked};
+ghost use Rattle.promise_run.specs.Promise.{BeginsWell, OperationsAre, Promise, StartUpsFind, CutsCount, CutsKeep, ExitKeeps, FailuresArePaid, MayBeKept};
 ghost use Rattle.promise_run.specs.Call.{IsRunOf, text_of};
 ghost use Rattle.promise_run.specs.Completeness.{Completeness};
 ghost use Rattle.script_walks.specs.Words.{AskStep, Restart};
 ghost use Rattle.block_machine.specs.Words.{Status, Fine, Canceled, BlockSkipped, Post};
 ghost use Rattle.promise_run.specs.Run.{FlashFault, HistoryFull};
 ghost use Rattle.promise_run.specs.Turns.{BeginsAt, EndsBy, HasTurns};
-ghost use Rattle.promise_run.specs.Cases.{six_turns, lazy, leaps, at_faults, faulty, PaysFailed, CountsFailed, HadRoomAt, LeftAt, DrainsTo, WorksAt, EndsWith, mended, posts_on_credit, starts_on_credit, untold, BreaksBy, small, one, two, quiet, quiet_beside, wiped, empty_at_11, made_up_mark, off_without_a_cut, stale_in_play, invented_store, second_found, other_dataset, worn_but_roomy, worn_and_full, kept_write, lost_write, two_callers, written_at, always, turned, not_drained, fails_for_nothing, ends_for_nothing, demo_run, demo_call, untold_write, unseen_stale, later_store, full_for_nothing, not_served, worn_long_ago, cut_comes, cut_missed};
+ghost use Rattle.promise_run.specs.Cases.{six_turns, lazy, leaps, at_faults, faulty, PaysFailed, CountsFailed, HadRoomAt, LeftAt, DrainsTo, WorksAt, EndsWith, mended, posts_on_credit, starts_on_credit, untold, BreaksBy, small, one, two, quiet, quiet_beside, wiped, empty_at_11, made_up_mark, off_without_a_cut, cut_within, cut_twice, stale_in_play, invented_store, second_found, other_dataset, worn_but_roomy, worn_and_full, kept_write, lost_write, two_callers, written_at, always, turned, not_drained, fails_for_nothing, ends_for_nothing, demo_run, demo_call, untold_write, unseen_stale, later_store, full_for_nothing, not_served, worn_long_ago, cut_comes, cut_missed, last_in_two};
 
 /// A start-up alone keeps it, and so do a write that a cut breaks off with a restart behind it, and the requests of two
 /// callers.
@@ -62,14 +63,20 @@ pub fn full_histories_end()
 /// dataset than the one that was written by what the exit keeps.
 pub fn wrong_marks_break_it()
     ensures made_up_mark { BreaksBy made_up_mark (StartUpsFind made_up_mark made_up_mark.beside) }
+    ensures made_up_early { BeginsWell made_up_mark → ⊥ }
     ensures other_dataset { BreaksBy other_dataset (ExitKeeps other_dataset other_dataset.beside) }
 {}
 
-/// A power cut that nothing brought breaks it by its cuts, and a failure with a fault too few, over a bank of the last
-/// generation that has room, by its faults, also where a program failed before the last erase. Over one that has none the failure
-/// is paid.
+/// A power cut that nothing brought breaks it by its cuts, and so does one of which fewer bytes were done than the step said, one
+/// that comes an operation too soon, and one more than was planned. A failure with a fault too few, over a bank of
+/// the last generation that has room, breaks it by its faults, also where a program failed before the last erase. Over one that
+/// has none the failure is paid.
 pub fn wrong_causes_break_it()
-    ensures off_without_a_cut { BreaksBy off_without_a_cut (WereCounted 1 0 0) }
+    ensures off_without_a_cut { BreaksBy off_without_a_cut (CutsExplain off_without_a_cut.course off_without_a_cut.history [] 0 0) }
+    ensures let_15_done { BreaksBy (cut_within 1 15) (CutsExplain (cut_within 1 15).course (cut_within 1 15).history (15 ∷ []) 0 0) }
+    ensures let_16_done { CutsExplain (cut_within 1 16).course (cut_within 1 16).history (16 ∷ []) 0 0 }
+    ensures cut_too_soon { BreaksBy (cut_within 2 16) (CutsExplain (cut_within 2 16).course (cut_within 2 16).history (16 ∷ []) 0 0) }
+    ensures cut_twice { BreaksBy cut_twice (CutsExplain cut_twice.course cut_twice.history (16 ∷ 16 ∷ []) 0 0) }
     ensures worn_but_roomy { BreaksBy worn_but_roomy (FailuresArePaid worn_but_roomy worn_but_roomy.beside) }
     ensures worn_long_ago { BreaksBy worn_long_ago (FailuresArePaid worn_long_ago worn_long_ago.beside) }
     ensures worn_and_full { FailuresArePaid worn_and_full worn_and_full.beside }
@@ -81,12 +88,13 @@ pub fn a_lost_write_breaks_it()
     ensures counts { BreaksBy lost_write (CutsCount lost_write lost_write.beside) }
     ensures order { HasOrder lost_write lost_write.history }
     ensures found { StartUpsFind lost_write lost_write.beside }
+    ensures early { BeginsWell lost_write }
     ensures at_exit { ExitKeeps lost_write lost_write.beside }
     ensures block_machine { IsLegal small cap lost_write.history }
     ensures faults { FailuresArePaid lost_write lost_write.beside }
-    ensures refusals { (id : ℕ) → RefusalsExplain small lost_write.course lost_write.history id }
-    ensures off { WereCounted (offs_of_flash lost_write.course lost_write.history) 0 0 }
-    ensures operations { AreOperations small.geometry lost_write.flash (MayBeKept lost_write) }
+    ensures refusals { (id : ℕ) → RefusesAsAsked small lost_write.course lost_write.history id }
+    ensures off { CutsExplain lost_write.course lost_write.history lost_write.cuts 0 0 }
+    ensures operations { AreOperations small.geometry lost_write.flash (MayBeKept lost_write) lost_write.cuts }
     ensures begins { BeginsBefore lost_write.history }
     ensures counted { TellsAtMost 5 lost_write.history }
 {}
@@ -96,25 +104,27 @@ pub fn a_list_that_ends_early_breaks_it()
     ensures { BreaksBy untold_write (OperationsAre untold_write untold_write.beside) }
 {}
 
-/// A call is told by its run where configuration, steps, flash, status and output are the run's, and the run has no second flash.
+/// A call is told by its run where configuration, steps, flash, status and output are the run's, each line is one put, and the
+/// run has no second flash.
 pub fn runs_of_calls()
     ensures own { IsRunOf (demo_call 0 (text_of demo_run)) demo_run }
     ensures other_status { IsRunOf (demo_call 7 (text_of demo_run)) demo_run → ⊥ }
-    ensures no_last_line { IsRunOf (demo_call 0 (history_text demo_run.history)) demo_run → ⊥ }
+    ensures no_last_line { IsRunOf (demo_call 0 (history_lines demo_run.history)) demo_run → ⊥ }
+    ensures two_lines_in_one { IsRunOf (demo_call 0 (concat (text_of demo_run) ∷ [])) demo_run → ⊥ }
+    ensures one_line_in_two { IsRunOf (demo_call 0 last_in_two) demo_run → ⊥ }
     ensures other_configuration { IsRunOf (demo_call 0 (text_of quiet)) quiet → ⊥ }
     ensures two_flashes { IsRunOf (demo_call 0 (text_of demo_run)) (record demo_run { beside = (quiet_beside one one).beside }) → ⊥ }
 {}
 
-/// Where nothing fails a job is posted within its turns and with no result of a failure, a drain leaves none, nor does a run of
-/// callers, and no run ends at a flash fault.
+/// Where nothing fails a job is posted with no result of a failure, and no run ends at a flash fault. A drain leaves no job in
+/// hand, nor does a run of callers.
 pub fn runs_that_are_served()
-    ensures served { Completeness (always 8) (turned (written_at 4)) (turned (written_at 4)).course }
-    ensures not_posted { Completeness (always 8) (turned []) (turned []).course → ⊥ }
-    ensures not_drained { Completeness (always 100) not_drained not_drained.course → ⊥ }
-    ensures not_failed { Completeness (always 8) fails_for_nothing fails_for_nothing.course → ⊥ }
-    ensures not_ended { Completeness (always 100) ends_for_nothing ends_for_nothing.course → ⊥ }
-    ensures callers { Completeness (always 8) two_callers two_callers.course }
-    ensures not_served { Completeness (always 8) not_served not_served.course → ⊥ }
+    ensures served { Completeness (turned (written_at 4)) (turned (written_at 4)).course }
+    ensures not_drained { BreaksBy not_drained (HasOrder not_drained not_drained.history) }
+    ensures not_failed { Completeness fails_for_nothing fails_for_nothing.course → ⊥ }
+    ensures not_ended { Completeness ends_for_nothing ends_for_nothing.course → ⊥ }
+    ensures callers { Completeness two_callers two_callers.course }
+    ensures not_served { Completeness not_served not_served.course → ⊥ }
 {}
 
 /// A write that its sixth turn posts has its turns. Nine turns that pick a job and make no more of it aren't turns of a job

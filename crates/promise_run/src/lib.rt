@@ -8,6 +8,7 @@
 mod cap;
 mod cases;
 mod life;
+mod refused_cases;
 mod turn_cases;
 
 pub use cap::CAP;
@@ -19,4 +20,5 @@ pub use cases::{
     wrong_orders_break_it,
 };
 pub use life::units_hold_marks;
+pub use refused_cases::{copies_not_refused_as_asked, copies_refused_as_asked};
 pub use turn_cases::turns_of_jobs;

@@ -1,20 +1,18 @@
 -- What explains refused copies and power cuts, over all steps.
-use Rattle.std.specs.Prelude.{sum_by, take, unwrap_or}
-use Rattle.std.proofs.Common.{◌≡◌, ◌<◌, ◌≤◌, ◌+◌, ◌⊎◌, ℕ, zero, suc, List, [], ◌∷◌, ◌++◌, Option, Some, None, length, refl, sym, ap, ◌∙◌, subst, inl, inr, arith, append-nil, length-append}
-use Rattle.std.proofs.lemmas.Bool.Decides.{leb_tells}
-use Rattle.std.proofs.lemmas.List.{take-append-le}
-use Rattle.std.proofs.lemmas.List.Sums.{sum_by_push, fold-append}
+use Rattle.std.specs.Prelude.{map, unwrap_or}
+use Rattle.std.proofs.Common.{◌≡◌, ◌<◌, ◌≤◌, ◌+◌, ◌⊎◌, ℕ, zero, suc, List, [], ◌∷◌, ◌++◌, Option, Some, None, length, refl, sym, ap, ◌∙◌, subst, inl, inr, arith, append-nil, append_assoc, length-append}
+use Rattle.std.proofs.lemmas.List.Sums.{fold-append}
 use Rattle.std.proofs.lemmas.Grind.{flat_map-append}
 use Rattle.nvm_core.specs.nv_base.Entry.{ops_of, ops_behind}
 use Rattle.nvm_core.specs.block_machine.Words.{Instance, Mark, Entry, Found, Configuration}
-use Rattle.nvm_core.specs.block_machine.StartUp.{at_first}
-use Rattle.nvm_core.specs.block_machine.Prices.{sum_from, block_price, prices_in_refusals}
-use Rattle.nvm_core.specs.block_machine.Steps.{after}
+use Rattle.nvm_core.specs.block_machine.State.{State}
+use Rattle.nvm_core.specs.block_machine.Steps.{after_from}
+use Rattle.nvm_core.proofs.block_laws.HistoryLaws.{histories_go_on}
 use Rattle.script_walks.specs.Words.{Step}
 use Rattle.script_walks.specs.Walk.{joined}
-use Rattle.promise_run.specs.Run.{plan_after, unpaid_off, unpaid_offs, refusals_of}
-use Rattle.script_player.specs.Walking.{plan_behind, refusals_in}
-use Rattle.script_player.proofs.Explained.{sum_more}
+use Rattle.promise_run.specs.Run.{Event, Made, Added, events_of}
+use Rattle.promise_run.specs.Refusals.{AreAsAsked, StepsRefuse, asked_by}
+use Rattle.script_player.specs.Told.{ops_at}
 
 -- OPERATIONS
 
@@ -33,63 +31,50 @@ ops_later a b (e ∷ es) less = ops_later (unwrap_or (ops_of e) a) (unwrap_or (o
 pub ops_in_all : (marks : List (Instance × Mark)) (ops : ℕ) (h : List Entry) → ops_behind 0 h ≤ ops_behind 0 (Found marks ops ∷ h)
 ops_in_all marks ops h = ops_later 0 ops h (omega arith)
 
--- OFFS
+-- EVENTS
 
-pub plan_more : (plan : Option ℕ) (ops : ℕ) (xs : List Step) (ps : List (List Entry)) (x : Step) (p : List Entry) → length ps ≡ length xs
-    → plan_behind plan ops (xs ++ x ∷ []) (ps ++ p ∷ []) ≡ plan_after x.kind (plan_behind plan ops xs ps) (ops_behind ops (joined ps))
-plan_more plan ops [] [] x p same = refl
-plan_more plan ops [] (q ∷ qs) x p same = absurd (omega (arith, same))
-plan_more plan ops (y ∷ ys) [] x p same = absurd (omega (arith, same))
-plan_more plan ops (y ∷ ys) (q ∷ qs) x p same =
-    plan_more (plan_after y.kind plan ops) (ops_behind ops q) ys qs x p (omega (arith, same))
-    ∙ ap (λ n. plan_after x.kind (plan_behind (plan_after y.kind plan ops) (ops_behind ops q) ys qs) n) (sym (ops_further ops q (joined qs)))
+ops_more : (ops : ℕ) (es more : List Event) → ops_at ops (es ++ more) ≡ ops_at (ops_at ops es) more
+ops_more ops [] more = refl
+ops_more ops (Made kind ∷ es) more = ops_more ops es more
+ops_more ops (Added e ∷ es) more = ops_more (ops_behind ops (e ∷ [])) es more
 
-pub unpaid_more : (plan : Option ℕ) (ops : ℕ) (xs : List Step) (ps : List (List Entry)) (x : Step) (p : List Entry) → length ps ≡ length xs
-    → unpaid_offs plan ops (xs ++ x ∷ []) (ps ++ p ∷ []) ≡ unpaid_offs plan ops xs ps + sum_by (unpaid_off (plan_after x.kind (plan_behind plan ops xs ps) (ops_behind ops (joined ps)))) p
-unpaid_more plan ops [] [] x p same = omega arith
-unpaid_more plan ops [] (q ∷ qs) x p same = absurd (omega (arith, same))
-unpaid_more plan ops (y ∷ ys) [] x p same = absurd (omega (arith, same))
-unpaid_more plan ops (y ∷ ys) (q ∷ qs) x p same =
-    let planned = plan_after y.kind plan ops in
-    let rest = unpaid_more planned (ops_behind ops q) ys qs x p (omega (arith, same)) in
-    let at = ap (λ n. sum_by (unpaid_off (plan_after x.kind (plan_behind planned (ops_behind ops q) ys qs) n)) p) (ops_further ops q (joined qs)) in
-    omega (arith, rest, at)
+ops_added : (ops : ℕ) (es : List Entry) → ops_at ops (map Added es) ≡ ops_behind ops es
+ops_added ops [] = refl
+ops_added ops (e ∷ es) = ops_added (ops_behind ops (e ∷ [])) es
+
+-- those of steps are told by the entries of their pieces
+pub events_tell : (ops : ℕ) (xs : List Step) (ps : List (List Entry)) → length ps ≡ length xs → ops_at ops (events_of xs ps) ≡ ops_behind ops (joined ps)
+events_tell ops [] [] same = refl
+events_tell ops [] (q ∷ qs) same = absurd (omega (arith, same))
+events_tell ops (y ∷ ys) [] same = absurd (omega (arith, same))
+events_tell ops (y ∷ ys) (q ∷ qs) same =
+    ops_more ops (map Added q) (events_of ys qs) ∙ ap (λ n. ops_at n (events_of ys qs)) (ops_added ops q)
+    ∙ events_tell (ops_behind ops q) ys qs (omega (arith, same)) ∙ sym (ops_further ops q (joined qs))
+
+-- with one step more
+pub events_more : (xs : List Step) (ps : List (List Entry)) (x : Step) (p : List Entry) → length ps ≡ length xs
+    → events_of (xs ++ x ∷ []) (ps ++ p ∷ []) ≡ events_of xs ps ++ (Made x.kind ∷ map Added p)
+events_more [] [] x p same = ap (λ (es : List Event). Made x.kind ∷ es) (append-nil (map Added p))
+events_more [] (q ∷ qs) x p same = absurd (omega (arith, same))
+events_more (y ∷ ys) [] x p same = absurd (omega (arith, same))
+events_more (y ∷ ys) (q ∷ qs) x p same =
+    ap (λ (es : List Event). Made y.kind ∷ map Added q ++ es) (events_more ys qs x p (omega (arith, same)))
+    ∙ ap (λ (es : List Event). Made y.kind ∷ es) (sym (append_assoc (map Added q) (events_of ys qs) (Made x.kind ∷ map Added p)))
 
 -- REFUSED COPIES
 
 pub joined_more : (ps : List (List Entry)) (p : List Entry) → joined (ps ++ p ∷ []) ≡ joined ps ++ p
 joined_more ps p = flat_map-append (λ (q : List Entry). q) ps (p ∷ []) ∙ ap (λ (es : List Entry). joined ps ++ es) (append-nil p)
 
-pub all_of : {X : Type 0} (n : ℕ) (xs : List X) → length xs ≤ n → take n xs ≡ xs
-all_of zero [] all = refl
-all_of (suc n) [] all = refl
-all_of zero (x ∷ xs) all = absurd (omega (arith, all))
-all_of (suc n) (x ∷ xs) all = ap (λ ys. x ∷ ys) (all_of n xs (omega (arith, all)))
-
--- the prices of a history with a piece more
-pub prices_more : (c : Configuration) (id : ℕ) (h piece : List Entry) → prices_in_refusals c id (h ++ piece) ≡ prices_in_refusals c id h + sum_from c (block_price id) (after c h) piece
-prices_more c id h piece = sum_more c (block_price id) at_first h piece
-
--- each number of steps explains its Posts, with one step more
-pub refusals_more : (c : Configuration) (id : ℕ) (first : Entry) (xs : List Step) (ps : List (List Entry)) (x : Step) (p : List Entry) → length ps ≡ length xs
-    → ((n : ℕ) → prices_in_refusals c id (first ∷ joined (take n ps)) ≤ refusals_in id (take n xs))
-    → prices_in_refusals c id (first ∷ joined ps) + sum_from c (block_price id) (after c (first ∷ joined ps)) p ≤ refusals_in id xs + refusals_of id x.kind
-    → (n : ℕ) → prices_in_refusals c id (first ∷ joined (take n (ps ++ p ∷ []))) ≤ refusals_in id (take n (xs ++ x ∷ []))
-refusals_more c id first xs ps x p same before all n = elim (few_or_all n) [
-  | inl few ↦ subst (λ (ys : List Step). prices_in_refusals c id (first ∷ joined (take n (ps ++ p ∷ []))) ≤ refusals_in id ys) (sym (take-append-le n xs (x ∷ []) (omega (arith, few, same))))
-      (subst (λ (qs : List (List Entry)). prices_in_refusals c id (first ∷ joined qs) ≤ refusals_in id (take n xs)) (sym (take-append-le n ps (p ∷ []) few)) (before n))
-  | inr more ↦
-      let counts : length (ps ++ p ∷ []) ≡ length ps + 1 = length-append ps (p ∷ []) in
-      let steps : length (xs ++ x ∷ []) ≡ length xs + 1 = length-append xs (x ∷ []) in
-      subst (λ (ys : List Step). prices_in_refusals c id (first ∷ joined (take n (ps ++ p ∷ []))) ≤ refusals_in id ys) (sym (all_of n (xs ++ x ∷ []) (omega (arith, steps, same, more))))
-      (subst (λ (qs : List (List Entry)). prices_in_refusals c id (first ∷ joined qs) ≤ refusals_in id (xs ++ x ∷ [])) (sym (all_of n (ps ++ p ∷ []) (omega (arith, counts, more)))) whole)
-]
-  where
-    few_or_all : (m : ℕ) → (m ≤ length ps) ⊎ (length ps < m)
-    few_or_all m = elim (leb_tells m (length ps)) [ inl few ↦ inl few.1 | inr more ↦ inr more.1 ]
-
-    whole : prices_in_refusals c id (first ∷ joined (ps ++ p ∷ [])) ≤ refusals_in id (xs ++ x ∷ [])
-    whole =
-        let last = ap (λ (es : List Entry). prices_in_refusals c id (first ∷ es)) (joined_more ps p) in
-        let price = prices_more c id (first ∷ joined ps) p in
-        let asked = sum_by_push (λ (y : Step). refusals_of id y.kind) xs x in omega (arith, all, last, price, asked)
+-- copies are refused as asked, with one step more
+pub refuses_more : (c : Configuration) (id : ℕ) (s : State) (xs : List Step) (ps : List (List Entry)) (x : Step) (p : List Entry) (a b d : ℕ) → length ps ≡ length xs
+    → StepsRefuse c id s a xs ps b → AreAsAsked c id (after_from c s (joined ps)) (asked_by id x.kind b) p d → StepsRefuse c id s a (xs ++ x ∷ []) (ps ++ p ∷ []) d
+refuses_more c id s [] [] x p a b d same one two = (d, subst (λ (n : ℕ). AreAsAsked c id s (asked_by id x.kind n) p d) one two, refl)
+refuses_more c id s [] (q ∷ qs) x p a b d same one two = absurd (omega (arith, same))
+refuses_more c id s (y ∷ ys) [] x p a b d same one two = absurd (omega (arith, same))
+refuses_more c id s (y ∷ ys) (q ∷ qs) x p a b d same (next, here, one) two = (
+  next,
+  here,
+  refuses_more c id (after_from c s q) ys qs x p next b d (omega (arith, same)) one
+      (subst (λ (t : State). AreAsAsked c id t (asked_by id x.kind b) p d) (histories_go_on c s q (joined qs)) two),
+)

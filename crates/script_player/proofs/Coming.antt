@@ -27,16 +27,16 @@ pending_in_time (Some p) t pending = in_time p t pending
 
 -- CALLS
 
-stands_same : (p : Planned) (old new : StackTold) → new.causes.due ≡ old.causes.due → new.ops ≡ old.ops → new.faults ≡ old.faults → Stands p old → Stands p new
-stands_same p old new due ops faults stands = record {
-  due = stands.due;
-  is = due ∙ stands.is;
+stands_same : (p : Planned) (old new : StackTold) → new.causes.plan ≡ old.causes.plan → new.ops ≡ old.ops → new.faults ≡ old.faults → Stands p old → Stands p new
+stands_same p old new plan ops faults stands = record {
+  cut = stands.cut;
+  is = plan ∙ stands.is;
   later = let more = stands.later in omega (arith, ops, more);
   soon = let soon = stands.soon in omega (arith, faults, soon);
 }
 
 -- nothing that is told of it changes, and the power that was off is so
-pub pending_same : (plan : Option Planned) (old new : StackTold) → new.causes.due ≡ old.causes.due → new.ops ≡ old.ops → new.faults ≡ old.faults → ((state_of old).off ≡ true → (state_of new).off ≡ true)
+pub pending_same : (plan : Option Planned) (old new : StackTold) → new.causes.plan ≡ old.causes.plan → new.ops ≡ old.ops → new.faults ≡ old.faults → ((state_of old).off ≡ true → (state_of new).off ≡ true)
     → IsPending plan old → IsPending plan new
 pending_same None old new due ops faults off pending = tt
 pending_same (Some p) old new due ops faults off (inl stands) = inl (stands_same p old new due ops faults stands)
@@ -45,7 +45,7 @@ pending_same (Some p) old new due ops faults off (inr (inr full)) = inr (inr (om
 
 pub refuse_cuts : (block count : ℕ) (old new : StackTold) → Refuses block count old new → PlansCuts (Refuse block count) [] old new
 refuse_cuts block count old new refuses one plan pending =
-    (tt, pending_same plan old new (ap (λ t. t.causes.due) refuses.only) (ap (λ t. t.ops) refuses.only) (ap (λ t. t.faults) refuses.only) (λ off. ap (λ (s : State). s.off) (ap state_of refuses.only) ∙ off) pending)
+    (tt, pending_same plan old new (ap (λ t. t.causes.plan) refuses.only) (ap (λ t. t.ops) refuses.only) (ap (λ t. t.faults) refuses.only) (λ off. ap (λ (s : State). s.off) (ap state_of refuses.only) ∙ off) pending)
 
 pub ask_cuts : (caller : ℕ) (asked r : Request) (reply : Reply) (old new : StackTold) → AddsAsk (Ask caller r reply) old new
     → PlansCuts (AskStep asked) (record { entry = Some (Ask caller r reply); behind = moment_of old } ∷ []) old new
@@ -62,7 +62,7 @@ ask_cuts caller asked r reply old new adds one plan pending = (
     state = ap state_of adds.adds ∙ histories_step old.configuration old.entries (Ask caller r reply)
 
     now : IsPending plan new
-    now = pending_same plan old new adds.due (ap (λ t. t.ops) adds.adds) (ap (λ t. t.faults) adds.adds)
+    now = pending_same plan old new adds.plan (ap (λ t. t.ops) adds.adds) (ap (λ t. t.faults) adds.adds)
         (λ off. ap (λ (s : State). s.off) state ∙ stays_off old.configuration (state_of old) (Ask caller r reply) refl off) pending
 
 -- a turn

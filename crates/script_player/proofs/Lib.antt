@@ -1,4 +1,5 @@
 pub mod Table
+pub mod Offs
 pub mod Explained
 pub mod Making
 pub mod Turned
@@ -12,11 +13,9 @@ pub mod Coming
 pub mod Chain
 pub mod InHand
 pub mod Serving
-pub mod Served
-pub mod Awaited
+pub mod EachPiece
 pub mod PlainPlans
 pub mod PlainCopies
-pub mod PlainFew
 pub mod PlainSteps
 pub mod PlainParts
 pub mod PlainDevices

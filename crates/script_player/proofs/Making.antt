@@ -10,8 +10,8 @@ use Rattle.nvm_core.specs.block_machine.Reply.{fits}
 use Rattle.nvm_core.specs.block_machine.Steps.{step, after}
 use Rattle.nvm_core.specs.ram_blocks.Copies.{next_number}
 use Rattle.script_walks.specs.Words.{Step, StepKind, AskStep, Store, Turn, Drain, Restart, Cut, Refuse}
-use Rattle.promise_run.specs.Run.{HasNoRoom, plan_after}
-use Rattle.promise_run.specs.Completeness.{turns_of, is_drain}
+use Rattle.promise_run.specs.Run.{HasNoRoom, DueCut, plan_after}
+use Rattle.promise_run.specs.InRoom.{is_drain}
 use Rattle.script_walks.specs.Walk.{stores_of, request_after, is_at_rest, copies_by, TakesStore, IsPieceBy}
 use Rattle.nvm_script.specs.Played.{CanBePlayed}
 use Rattle.script_walks.specs.Stores.{AreNewest, JobsTookStored}
@@ -22,7 +22,7 @@ use Rattle.script_walks.proofs.Jobs.{steps_keep_stored, asks_keep_stored, starts
 use Rattle.script_player.specs.Told.{StackTold, state_of, moment_of}
 use Rattle.script_player.specs.Calls.{StartsAgain, Arms, Stores, Refuses}
 use Rattle.script_player.specs.Kept.{IsKept, StaysCalm, HasTurned, AreMade, MakesTurns, Drains}
-use Rattle.script_player.specs.Coming.{PlansCuts, KeepsBy}
+use Rattle.script_player.specs.Coming.{PlansCuts}
 use Rattle.script_player.specs.Made.{cuts_in, IsMade, Makes, IsAsked, IsExplained}
 use Rattle.promise_run.specs.Turns.{Moment, Move, Planned, planned_by, AreMovesOf}
 use Rattle.script_player.proofs.Coming.{pending_same, refuse_cuts, ask_cuts, turns_cuts}
@@ -30,10 +30,10 @@ use Rattle.script_player.proofs.Moves.{move_to, ask_chain, start_chain}
 use Rattle.script_player.specs.Chain.{shown_of}
 use Rattle.script_player.specs.Paying.{Payer, PaysNothing}
 use Rattle.script_player.proofs.Paying.{nothing_pays, ask_pays, found_pays}
+use Rattle.promise_run.specs.Refusals.{asked_by}
 use Rattle.script_player.proofs.Explained.{by_cut, by_entries, by_nothing, by_refuse, by_restart}
 use Rattle.nvm_core.specs.nv_base.Count.{Rose}
 use Rattle.script_player.proofs.InHand.{power_on}
-use Rattle.script_player.proofs.Served.{same_serves, ask_serves, restart_serves, at_rest_where_calm}
 use Rattle.script_player.specs.Table.{HasLastStores}
 use Rattle.script_player.proofs.Table.{same_table}
 
@@ -58,10 +58,10 @@ kept_more before x t none kept = record {
 }
 
 -- a step that adds nothing, and changes the causes at most
-nothing_made : (p q : Payer) (before : List Step) (line caller : ℕ) (kind : StepKind) (old new : StackTold) → is_store kind ≡ false → ¬ HasNoRoom old.configuration old.cap (state_of old) kind → turns_of kind ≡ 0 → is_drain kind ≡ false → AreMovesOf kind (moment_of old) [] → IsPieceBy old.configuration before (state_of old) caller kind []
-    → new ≡ record old { causes = new.causes } → IsExplained kind [] old new → PaysNothing p q new → (cuts_in kind ≤ old.causes.takes → PlansCuts kind [] old new) → KeepsBy kind old new → IsKept before old
+nothing_made : (p q : Payer) (before : List Step) (line caller : ℕ) (kind : StepKind) (old new : StackTold) → is_store kind ≡ false → ¬ HasNoRoom old.configuration old.cap (state_of old) kind → is_drain kind ≡ false → AreMovesOf kind (moment_of old) [] → IsPieceBy old.configuration before (state_of old) caller kind []
+    → new ≡ record old { causes = new.causes } → IsExplained kind [] old new → PaysNothing p q new → (cuts_in kind ≤ old.causes.takes → PlansCuts kind [] old new) → IsKept before old
     → IsMade p q before (record { line = line; caller = caller; kind = kind }) old new
-nothing_made p q before line caller kind old new none room turns no_drain rests is same explained pays cuts keeps kept =
+nothing_made p q before line caller kind old new none room no_drain rests is same explained pays cuts kept =
     let x : Step = record { line = line; caller = caller; kind = kind } in
     record {
       piece = [];
@@ -73,7 +73,6 @@ nothing_made p q before line caller kind old new none room turns no_drain rests 
       is = (is, tt);
       room = room;
       explained = explained;
-      serves = λ calm. same_serves kind old new turns no_drain (ap state_of same) (ap (λ t. t.left) same) (ap (λ t. t.most) same);
       closes = λ calm drain. absurd (cc (drain, no_drain));
       moves = [];
       moved = rests;
@@ -83,7 +82,6 @@ nothing_made p q before line caller kind old new none room turns no_drain rests 
       pays = nothing_pays p q old new pays;
       one = ap (λ t. t.one) same;
       cuts = cuts;
-      keeps = keeps;
       kept = subst (λ (t : StackTold). IsKept (before ++ x ∷ []) t) (sym same) (moved (kept_more before x old none kept));
     }
   where
@@ -91,20 +89,20 @@ nothing_made p q before line caller kind old new none room turns no_drain rests 
     moved kept = record { ready = kept.ready; places = kept.places; stores = kept.stores; jobs = kept.jobs }
 
 -- a step that adds nothing, where the causes alone change
-causes_made : (p q : Payer) (x : Step) (kind : StepKind) (table : List ℕ) (old new : StackTold) → x.kind ≡ kind → is_store kind ≡ false → ¬ HasNoRoom old.configuration old.cap (state_of old) kind → turns_of kind ≡ 0 → is_drain kind ≡ false → AreMovesOf kind (moment_of old) []
-    → ((before : List Step) → IsPieceBy old.configuration before (state_of old) x.caller kind []) → new ≡ record old { causes = new.causes } → IsExplained kind [] old new → PaysNothing p q new → (cuts_in kind ≤ old.causes.takes → PlansCuts kind [] old new) → KeepsBy kind old new
+causes_made : (p q : Payer) (x : Step) (kind : StepKind) (table : List ℕ) (old new : StackTold) → x.kind ≡ kind → is_store kind ≡ false → ¬ HasNoRoom old.configuration old.cap (state_of old) kind → is_drain kind ≡ false → AreMovesOf kind (moment_of old) []
+    → ((before : List Step) → IsPieceBy old.configuration before (state_of old) x.caller kind []) → new ≡ record old { causes = new.causes } → IsExplained kind [] old new → PaysNothing p q new → (cuts_in kind ≤ old.causes.takes → PlansCuts kind [] old new)
     → Makes p q x table table old new
-causes_made p q x kind table old new is none room turns no_drain rests piece same explained pays cuts keeps =
-    step_made p q x kind table old new is none (λ before has kept. nothing_made p q before x.line x.caller kind old new none room turns no_drain rests (piece before) same explained pays cuts keeps kept)
+causes_made p q x kind table old new is none room no_drain rests piece same explained pays cuts =
+    step_made p q x kind table old new is none (λ before has kept. nothing_made p q before x.line x.caller kind old new none room no_drain rests (piece before) same explained pays cuts kept)
 
 -- an arm, and a refusal
 pub arm_made : (p q : Payer) (x : Step) (nth keep : ℕ) (table : List ℕ) (old new : StackTold) → x.kind ≡ Cut nth keep → Arms nth keep old new → PaysNothing p q new → Makes p q x table table old new
 arm_made p q x nth keep table old new is arms pays =
-    causes_made p q x (Cut nth keep) table old new is refl (λ no. no) refl refl refl (λ before. refl) (arms.only ∙ ap (λ y. record old { causes = y }) (sym (ap (λ t. t.causes) arms.only))) (by_cut nth keep old new arms) pays arms.comes arms.keeps
+    causes_made p q x (Cut nth keep) table old new is refl (λ no. no) refl refl (λ before. refl) (arms.only ∙ ap (λ y. record old { causes = y }) (sym (ap (λ t. t.causes) arms.only))) (by_cut nth keep old new arms) pays arms.comes
 
 pub refuse_made : (p q : Payer) (x : Step) (block count : ℕ) (table : List ℕ) (old new : StackTold) → x.kind ≡ Refuse block count → Refuses block count old new → PaysNothing p q new → Makes p q x table table old new
 refuse_made p q x block count table old new is refuses pays =
-    causes_made p q x (Refuse block count) table old new is refl (λ no. no) refl refl refl (λ before. refl) (refuses.only ∙ ap (λ y. record old { causes = y }) (sym (ap (λ t. t.causes) refuses.only))) (by_refuse block count old new refuses) pays (λ few. refuse_cuts block count old new refuses) tt
+    causes_made p q x (Refuse block count) table old new is refl (λ no. no) refl refl (λ before. refl) (refuses.only ∙ ap (λ y. record old { causes = y }) (sym (ap (λ t. t.causes) refuses.only))) (by_refuse block count old new refuses) pays (λ few. refuse_cuts block count old new refuses)
 
 ask_takes : (c : Configuration) (before : List Step) (copies : Bool) (e : Entry) (caller : ℕ) (r : Request) (reply : Reply) → TakesStore c before copies (Ask caller r reply)
 ask_takes c before true e caller r reply = tt
@@ -133,8 +131,7 @@ ask_made p q before line caller r table old new can asked pays has kept =
       entries = ap (λ t. t.entries) adds.adds;
       counted = let n : new.faults ≡ old.faults = ap (λ t. t.faults) adds.adds in omega (arith, n);
       room = not_both (fits old.configuration old.cap (state_of old) 1) adds.room;
-      explained = by_entries (AskStep r) (e ∷ []) old new (λ plan ops. refl) adds.explained;
-      serves = λ calm. ask_serves r caller (request_after old.configuration before caller r) reply old new adds;
+      explained = by_entries (AskStep r) (e ∷ []) old new (λ plan ops. refl) (λ id left. refl) adds.explained;
       closes = λ calm drain. absurd (cc drain);
       moves = move_to (e ∷ []) old ∷ [];
       moved = refl;
@@ -144,7 +141,6 @@ ask_made p q before line caller r table old new can asked pays has kept =
       pays = ask_pays p q caller (request_after old.configuration before caller r) reply old new (ap (λ t. t.faults) adds.adds) pays;
       one = ap (λ t. t.one) adds.adds;
       cuts = λ few. ask_cuts caller r (request_after old.configuration before caller r) reply old new adds;
-      keeps = tt;
       is = ((refl, refl), (ask_takes old.configuration before (copies_by old.configuration (next_of old.configuration (state_of old))) e caller (request_after old.configuration before caller r) reply, tt));
       kept = subst (λ (t : StackTold). IsKept (before ++ x ∷ []) t) (sym adds.adds) (record {
         ready = kept.ready;
@@ -174,7 +170,6 @@ restart_made p q before line caller old new starts_again pays kept =
       counted = starts_again.counted;
       room = starts_again.room;
       explained = by_restart (e ∷ []) old new starts_again.explained;
-      serves = λ calm. restart_serves (e ∷ []) old new (ap (λ (s : State). s.hand) (ap state_of same ∙ after_is));
       closes = λ calm drain. absurd (cc drain);
       moves = move_to (e ∷ []) new ∷ [];
       moved = (starts_again.counted, starts_again.operations);
@@ -184,7 +179,6 @@ restart_made p q before line caller old new starts_again pays kept =
       pays = found_pays p q marks ops old new starts_again.operations pays;
       one = ap (λ t. t.one) same;
       cuts = λ few one plan pending. ((tt, tt), tt);
-      keeps = tt;
       is = (tt, (found_takes old.configuration before (copies_by old.configuration (next_of old.configuration (state_of old))) marks ops, tt));
       kept = subst (λ (t : StackTold). IsKept (before ++ x ∷ []) t) (sym same) (record {
         ready = refl;
@@ -196,9 +190,9 @@ restart_made p q before line caller old new starts_again pays kept =
     }
 
 -- turns, with the piece that they added
-turned_made : (p q : Payer) (before : List Step) (line caller : ℕ) (kind : StepKind) (old new : StackTold) (es : List Entry) (ms : List Move) → AreMovesOf kind (moment_of old) ms → AreMade p q es ms old new → is_store kind ≡ false → ¬ HasNoRoom old.configuration old.cap (state_of old) kind → ((plan : Option ℕ) (ops : ℕ) → plan_after kind plan ops ≡ plan)
-    → ((plan : Option Planned) (now : Moment) → planned_by kind now plan ≡ plan) → KeepsBy kind old new → HasTurned (turns_of kind) before old new es → (StaysCalm old new → is_drain kind ≡ true → IsTrue (is_at_rest (state_of new))) → (StaysCalm old new → is_drain kind ≡ true → new.busy ≡ false) → IsPieceBy old.configuration before (state_of old) caller kind es → IsKept before new → IsMade p q before (record { line = line; caller = caller; kind = kind }) old new
-turned_made p q before line caller kind old new es ms own moved none room plans planned keeps turned drains closes is kept =
+turned_made : (p q : Payer) (before : List Step) (line caller : ℕ) (kind : StepKind) (old new : StackTold) (es : List Entry) (ms : List Move) → AreMovesOf kind (moment_of old) ms → AreMade p q es ms old new → is_store kind ≡ false → ¬ HasNoRoom old.configuration old.cap (state_of old) kind → ((plan : Option DueCut) (ops : ℕ) → plan_after kind plan ops ≡ plan) → ((id left : ℕ) → asked_by id kind left ≡ left)
+    → ((plan : Option Planned) (now : Moment) → planned_by kind now plan ≡ plan) → HasTurned before old new es → (StaysCalm old new → is_drain kind ≡ true → new.busy ≡ false) → IsPieceBy old.configuration before (state_of old) caller kind es → IsKept before new → IsMade p q before (record { line = line; caller = caller; kind = kind }) old new
+turned_made p q before line caller kind old new es ms own moved none room plans asks planned turned closes is kept =
     let x : Step = record { line = line; caller = caller; kind = kind } in
     record {
       piece = es;
@@ -208,8 +202,7 @@ turned_made p q before line caller kind old new es ms own moved none room plans 
       entries = ap (λ t. t.entries) turned.grows;
       counted = turned.counted;
       room = room;
-      explained = by_entries kind es old new plans turned.explained;
-      serves = λ calm. let serves = turned.serves calm in record { nears = λ on. serves.nears; within = serves.within; drains = drains calm };
+      explained = by_entries kind es old new plans asks turned.explained;
       closes = closes;
       moves = ms;
       moved = own;
@@ -219,7 +212,6 @@ turned_made p q before line caller kind old new es ms own moved none room plans 
       pays = moved.pays;
       one = ap (λ t. t.one) turned.grows;
       cuts = λ few. turns_cuts kind ms old new planned moved.cuts;
-      keeps = keeps;
       is = (is, turned.keeps.stores);
       kept = kept_more before x new none kept;
     }
@@ -227,12 +219,12 @@ turned_made p q before line caller kind old new es ms own moved none room plans 
 pub turns_made : (p q : Payer) (before : List Step) (line caller count : ℕ) (old new : StackTold) → 1 ≤ count → MakesTurns p q count before old new → IsKept before new
     → IsMade p q before (record { line = line; caller = caller; kind = Turn count }) old new
 turns_made p q before line caller zero old new some made kept = absurd (let none : 1 ≤ 0 = some in omega (arith, none))
-turns_made p q before line caller (suc n) old new some (es, turned, is, (ms, many, moved)) kept = turned_made p q before line caller (Turn (suc n)) old new es ms (many, moved.turns) moved refl (λ no. no) (λ plan ops. refl) (λ plan now. refl) tt turned (λ calm no_. absurd (cc no_)) (λ calm no_. absurd (cc no_)) is kept
+turns_made p q before line caller (suc n) old new some (es, turned, is, (ms, many, moved)) kept = turned_made p q before line caller (Turn (suc n)) old new es ms (many, moved.turns) moved refl (λ no. no) (λ plan ops. refl) (λ id left. refl) (λ plan now. refl) turned (λ calm no_. absurd (cc no_)) is kept
 
 pub drain_made : (p q : Payer) (before : List Step) (line caller : ℕ) (old new : StackTold) → Drains p q before old new → (¬ Rose old.faults new.faults → (state_of new).off ≡ false → new.busy ≡ false) → IsKept before new
     → IsMade p q before (record { line = line; caller = caller; kind = Drain }) old new
 drain_made p q before line caller old new (es, turned, is, (ms, moved)) closes kept =
-    turned_made p q before line caller Drain old new es ms moved.turns moved refl (λ no. no) (λ plan ops. refl) (λ plan now. refl) tt turned (λ calm drain. at_rest_where_calm old new es turned.grows calm is.ends)
+    turned_made p q before line caller Drain old new es ms moved.turns moved refl (λ no. no) (λ plan ops. refl) (λ id left. refl) (λ plan now. refl) turned
     (λ calm drain. closes calm.no_fault (power_on new.configuration new.entries calm.entries)) is kept
 
 -- a store
@@ -256,8 +248,7 @@ store_made p q before line caller block number content old new sync within small
       entries = sym (append-nil old.entries);
       counted = omega arith;
       room = λ no. no;
-      explained = by_nothing (Store block content) old (record old { stores = slice_set old.stores block (number, content) }) (λ plan ops. refl) refl;
-      serves = λ calm. same_serves (Store block content) old (record old { stores = slice_set old.stores block (number, content) }) refl refl refl refl refl;
+      explained = by_nothing (Store block content) old (record old { stores = slice_set old.stores block (number, content) }) (λ plan ops. refl) (λ id left. refl) refl refl;
       closes = λ calm drain. absurd (cc drain);
       moves = [];
       moved = refl;
@@ -267,7 +258,6 @@ store_made p q before line caller block number content old new sync within small
       pays = nothing_pays p q old new pays;
       one = refl;
       cuts = λ few one plan pending. (tt, pending_same plan old (record old { stores = slice_set old.stores block (number, content) }) refl refl refl (λ off. off) pending);
-      keeps = tt;
       is = (refl, tt);
       kept = record {
         ready = kept.ready;

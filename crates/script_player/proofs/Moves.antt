@@ -114,11 +114,12 @@ turn_chain old new turn =
 turn_pays : (p q : Payer) (old new : StackTold) (turn : MakesTurn old new) → PaysTurn p q old new → PaysBy p q old (move_to turn.entries new ∷ [])
 turn_pays p q old new turn pays =
     let first = all_first old.configuration (state_of old) old.stores turn.entries turn.turn in record {
+      tells = pays.tells;
       worn = pays.worn;
       failed = pays.failed;
       counts = (record { later = turn.operations.later; own = pays.counts }, tt);
-      pays = λ since owes.
-          let (paid, now) = pays.pays since (move_to turn.entries new) owes refl (ap (λ t. t.entries) turn.grows ∙ ap (λ (es : List Entry). old.entries ++ es) first) in ((paid, tt), now);
+      pays = λ tells since owes.
+          let (paid, now) = pays.pays tells since (move_to turn.entries new) owes refl (ap (λ t. t.entries) turn.grows ∙ ap (λ (es : List Entry). old.entries ++ es) first) in ((paid, tt), now);
     }
 
 pub turn_moved : (p q : Payer) (old new : StackTold) (turn : MakesTurn old new) → PaysTurn p q old new → AreMade p q turn.entries (move_to turn.entries new ∷ []) old new

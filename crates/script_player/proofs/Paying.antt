@@ -13,10 +13,10 @@ use Rattle.script_player.specs.Paying.{Payer, PaysNothing, since_behind, Pays, P
 
 -- NONE
 pub none_pays : (p : Payer) (t : StackTold) → PaysBy p p t []
-none_pays p t = record { worn = λ k n is. is; failed = λ k few is. is; counts = tt; pays = λ since owes. (tt, owes) }
+none_pays p t = record { tells = λ tells. tells; worn = λ k n is. is; failed = λ k few is. is; counts = tt; pays = λ tells since owes. (tt, owes) }
 
 pub nothing_pays : (p q : Payer) (old new : StackTold) → PaysNothing p q new → PaysBy p q old []
-nothing_pays p q old new nothing = record { worn = nothing.worn; failed = λ k few. nothing.failed k; counts = tt; pays = λ since owes. (tt, (nothing.owes since owes).0) }
+nothing_pays p q old new nothing = record { tells = nothing.tells; worn = nothing.worn; failed = λ k few. nothing.failed k; counts = tt; pays = λ tells since owes. (tt, (nothing.owes since owes).0) }
 
 -- ONE THAT HAS NOTHING TO PAY
 nothing_due : (since now : ℕ) → since ≤ now → since + 0 ≤ now
@@ -25,20 +25,22 @@ nothing_due since now less = omega (arith, less)
 pub ask_pays : (p q : Payer) (caller : ℕ) (r : Request) (reply : Reply) (old new : StackTold) → new.faults ≡ old.faults → PaysNothing p q new
     → PaysBy p q old (record { entry = Some (Ask caller r reply); behind = moment_of old } ∷ [])
 ask_pays p q caller r reply old new same nothing = record {
+  tells = nothing.tells;
   worn = nothing.worn;
   failed = λ k few. nothing.failed k;
   counts = (record { later = omega arith; own = λ k le lt failed. absurd (omega (arith, le, lt)) }, tt);
-  pays = λ since owes.
+  pays = λ tells since owes.
       let (now, less) = nothing.owes since owes in ((inl (inl (nothing_due since old.faults (omega (arith, less, same)))), tt), now);
 }
 
 pub found_pays : (p q : Payer) (marks : List (Instance × Mark)) (ops : ℕ) (old new : StackTold) → new.ops ≡ old.ops → PaysNothing p q new
     → PaysBy p q old (record { entry = Some (Found marks ops); behind = moment_of new } ∷ [])
 found_pays p q marks ops old new none nothing = record {
+  tells = nothing.tells;
   worn = nothing.worn;
   failed = λ k few. nothing.failed k;
   counts = (record { later = omega (arith, none); own = λ k le lt failed. absurd (omega (arith, none, le, lt)) }, tt);
-  pays = λ since owes.
+  pays = λ tells since owes.
       let (now, less) = nothing.owes since owes in ((inl (inl (nothing_due since new.faults less)), tt), now);
 }
 
@@ -60,12 +62,13 @@ are_more c worn since before s (m ∷ ms) ys one two =
 pays_more : (c : Configuration) (p q r : Payer) (before : Moment) (s : State) (xs ys : List Move) → Pays c p q before s xs → Pays c q r (moment_behind before xs) (after_from c s (entries_of xs)) ys
     → Pays c p r before s (xs ++ ys)
 pays_more c p q r before s xs ys one two = record {
+  tells = λ tells. one.tells (two.tells tells);
   worn = λ k n is. two.worn k n (one.worn k n is);
   failed = λ k few is. one.failed k few (two.failed k (let later = behind_later q.failed before xs one.counts in omega (arith, few, later)) is);
   counts = counted_more r.failed before xs ys (counted_by q.failed r.failed (moment_behind before xs).ops two.failed before xs (omega arith) one.counts) two.counts;
-  pays = λ since owes.
-      let (paid, then_owes) = one.pays since owes in
-      let (more, now) = two.pays (since_behind since before xs) then_owes in (
+  pays = λ tells since owes.
+      let (paid, then_owes) = one.pays (two.tells tells) since owes in
+      let (more, now) = two.pays tells (since_behind since before xs) then_owes in (
         are_more c r.worn since before s xs ys (since_too c q.worn r.worn two.worn since before s xs paid) more,
         subst (λ (n : ℕ). r.owes n) (sym (since_more since before xs ys)) now,
       );

@@ -1,8 +1,7 @@
 -- A turn of the device behind the first half.
-use Rattle.std.specs.Prelude.{IsTrue, map, sum_by, not}
+use Rattle.std.specs.Prelude.{IsTrue, map, not}
 use Rattle.std.specs.List.{list_any}
 use Rattle.std.proofs.Common.{◌≡◌, ◌≤◌, ◌⊎◌, ℕ, Bool, true, false, List, [], ◌∷◌, ◌++◌, Option, Some, None, refl, sym, ap, ◌∙◌, subst, inl, inr, arith}
-use Rattle.nvm_core.specs.nv_base.Count.{WereCounted}
 use Rattle.nvm_core.specs.nv_base.Marks.{instance_of}
 use Rattle.nvm_core.specs.nv_base.Entry.{ops_of as ops_told}
 use Rattle.nvm_core.specs.memif.declared.answer.JobResult.TheVariants.{JobOk, JobFailed, JobPending, JobCanceled, BlockInconsistent, BlockInvalid}
@@ -11,8 +10,8 @@ use Rattle.nvm_core.specs.memif.Clock.{Clock}
 use Rattle.nvm_core.specs.block_machine.Words.{Instance, Mark, Entry, Wrote, Off}
 use Rattle.nvm_core.specs.block_machine.State.{State, Job}
 use Rattle.nvm_core.specs.block_machine.Legal.{MayWrite}
-use Rattle.nvm_core.specs.block_machine.Steps.{step}
 use Rattle.nvm_core.specs.ram_blocks.declared.plain_block.PlainBlock.{PlainBlock}
+use Rattle.nvm_core.specs.ram_blocks.Told.{Told}
 use Rattle.nvm_core.specs.ram_blocks.Plain.{told_of, store_of}
 use Rattle.nvm_core.specs.nv_desk.Desk.{DeskState, state_of}
 use Rattle.nvm_core.specs.nvm_device_laws.Turn.{settled_by, wrote_by}
@@ -25,19 +24,20 @@ use Rattle.nvm_core.specs.nvm_laws.declared.turned.Turned.TheVariants as turned
 use Rattle.nvm_core.specs.nvm_laws.declared.turned.Act.TheVariants.{Device}
 use Rattle.nvm_core.specs.Stack.{StackState, PowersOff}
 use Rattle.nvm_core.specs.Turns.{IsFirstHalf, IsSecondHalf}
-use Rattle.promise_run.specs.Run.{unpaid_off}
+use Rattle.promise_run.specs.Run.{Added}
+use Rattle.promise_run.specs.Refusals.{copy_told}
 use Rattle.script_walks.specs.Walk.{is_due, is_at_rest}
+use Rattle.script_player.specs.Told.{AreCut}
 use Rattle.script_player.specs.Calls.{Turns, IsAnswer, Lowers}
 use Rattle.promise_run.specs.Turns.{is_picked}
-use Rattle.nvm_core.specs.block_machine.Prices.{block_price}
 use Rattle.script_walks.specs.Turn.{IsOfTurn}
-use Rattle.script_player.specs.PlainTold.{told_by, refusable_in, untold_of, plan_in, unplanned_in}
+use Rattle.script_player.specs.PlainTold.{told_by, to_refuse_in, plan_in, came_in}
 use Rattle.script_player.proofs.Canceled.{rests_next, some_none}
-use Rattle.script_player.proofs.PlainDevices.{Goes, goes_from, turn_goes, turn_fixed, plan_same, unplanned_same, off_counted}
+use Rattle.script_player.proofs.PlainDevices.{Goes, goes_from, came_same, turn_goes, turn_fixed, worked_came, off_cut, cut_from}
 use Rattle.script_player.proofs.PlainPicks.{due_hand, due_rest, at_rest}
-use Rattle.script_player.proofs.PlainRefused.{fewer, wrote_untold}
+use Rattle.script_player.proofs.PlainRefused.{silent_asked}
 use Rattle.script_player.proofs.PlainServing.{IsServing, off_serves, work_serves}
-use Rattle.script_player.proofs.PlainTurning.{same_stores, grown, none_more, one_more, explained, makes_one, misses_none, none_off, one_price, begins_late}
+use Rattle.script_player.proofs.PlainTurning.{same_stores, grown, none_more, one_more, explained, makes_one, misses_none, no_off, one_off, begins_late}
 use Rattle.script_player.proofs.PlainHalves.{are_told, is_now, is_looked, IsBehind}
 
 -- THE ENTRY OF A JOB THAT ENDED
@@ -122,16 +122,13 @@ module _ {D : Type 0} (device : D → DeviceTold) (clock : D → Clock) (old bet
     fixed : (device new.device).fixed ≡ (device old.device).fixed
     fixed = turn_fixed answer (device between.device) (device new.device) (clock between.device) (clock new.device) second.turns ∙ ap (λ (d : DeviceTold). d.fixed) half.device
 
-    -- with a hand that has no more to tell of
-    less : (id : ℕ) (h : Option Job) → untold_of id h ≡ untold_of id (state_of old.desk).hand
-        → refusable_in (map told_of new.copies) h id ≤ refusable_in (map told_of old.copies) (state_of old.desk).hand id
-    less id h same = subst (λ (bs : List PlainBlock). refusable_in (map told_of bs) h id ≤ refusable_in (map told_of old.copies) (state_of old.desk).hand id) (sym second.copies)
-        (fewer (map told_of old.copies) (map told_of between.copies) half.refuses id (state_of old.desk).hand h (omega (arith, same)))
+    told : map told_of new.copies ≡ map told_of old.copies
+    told = ap (map told_of) second.copies ∙ half.half.0.1
 
     -- it adds nothing
-    idle : new.desk ≡ between.desk → IsAnswer answer [] (told_by device old) (told_by device new) → Lowers answer (told_by device old) (told_by device new) → IsServing device old new []
+    idle : new.desk ≡ between.desk → came_in (device new.device) ≡ came_in (device old.device) → IsAnswer answer [] (told_by device old) (told_by device new) → Lowers answer (told_by device old) (told_by device new) → IsServing device old new []
         → Turns answer (told_by device old) (told_by device new)
-    idle same answers lowers serves =
+    idle same came answers lowers serves =
         let desk = same ∙ same_desk in record {
           made = record {
             entries = [];
@@ -140,8 +137,8 @@ module _ {D : Type 0} (device : D → DeviceTold) (clock : D → Clock) (old bet
             operations = makes_one device old new [] goes tt;
             turn = record { entry = tt; begins = begins_late (state_of old.desk) [] late };
             explained = explained device old new [] goes
-                (λ id. let few = less id (state_of new.desk).hand (ap (λ (x : DeskState). untold_of id (state_of x).hand) desk) in omega (arith, few))
-                (none_off _ _ goes.unplanned);
+                (λ id. ap (λ (ts : List Told). to_refuse_in ts id) told)
+                (no_off device old new [] goes came (refl, refl) refl behind.power);
             picks = λ picked. absurd (cc picked);
             serves = serves;
             rests = λ rest free. absurd (still_open behind.tied.paired rest free);
@@ -156,12 +153,12 @@ module _ {D : Type 0} (device : D → DeviceTold) (clock : D → Clock) (old bet
 
     -- a Wrote, or an Off
     adds_one : (e : Entry) → ops_told e ≡ Some (ops_of (device new.device)) → (IsTrue (list_any (λ e. is_picked (Some e)) (e ∷ [])) → ⊥) → new.desk ≡ record between.desk { entries = between.desk.entries ++ e ∷ [] }
-        → ((id : ℕ) → (block_price id (state_of old.desk) e ≡ 0) × (untold_of id (step old.desk.config (state_of old.desk) e).hand ≡ untold_of id (state_of old.desk).hand))
+        → ((id : ℕ) → copy_told old.desk.config id (state_of old.desk) e ≡ None)
         → IsOfTurn old.desk.config (state_of old.desk) (map store_of old.copies) e
-        → WereCounted (sum_by (unpaid_off (plan_in (device old.device))) (e ∷ [])) (unplanned_in (device old.device)) (unplanned_in (device new.device))
+        → AreCut (plan_in (device old.device)) 0 (Added e ∷ []) (told_by device old) (told_by device new)
         → IsAnswer answer (e ∷ []) (told_by device old) (told_by device new) → Lowers answer (told_by device old) (told_by device new) → IsServing device old new (e ∷ [])
         → Turns answer (told_by device old) (told_by device new)
-    adds_one e tells no_pick is stays turn off answers lowers serves =
+    adds_one e tells no_pick is silent turn off answers lowers serves =
         let desk = adds e is in record {
           made = record {
             entries = e ∷ [];
@@ -170,9 +167,7 @@ module _ {D : Type 0} (device : D → DeviceTold) (clock : D → Clock) (old bet
             operations = makes_one device old new (e ∷ []) goes (tells, tt);
             turn = record { entry = turn; begins = begins_late (state_of old.desk) (e ∷ []) late };
             explained = explained device old new (e ∷ []) goes
-                (λ id. one_price old.desk.config (state_of old.desk) id e (map told_of old.copies) (map told_of new.copies) (state_of old.desk).hand _ (state_of new.desk).hand
-                (ap (λ (x : State). x.hand) (one_more old.desk new.desk e desk))
-                (let price = (stays id).0 in let few = less id (step old.desk.config (state_of old.desk) e).hand (stays id).1 in omega (arith, price, few))) off;
+                (λ id. silent_asked old.desk.config (state_of old.desk) id (map told_of old.copies) (map told_of new.copies) e (silent id) told) off;
             picks = λ picked. absurd (no_pick picked);
             serves = serves;
             rests = λ rest free. absurd (still_open behind.tied.paired rest free);
@@ -187,6 +182,9 @@ module _ {D : Type 0} (device : D → DeviceTold) (clock : D → Clock) (old bet
   worked second behind = by (settled_by (device between.device).stand (device new.device).stand (ops_of (device new.device))) second.adds
       (settled_is (device between.device).stand (device new.device).stand (ops_of (device new.device)))
     where
+      came : came_in (device new.device) ≡ came_in (device old.device)
+      came = worked_came (device between.device) (device new.device) (clock between.device) (clock new.device) second.turns ∙ came_same (device old.device) (device between.device) one
+
       serves : (es : List Entry) → new.desk.config ≡ old.desk.config → IsServing device old new es
       serves es config = work_serves device old new es between.hand (device between.device) behind.tied.paired
           (subst (λ (x : DeskState). IsPaired x.config (state_of x) between.hand (device between.device)) same_desk half.tied.paired) behind.tied_behind.paired
@@ -195,25 +193,22 @@ module _ {D : Type 0} (device : D → DeviceTold) (clock : D → Clock) (old bet
       by : (e : Option Entry) → AddsBy e between.desk new.desk → IsSettled e (ops_of (device new.device)) → Turns turned.Worked (told_by device old) (told_by device new)
       by e adds (inl none) =
           let same = subst (λ (o : Option Entry). AddsBy o between.desk new.desk) none adds in
-          idle turned.Worked second behind same (λ hand. (refl, rests hand)) behind.lowers (serves [] (ap (λ (x : DeskState). x.config) (same ∙ same_desk)))
+          idle turned.Worked second behind same came (λ hand. (refl, rests hand)) behind.lowers (serves [] (ap (λ (x : DeskState). x.config) (same ∙ same_desk)))
       by e adds (inr (i, mark, some)) =
           let wrote = subst (λ (o : Option Entry). AddsBy o between.desk new.desk) some adds in
           let may = subst (λ (x : DeskState). MayWrite x.config (state_of x) i mark (state_of x).hand) same_desk wrote.1.1 in
           adds_one turned.Worked second behind (Wrote i mark (ops_of (device new.device))) refl (λ is. cc is) wrote.0
-          (λ id. (refl, wrote_untold old.desk.config (state_of old.desk) i mark (ops_of (device new.device)) id)) tt
-          (none_off _ _ (goes turned.Worked second behind).unplanned)
+          (λ id. refl) tt
+          (no_off device old new (Wrote i mark (ops_of (device new.device)) ∷ []) (goes turned.Worked second behind) came (refl, refl) refl behind.power)
           (λ hand. absurd (subst (λ (h : Option Job). MayWrite old.desk.config (state_of old.desk) i mark h) hand may)) behind.lowers
           (serves (Wrote i mark (ops_of (device new.device)) ∷ []) (ap (λ (x : DeskState). x.config) wrote.0 ∙ ap (λ (x : DeskState). x.config) same_desk))
 
   -- an Off
   went_off : PowersOff old.desk (device old.device) → IsSecondHalf device clock turned.Off between new → IsBehind device turned.Off old new → Turns turned.Off (told_by device old) (told_by device new)
   went_off power second behind =
-      adds_one turned.Off second behind (Off (ops_of (device new.device))) refl (λ is. cc is) second.adds.0 (λ id. (refl, refl)) tt
-      (subst (λ (plan : Option ℕ). WereCounted (sum_by (unpaid_off plan) (Off (ops_of (device new.device)) ∷ [])) (unplanned_in (device old.device)) (unplanned_in (device new.device)))
-      (plan_same (device old.device) (device between.device) made one two)
-      (subst (λ (n : ℕ). WereCounted (sum_by (unpaid_off (plan_in (device between.device))) (Off (ops_of (device new.device)) ∷ [])) n (unplanned_in (device new.device)))
-      (unplanned_same (device old.device) (device between.device) one two)
-      (one_off (off_counted (device between.device) (device new.device) (clock between.device) (clock new.device) second.turns (on (is_off (device old.device)) refl)))))
+      adds_one turned.Off second behind (Off (ops_of (device new.device))) refl (λ is. cc is) second.adds.0 (λ id. refl) tt
+      (one_off device old new (cut_from (device old.device) (device between.device) (device new.device) made one two
+      (off_cut (device between.device) (device new.device) (clock between.device) (clock new.device) second.turns (on (is_off (device old.device)) refl))) behind.power)
       refl tt
       (off_serves device old new (Off (ops_of (device new.device)) ∷ [])
       (ap (λ (x : State). x.off) (one_more old.desk new.desk (Off (ops_of (device new.device))) (adds turned.Off second behind (Off (ops_of (device new.device))) second.adds.0))))
@@ -221,11 +216,6 @@ module _ {D : Type 0} (device : D → DeviceTold) (clock : D → Clock) (old bet
       on : (t : Bool) → is_off (device old.device) ≡ t → is_off (device between.device) ≡ false
       on true off = absurd (false_true half.half.2 (power off))
       on false off = rw (one, two) off
-
-      one_off : WereCounted (unpaid_off (plan_in (device between.device)) (Off (ops_of (device new.device)))) (unplanned_in (device between.device)) (unplanned_in (device new.device))
-          → WereCounted (sum_by (unpaid_off (plan_in (device between.device))) (Off (ops_of (device new.device)) ∷ [])) (unplanned_in (device between.device)) (unplanned_in (device new.device))
-      one_off (inl more) = inl (omega (arith, more))
-      one_off (inr last) = inr last
 
   pub behind_device : PowersOff old.desk (device old.device) → (answer : Turned) → IsSecondHalf device clock answer between new → IsBehind device answer old new
       → Turns answer (told_by device old) (told_by device new)

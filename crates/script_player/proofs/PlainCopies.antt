@@ -40,7 +40,7 @@ size_found b n is = by (length b.content == 0) refl
         none e = cc
     by false some = given (subst (λ (x : Option Synchronized). option_map (λ (s : Synchronized). s.bytes) x ≡ Some n) (told some) is)
       where
-        told : (length b.content == 0) ≡ false → told_of b ≡ Some (record { bytes = length b.content; refusals = b.refusals; most = b.asked; handed = b.handed; last = b.last })
+        told : (length b.content == 0) ≡ false → told_of b ≡ Some (record { bytes = length b.content; refusals = b.refusals; to_refuse = Some b.to_refuse; handed = b.handed; last = b.last })
         told t = rw t refl
 
         given : Some (length b.content) ≡ Some n → length b.content ≡ n
@@ -53,7 +53,7 @@ stored_told bs k content is =
     let b = get_or bs k no_plain in
     let size : length b.content ≡ length content = size_found b (length content) (sym (ap (option_map (λ (s : Synchronized). s.bytes)) (told_here bs k)) ∙ is) in
     map-set_same told_of bs k (stored content b) no_plain
-    (ap (λ (n : ℕ). if n == 0 then None else Some (record { bytes = n; refusals = b.refusals; most = b.asked; handed = b.handed; last = b.last })) (sym size))
+    (ap (λ (n : ℕ). if n == 0 then None else Some (record { bytes = n; refusals = b.refusals; to_refuse = Some b.to_refuse; handed = b.handed; last = b.last })) (sym size))
 
 pub stored_stores : (bs : List PlainBlock) (k n : ℕ) (content : List ℕ) → n ≡ (stored content (get_or bs k no_plain)).number
     → map store_of (slice_set bs k (stored content (get_or bs k no_plain))) ≡ slice_set (map store_of bs) k (n, content)

@@ -1,27 +1,28 @@
 -- A turn of the device: what becomes of its plans of power cuts.
-use Rattle.std.specs.Prelude.{◌||◌, min, is_some, if◌then◌else◌}
-use Rattle.std.proofs.Common.{◌≡◌, ◌<◌, ◌≤◌, ◌+◌, ◌⊎◌, ℕ, Bool, true, false, Option, Some, None, refl, sym, ap, ◌∙◌, subst, inl, inr, arith}
+use Rattle.std.specs.Prelude.{◌||◌, min}
+use Rattle.std.proofs.Common.{◌≡◌, ◌<◌, ◌≤◌, ◌+◌, ◌⊎◌, ℕ, Bool, true, false, List, [], ◌∷◌, ◌++◌, length, Option, Some, None, refl, sym, ap, ◌∙◌, subst, inl, inr, arith, append-nil}
 use Rattle.std.proofs.lemmas.Bool.Decides.{leb_tells}
 use Rattle.nvm_core.specs.nv_base.Count.{last_count, next_count, WereCounted}
 use Rattle.nvm_core.specs.memif.Told.{DeviceTold, PartTold, Part, First, Second, Fixed, Stand, Open, Ended, part_at, with_part, ops_of, faults_of, is_off}
 use Rattle.nvm_core.specs.memif.Clock.{Clock}
 use Rattle.nvm_core.specs.memif.Calls.{PartTurns, IsOf, Works, IsCut}
 use Rattle.nvm_core.specs.block_machine.Words.{Off}
-use Rattle.promise_run.specs.Run.{unpaid_off}
 use Rattle.nvm_core.specs.BehindDevice.{TurnsDevice}
 use Rattle.nvm_core.specs.nvm_laws.declared.turned.Turned.{Turned}
 use Rattle.nvm_core.specs.nvm_laws.declared.turned.Turned.TheVariants as turned
+use Rattle.promise_run.specs.Run.{DueCut, Added, CutsAre}
 use Rattle.script_player.specs.Told.{IsNoEarlier}
-use Rattle.script_player.specs.PlainTold.{plan_of, plan_in, due_in, earlier, takes_in, unplanned_in, ops_in}
-use Rattle.script_player.proofs.PlainPlans.{no_earlier, earlier_stays, plan_waits}
-use Rattle.script_player.proofs.PlainParts.{part_unplanned, part_takes, part_plan, part_comes, part_off}
+use Rattle.script_player.specs.PlainTold.{plan_from, plan_in, takes_in, unplanned_in, came_in, ops_in}
+use Rattle.script_player.proofs.Offs.{no_earlier_same}
+use Rattle.script_player.proofs.PlainPlans.{from_off, from_on, stands_on, none_earlier, plan_waits}
+use Rattle.script_player.proofs.PlainParts.{part_unplanned, part_takes, part_came, part_longer, part_plan, part_comes, part_off, other_off}
 
 -- WHAT BECOMES OF THE PLANS
 -- a plan that stands at the first part of a device of one part comes no later than before, but for the faults since
 abbrev pub ComesInTime : DeviceTold → DeviceTold → Type 0
 ComesInTime old new =
-    old.fixed.two ≡ false → (x : ℕ) → due_in old ≡ Some x → ops_in old < x
-    → (new.first.off ≡ true) ⊎ ((last_count ≤ faults_of new) ⊎ ((y : ℕ) × (due_in new ≡ Some y) × (ops_in new < y) × (y + faults_of old ≤ x + faults_of new)))
+    old.fixed.two ≡ false → (x : DueCut) → plan_in old ≡ Some x → ops_in old < x.due
+    → (new.first.off ≡ true) ⊎ ((last_count ≤ faults_of new) ⊎ ((y : DueCut) × (plan_in new ≡ Some y) × (ops_in new < y.due) × (y.due + faults_of old ≤ x.due + faults_of new)))
 
 -- no cut is forgotten that came without one, none is taken back that may be planned, and none is planned for earlier
 pub record Goes (old new : DeviceTold) : Type 0 where
@@ -34,46 +35,38 @@ pub record Goes (old new : DeviceTold) : Type 0 where
   pub comes : ComesInTime old new
 
 pub goes_on : (d : DeviceTold) → Goes d d
-goes_on d = record { unplanned = omega arith; takes = omega arith; plan = no_earlier (plan_in d); later = omega arith; one = omega arith; comes = λ one x is late. inr (inr (x, is, late, omega arith)) }
+goes_on d = record { unplanned = omega arith; takes = omega arith; plan = no_earlier_same (plan_in d); later = omega arith; one = omega arith; comes = λ one x is late. inr (inr (x, is, late, omega arith)) }
 
 -- the operations and the parts alone tell
 parts_tell : (old new : DeviceTold) → new.ops ≡ old.ops → new.first ≡ old.first → new.second ≡ old.second
-    → (unplanned_in new ≡ unplanned_in old) × (takes_in new ≡ takes_in old) × (plan_in new ≡ plan_in old)
-parts_tell old new made one two = rw (made, one, two) (refl, refl, refl)
-
--- so they do of when its cut comes
-due_tell : (old new : DeviceTold) → new.ops ≡ old.ops → new.first ≡ old.first → new.second ≡ old.second → (due_in new ≡ due_in old) × (faults_of new ≡ faults_of old)
-due_tell old new made one two = rw (made, one, two) (refl, refl)
+    → (unplanned_in new ≡ unplanned_in old) × (takes_in new ≡ takes_in old) × (plan_in new ≡ plan_in old) × (faults_of new ≡ faults_of old)
+parts_tell old new made one two = rw (made, one, two) (refl, refl, refl, refl)
 
 pub goes_same : (old new : DeviceTold) → new.ops ≡ old.ops → new.first ≡ old.first → new.second ≡ old.second → Goes old new
 goes_same old new made one two =
-    let (unplanned, takes, plan) = parts_tell old new made one two in record {
+    let (unplanned, takes, plan, faults) = parts_tell old new made one two in record {
       unplanned = omega (arith, unplanned);
       takes = omega (arith, takes);
-      plan = subst (λ (p : Option ℕ). IsNoEarlier (plan_in old) p) (sym plan) (no_earlier (plan_in old));
+      plan = subst (λ (p : Option DueCut). IsNoEarlier (plan_in old) p) (sym plan) (no_earlier_same (plan_in old));
       later = omega (arith, made);
       one = omega (arith, made);
-      comes = λ alone x is late. let (due, faults) = due_tell old new made one two in inr (inr (x, due ∙ is, omega (arith, made, late), omega (arith, faults)));
+      comes = λ alone x is late. inr (inr (x, plan ∙ is, omega (arith, made, late), omega (arith, faults)));
     }
 
-pub plan_same : (old new : DeviceTold) → new.ops ≡ old.ops → new.first ≡ old.first → new.second ≡ old.second → plan_in new ≡ plan_in old
-plan_same old new made one two = (parts_tell old new made one two).2
-
-pub unplanned_same : (old new : DeviceTold) → new.first ≡ old.first → new.second ≡ old.second → unplanned_in new ≡ unplanned_in old
-unplanned_same old new one two = rw (one, two) refl
+pub came_same : (old new : DeviceTold) → new.first ≡ old.first → came_in new ≡ came_in old
+came_same old new one = ap (λ (p : PartTold). p.planning.came) one
 
 -- what becomes of them behind a call that leaves the parts
 pub goes_from : (old between new : DeviceTold) → between.fixed ≡ old.fixed → between.ops ≡ old.ops → between.first ≡ old.first → between.second ≡ old.second → Goes between new → Goes old new
 goes_from old between new fixed made one two goes =
-    let (unplanned, takes, plan) = parts_tell old between made one two in record {
+    let (unplanned, takes, plan, faults) = parts_tell old between made one two in record {
       unplanned = let less = goes.unplanned in omega (arith, unplanned, less);
       takes = let less = goes.takes in omega (arith, takes, less);
-      plan = subst (λ (p : Option ℕ). IsNoEarlier p (plan_in new)) plan goes.plan;
+      plan = subst (λ (p : Option DueCut). IsNoEarlier p (plan_in new)) plan goes.plan;
       later = let more = goes.later in omega (arith, made, more);
       one = let one_more = goes.one in omega (arith, made, one_more);
       comes = λ alone x is late.
-          let (due, faults) = due_tell old between made one two in
-          elim (goes.comes (ap (λ (f : Fixed). f.two) fixed ∙ alone) x (due ∙ is) (omega (arith, made, late))) [
+          elim (goes.comes (ap (λ (f : Fixed). f.two) fixed ∙ alone) x (plan ∙ is) (omega (arith, made, late))) [
             | inl off ↦ inl off
             | inr (inl full) ↦ inr (inl full)
             | inr (inr (y, there, more, soon)) ↦ inr (inr (y, there, more, omega (arith, faults, soon)))
@@ -81,15 +74,6 @@ goes_from old between new fixed made one two goes =
     }
 
 -- BY PARTS
-
-none_later : (a b : Option ℕ) → IsNoEarlier a b → a ≡ None → b ≡ None
-none_later None None is none = refl
-none_later None (Some x) is none = absurd is
-none_later (Some n) b is none = cc
-
-takes_stay : (a b : Option ℕ) (t u : ℕ) → IsNoEarlier a b → t ≤ u → (if is_some a then 0 else t) ≤ (if is_some b then 0 else u)
-takes_stay (Some n) b t u is less = omega arith
-takes_stay None b t u is less = subst (λ (o : Option ℕ). t ≤ (if is_some o then 0 else u)) (sym (none_later None b is refl)) less
 
 one_at_most : (n m : ℕ) → (m ≡ n) ⊎ (m ≡ next_count n) → m ≤ n + 1
 one_at_most n m (inl same) = omega (arith, same)
@@ -102,15 +86,31 @@ in_all f g a y x more soon = elim (leb_tells last_count (g + a)) [
   | inr few ↦ inr (let small = few.1 in omega (arith, small, more, soon))
 ]
 
+or_right : (t : Bool) → (t || true) ≡ true
+or_right true = refl
+or_right false = refl
+
+-- the power is as it was, where a turn cuts nothing
+first_power : (old new : DeviceTold) → PartTurns false old.ops new.ops old.first new.first → new.second ≡ old.second → is_off new ≡ is_off old
+first_power old new turns other =
+    ap (λ (p : PartTold). p.off || new.second.off) turns.only ∙ ap (λ (p : PartTold). p.off) other ∙ sym (ap (λ t. t || old.second.off) turns.on)
+
+second_power : (old new : DeviceTold) → PartTurns false old.ops new.ops old.second new.second → new.first ≡ old.first → is_off new ≡ is_off old
+second_power old new turns other =
+    ap (λ t. new.first.off || t) (ap (λ (p : PartTold). p.off) turns.only) ∙ ap (λ (p : PartTold). p.off || false) other ∙ ap (λ t. old.first.off || t) (sym turns.on)
+
 part_in_time : (cut : Bool) (old new : DeviceTold) → PartTurns cut old.ops new.ops old.first new.first → new.second ≡ old.second → ComesInTime old new
 part_in_time true old new turns other alone x is late = inl (ap (λ (p : PartTold). p.off) turns.only)
-part_in_time false old new turns other alone x is late = inr (elim (part_comes old.ops new.ops x old.first new.first turns is late) [
-  | inl full ↦ inl (omega (arith, full))
-  | inr (y, there, more, soon) ↦ elim (in_all old.first.faults new.first.faults old.second.faults y x turns.faults.faults soon) [
-    | inl full ↦ inl (let same = ap (λ (p : PartTold). p.faults) other in omega (arith, full, same))
-    | inr in_both ↦ inr (y, there, more, (let same = ap (λ (p : PartTold). p.faults) other in omega (arith, in_both, same)))
-  ]
-])
+part_in_time false old new turns other alone x is late =
+    let on = stands_on (is_off old) old.ops old.first.planning.plan is in
+    let still_on = first_power old new turns other ∙ on in
+    inr (elim (part_comes old.ops new.ops x old.first new.first turns (sym (from_on (is_off old) old.ops old.first.planning.plan on) ∙ is) late) [
+      | inl full ↦ inl (omega (arith, full))
+      | inr (y, there, more, soon) ↦ elim (in_all old.first.faults new.first.faults old.second.faults y.due x.due turns.faults.faults soon) [
+        | inl full ↦ inl (let same = ap (λ (p : PartTold). p.faults) other in omega (arith, full, same))
+        | inr in_both ↦ inr (y, from_on (is_off new) new.ops new.first.planning.plan still_on ∙ there, more, (let same = ap (λ (p : PartTold). p.faults) other in omega (arith, in_both, same)))
+      ]
+    ])
 
 -- a device of one part makes no turn on the second
 not_second : (f : Fixed) (s : Stand) → IsOf Second f s → f.two ≡ false → ⊥
@@ -118,43 +118,56 @@ not_second f (Open j) of alone = let no_ : true ≡ false = sym of.0 ∙ alone i
 not_second f (Ended result given) of alone = cc of
 
 -- the first part makes the turn
-module _ (cut : Bool) (old new : DeviceTold) (turns : PartTurns cut old.ops new.ops old.first new.first) (other : new.second ≡ old.second) where
-  second_waits : IsNoEarlier (plan_of (ops_in old) old.second) (plan_of (ops_in new) new.second)
-  second_waits =
-      subst (λ (p : PartTold). IsNoEarlier (plan_of (ops_in old) old.second) (plan_of (ops_in new) p)) (sym other) (plan_waits (ops_in old) (ops_in new) old.second turns.later)
+first_plan : (cut : Bool) (old new : DeviceTold) → PartTurns cut old.ops new.ops old.first new.first → new.second ≡ old.second → IsNoEarlier (plan_in old) (plan_in new)
+first_plan true old new turns other =
+    none_earlier (plan_in old) (plan_in new) (from_off (is_off new) new.ops new.first.planning.plan (ap (λ (p : PartTold). p.off || new.second.off) turns.only))
+first_plan false old new turns other =
+    subst (λ (t : Bool). IsNoEarlier (plan_in old) (plan_from t new.ops new.first.planning.plan)) (sym (first_power old new turns other))
+    (part_plan (is_off old) old.ops new.ops old.first new.first turns.later turns.plan)
 
-  pub first_goes : Goes old new
-  first_goes = record {
-    unplanned = let one = part_unplanned cut old.ops new.ops old.first new.first turns in let two = ap (λ (p : PartTold). p.planning.unplanned) other in omega (arith, one, two);
-    takes = takes_stay (plan_of (ops_in old) old.second) (plan_of (ops_in new) new.second) old.first.planning.takes new.first.planning.takes second_waits
-        (let same = part_takes cut old.ops new.ops old.first new.first turns in omega (arith, same));
-    plan = earlier_stays (plan_of (ops_in old) old.first) (plan_of (ops_in old) old.second) (plan_of (ops_in new) new.first) (plan_of (ops_in new) new.second)
-        (part_plan cut (ops_in old) (ops_in new) old.first new.first turns) second_waits;
-    later = turns.later;
-    one = one_at_most old.ops new.ops turns.one;
-    comes = part_in_time cut old new turns other;
-  }
+pub first_goes : (cut : Bool) (old new : DeviceTold) → PartTurns cut old.ops new.ops old.first new.first → new.second ≡ old.second → Goes old new
+first_goes cut old new turns other = record {
+  unplanned =
+      let one = part_unplanned cut old.ops new.ops old.first new.first turns in
+      let two = ap (λ (p : PartTold). p.planning.unplanned + length p.planning.came) other in omega (arith, one, two);
+  takes = let same = part_takes cut old.ops new.ops old.first new.first turns in omega (arith, same);
+  plan = first_plan cut old new turns other;
+  later = turns.later;
+  one = one_at_most old.ops new.ops turns.one;
+  comes = part_in_time cut old new turns other;
+}
 
 -- the second part does
-module _ (cut : Bool) (old new : DeviceTold) (turns : PartTurns cut old.ops new.ops old.second new.second) (other : new.first ≡ old.first) (of : IsOf Second old.fixed old.stand) where
-  first_waits : IsNoEarlier (plan_of (ops_in old) old.first) (plan_of (ops_in new) new.first)
-  first_waits =
-      subst (λ (p : PartTold). IsNoEarlier (plan_of (ops_in old) old.first) (plan_of (ops_in new) p)) (sym other) (plan_waits (ops_in old) (ops_in new) old.first turns.later)
+second_plan : (cut : Bool) (old new : DeviceTold) → PartTurns cut old.ops new.ops old.second new.second → new.first ≡ old.first → IsNoEarlier (plan_in old) (plan_in new)
+second_plan true old new turns other =
+    none_earlier (plan_in old) (plan_in new)
+    (from_off (is_off new) new.ops new.first.planning.plan (ap (λ (p : PartTold). new.first.off || p.off) turns.only ∙ or_right new.first.off))
+second_plan false old new turns other =
+    subst (λ (t : Bool). IsNoEarlier (plan_in old) (plan_from t new.ops new.first.planning.plan)) (sym (second_power old new turns other))
+    (subst (λ (p : PartTold). IsNoEarlier (plan_in old) (plan_from (is_off old) new.ops p.planning.plan)) (sym other)
+    (plan_waits (is_off old) old.ops new.ops old.first.planning.plan turns.later))
 
-  second_plan : IsNoEarlier (plan_of (ops_in old) old.second) (plan_of (ops_in new) new.second)
-  second_plan = part_plan cut (ops_in old) (ops_in new) old.second new.second turns
+second_more : (cut : Bool) (old new : DeviceTold) → PartTurns cut old.ops new.ops old.second new.second
+    → old.second.planning.unplanned + length old.second.planning.came ≤ new.second.planning.unplanned + length new.second.planning.came
+second_more true old new turns = elim (other_off old.ops new.ops old.second new.second turns) [
+  | inl more ↦ omega (arith, more)
+  | inr last ↦ let few = part_unplanned true old.ops new.ops old.second new.second turns in let longer = part_longer old.ops new.ops old.second new.second turns in omega (arith, few, longer)
+]
+second_more false old new turns =
+    let few = part_unplanned false old.ops new.ops old.second new.second turns in
+    let same = ap length (part_came old.ops new.ops old.second new.second turns) in omega (arith, few, same)
 
-  pub second_goes : Goes old new
-  second_goes = record {
-    unplanned = let one = part_unplanned cut old.ops new.ops old.second new.second turns in let two = ap (λ (p : PartTold). p.planning.unplanned) other in omega (arith, one, two);
-    takes = takes_stay (plan_of (ops_in old) old.second) (plan_of (ops_in new) new.second) old.first.planning.takes new.first.planning.takes second_plan
-        (let same = ap (λ (p : PartTold). p.planning.takes) other in omega (arith, same));
-    plan = earlier_stays (plan_of (ops_in old) old.first) (plan_of (ops_in old) old.second) (plan_of (ops_in new) new.first) (plan_of (ops_in new) new.second)
-        first_waits second_plan;
-    later = turns.later;
-    one = one_at_most old.ops new.ops turns.one;
-    comes = λ alone x is late. absurd (not_second old.fixed old.stand of alone);
-  }
+pub second_goes : (cut : Bool) (old new : DeviceTold) → PartTurns cut old.ops new.ops old.second new.second → new.first ≡ old.first → IsOf Second old.fixed old.stand → Goes old new
+second_goes cut old new turns other of = record {
+  unplanned =
+      let one = second_more cut old new turns in
+      let two = ap (λ (p : PartTold). p.planning.unplanned) other in omega (arith, one, two);
+  takes = let same = ap (λ (p : PartTold). p.planning.takes) other in omega (arith, same);
+  plan = second_plan cut old new turns other;
+  later = turns.later;
+  one = one_at_most old.ops new.ops turns.one;
+  comes = λ alone x is late. absurd (not_second old.fixed old.stand of alone);
+}
 
 -- A TURN
 
@@ -197,15 +210,22 @@ turn_fixed turned.Posted old new clock clock_new turns = absurd turns
 
 -- A CUT
 
-earlier_first : (a b : Option ℕ) (x : ℕ) → a ≡ Some x → (y : ℕ) × (earlier a b ≡ Some y) × (y ≤ x)
-earlier_first None b x is = cc
-earlier_first (Some n) None x is = (n, refl, let same : n ≡ x = cc in omega (arith, same))
-earlier_first (Some n) (Some m) x is = (min n m, refl, let same : n ≡ x = cc in omega (arith, same))
+-- none came
+works_came : (p : Part) (old new : DeviceTold) (clock : Clock) → Works p old new clock → came_in new ≡ came_in old
+works_came First old new clock works = part_came old.ops new.ops old.first new.first works.part
+works_came Second old new clock works = ap (λ (d : DeviceTold). d.first.planning.came) works.only
 
-earlier_second : (a b : Option ℕ) (x : ℕ) → b ≡ Some x → (y : ℕ) × (earlier a b ≡ Some y) × (y ≤ x)
-earlier_second None b x is = (x, is, omega arith)
-earlier_second (Some n) None x is = cc
-earlier_second (Some n) (Some m) x is = (min n m, refl, let same : m ≡ x = cc in omega (arith, same))
+pub worked_came : (old new : DeviceTold) (clock clock_new : Clock) → TurnsDevice turned.Worked old clock new clock_new → came_in new ≡ came_in old
+worked_came old new clock clock_new turns = works_came turns.0.1.0 old new clock_new turns.0.1.1
+
+-- the cut that was planned came, or another one was counted, and none is planned behind it
+pub record DeviceCut (old new : DeviceTold) : Type 0 where
+  pub cuts : List ℕ
+  pub others : ℕ
+  pub are : CutsAre (plan_in old) 0 (Added (Off (ops_of new)) ∷ []) cuts others
+  pub came : came_in new ≡ came_in old ++ cuts
+  pub counted : WereCounted others (unplanned_in old) (unplanned_in new)
+  pub none : plan_in new ≡ None
 
 -- so many as came without a plan, in both parts
 in_all_first : (n u v w z : ℕ) → WereCounted n u v → z ≡ w → WereCounted n (u + w) (v + z)
@@ -216,17 +236,30 @@ in_all_second : (n u v w z : ℕ) → WereCounted n u v → z ≡ w → WereCoun
 in_all_second n u v w z (inl more) same = inl (omega (arith, more, same))
 in_all_second n u v w z (inr last) same = inr (omega (arith, last))
 
-cut_counted : (p : Part) (old new : DeviceTold) → IsCut p old new → WereCounted (unpaid_off (plan_in old) (Off (ops_of new))) (unplanned_in old) (unplanned_in new)
-cut_counted First old new cut =
-    let other = ap (λ (d : DeviceTold). d.second) cut.only in
-    in_all_first (unpaid_off (plan_in old) (Off (ops_of new))) old.first.planning.unplanned new.first.planning.unplanned old.second.planning.unplanned new.second.planning.unplanned
-    (part_off (ops_in old) (ops_in new) old.first new.first (plan_in old) cut.part
-    (λ x is. earlier_first (plan_of (ops_in old) old.first) (plan_of (ops_in old) old.second) x is)) (ap (λ (q : PartTold). q.planning.unplanned) other)
-cut_counted Second old new cut =
-    let other = ap (λ (d : DeviceTold). d.first) cut.only in
-    in_all_second (unpaid_off (plan_in old) (Off (ops_of new))) old.second.planning.unplanned new.second.planning.unplanned old.first.planning.unplanned new.first.planning.unplanned
-    (part_off (ops_in old) (ops_in new) old.second new.second (plan_in old) cut.part
-    (λ x is. earlier_second (plan_of (ops_in old) old.first) (plan_of (ops_in old) old.second) x is)) (ap (λ (q : PartTold). q.planning.unplanned) other)
+device_cut : (p : Part) (old new : DeviceTold) → is_off old ≡ false → IsCut p old new → DeviceCut old new
+device_cut First old new on cut =
+    let here = part_off old.ops new.ops old.first new.first cut.part in
+    let other = ap (λ (d : DeviceTold). d.second) cut.only in record {
+      cuts = here.cuts;
+      others = here.others;
+      are = subst (λ (plan : Option DueCut). CutsAre plan 0 (Added (Off new.ops) ∷ []) here.cuts here.others) (sym (from_on (is_off old) old.ops old.first.planning.plan on)) here.are;
+      came = here.came;
+      counted = in_all_first here.others old.first.planning.unplanned new.first.planning.unplanned
+          (old.second.planning.unplanned + length old.second.planning.came) (new.second.planning.unplanned + length new.second.planning.came) here.counted
+          (ap (λ (q : PartTold). q.planning.unplanned + length q.planning.came) other);
+      none = from_off (is_off new) new.ops new.first.planning.plan (ap (λ (q : PartTold). q.off || new.second.off) cut.part.only);
+    }
+device_cut Second old new on cut =
+    let other = ap (λ (d : DeviceTold). d.first) cut.only in record {
+      cuts = [];
+      others = 1;
+      are = inr (0, refl, (refl, refl));
+      came = ap (λ (q : PartTold). q.planning.came) other ∙ sym (append-nil (came_in old));
+      counted = in_all_second 1 (old.second.planning.unplanned + length old.second.planning.came) (new.second.planning.unplanned + length new.second.planning.came)
+          old.first.planning.unplanned new.first.planning.unplanned
+          (other_off old.ops new.ops old.second new.second cut.part) (ap (λ (q : PartTold). q.planning.unplanned) other);
+      none = from_off (is_off new) new.ops new.first.planning.plan (ap (λ (q : PartTold). new.first.off || q.off) cut.part.only ∙ or_right new.first.off);
+    }
 
 part_on : (p : Part) (d : DeviceTold) → is_off d ≡ false → (part_at p d).off ≡ true → ⊥
 part_on First d on off = none (subst (λ (t : Bool). (t || d.second.off) ≡ false) off on)
@@ -239,10 +272,21 @@ part_on Second d on off = by d.first.off (subst (λ (t : Bool). (d.first.off || 
     by true e = cc
     by false e = cc
 
--- an Off where the power was on: its cut was planned, or it is counted
-pub off_counted : (old new : DeviceTold) (clock clock_new : Clock) → TurnsDevice turned.Off old clock new clock_new → is_off old ≡ false
-    → WereCounted (unpaid_off (plan_in old) (Off (ops_of new))) (unplanned_in old) (unplanned_in new)
-off_counted old new clock clock_new turns on = elim turns.0.1.1 [
+-- an Off where the power was on
+pub off_cut : (old new : DeviceTold) (clock clock_new : Clock) → TurnsDevice turned.Off old clock new clock_new → is_off old ≡ false → DeviceCut old new
+off_cut old new clock clock_new turns on = elim turns.0.1.1 [
   | inl off ↦ absurd (part_on turns.0.1.0 old on off.0)
-  | inr cut ↦ cut_counted turns.0.1.0 old new cut.0
+  | inr cut ↦ device_cut turns.0.1.0 old new on cut.0
 ]
+
+-- so it is behind a call that leaves the parts
+pub cut_from : (old between new : DeviceTold) → between.ops ≡ old.ops → between.first ≡ old.first → between.second ≡ old.second → DeviceCut between new → DeviceCut old new
+cut_from old between new made one two cut =
+    let (unplanned, takes, plan, faults) = parts_tell old between made one two in record {
+      cuts = cut.cuts;
+      others = cut.others;
+      are = subst (λ (p : Option DueCut). CutsAre p 0 (Added (Off (ops_of new)) ∷ []) cut.cuts cut.others) plan cut.are;
+      came = cut.came ∙ ap (λ (ks : List ℕ). ks ++ cut.cuts) (came_same old between one);
+      counted = subst (λ (n : ℕ). WereCounted cut.others n (unplanned_in new)) unplanned cut.counted;
+      none = cut.none;
+    }

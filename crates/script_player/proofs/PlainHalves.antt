@@ -1,20 +1,20 @@
 -- A turn that is its first half alone.
-use Rattle.std.specs.Prelude.{IsTrue, map, not}
-use Rattle.std.proofs.Common.{◌≡◌, ◌<◌, ◌≤◌, ℕ, Bool, true, false, List, [], ◌∷◌, ◌++◌, get_or, Option, None, refl, sym, ap, ◌∙◌, subst, inl, inr, arith}
-use Rattle.nvm_core.specs.nv_base.Count.{last_count, WereCounted}
+use Rattle.std.specs.Prelude.{IsTrue, map, not, ◌&&◌}
+use Rattle.std.specs.Option.{option_map_or}
+use Rattle.std.proofs.Common.{◌≡◌, ◌≤◌, ◌+◌, ℕ, Bool, true, false, List, [], ◌∷◌, ◌++◌, get_or, Option, None, refl, sym, ap, ◌∙◌, subst, inl, inr, arith}
 use Rattle.nvm_core.specs.memif.Told.{DeviceTold, faults_of, ops_of}
 use Rattle.nvm_core.specs.block_machine.Words.{ReqResult, Entry, Pick, Post}
 use Rattle.nvm_core.specs.block_machine.State.{State, Job}
-use Rattle.nvm_core.specs.block_machine.Blocks.{job_block, names_ram}
+use Rattle.nvm_core.specs.block_machine.Blocks.{desc_of, is_synchronized, job_block, names_ram}
 use Rattle.nvm_core.specs.block_machine.Results.{Answer}
 use Rattle.nvm_core.specs.block_machine.Next.{Next, Nothing, PickJob, BeginSweep, PickMember, PostMember, EndSweep, next_of}
 use Rattle.nvm_core.specs.ram_blocks.declared.plain_block.PlainBlock.{PlainBlock}
-use Rattle.nvm_core.specs.ram_blocks.Told.{Told, refusals_of, most_of}
+use Rattle.nvm_core.specs.ram_blocks.Told.{Told}
 use Rattle.nvm_core.specs.ram_blocks.Plain.{told_of, store_of}
-use Rattle.nvm_core.specs.ram_blocks.Tries.{OnlyRefuses}
 use Rattle.nvm_core.specs.nv_desk.Desk.{DeskState, state_of}
 use Rattle.nvm_core.specs.nv_desk_copies.Takes.{copies_out_next}
-use Rattle.nvm_core.specs.nv_desk_copies.Posts.{IsHandedOver, IsPosted, IsPostedNext}
+use Rattle.nvm_core.specs.nv_desk_copies.Front.{AreSynchronized}
+use Rattle.nvm_core.specs.nv_desk_copies.Posts.{IsPosted, IsPostedNext}
 use Rattle.nvm_core.specs.job_progress.Hand.{HandState}
 use Rattle.nvm_core.specs.job_progress.JobInHand.{IsPaired}
 use Rattle.nvm_core.specs.nvm_laws.Halves.{AddsPost}
@@ -27,17 +27,18 @@ use Rattle.nvm_core.specs.Turns.{IsFirstHalf}
 use Rattle.nvm_core.specs.Work as work
 use Rattle.script_walks.specs.Walk.{is_due}
 use Rattle.script_walks.specs.Turn.{TakesNewest, copies_next}
+use Rattle.promise_run.specs.Refusals.{copied_in}
 use Rattle.script_player.specs.Calls.{Turns, IsAnswer, Lowers}
-use Rattle.script_player.specs.PlainTold.{told_by, shown, untold_of, IfCopied, AreWithin, may_copy}
+use Rattle.script_player.specs.PlainTold.{told_by, shown, to_refuse_in}
 use Rattle.nvm_core.specs.block_machine.Legal.{IsAllowed, MayPick, MayPost, MayPostNext}
 use Rattle.script_player.specs.Told.{moment_of}
 use Rattle.script_player.proofs.Canceled.{rests_next, some_none}
-use Rattle.script_player.proofs.PlainDevices.{goes_same, unplanned_same}
-use Rattle.script_player.proofs.PlainPicks.{newest, stored_so, counted, due_off, due_rest, at_rest}
-use Rattle.script_player.proofs.PlainRefused.{IsOn, fewer, pick_keeps, post_keeps}
+use Rattle.script_player.proofs.PlainDevices.{goes_same, came_same}
+use Rattle.script_player.proofs.PlainPicks.{newest, stored_so, due_off, due_rest, at_rest}
+use Rattle.script_player.proofs.PlainRefused.{IsOn, IsSpent, pick_spent, post_spent, entry_asked}
 use Rattle.script_player.proofs.PlainMostTurns.{within_of}
 use Rattle.script_player.proofs.PlainServing.{IsServing, off_serves, rest_serves, pick_serves, post_serves}
-use Rattle.script_player.proofs.PlainTurning.{same_stores, grown, none_more, one_more, explained, makes_one, misses_none, none_off, one_price, begins_by, begins_late}
+use Rattle.script_player.proofs.PlainTurning.{same_stores, grown, none_more, one_more, explained, makes_one, misses_none, no_off, begins_by, begins_late}
 
 -- what is told of the application, and the newest store of a block
 abbrev pub are_told : List PlainBlock → List Told
@@ -60,29 +61,23 @@ record Posting (ops : ℕ) (old new : DeskState) (before after : List Told) : Ty
   refused : ℕ
   adds : new ≡ record old { entries = old.entries ++ Post block result given refused ops ∷ [] }
   on : IsOn block (state_of old).hand
-  told : WereCounted refused (refusals_of before block) (refusals_of after block)
+  spent : IsSpent ((desc_of old.config block).repeats + 1) block before after (copied_in (option_map_or (λ (j : Job). names_ram j.request) (state_of old).hand true && is_synchronized (desc_of old.config block).ram) given refused)
   may : (state_of old).hand ≡ None → MayPostNext old.config (state_of old) block (result, given) refused (next_of old.config (state_of old))
 
-over_counted : (goes : Bool) (ended posted : Answer) (refused tries block : ℕ) (before after : List Told) → refusals_of before block ≤ refusals_of after block
-    → IsHandedOver goes ended posted refused tries block before after → WereCounted refused (refusals_of before block) (refusals_of after block)
-over_counted false ended posted refused tries block before after less over = inl (let none = over.1 in omega (arith, less, none))
-over_counted true ended posted refused tries block before after less over = elim over [
-  | inl took ↦ inl (let none = took.1 in omega (arith, less, none))
-  | inr all ↦ subst (λ (n : ℕ). WereCounted n (refusals_of before block) (refusals_of after block)) (sym all.1) all.2
-]
-
-posting_of : (Premise : Type 0) (block : ℕ) (ram : Bool) (ended : Answer) (ops : ℕ) (old new : DeskState) (before after : List Told) → OnlyRefuses before after
-    → IsOn block (state_of old).hand → (is : IsPosted Premise block ram ended ops old new before after)
+posting_of : (Premise : Type 0) (block : ℕ) (ram : Bool) (ended : Answer) (ops : ℕ) (old new : DeskState) (bs : List PlainBlock) (after : List Told)
+    → AreSynchronized old.config (map told_of bs) → IsOn block (state_of old).hand → (is : IsPosted Premise block ram ended ops old new (map told_of bs) after)
+    → (ram && is_synchronized (desc_of old.config block).ram) ≡ (option_map_or (λ (j : Job). names_ram j.request) (state_of old).hand true && is_synchronized (desc_of old.config block).ram)
     → ((state_of old).hand ≡ None → MayPostNext old.config (state_of old) block (is.result, is.given) is.refused (next_of old.config (state_of old)))
-    → Posting ops old new before after
-posting_of Premise block ram ended ops old new before after only on is may = record {
+    → Posting ops old new (map told_of bs) after
+posting_of Premise block ram ended ops old new bs after are on is goes may = record {
   block = block;
   result = is.result;
   given = is.given;
   refused = is.refused;
   adds = is.adds;
   on = on;
-  told = over_counted _ ended (is.result, is.given) is.refused _ block before after (only block).1 is.over;
+  spent = subst (λ (t : Bool). IsSpent ((desc_of old.config block).repeats + 1) block (map told_of bs) after (copied_in t is.given is.refused)) goes
+      (post_spent (λ n x. Unit {0}) old.config block bs after are ram ended (is.result, is.given) is.refused is.others is.over);
   may = may;
 }
 
@@ -91,22 +86,26 @@ next_allowed : (old : DeskState) (block : ℕ) (r : ReqResult) (given : Option (
     → MayPostNext old.config (state_of old) block (r, given) refused (next_of old.config (state_of old))
 next_allowed old block r given refused ops is none = subst (λ (h : Option Job). MayPost old.config (state_of old) block (r, given) refused h) none is.1
 
-posting_next : (n : Next) (ops : ℕ) (old new : DeskState) (before after : List Told) → OnlyRefuses before after → (state_of old).hand ≡ None
-    → IsPostedNext n ops old new before after → Posting ops old new before after
-posting_next (PostMember sw id) ops old new before after only none is =
-    posting_of (Unit {0}) id true _ ops old new before after only (subst (λ (h : Option Job). IsOn id h) (sym none) tt) is (next_allowed old id is.result is.given is.refused ops (is.allowed tt))
-posting_next (EndSweep sw) ops old new before after only none is =
-    posting_of (Unit {0}) 0 false _ ops old new before after only (subst (λ (h : Option Job). IsOn 0 h) (sym none) tt) is (next_allowed old 0 is.result is.given is.refused ops (is.allowed tt))
-posting_next (PickJob j) ops old new before after only none is = absurd is
-posting_next (BeginSweep sw) ops old new before after only none is = absurd is
-posting_next (PickMember sw id) ops old new before after only none is = absurd is
-posting_next Nothing ops old new before after only none is = absurd is
+posting_next : (n : Next) (ops : ℕ) (old new : DeskState) (bs : List PlainBlock) (after : List Told) → AreSynchronized old.config (map told_of bs) → (state_of old).hand ≡ None
+    → IsPostedNext n ops old new (map told_of bs) after → Posting ops old new (map told_of bs) after
+posting_next (PostMember sw id) ops old new bs after are none is =
+    posting_of (Unit {0}) id true _ ops old new bs after are (subst (λ (h : Option Job). IsOn id h) (sym none) tt) is
+    (ap (λ (h : Option Job). option_map_or (λ (j : Job). names_ram j.request) h true && is_synchronized (desc_of old.config id).ram) (sym none)) (next_allowed old id is.result is.given is.refused ops (is.allowed tt))
+posting_next (EndSweep sw) ops old new bs after are none is =
+    posting_of (Unit {0}) 0 false _ ops old new bs after are (subst (λ (h : Option Job). IsOn 0 h) (sym none) tt) is
+    (ap (λ (h : Option Job). option_map_or (λ (j : Job). names_ram j.request) h true && is_synchronized (desc_of old.config 0).ram) (sym none)) (next_allowed old 0 is.result is.given is.refused ops (is.allowed tt))
+posting_next (PickJob j) ops old new bs after are none is = absurd is
+posting_next (BeginSweep sw) ops old new bs after are none is = absurd is
+posting_next (PickMember sw id) ops old new bs after are none is = absurd is
+posting_next Nothing ops old new bs after are none is = absurd is
 
-posting : (Fits : Type 0) (ops : ℕ) (old new : DeskState) (before after : List Told) → OnlyRefuses before after → AddsPost Fits ops old new before after → Posting ops old new before after
-posting Fits ops old new before after only adds = elim adds [
-  | inl held ↦ posting_of Fits (job_block held.job) (names_ram held.job.request) held.ended ops old new before after only
-      (subst (λ (h : Option Job). IsOn (job_block held.job) h) (sym held.hand) refl) held.is (λ none. absurd (some_none held.job (sym held.hand ∙ none)))
-  | inr next ↦ posting_next (next_of old.config (state_of old)) ops old new before after only next.0 next.1
+posting : (Fits : Type 0) (ops : ℕ) (old new : DeskState) (bs : List PlainBlock) (after : List Told) → AreSynchronized old.config (map told_of bs)
+    → AddsPost Fits ops old new (map told_of bs) after → Posting ops old new (map told_of bs) after
+posting Fits ops old new bs after are adds = elim adds [
+  | inl held ↦ posting_of Fits (job_block held.job) (names_ram held.job.request) held.ended ops old new bs after are
+      (subst (λ (h : Option Job). IsOn (job_block held.job) h) (sym held.hand) refl) held.is
+      (ap (λ (h : Option Job). option_map_or (λ (j : Job). names_ram j.request) h true && is_synchronized (desc_of old.config (job_block held.job)).ram) (sym held.hand)) (λ none. absurd (some_none held.job (sym held.hand ∙ none)))
+  | inr next ↦ posting_next (next_of old.config (state_of old)) ops old new bs after are next.0 next.1
 ]
 
 -- THE TURN
@@ -123,15 +122,14 @@ pub record IsBehind {D : Type 0} (device : D → DeviceTold) (answer : Turned) (
   pub takes : work.TakesTurns device answer old new
   pub tied : IsTied old.desk old.hand (device old.device)
   pub tied_behind : IsTied new.desk new.hand (device new.device)
-  pub small : (id : ℕ) → most_of (map told_of new.copies) id < last_count
-  pub within : IsTrue (may_copy answer) → (h : List Entry) (e : Entry) → new.desk.entries ≡ h ++ e ∷ [] → IfCopied e (AreWithin new.copies)
+  pub synchronized : AreSynchronized old.desk.config (map told_of old.copies)
 
 module _ {D : Type 0} (device : D → DeviceTold) (old new : StackState D (List PlainBlock)) where
   -- nothing is added
-  quiet : (answer : Turned) → IsFirstHalf device are_told is_now is_looked (Ended answer) old new → IsBehind device answer old new → device new.device ≡ device old.device → new.desk ≡ old.desk → is_due (state_of old.desk) ≡ false
+  quiet : (answer : Turned) → IsFirstHalf device are_told is_now is_looked (Ended answer) old new → IsBehind device answer old new → device new.device ≡ device old.device → new.desk ≡ old.desk → map told_of new.copies ≡ map told_of old.copies → is_due (state_of old.desk) ≡ false
       → IsAnswer answer [] (told_by device old) (told_by device new) → Lowers answer (told_by device old) (told_by device new) → IsServing device old new []
       → Turns answer (told_by device old) (told_by device new)
-  quiet answer half behind stays same due answers lowers serves =
+  quiet answer half behind stays same told due answers lowers serves =
       let made = ap (λ (d : DeviceTold). d.ops) half.device in
       let one = ap (λ (d : DeviceTold). d.first) half.device in
       let two = ap (λ (d : DeviceTold). d.second) half.device in record {
@@ -142,9 +140,8 @@ module _ {D : Type 0} (device : D → DeviceTold) (old new : StackState D (List 
           operations = makes_one device old new [] (goes_same (device old.device) (device new.device) made one two) tt;
           turn = record { entry = tt; begins = begins_late (state_of old.desk) [] due };
           explained = explained device old new [] (goes_same (device old.device) (device new.device) made one two)
-              (λ id. let less = fewer (map told_of old.copies) (map told_of new.copies) half.refuses id (state_of old.desk).hand (state_of new.desk).hand
-              (let hand = ap (λ (x : DeskState). untold_of id (state_of x).hand) same in omega (arith, hand)) in omega (arith, less))
-              (none_off _ _ (let as_many = unplanned_same (device old.device) (device new.device) one two in omega (arith, as_many)));
+              (λ id. ap (λ (ts : List Told). to_refuse_in ts id) told)
+              (no_off device old new [] (goes_same (device old.device) (device new.device) made one two) (came_same (device old.device) (device new.device) one) (refl, refl) refl behind.power);
           picks = λ picked. absurd (cc picked);
           serves = serves;
           rests = λ rest idle. (refl, ap (λ (d : DeviceTold). moment_of (shown old.desk None old.copies old.ready d)) stays);
@@ -166,8 +163,7 @@ module _ {D : Type 0} (device : D → DeviceTold) (old new : StackState D (List 
       let two = ap (λ (d : DeviceTold). d.second) half.device in
       let stores = same_stores old.copies new.copies half.sizes half.stores_stay in
       let may = picked.allowed.1 in
-      let within = behind.within refl old.desk.entries (Pick block picked.kind picked.taken ops) (ap (λ (x : DeskState). x.entries) picked.adds) in
-      let refused = counted (λ n x. is_now new.copies block n x × is_looked old.copies new.copies block n) block (map told_of old.copies) (map told_of new.copies) (half.refuses block).1 c s picked.kind picked.taken (next_of c s) picked.copied may in record {
+      let spent = pick_spent (λ n x. is_now new.copies block n x × is_looked old.copies new.copies block n) c block old.copies (map told_of new.copies) behind.synchronized s picked.kind picked.taken (next_of c s) picked.copied may in record {
         made = record {
           entries = Pick block picked.kind picked.taken ops ∷ [];
           grows = grown device old new (Pick block picked.kind picked.taken ops ∷ []) picked.adds stores half.ready (ap (λ (d : DeviceTold). d.fixed) half.device);
@@ -177,15 +173,13 @@ module _ {D : Type 0} (device : D → DeviceTold) (old new : StackState D (List 
             entry = record {
               may = may;
               newest = subst (λ (xs : List (ℕ × List ℕ)). TakesNewest xs (copies_next c (next_of c s)) block picked.taken) stores
-                  (newest (map store_of new.copies) c s block picked.kind (map told_of old.copies) (map told_of new.copies) picked.taken (next_of c s) (stored_so _ _ block (map told_of old.copies) (map told_of new.copies) (copies_out_next c (next_of c s)) picked.taken (λ n x h. h.0) picked.copied) may);
+                  (newest (map store_of new.copies) c s block picked.kind (map told_of old.copies) (map told_of new.copies) picked.taken (next_of c s) (stored_so _ _ c block (map told_of old.copies) (map told_of new.copies) (copies_out_next c (next_of c s)) picked.taken (λ n x h. h.0) picked.copied) may);
             };
             begins = begins_by (is_due s);
           };
           explained = explained device old new (Pick block picked.kind picked.taken ops ∷ []) (goes_same (device old.device) (device new.device) made one two)
-              (λ id. one_price c s id (Pick block picked.kind picked.taken ops) (map told_of old.copies) (map told_of new.copies) s.hand _ (state_of new.desk).hand
-              (ap (λ (x : State). x.hand) (one_more old.desk new.desk (Pick block picked.kind picked.taken ops) picked.adds))
-              (let less = pick_keeps (map told_of old.copies) (map told_of new.copies) half.refuses c s id block ops picked.kind picked.taken may within (behind.small block) refused in omega (arith, less)))
-              (none_off _ _ (let as_many = unplanned_same (device old.device) (device new.device) one two in omega (arith, as_many)));
+              (λ id. entry_asked c s id block (map told_of old.copies) (map told_of new.copies) (Pick block picked.kind picked.taken ops) _ refl spent)
+              (no_off device old new (Pick block picked.kind picked.taken ops ∷ []) (goes_same (device old.device) (device new.device) made one two) (came_same (device old.device) (device new.device) one) (refl, refl) refl behind.power);
           picks = λ is. (within_of new.desk.config (state_of new.desk) new.hand (device new.device) behind.tied_behind.paired behind.takes, is_on (state_of old.desk).off picked.allowed.0.on);
           serves = pick_serves device old new block ops picked.kind picked.taken behind.tied_behind.paired behind.takes;
           rests = λ rest idle. absurd (subst (λ (n : Next). MayPick c s block picked.kind picked.taken n) (rests_next c s rest).1 may);
@@ -200,12 +194,11 @@ module _ {D : Type 0} (device : D → DeviceTold) (old new : StackState D (List 
       let c = old.desk.config in
       let s = state_of old.desk in
       let ops = ops_of (device new.device) in
-      let post = posting _ ops old.desk new.desk (map told_of old.copies) (map told_of new.copies) half.refuses half.half in
+      let post = posting _ ops old.desk new.desk old.copies (map told_of new.copies) behind.synchronized half.half in
       let made = ap (λ (d : DeviceTold). d.ops) half.device in
       let one = ap (λ (d : DeviceTold). d.first) half.device in
       let two = ap (λ (d : DeviceTold). d.second) half.device in
-      let stores = same_stores old.copies new.copies half.sizes half.stores_stay in
-      let within = behind.within refl old.desk.entries (Post post.block post.result post.given post.refused ops) (ap (λ (x : DeskState). x.entries) post.adds) in record {
+      let stores = same_stores old.copies new.copies half.sizes half.stores_stay in record {
         made = record {
           entries = Post post.block post.result post.given post.refused ops ∷ [];
           grows = grown device old new (Post post.block post.result post.given post.refused ops ∷ []) post.adds stores half.ready (ap (λ (d : DeviceTold). d.fixed) half.device);
@@ -213,10 +206,8 @@ module _ {D : Type 0} (device : D → DeviceTold) (old new : StackState D (List 
           operations = makes_one device old new (Post post.block post.result post.given post.refused ops ∷ []) (goes_same (device old.device) (device new.device) made one two) (refl, tt);
           turn = record { entry = post.may; begins = begins_by (is_due s) };
           explained = explained device old new (Post post.block post.result post.given post.refused ops ∷ []) (goes_same (device old.device) (device new.device) made one two)
-              (λ id. one_price c s id (Post post.block post.result post.given post.refused ops) (map told_of old.copies) (map told_of new.copies) s.hand _ (state_of new.desk).hand
-              (ap (λ (x : State). x.hand) (one_more old.desk new.desk (Post post.block post.result post.given post.refused ops) post.adds))
-              (post_keeps (map told_of old.copies) (map told_of new.copies) half.refuses c s id post.block post.refused ops post.result post.given post.on within (behind.small post.block) post.told))
-              (none_off _ _ (let as_many = unplanned_same (device old.device) (device new.device) one two in omega (arith, as_many)));
+              (λ id. entry_asked c s id post.block (map told_of old.copies) (map told_of new.copies) (Post post.block post.result post.given post.refused ops) _ refl post.spent)
+              (no_off device old new (Post post.block post.result post.given post.refused ops ∷ []) (goes_same (device old.device) (device new.device) made one two) (came_same (device old.device) (device new.device) one) (refl, refl) refl behind.power);
           picks = λ picked. absurd (cc picked);
           serves = post_serves device old new post.block post.refused ops post.result post.given post.on
               (subst (λ (h : Option HandState). IsPaired new.desk.config (state_of new.desk) h (device new.device)) half.at_device.1 behind.tied_behind.paired).0;
@@ -233,9 +224,9 @@ module _ {D : Type 0} (device : D → DeviceTold) (old new : StackState D (List 
   ended turned.Off half behind =
       let same = half.half.0.0 in
       let off = sym (ap (λ (x : DeskState). (state_of x).off) same) ∙ behind.power half.half.1 in
-      quiet turned.Off half behind half.at_device.1 same (due_off (state_of old.desk) off) off tt (off_serves device old new [] (behind.power half.half.1))
+      quiet turned.Off half behind half.at_device.1 same half.half.0.1 (due_off (state_of old.desk) off) off tt (off_serves device old new [] (behind.power half.half.1))
   ended turned.Idle half behind =
       let rest = at_rest old.desk.config (state_of old.desk) half.half.1.hand half.half.1.next in
-      quiet turned.Idle half behind half.at_device.1 half.half.0.0 (due_rest (state_of old.desk) rest) (refl, rest, ap not half.half.1.device) tt
+      quiet turned.Idle half behind half.at_device.1 half.half.0.0 half.half.0.1 (due_rest (state_of old.desk) rest) (refl, rest, ap not half.half.1.device) tt
       (rest_serves device old new [] half.half.1.hand (ap (λ (x : DeskState). (state_of x).hand) half.half.0.0 ∙ half.half.1.hand))
   ended turned.Worked half behind = absurd half.half

@@ -7,7 +7,8 @@ use Rattle.nvm_core.specs.memif.Told.{DeviceTold, Part, PartTold, faults_of}
 use Rattle.nvm_core.specs.memif.Clock.{Clock}
 use Rattle.nvm_core.specs.memif.Calls.{Arms}
 use Rattle.nvm_core.specs.memif.Trials.{Lasts}
-use Rattle.nvm_core.proofs.memif.Turning.{same_clock, same_told, same_lasts as clock_lasts}
+use Rattle.nvm_core.specs.memif.Marks.{ComesFrom}
+use Rattle.nvm_core.proofs.memif.Turning.{told_before, same_clock, same_told, same_lasts as clock_lasts}
 use Rattle.nvm_core.specs.block_machine.Words.{Entry, Ask, Pick, Wrote, Post, Off, Found}
 use Rattle.nvm_core.specs.block_machine.Prices.{price_in_faults, sum_from}
 use Rattle.nvm_core.specs.promise_blocks.Payment.{IsExcused}
@@ -16,6 +17,7 @@ use Rattle.nvm_core.specs.ram_blocks.Told.{Told}
 use Rattle.nvm_core.specs.nv_desk.Desk.{DeskState, state_of}
 use Rattle.nvm_core.specs.job_progress.Hand.{HandState}
 use Rattle.nvm_core.specs.nvm_found.Found.{IsRestarted}
+use Rattle.nvm_core.specs.nvm_device_laws.Turn.{TellsSlots}
 use Rattle.nvm_core.specs.nvm_laws.Keeps.{StaysKept}
 use Rattle.nvm_core.specs.nvm_laws.declared.turned.Turned.{Turned}
 use Rattle.nvm_core.specs.nvm_laws.declared.turned.FoundAnswer.{FoundAnswer}
@@ -36,7 +38,7 @@ pub keeps_by : (r t : Bool) (desk desk_new : DeskState) (hand hand_new : Option 
     → (before : Part → PartTold) → IsKept r before desk hand d clock → IsKept t before desk_new hand_new d_new clock_new
 keeps_by r t desk desk_new hand hand_new d d_new clock clock_new ready same stays before kept =
     subst (λ (b : Bool). IsKept b before desk_new hand_new d_new clock_new) (sym (same ∙ ready))
-    (stays before (subst (λ (b : Bool). IsKept b before desk hand d clock) ready kept))
+    (stays.kept before (subst (λ (b : Bool). IsKept b before desk hand d clock) ready kept))
 
 nothing_more : (n a b : ℕ) → WereCounted n a b → WereCounted (n + 0) a b
 nothing_more n a b (inl more) = inl (omega (arith, more))
@@ -65,10 +67,13 @@ module _ {D : Type 0} (device : D → DeviceTold) (clock : D → Clock) (old new
   abbrev Keeps : Type 0
   Keeps = (before : Part → PartTold) → IsKept old.ready before old.desk old.hand (device old.device) (clock old.device) → IsKept new.ready before new.desk new.hand (device new.device) (clock new.device)
 
+  abbrev TellsBack : Type 0
+  TellsBack = TellsSlots (device new.device) → TellsSlots (device old.device)
+
   abbrev Owes : Type 0
   Owes = (since : ℕ) → OwesSince since old.hand (device old.device) (clock old.device) → OwesSince since new.hand (device new.device) (clock new.device)
 
-  module _ (keeps : Keeps) (lasts : Lasts (device old.device) (clock old.device) (device new.device) (clock new.device)) where
+  module _ (keeps : Keeps) (tells : TellsBack) (lasts : Lasts (device old.device) (clock old.device) (device new.device) (clock new.device)) where
     stays_worn : StaysWorn (payer_by device clock old) (payer_by device clock new)
     stays_worn k n (few, is) = (let later = lasts.ops in omega (arith, few, later), lasts.past.worn k n few is)
 
@@ -76,7 +81,7 @@ module _ {D : Type 0} (device : D → DeviceTold) (clock : D → Clock) (old new
     fails_no_more k before (few, is) = (before, (lasts.past.failed k before).0 is)
 
     pub nothing_paid : (device new.device).ops ≡ (device old.device).ops → Owes → PaysNothing (payer_by device clock old) (payer_by device clock new) (told_by device new)
-    nothing_paid none owes = record { worn = stays_worn; failed = λ k is. (let few = is.0 in fails_no_more k (omega (arith, few, none)) is); owes = λ since was. (((was.0.0, keeps was.0.0 was.0.1), owes since was.1), (owes since was.1).0) }
+    nothing_paid none owes = record { tells = tells; worn = stays_worn; failed = λ k is. (let few = is.0 in fails_no_more k (omega (arith, few, none)) is); owes = λ since was. (((was.0.0, keeps was.0.0 was.0.1), owes since was.1), (owes since was.1).0) }
 
     -- A TURN
     module _ (since : ℕ) (before : Part → PartTold) (kept : IsKept new.ready before new.desk new.hand (device new.device) (clock new.device))
@@ -109,14 +114,15 @@ module _ {D : Type 0} (device : D → DeviceTold) (clock : D → Clock) (old new
 
     pub turn_paid : old.ready ≡ true → TurnPays device clock old new → PaysTurn (payer_by device clock old) (payer_by device clock new) (told_by device old) (told_by device new)
     turn_paid ready pays = record {
+      tells = tells;
       worn = stays_worn;
       failed = fails_no_more;
       counts = λ k le lt (few, is).
           rose_in (device old.device).first.faults (device old.device).second.faults (device new.device).first.faults (device new.device).second.faults lasts.faults.0 lasts.faults.1 (lasts.failed k le lt is);
-      pays = λ since m was behind entries.
+      pays = λ told since m was behind entries.
           let before = was.0.0 in
           let kept = subst (λ (b : Bool). IsKept b before old.desk old.hand (device old.device) (clock old.device)) ready was.0.1 in
-          let paid = by_entry since before (keeps before was.0.1) (pays before since kept was.1) m.entry entries in (
+          let paid = by_entry since before (keeps before was.0.1) (pays before since (kept.all (tells told)) was.1) m.entry entries in (
             subst (λ (n : ℕ). WereCounted (sum_from old.desk.config (price_in_faults old.desk.config) (state_of old.desk) (entry_list m.entry)) since n
                 ⊎ IfSome m.entry (IsExcused old.desk.config (worn_so_far (device new.device) (clock new.device)) (state_of old.desk))) (sym (ap (λ x. x.faults) behind)) paid.0,
             paid.1,
@@ -134,7 +140,7 @@ module _ {D : Type 0} (device : D → DeviceTold) (clock : D → Clock) (old new
 
   -- the device and the job in hand stay
   pub same_paid : Keeps → new.device ≡ old.device → new.hand ≡ old.hand → PaysNothing (payer_by device clock old) (payer_by device clock new) (told_by device new)
-  same_paid keeps same hand = nothing_paid keeps (same_lasts same) (ap (λ (x : D). (device x).ops) same) (same_owes same hand)
+  same_paid keeps same hand = nothing_paid keeps (λ told. subst (λ (x : D). TellsSlots (device x)) same told) (same_lasts same) (ap (λ (x : D). (device x).ops) same) (same_owes same hand)
 
   -- so do all but the copies
   pub copies_paid : (xs : List PlainBlock) → new ≡ record old { copies = xs } → PaysNothing (payer_by device clock old) (payer_by device clock new) (told_by device new)
@@ -143,13 +149,13 @@ module _ {D : Type 0} (device : D → DeviceTold) (clock : D → Clock) (old new
       (ap (λ (s : StackState D (List PlainBlock)). s.device) is) (ap (λ (s : StackState D (List PlainBlock)). s.hand) is)
 
   -- a power cut is planned
-  pub arm_paid : Keeps → (nth keep : ℕ) → new.hand ≡ old.hand → Arms 0 nth keep (device old.device) (clock old.device) (device new.device) (clock new.device)
+  pub arm_paid : Keeps → TellsBack → (nth keep : ℕ) → new.hand ≡ old.hand → Arms 0 nth keep (device old.device) (clock old.device) (device new.device) (clock new.device)
       → PaysNothing (payer_by device clock old) (payer_by device clock new) (told_by device new)
-  arm_paid keeps nth keep hand arms =
+  arm_paid keeps tells nth keep hand arms =
       let ops : (device new.device).ops ≡ (device old.device).ops = ap (λ (d : DeviceTold). d.ops) arms.0 in
       let faults : faults_of (device new.device) ≡ faults_of (device old.device) = ap faults_of arms.0 in
       let lasts = clock_lasts (device old.device) (clock old.device) (device new.device) (clock new.device) ops (ap (λ (d : DeviceTold). d.first.faults) arms.0) (ap (λ (d : DeviceTold). d.second.faults) arms.0) arms.1.same in
-      nothing_paid keeps lasts ops (λ since owes.
+      nothing_paid keeps tells lasts ops (λ since owes.
       subst (λ (h : Option HandState). OwesSince since h (device new.device) (clock new.device)) (sym hand)
       (since_stays old.desk.config since (device old.device) (clock old.device) (device new.device) (clock new.device) lasts.ops (omega (arith, faults)) lasts.past.worn old.hand owes))
 
@@ -170,6 +176,12 @@ module _ {D : Type 0} (device : D → DeviceTold) (clock : D → Clock) (old new
   restart_ops found.Failed restarts = restarts.fails.restarted.ops
   restart_ops found.NoRoom restarts = ap (λ (s : StackState D (List PlainBlock)). (device s.device).ops) restarts.0
   restart_ops found.Memory restarts = ap (λ (s : StackState D (List PlainBlock)). (device s.device).ops) restarts
+
+  pub restart_tells : (answer : FoundAnswer) → Restarts device answer old new → TellsBack
+  restart_tells found.Ready restarts = told_before (λ n s t. ComesFrom s t) (device old.device) (device new.device) restarts.finds.up.restarted.marks
+  restart_tells found.Failed restarts = told_before (λ n s t. ComesFrom s t) (device old.device) (device new.device) restarts.fails.restarted.marks
+  restart_tells found.NoRoom restarts = λ told. subst (λ (s : StackState D (List PlainBlock)). TellsSlots (device s.device)) restarts.0 told
+  restart_tells found.Memory restarts = λ told. subst (λ (s : StackState D (List PlainBlock)). TellsSlots (device s.device)) restarts told
 
   pub restart_owes : (answer : FoundAnswer) → Restarts device answer old new → Owes
   restart_owes found.Ready restarts = none_owed (ap (λ (s : StackState D (List PlainBlock)). s.hand) restarts.only) (restarted_more restarts.finds.up.restarted)

@@ -1,145 +1,180 @@
--- Refused copies, as entries tell of them.
-use Rattle.std.specs.Prelude.{◌==◌}
-use Rattle.std.proofs.Common.{◌≡◌, ◌≢◌, ◌<◌, ◌≤◌, ◌+◌, ◌⊎◌, ℕ, zero, suc, true, false, List, Option, Some, None, refl, sym, ap, ◌∙◌, subst, inl, inr, arith}
+-- Copies that are refused, as entries tell of them.
+use Rattle.std.specs.Prelude.{◌==◌, ◌&&◌, ◌-◌, not, nat_le, is_some, map, unwrap_or, if◌then◌else◌}
+use Rattle.std.proofs.Common.{◌≡◌, ◌≢◌, ◌+◌, ◌⊎◌, ℕ, zero, suc, add-one, Bool, true, false, List, [], ◌∷◌, length, Option, Some, None, option_map, IfSome, refl, sym, ap, ◌∙◌, subst, inl, inr}
 use Rattle.std.proofs.lemmas.Bool.Decides.{eqb_tells}
-use Rattle.nvm_core.specs.nv_base.Count.{last_count, WereCounted}
-use Rattle.nvm_core.specs.block_machine.Words.{ReqResult, Instance, Mark, JobKind, Taken, Pick, Wrote, Post, Configuration}
-use Rattle.nvm_core.specs.block_machine.State.{State, Job}
-use Rattle.nvm_core.specs.block_machine.Blocks.{job_block}
-use Rattle.nvm_core.specs.block_machine.Prices.{refused_copies, price_in_refusals, block_price}
-use Rattle.nvm_core.specs.block_machine.Legal.{MayPick}
-use Rattle.nvm_core.specs.block_machine.Next.{Next, Nothing, PickJob, BeginSweep, PickMember, PostMember, EndSweep, next_of}
-use Rattle.nvm_core.specs.block_machine.Steps.{step, picked, wrote, posted, posted_next}
-use Rattle.nvm_core.specs.ram_blocks.Told.{Told, refusals_of, most_of}
-use Rattle.nvm_core.specs.ram_blocks.Tries.{OnlyRefuses}
-use Rattle.script_player.specs.PlainTold.{untold_of, refusable_in}
+use Rattle.nvm_core.specs.block_machine.Words.{JobKind, WriteJob, Taken, TookNothing, TookContent, TookRefused, TookStale, Entry, NotOk, Configuration}
+use Rattle.nvm_core.specs.block_machine.State.{State, BlockState, Job}
+use Rattle.nvm_core.specs.block_machine.Blocks.{desc_of, block_at, is_synchronized, job_block, kind_of, asked_store}
+use Rattle.nvm_core.specs.block_machine.Sweeps.{member_job}
+use Rattle.nvm_core.specs.block_machine.Results.{Answer}
+use Rattle.nvm_core.specs.block_machine.Legal.{TakesCopy, TakesForWrite, TakesBy, MayPick}
+use Rattle.nvm_core.specs.block_machine.Next.{Next, Nothing, PickJob, BeginSweep, PickMember, PostMember, EndSweep}
+use Rattle.nvm_core.specs.ram_blocks.declared.plain_block.PlainBlock.{PlainBlock}
+use Rattle.nvm_core.specs.ram_blocks.Told.{Told, Synchronized, IsSynchronized, told_at, to_refuse_by, to_refuse_of}
+use Rattle.nvm_core.specs.ram_blocks.Plain.{told_of}
+use Rattle.nvm_core.specs.ram_blocks.Tries.{Spends, OthersStay}
+use Rattle.nvm_core.specs.nv_desk_copies.Front.{AreSynchronized}
+use Rattle.nvm_core.specs.nv_desk_copies.Takes.{copies_out_by, copies_out_next, IsCopiedOut, IsCopied}
+use Rattle.nvm_core.specs.nv_desk_copies.Posts.{goes_over, IsHandedOver}
+use Rattle.promise_run.specs.Refusals.{copied_out, copied_in, has_content, copy_told, IsAsAsked, left_by, AreAsAsked}
+use Rattle.script_player.specs.PlainTold.{to_refuse_in}
 
--- THE COPIES OF WHICH THE JOB IN HAND MAY TELL
-
-untold_other : (id : ℕ) (j : Job) → (job_block j == id) ≡ false → untold_of id (Some j) ≡ 0
-untold_other id j other = rw other refl
-
-untold_own : (id : ℕ) (j : Job) → (job_block j == id) ≡ true → untold_of id (Some j) ≡ refused_copies j.taken
-untold_own id j own = rw own refl
-
--- A PICK
-
--- behind the Pick of a block the job in hand is on it, and took this; that of a request on all blocks takes nothing
-pub record Holds (block : ℕ) (t : Taken) (before after : Option Job) : Type 0 where
-  pub which : ((j : Job) × (after ≡ Some j) × (job_block j ≡ block) × (j.taken ≡ Some t)) ⊎ (after ≡ before)
-
-pick_holds : (c : Configuration) (s : State) (block : ℕ) (kind : JobKind) (t : Taken) (n : Next) → MayPick c s block kind t n → Holds block t s.hand (picked c s t n).hand
-pick_holds c s block kind t (PickJob j) may = record { which = inl (_, refl, sym may.same_block, refl) }
-pick_holds c s block kind t (PickMember sw id) may = record { which = inl (_, refl, sym may.same_block, refl) }
-pick_holds c s block kind t (BeginSweep sw) may = record { which = inr refl }
-pick_holds c s block kind t (PostMember sw id) may = absurd may
-pick_holds c s block kind t (EndSweep sw) may = absurd may
-pick_holds c s block kind t Nothing may = absurd may
-
--- the copies of one block: what may be refused of it, and what was and isn't told
-module _ (old new : List Told) (only : OnlyRefuses old new) where
-  -- with no more to tell
-  pub fewer : (id : ℕ) (before after : Option Job) → untold_of id after ≤ untold_of id before → refusable_in new after id ≤ refusable_in old before id
-  fewer id before after less = let most = (only id).0 in let grown = (only id).1 in omega (arith, most, grown, less)
-
-  -- those that were just refused may be told of
-  pub moved : (id more : ℕ) (before after : Option Job) → refusals_of new id ≤ most_of new id → most_of new id < last_count
-      → WereCounted more (refusals_of old id) (refusals_of new id) → untold_of id after ≤ more → refusable_in new after id ≤ refusable_in old before id
-  moved id more before after within small (inl counted) few = let most = (only id).0 in omega (arith, most, within, counted, few)
-  moved id more before after within small (inr last) few = absurd (omega (arith, within, small, last))
-
-  -- a Post tells of them
-  pub told : (id more price : ℕ) (before after : Option Job) → refusals_of new id ≤ most_of new id → most_of new id < last_count
-      → WereCounted more (refusals_of old id) (refusals_of new id) → untold_of id after ≡ 0 → price ≤ more + untold_of id before → (more ≡ 0) ⊎ (price ≤ more)
-      → price + refusable_in new after id ≤ refusable_in old before id
-  told id more price before after within small (inl counted) none all few = let most = (only id).0 in omega (arith, most, within, counted, none, all)
-  told id more price before after within small (inr last) none all few = absurd (omega (arith, within, small, last))
-
-  pick_by : (id block : ℕ) (t : Taken) (before after : Option Job) → refusals_of new block ≤ most_of new block → most_of new block < last_count
-      → WereCounted (refused_copies (Some t)) (refusals_of old block) (refusals_of new block) → Holds block t before after → refusable_in new after id ≤ refusable_in old before id
-  pick_by id block t before after within small counted holds = elim holds.which [
-    | inr same ↦ fewer id before after (let is = ap (untold_of id) same in omega (arith, is))
-    | inl (j, is, on, took) ↦ own j is on took (eqb_tells (job_block j) id)
-  ]
-    where
-      own : (j : Job) → after ≡ Some j → job_block j ≡ block → j.taken ≡ Some t
-          → (((job_block j == id) ≡ true) × (job_block j ≡ id)) ⊎ (((job_block j == id) ≡ false) × (job_block j ≢ id)) → refusable_in new after id ≤ refusable_in old before id
-      own j is on took (inr other) = fewer id before after (let none = ap (untold_of id) is ∙ untold_other id j other.0 in omega (arith, none))
-      own j is on took (inl same) =
-          let at : block ≡ id = sym on ∙ same.1 in
-          moved id (refused_copies (Some t)) before after (subst (λ (b : ℕ). refusals_of new b ≤ most_of new b) at within) (subst (λ (b : ℕ). most_of new b < last_count) at small)
-          (subst (λ (b : ℕ). WereCounted (refused_copies (Some t)) (refusals_of old b) (refusals_of new b)) at counted)
-          (let all = ap (untold_of id) is ∙ untold_own id j same.0 ∙ ap refused_copies took in omega (arith, all))
-
-  -- the Pick of a block
-  pub pick_keeps : (c : Configuration) (s : State) (id block ops : ℕ) (kind : JobKind) (t : Taken) → MayPick c s block kind t (next_of c s)
-      → refusals_of new block ≤ most_of new block → most_of new block < last_count → WereCounted (refused_copies (Some t)) (refusals_of old block) (refusals_of new block)
-      → refusable_in new (step c s (Pick block kind t ops)).hand id ≤ refusable_in old s.hand id
-  pick_keeps c s id block ops kind t may within small counted =
-      pick_by id block t s.hand (picked c s t (next_of c s)).hand within small counted (pick_holds c s block kind t (next_of c s) may)
-
--- A POST
-
-next_hand : (c : Configuration) (s : State) (r : ReqResult) (given : Option (List ℕ)) (n : Next) → (posted_next c s r given n).hand ≡ s.hand
-next_hand c s r given (PostMember sw id) = refl
-next_hand c s r given (EndSweep sw) = refl
-next_hand c s r given (PickJob j) = refl
-next_hand c s r given (PickMember sw id) = refl
-next_hand c s r given (BeginSweep sw) = refl
-next_hand c s r given Nothing = refl
-
-posted_hand : (c : Configuration) (s : State) (r : ReqResult) (given : Option (List ℕ)) (h : Option Job) → s.hand ≡ h → (posted c s r given h).hand ≡ None
-posted_hand c s r given None is = next_hand c s r given (next_of c s) ∙ is
-posted_hand c s r given (Some j) is = refl
-
--- it is on the block of the job in hand, if there is one
+-- A post is on the block of the job in hand, if there is one.
 abbrev pub IsOn : ℕ → Option Job → Type 0
 IsOn block None = Unit {0}
 IsOn block (Some j) = job_block j ≡ block
 
--- what it tells of: of copies in, or of those of the last Pick
-price_by : (s : State) (block refused ops : ℕ) (r : ReqResult) (given : Option (List ℕ)) (h : Option Job) → s.hand ≡ h → IsOn block h
-    → price_in_refusals s (Post block r given refused ops) ≤ refused + untold_of block s.hand
-price_by s block (suc n) ops r given h is on = omega arith
-price_by s block zero ops r given None is on = rw is (omega arith)
-price_by s block zero ops r given (Some j) is on = let own = untold_own block j (same (eqb_tells (job_block j) block)) in rw is (omega (arith, own))
+-- ONE COPY
+
+-- what a copy of a block came to, by what is told before and behind it
+pub record IsSpent (tries block : ℕ) (before after : List Told) (copy : Option ℕ) : Type 0 where
+  pub asked : IsAsAsked tries (to_refuse_in before block) copy
+  pub left : to_refuse_in after block ≡ left_by tries (to_refuse_in before block) copy
+  pub others : OthersStay block before after
+
+-- none was tried
+none_tried : (tries block : ℕ) (before after : List Told) → after ≡ before → IsSpent tries block before after None
+none_tried tries block before after same = record {
+  asked = tt;
+  left = ap (λ (ts : List Told). to_refuse_in ts block) same;
+  others = λ b other. ap (λ (ts : List Told). told_at ts b) same;
+}
+
+no_copy : (tries block : ℕ) (before after : List Told) (copy : Option ℕ) → copy ≡ None → after ≡ before → IsSpent tries block before after copy
+no_copy tries block before after copy none same = subst (IsSpent tries block before after) (sym none) (none_tried tries block before after same)
+
+-- an application in memory tells how many are to be refused
+left_one : (b : PlainBlock) (n : ℕ) → option_map (λ (s : Synchronized). s.bytes) (told_of b) ≡ Some n → to_refuse_by (told_of b) ≡ Some b.to_refuse
+left_one b n is = by (length b.content == 0) refl is
   where
-    same : (((job_block j == block) ≡ true) × (job_block j ≡ block)) ⊎ (((job_block j == block) ≡ false) × (job_block j ≢ block)) → (job_block j == block) ≡ true
-    same (inl has) = has.0
-    same (inr has) = absurd (has.1 on)
+    by : (t : Bool) → (length b.content == 0) ≡ t
+        → option_map (λ (s : Synchronized). s.bytes) (if t then None else Some (record { bytes = length b.content; refusals = b.refusals; to_refuse = Some b.to_refuse; handed = b.handed; last = b.last })) ≡ Some n
+        → to_refuse_by (told_of b) ≡ Some b.to_refuse
+    by true empty none = cc none
+    by false full some = rw full refl
 
-price_few : (s : State) (block refused ops : ℕ) (r : ReqResult) (given : Option (List ℕ)) → (refused ≡ 0) ⊎ (price_in_refusals s (Post block r given refused ops) ≤ refused)
-price_few s block zero ops r given = inl refl
-price_few s block (suc n) ops r given = inr (omega arith)
+told_left : (bs : List PlainBlock) (k n : ℕ) → IsSynchronized (map told_of bs) k n → (m : ℕ) × (to_refuse_of (map told_of bs) k ≡ Some m)
+told_left [] k n is = cc is
+told_left (x ∷ xs) zero n is = (x.to_refuse, left_one x n is)
+told_left (x ∷ xs) (suc k) n is = told_left xs k n is
 
-module _ (old new : List Told) (only : OnlyRefuses old new) where
-  post_by : (s : State) (id block refused ops : ℕ) (r : ReqResult) (given : Option (List ℕ)) (after : Option Job) → IsOn block s.hand → after ≡ None
-      → refusals_of new block ≤ most_of new block → most_of new block < last_count → WereCounted refused (refusals_of old block) (refusals_of new block)
-      → block_price id s (Post block r given refused ops) + refusable_in new after id ≤ refusable_in old s.hand id
-  post_by s id block refused ops r given after on none within small counted = by (eqb_tells block id)
+spent_by : (refused : Bool) (tries m : ℕ) (before after : Option ℕ) → before ≡ Some m → Spends refused tries before after
+    → (refused ≡ nat_le tries m) × (unwrap_or after 0 ≡ m - tries)
+spent_by refused tries m before after is spends = (
+  subst (λ (o : Option ℕ). IfSome o (λ n. refused ≡ nat_le tries n)) is spends.0,
+  ap (λ (o : Option ℕ). unwrap_or o 0) (spends.1 ∙ ap (option_map (λ (n : ℕ). n - tries)) is),
+)
+
+-- one was tried
+a_copy : (bs : List PlainBlock) (after : List Told) (refused : Bool) (tries block n count : ℕ) → IsSynchronized (map told_of bs) block n
+    → Spends refused tries (to_refuse_of (map told_of bs) block) (to_refuse_of after block) → count ≡ (if refused then tries else 0) → OthersStay block (map told_of bs) after
+    → IsSpent tries block (map told_of bs) after (Some count)
+a_copy bs after refused tries block n count synchronized spends counts others =
+    let (m, is) = told_left bs block n synchronized in
+    let (all, behind) = spent_by refused tries m (to_refuse_of (map told_of bs) block) (to_refuse_of after block) is spends in
+    let left : m ≡ to_refuse_in (map told_of bs) block = sym (ap (λ (o : Option ℕ). unwrap_or o 0) is) in
+    record {
+      asked = counts ∙ ap (λ (t : Bool). if t then tries else 0) all ∙ ap (λ (k : ℕ). if nat_le tries k then tries else 0) left;
+      left = behind ∙ ap (λ (k : ℕ). k - tries) left;
+      others = others;
+    }
+
+-- A PICK
+module _ (IsStore : ℕ → List ℕ → Type 0) (c : Configuration) (block : ℕ) (bs : List PlainBlock) (after : List Told) (are : AreSynchronized c (map told_of bs)) where
+  abbrev Spent : Option ℕ → Type 0
+  Spent copy = IsSpent ((desc_of c block).repeats + 1) block (map told_of bs) after copy
+
+  nothing_copied : (copy : Option ℕ) → copy ≡ None → after ≡ map told_of bs → Spent copy
+  nothing_copied copy none same = no_copy ((desc_of c block).repeats + 1) block (map told_of bs) after copy none same
+
+  by_copy : is_synchronized (desc_of c block).ram ≡ true → (t : Taken) (store : ℕ) → IsCopiedOut IsStore c block (map told_of bs) after t → TakesCopy (desc_of c block) store t
+      → Spent (copied_out true t)
+  by_copy sync (TookContent bytes number) store is takes = a_copy bs after false ((desc_of c block).repeats + 1) block (desc_of c block).length 0 (are block sync) is.spends refl is.others
+  by_copy sync (TookRefused count) store is takes = a_copy bs after true ((desc_of c block).repeats + 1) block (desc_of c block).length count (are block sync) is.spends takes is.others
+  by_copy sync (TookStale wanted got count) store is takes = a_copy bs after false ((desc_of c block).repeats + 1) block (desc_of c block).length 0 (are block sync) is.spends refl is.others
+  by_copy sync TookNothing store is takes = absurd takes
+
+  own : (synchronized : Bool) (bytes : List ℕ) (number : ℕ) → copied_out (synchronized && not true) (TookContent bytes number) ≡ None
+  own true bytes number = refl
+  own false bytes number = refl
+
+  write_spent : (b : BlockState) (j : Job) (content : Option (List ℕ × ℕ)) (synchronized : Bool) (t : Taken) → synchronized ≡ is_synchronized (desc_of c block).ram
+      → IsCopied IsStore c block (map told_of bs) after (copies_out_by WriteJob content synchronized) t → TakesForWrite (desc_of c block) b j content synchronized t
+      → Spent (copied_out (synchronized && not (is_some content)) t)
+  write_spent b j (Some x) synchronized t same is takes =
+      nothing_copied (copied_out (synchronized && not true) t) (ap (copied_out (synchronized && not true)) takes ∙ own synchronized x.0 x.1) is
+  write_spent b j None true t same is takes = by_copy (sym same) t (asked_store j.request) is takes
+  write_spent b j None false t same is takes = nothing_copied (copied_out false t) (ap (copied_out false) takes) is
+
+  job_spent : (b : BlockState) (j : Job) (kind : JobKind) (t : Taken)
+      → IsCopied IsStore c block (map told_of bs) after (copies_out_by kind j.content (is_synchronized (desc_of c block).ram)) t → TakesBy (desc_of c block) b j kind t
+      → Spent (copied_out (is_synchronized (desc_of c block).ram && not (is_some j.content)) t)
+  job_spent b j WriteJob t is takes = write_spent b j j.content (is_synchronized (desc_of c block).ram) t refl is takes
+  job_spent b j kind t is takes =
+      let copies = is_synchronized (desc_of c block).ram && not (is_some j.content) in nothing_copied (copied_out copies t) (ap (copied_out copies) takes) is
+
+  -- the Pick of a job on this block
+  on_block : (s : State) (j : Job) (t : Taken) → block ≡ job_block j
+      → IsCopied IsStore c block (map told_of bs) after (copies_out_by (kind_of j) j.content (is_synchronized (desc_of c (job_block j)).ram)) t
+      → TakesBy (desc_of c (job_block j)) (block_at s (job_block j)) j (kind_of j) t
+      → Spent (copied_out (is_synchronized (desc_of c block).ram && not (is_some j.content)) t)
+  on_block s j t at is takes =
+      job_spent (block_at s (job_block j)) j (kind_of j) t
+      (subst (λ (k : ℕ). IsCopied IsStore c block (map told_of bs) after (copies_out_by (kind_of j) j.content (is_synchronized (desc_of c k).ram)) t) (sym at) is)
+      (subst (λ (k : ℕ). TakesBy (desc_of c k) (block_at s (job_block j)) j (kind_of j) t) (sym at) takes)
+
+  pub pick_spent : (s : State) (kind : JobKind) (t : Taken) (n : Next) → IsCopied IsStore c block (map told_of bs) after (copies_out_next c n) t → MayPick c s block kind t n
+      → Spent (copied_out (is_synchronized (desc_of c block).ram && not (has_content n)) t)
+  pick_spent s kind t (PickJob j) is may = on_block s j t may.same_block is may.takes
+  pick_spent s kind t (PickMember sw id) is may = on_block s (member_job c sw id) t may.same_block is may.takes
+  pick_spent s kind t (BeginSweep sw) is may =
+      let copies = is_synchronized (desc_of c block).ram && not (not true) in nothing_copied (copied_out copies t) (ap (copied_out copies) may.takes_nothing) is
+  pick_spent s kind t (PostMember sw id) is may = absurd may
+  pick_spent s kind t (EndSweep sw) is may = absurd may
+  pick_spent s kind t Nothing is may = absurd may
+
+  -- A POST
+  over_spent : (goes : Bool) (ended posted : Answer) (refused : ℕ) → (goes ≡ true → is_synchronized (desc_of c block).ram ≡ true) → OthersStay block (map told_of bs) after
+      → IsHandedOver (goes && is_some ended.1) ended posted refused ((desc_of c block).repeats + 1) block (map told_of bs) after → Spent (copied_in goes posted.1 refused)
+  over_spent false ended posted refused sync others over = nothing_copied (copied_in false posted.1 refused) (ap (copied_in false posted.1) over.1) over.2
+  over_spent true (r, None) posted refused sync others over =
+      nothing_copied (copied_in true posted.1 refused) (ap (λ (a : Answer). copied_in true a.1 refused) over.0 ∙ ap (copied_in true None) over.1) over.2
+  over_spent true (r, Some x) posted refused sync others (inl took) =
+      subst Spent (sym (ap (λ (a : Answer). copied_in true a.1 refused) took.0 ∙ ap (copied_in true (Some x)) took.1))
+      (a_copy bs after false ((desc_of c block).repeats + 1) block (desc_of c block).length 0 (are block (sync refl)) took.3 refl others)
+  over_spent true (r, Some x) posted refused sync others (inr all) =
+      let tries = (desc_of c block).repeats + 1 in
+      subst Spent (sym (ap (λ (a : Answer). copied_in true a.1 refused) all.0 ∙ ap (copied_in true None) (all.1 ∙ add-one (desc_of c block).repeats) ∙ ap Some (sym (add-one (desc_of c block).repeats))))
+      (a_copy bs after true tries block (desc_of c block).length tries (are block (sync refl)) all.3 refl others)
+
+  pub post_spent : (ram : Bool) (ended posted : Answer) (refused : ℕ) → OthersStay block (map told_of bs) after
+      → IsHandedOver (goes_over (desc_of c block) ram ended.1) ended posted refused ((desc_of c block).repeats + 1) block (map told_of bs) after
+      → Spent (copied_in (ram && is_synchronized (desc_of c block).ram) posted.1 refused)
+  post_spent ram ended posted refused others over = over_spent (ram && is_synchronized (desc_of c block).ram) ended posted refused (second ram) others over
     where
-      gone : untold_of id after ≡ 0
-      gone = ap (untold_of id) none
+      second : (t : Bool) → (t && is_synchronized (desc_of c block).ram) ≡ true → is_synchronized (desc_of c block).ram ≡ true
+      second true is = is
+      second false is = cc is
 
-      by : (((block == id) ≡ true) × (block ≡ id)) ⊎ (((block == id) ≡ false) × (block ≢ id)) → block_price id s (Post block r given refused ops) + refusable_in new after id ≤ refusable_in old s.hand id
-      by (inr other) = rw other.0 (let less = fewer old new only id s.hand after (omega (arith, gone)) in omega (arith, less))
-      by (inl same) = rw same.0 (
-          told old new only id refused (price_in_refusals s (Post block r given refused ops)) s.hand after (subst (λ (b : ℕ). refusals_of new b ≤ most_of new b) same.1 within)
-          (subst (λ (b : ℕ). most_of new b < last_count) same.1 small) (subst (λ (b : ℕ). WereCounted refused (refusals_of old b) (refusals_of new b)) same.1 counted) gone
-          (subst (λ (b : ℕ). price_in_refusals s (Post block r given refused ops) ≤ refused + untold_of b s.hand) same.1 (price_by s block refused ops r given s.hand refl on))
-          (price_few s block refused ops r given))
+-- ENTRIES
 
-  pub post_keeps : (c : Configuration) (s : State) (id block refused ops : ℕ) (r : ReqResult) (given : Option (List ℕ)) → IsOn block s.hand
-      → refusals_of new block ≤ most_of new block → most_of new block < last_count → WereCounted refused (refusals_of old block) (refusals_of new block)
-      → block_price id s (Post block r given refused ops) + refusable_in new (step c s (Post block r given refused ops)).hand id ≤ refusable_in old s.hand id
-  post_keeps c s id block refused ops r given on within small counted =
-      post_by s id block refused ops r given (posted c s r given s.hand).hand on (posted_hand c s r given s.hand refl) within small counted
+abbrev AskedSo : Configuration → (before after : List Told) → ℕ → Option ℕ → Type 0
+AskedSo c before after k o = IsAsAsked ((desc_of c k).repeats + 1) (to_refuse_in before k) o × (to_refuse_in after k ≡ left_by ((desc_of c k).repeats + 1) (to_refuse_in before k) o)
 
--- A WROTE, AND AN OFF
+-- an entry of one block that tells of its copy
+pub entry_asked : (c : Configuration) (s : State) (id block : ℕ) (before after : List Told) (e : Entry) (copy : Option ℕ) → copy_told c id s e ≡ (if block == id then copy else None)
+    → IsSpent ((desc_of c block).repeats + 1) block before after copy → AreAsAsked c id s (to_refuse_in before id) (e ∷ []) (to_refuse_in after id)
+entry_asked c s id block before after e copy tells spent = by (eqb_tells block id)
+  where
+    by : (((block == id) ≡ true) × (block ≡ id)) ⊎ (((block == id) ≡ false) × (block ≢ id)) → AskedSo c before after id (copy_told c id s e)
+    by (inl own) =
+        subst (AskedSo c before after id) (sym (tells ∙ ap (λ (t : Bool). if t then copy else None) own.0))
+        (subst (λ (k : ℕ). AskedSo c before after k copy) own.1 (spent.asked, spent.left))
+    by (inr other) =
+        subst (AskedSo c before after id) (sym (tells ∙ ap (λ (t : Bool). if t then copy else None) other.0))
+        (tt, ap (λ (t : Told). unwrap_or (to_refuse_by t) 0) (spent.others id (λ is. other.1 (sym is))))
 
-wrote_hand : (s : State) (i : Instance) (mark : Mark) (h : Option Job) (id : ℕ) → s.hand ≡ h → untold_of id (wrote s i mark h).hand ≡ untold_of id h
-wrote_hand s i mark None id is = ap (untold_of id) is
-wrote_hand s i mark (Some j) id is = refl
-
-pub wrote_untold : (c : Configuration) (s : State) (i : Instance) (mark : Mark) (ops id : ℕ) → untold_of id (step c s (Wrote i mark ops)).hand ≡ untold_of id s.hand
-wrote_untold c s i mark ops id = wrote_hand s i mark s.hand id refl
+-- one that tells of no copy
+pub silent_asked : (c : Configuration) (s : State) (id : ℕ) (before after : List Told) (e : Entry) → copy_told c id s e ≡ None → after ≡ before
+    → AreAsAsked c id s (to_refuse_in before id) (e ∷ []) (to_refuse_in after id)
+silent_asked c s id before after e none same = rw none (tt, ap (λ (ts : List Told). to_refuse_in ts id) same)

@@ -1,26 +1,26 @@
 -- A turn: what it adds, and how that is explained.
-use Rattle.std.specs.Prelude.{◌||◌, not, IsTrue, map, sum_by}
-use Rattle.std.proofs.Common.{◌≡◌, ◌≤◌, ◌+◌, ℕ, suc, Bool, true, false, List, [], ◌∷◌, ◌++◌, length, get_or, Option, refl, sym, ap, ◌∙◌, subst, inl, inr, arith, append-nil}
+use Rattle.std.specs.Prelude.{◌||◌, not, IsTrue, map}
+use Rattle.std.proofs.Common.{◌≡◌, ◌≤◌, ◌+◌, ℕ, suc, Bool, true, false, List, [], ◌∷◌, ◌++◌, length, get_or, Option, None, refl, sym, ap, ◌∙◌, subst, inl, inr, arith, append-nil}
 use Rattle.std.proofs.lemmas.List.{ext_get_or, length-map}
-use Rattle.nvm_core.specs.nv_base.Count.{WereCounted}
 use Rattle.nvm_core.specs.memif.Told.{DeviceTold, Fixed, is_off}
-use Rattle.nvm_core.specs.block_machine.Words.{Entry, Configuration}
+use Rattle.nvm_core.specs.block_machine.Words.{Entry, Off, Configuration}
 use Rattle.nvm_core.specs.block_machine.State.{State, Job}
-use Rattle.nvm_core.specs.block_machine.Prices.{sum_from, block_price}
 use Rattle.nvm_core.specs.block_machine.Steps.{step, after}
 use Rattle.nvm_core.specs.ram_blocks.declared.plain_block.PlainBlock.{PlainBlock}
 use Rattle.nvm_core.specs.ram_blocks.Told.{Told, sizes_of}
 use Rattle.nvm_core.specs.ram_blocks.Plain.{told_of, store_of}
 use Rattle.nvm_core.specs.nv_desk.Desk.{DeskState, state_of}
-use Rattle.promise_run.specs.Run.{unpaid_off}
+use Rattle.promise_run.specs.Run.{DueCut, Added, CutsAre}
+use Rattle.promise_run.specs.Refusals.{AreAsAsked}
 use Rattle.nvm_core.specs.Stack.{StackState, PowersOff}
 use Rattle.nvm_core.proofs.block_laws.HistoryLaws.{histories_step}
-use Rattle.script_player.specs.Told.{IsGrown}
+use Rattle.script_player.specs.Told.{IsGrown, IsNoEarlier, AreCut, plan_behind}
 use Rattle.script_player.specs.Coming.{MissesNone}
 use Rattle.script_player.specs.Calls.{AreExplained, AllTell, MakesOne}
 use Rattle.script_walks.specs.Walk.{is_due, begins_with_pick_or_post}
-use Rattle.script_player.specs.PlainTold.{told_by, most_in, refusable_in, plan_in, unplanned_in, ops_in}
-use Rattle.script_player.proofs.PlainDevices.{Goes}
+use Rattle.script_player.specs.PlainTold.{told_by, most_in, to_refuse_in, plan_in, came_in, ops_in}
+use Rattle.script_player.proofs.PlainPlans.{none_earlier}
+use Rattle.script_player.proofs.PlainDevices.{Goes, DeviceCut}
 
 -- THE STORES
 
@@ -57,11 +57,37 @@ one_more old new e adds = ap state_of adds ∙ histories_step old.config old.ent
 -- HOW IT IS EXPLAINED
 
 pub explained : {D : Type 0} (device : D → DeviceTold) (old new : StackState D (List PlainBlock)) (es : List Entry) → Goes (device old.device) (device new.device)
-    → ((id : ℕ) → sum_from old.desk.config (block_price id) (state_of old.desk) es + refusable_in (map told_of new.copies) (state_of new.desk).hand id
-    ≤ refusable_in (map told_of old.copies) (state_of old.desk).hand id)
-    → WereCounted (sum_by (unpaid_off (plan_in (device old.device))) es) (unplanned_in (device old.device)) (unplanned_in (device new.device))
+    → ((id : ℕ) → AreAsAsked old.desk.config id (state_of old.desk) (to_refuse_in (map told_of old.copies) id) es (to_refuse_in (map told_of new.copies) id))
+    → AreCut (plan_in (device old.device)) 0 (map Added es) (told_by device old) (told_by device new)
     → AreExplained (plan_in (device old.device)) es (told_by device old) (told_by device new)
-explained device old new es goes refusals off = record { refusals = refusals; off = off; plan_stays = goes.plan; takes = goes.takes }
+explained device old new es goes refusals off = record { refusals = refusals; off = off; takes = goes.takes }
+
+-- with no Off among them
+pub no_off : {D : Type 0} (device : D → DeviceTold) (old new : StackState D (List PlainBlock)) (es : List Entry) → Goes (device old.device) (device new.device) → came_in (device new.device) ≡ came_in (device old.device)
+    → CutsAre (plan_in (device old.device)) 0 (map Added es) [] 0 → plan_behind (plan_in (device old.device)) 0 (map Added es) ≡ plan_in (device old.device)
+    → PowersOff new.desk (device new.device) → AreCut (plan_in (device old.device)) 0 (map Added es) (told_by device old) (told_by device new)
+no_off device old new es goes came are stays power = record {
+  cuts = [];
+  others = 0;
+  are = are;
+  came = came ∙ sym (append-nil (came_in (device old.device)));
+  counted = inl (let more = goes.unplanned in omega (arith, more));
+  plan_stays = subst (λ (p : Option DueCut). IsNoEarlier p (plan_in (device new.device))) (sym stays) goes.plan;
+  power = λ tells. power;
+}
+
+-- one Off
+pub one_off : {D : Type 0} (device : D → DeviceTold) (old new : StackState D (List PlainBlock)) → DeviceCut (device old.device) (device new.device) → PowersOff new.desk (device new.device)
+    → AreCut (plan_in (device old.device)) 0 (Added (Off (ops_in (device new.device))) ∷ []) (told_by device old) (told_by device new)
+one_off device old new cut power = record {
+  cuts = cut.cuts;
+  others = cut.others;
+  are = cut.are;
+  came = cut.came;
+  counted = cut.counted;
+  plan_stays = none_earlier None (plan_in (device new.device)) cut.none;
+  power = λ tells. power;
+}
 
 -- its operations
 pub makes_one : {D : Type 0} (device : D → DeviceTold) (old new : StackState D (List PlainBlock)) (es : List Entry) → Goes (device old.device) (device new.device) → AllTell (ops_in (device new.device)) es
@@ -76,24 +102,14 @@ not_two false is = refl
 pub misses_none : {D : Type 0} (device : D → DeviceTold) (old new : StackState D (List PlainBlock)) → Goes (device old.device) (device new.device) → PowersOff new.desk (device new.device) → MissesNone (told_by device old) (told_by device new)
 misses_none device old new goes power alone p stands =
     let soon = stands.soon in
-    elim (goes.comes (not_two (device old.device).fixed.two alone) stands.due stands.is stands.later) [
+    elim (goes.comes (not_two (device old.device).fixed.two alone) stands.cut stands.is stands.later) [
       | inl off ↦ inr (inl (power (is_part_off (device new.device) off)))
       | inr (inl full) ↦ inr (inr full)
-      | inr (inr (y, is, more, sooner)) ↦ inl (record { due = y; is = is; later = more; soon = omega (arith, soon, sooner) })
+      | inr (inr (y, is, more, sooner)) ↦ inl (record { cut = y; is = is; later = more; soon = omega (arith, soon, sooner) })
     ]
   where
     is_part_off : (d : DeviceTold) → d.first.off ≡ true → is_off d ≡ true
     is_part_off d off = rw off refl
-
--- no Off among it
-pub none_off : (u v : ℕ) → u ≤ v → WereCounted 0 u v
-none_off u v less = inl (omega (arith, less))
-
--- one entry of this price
-pub one_price : (c : Configuration) (s : State) (id : ℕ) (e : Entry) (old new : List Told) (before after behind : Option Job) → behind ≡ after
-    → block_price id s e + refusable_in new after id ≤ refusable_in old before id
-    → sum_from c (block_price id) s (e ∷ []) + refusable_in new behind id ≤ refusable_in old before id
-one_price c s id e old new before after behind same less = subst (λ (h : Option Job). sum_from c (block_price id) s (e ∷ []) + refusable_in new h id ≤ refusable_in old before id) (sym same) (omega (arith, less))
 
 -- WHERE IT BEGINS
 

@@ -24,13 +24,12 @@ use Rattle.script_player.proofs.Moves.{made_more, move_to, turn_moved}
 use Rattle.script_player.specs.Paying.{Payer, PaysTurn, PaysBy}
 use Rattle.script_player.proofs.Paying.{by_more}
 use Rattle.promise_run.specs.Turns.{Move}
-use Rattle.script_player.proofs.Serving.{calm_until, calm_from, serves_more, none_serves, any_serve, turn_serves}
 
 -- what a turn adds keeps what is kept
-pub turn_kept : (before : List Step) (old new : StackTold) (turn : MakesTurn old new) → IsKept before old → HasTurned 1 before old new turn.entries × IsKept before new
+pub turn_kept : (before : List Step) (old new : StackTold) (turn : MakesTurn old new) → IsKept before old → HasTurned before old new turn.entries × IsKept before new
 turn_kept before old new turn kept =
     let keeps = turns_keep_stored old.configuration before (state_of old) old.stores turn.entries kept.stores kept.jobs turn.turn in (
-      record { grows = turn.grows; counted = turn.counted; explained = turn.explained; keeps = keeps; serves = turn_serves old new turn },
+      record { grows = turn.grows; counted = turn.counted; explained = turn.explained; keeps = keeps },
       subst (λ (t : StackTold). IsKept before t) (sym turn.grows) (record {
         ready = kept.ready;
         places = kept.places;
@@ -39,15 +38,12 @@ turn_kept before old new turn kept =
       }),
     )
 
-pub turned_more : (n m : ℕ) (before : List Step) (old mid new : StackTold) (es more : List Entry) → HasTurned n before old mid es → HasTurned m before mid new more → HasTurned (n + m) before old new (es ++ more)
-turned_more n m before old mid new es more one two = record {
+pub turned_more : (before : List Step) (old mid new : StackTold) (es more : List Entry) → HasTurned before old mid es → HasTurned before mid new more → HasTurned before old new (es ++ more)
+turned_more before old mid new es more one two = record {
   grows = grown_more old mid new es more one.grows two.grows;
   counted = let a = one.counted in let b = two.counted in omega (arith, a, b);
   explained = explained_more old.causes.plan old mid new es more one.grows one.explained two.explained;
   keeps = keeping_goes_on old.configuration before (state_of old) es more one.keeps (later one.grows two.keeps);
-  serves = λ calm.
-      serves_more n m old mid new es more one.grows
-      (one.serves (calm_until old mid new more (ap (λ (t : StackTold). t.entries) two.grows) two.counted calm)) (two.serves (calm_from old mid new one.counted calm));
 }
   where
     later : IsGrown es old mid → KeepsStored mid.configuration before (state_of mid) more → KeepsStored old.configuration before (after_from old.configuration (state_of old) es) more
@@ -55,23 +51,12 @@ turned_more n m before old mid new es more one two = record {
         subst (λ (s : State). KeepsStored old.configuration before s more) (state_more old.configuration old.entries es)
         (subst (λ (t : StackTold). KeepsStored t.configuration before (state_of t) more) is keeps)
 
-pub none_turned : (before : List Step) (t : StackTold) → IsKept before t → HasTurned 0 before t t []
+pub none_turned : (before : List Step) (t : StackTold) → IsKept before t → HasTurned before t t []
 none_turned before t kept = record {
   grows = ap (λ (h : List Entry). record t { entries = h }) (sym (append-nil t.entries));
   counted = omega arith;
   explained = none_explained t;
   keeps = record { played = refl; stores = tt; jobs = kept.jobs };
-  serves = λ calm. none_serves t;
-}
-
--- whatever number of turns it was
-pub any_turned : (n : ℕ) (before : List Step) (old new : StackTold) (es : List Entry) → HasTurned n before old new es → HasTurned 0 before old new es
-any_turned n before old new es turned = record {
-  grows = turned.grows;
-  counted = turned.counted;
-  explained = turned.explained;
-  keeps = turned.keeps;
-  serves = λ calm. any_serve n es old new (turned.serves calm);
 }
 
 -- SO MANY TURNS
@@ -121,7 +106,7 @@ one_turn_more p q r (suc n) before old mid new (es, was, are, (ms, many, moved))
     let count : suc n + 1 ≡ suc (suc n) = omega arith in (
       subst (λ (m : ℕ). MakesTurns p r m before old new) (sym count) (
         es ++ turn.entries,
-        subst (λ (m : ℕ). HasTurned m before old new (es ++ turn.entries)) count (turned_more (suc n) 1 before old mid new es turn.entries was turned),
+        turned_more before old mid new es turn.entries was turned,
         subst (λ (m : ℕ). AreTurns (state_of old) m (es ++ turn.entries)) count more,
         (ms ++ move_to turn.entries new ∷ [], one_longer (suc n) ms (move_to turn.entries new) many, made_more p q r old mid new es turn.entries ms (move_to turn.entries new ∷ []) was.grows moved (turn_moved q r mid new turn pays)),
       ),
@@ -131,7 +116,7 @@ one_turn_more p q r (suc n) before old mid new (es, was, are, (ms, many, moved))
 -- A DRAIN
 
 -- it ends
-pub drained : (p q : Payer) (before : List Step) (old new : StackTold) (es : List Entry) (ms : List Move) → HasTurned 0 before old new es → AreMade p q es ms old new → IsTrue (is_at_rest (state_of new) || (state_of new).off) → Drains p q before old new
+pub drained : (p q : Payer) (before : List Step) (old new : StackTold) (es : List Entry) (ms : List Move) → HasTurned before old new es → AreMade p q es ms old new → IsTrue (is_at_rest (state_of new) || (state_of new).off) → Drains p q before old new
 drained p q before old new es ms turned moved ends =
     (es, turned, record { played = turned.keeps.played; ends = subst (λ (s : State). IsTrue (is_at_rest s || s.off)) (state_grown old new es turned.grows) ends }, (ms, moved))
 

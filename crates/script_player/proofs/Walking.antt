@@ -9,24 +9,24 @@ use Rattle.nvm_core.specs.nv_base.Entry.{ops_behind}
 use Rattle.nvm_core.specs.block_machine.Words.{Instance, Mark, Entry, Found, Configuration}
 use Rattle.nvm_core.specs.block_machine.State.{State}
 use Rattle.nvm_core.specs.block_machine.StartUp.{at_first}
-use Rattle.nvm_core.specs.block_machine.Prices.{sum_from, block_price, prices_in_refusals}
 use Rattle.nvm_core.specs.block_machine.Steps.{after, after_from}
 use Rattle.script_walks.specs.Words.{Step}
 use Rattle.script_walks.specs.Walk.{IsPiece, IsWalkOf, joined}
 use Rattle.nvm_script.specs.Played.{IsPlayed, ArePlayed}
 use Rattle.script_walks.specs.Stores.{AreNewest, JobsTookStored}
 use Rattle.nvm_core.specs.ram_blocks.Plain.{store_of, plain_blocks_of}
-use Rattle.promise_run.specs.Run.{Played, EachPiece, HasNoRoom, HadRoom, unpaid_offs, refusals_of, RefusalsExplain}
-use Rattle.promise_run.specs.Completeness.{is_drain, IsServed}
+use Rattle.promise_run.specs.Run.{Played, EachPiece, HasNoRoom, HadRoom, DueCut, Event, Made, Added, events_of}
+use Rattle.promise_run.specs.Refusals.{AreAsAsked, RefusesAsAsked, asked_by}
+use Rattle.promise_run.specs.InRoom.{is_drain}
 use Rattle.script_walks.proofs.Jobs.{starts_keep_stored}
 use Rattle.script_walks.proofs.First.{first_are_newest}
 use Rattle.script_walks.proofs.Walks.{walks_grow}
 use Rattle.script_player.specs.declared.steps.StepFault.{StepFault}
 use Rattle.script_player.specs.declared.steps.StepFault.TheVariants.{Flash, HistoryFull, Memory}
-use Rattle.script_player.specs.Told.{StackTold, state_of, moment_of, IsNoEarlier}
+use Rattle.script_player.specs.Told.{StackTold, state_of, moment_of, IsNoEarlier, AreCut, TellsOff, plan_behind, ops_at}
 use Rattle.script_player.specs.Kept.{IsKept}
-use Rattle.script_player.specs.Made.{cuts_in, cuts_of, PaysOffs, IsExplained, IsMade, IsLeft, IsFresh, Makes, HasWalked, WereLeft, WasBroken}
-use Rattle.script_player.specs.Walking.{plan_behind, refusals_in, IsWalking, AreUnderWay, planned_behind}
+use Rattle.script_player.specs.Made.{cuts_in, cuts_of, IsExplained, IsMade, IsLeft, IsFresh, Makes, HasWalked, WereLeft, WasBroken}
+use Rattle.script_player.specs.Walking.{IsWalking, AreUnderWay, planned_behind}
 use Rattle.script_player.specs.Table.{HasLastStores}
 use Rattle.promise_run.specs.Turns.{Moment, Move, entries_of, moment_behind, moment_after, Planned, planned_by, AreInTime, all_moves}
 use Rattle.promise_run.proofs.Paid.{since_too}
@@ -40,10 +40,10 @@ use Rattle.script_player.proofs.Chain.{each_posted, each_rests, all_more}
 use Rattle.script_player.proofs.Moves.{has_more, chain_more, closes_more, moved_entries}
 use Rattle.script_player.proofs.Grown.{state_more}
 use Rattle.script_player.proofs.Table.{first_table}
-use Rattle.script_player.proofs.Explained.{counted_more, none_counted}
+use Rattle.script_player.proofs.Offs.{counted_more, none_counted, none_cut_same, are_more}
 use Rattle.script_player.proofs.Serving.{calm_until, calm_from}
-use Rattle.script_player.proofs.Awaited.{none_within, each_more, serving_more, is_served}
-use Rattle.script_player.proofs.Causes.{plan_more, unpaid_more, ops_in_all, joined_more, prices_more, refusals_more}
+use Rattle.script_player.proofs.EachPiece.{each_more}
+use Rattle.script_player.proofs.Causes.{events_more, events_tell, ops_in_all, joined_more, refuses_more}
 
 -- a step of the script can be played
 pub is_played : (c : Configuration) (made left : List Step) (x : Step) → ArePlayed c (made ++ x ∷ left) → IsPlayed c x
@@ -76,15 +76,11 @@ walks_on p q r made x old mid new same cap most counted walking step planned one
       let n = walking.as_many in omega (arith, a, b, n);
   room = each_more old.configuration (HadRoom old.configuration old.cap) (HadRoom old.configuration old.cap) x piece (after old.configuration (first ∷ joined walking.pieces)) (λ s y q ys qs had. had) room
       (after old.configuration (first ∷ [])) made walking.pieces walking.as_many refl walking.room;
-  refusals = λ id. refusals_more old.configuration id first made walking.pieces x piece walking.as_many (walking.refusals id) (told id);
-  refusable = λ id.
-      let price = ap (λ (es : List Entry). prices_in_refusals old.configuration id (first ∷ es)) (joined_more walking.pieces piece) ∙ prices_more old.configuration id (first ∷ joined walking.pieces) piece in
-      let asked = sum_by_push (λ (y : Step). refusals_of id y.kind) made x in
-      let now = own id in
-      let were = walking.refusable id in omega (arith, price, asked, now, were);
-  off = subst (λ (n : ℕ). WereCounted n old.causes.unplanned new.causes.unplanned) (sym (unpaid_more None 0 made walking.pieces x piece walking.as_many))
-      (counted_more (unpaid_offs None 0 made walking.pieces) _ old.causes.unplanned mid.causes.unplanned new.causes.unplanned walking.off paid.off);
-  plan_stays = subst (λ (p : Option ℕ). IsNoEarlier p new.causes.plan) (sym (plan_more None 0 made walking.pieces x piece walking.as_many)) paid.plan_stays;
+  refusals = λ id.
+      refuses_more old.configuration id (after old.configuration (first ∷ [])) made walking.pieces x piece 0 (mid.causes.to_refuse id) (new.causes.to_refuse id)
+      walking.as_many (walking.refusals id) (own id);
+  off = subst (λ (es : List Event). AreCut None 0 es old new) (sym (events_more made walking.pieces x piece walking.as_many))
+      (are_more None 0 (events_of made walking.pieces) (Made x.kind ∷ map Added piece) old mid new walking.off paid);
   takes =
       let cuts = sum_by_push (λ (y : Step). cuts_in y.kind) made x in
       let a = walking.takes in
@@ -106,9 +102,6 @@ walks_on p q r made x old mid new same cap most counted walking step planned one
         subst (λ (q : Option Planned). IsPending q new) (sym (planned_more None (moment_of old) made x walking.moves.moves step.moves walking.moves.are))
             (subst (λ (m : Moment). IsPending (planned_by x.kind m (planned_behind None (moment_of old) made walking.moves.moves)) new) behind now),
       );
-  serves = λ calm.
-      serving_more first made walking.pieces x old mid new walking.as_many same most walking.at step
-      (walking.serves (calm_until old mid new piece adds step.counted calm)) (step.serves (calm_from old mid new counted calm));
 }
   where
     piece : List Entry
@@ -139,35 +132,40 @@ walks_on p q r made x old mid new same cap most counted walking step planned one
     room : ¬ HasNoRoom old.configuration old.cap (after old.configuration (first ∷ joined walking.pieces)) x.kind
     room = subst (λ (s : State). ¬ HasNoRoom old.configuration old.cap s x.kind) state (behind (λ c n s. ¬ HasNoRoom c n s x.kind) old mid same cap step.room)
 
-    -- the prices of the piece
-    own : (id : ℕ) → sum_from old.configuration (block_price id) (after old.configuration (first ∷ joined walking.pieces)) piece + new.causes.refusable id ≤ mid.causes.refusable id + refusals_of id x.kind
+    -- the copies of the piece
+    own : (id : ℕ) → AreAsAsked old.configuration id (after old.configuration (first ∷ joined walking.pieces)) (asked_by id x.kind (mid.causes.to_refuse id)) piece (new.causes.to_refuse id)
     own id =
-        subst (λ (s : State). sum_from old.configuration (block_price id) s piece + new.causes.refusable id ≤ mid.causes.refusable id + refusals_of id x.kind) state
-        (subst (λ (c : Configuration). sum_from c (block_price id) (after c mid.entries) piece + new.causes.refusable id ≤ mid.causes.refusable id + refusals_of id x.kind) same (explained.refusals id))
-
-    told : (id : ℕ) → prices_in_refusals old.configuration id (first ∷ joined walking.pieces) + sum_from old.configuration (block_price id) (after old.configuration (first ∷ joined walking.pieces)) piece ≤ refusals_in id made + refusals_of id x.kind
-    told id = let now = own id in let were = walking.refusable id in omega (arith, now, were)
+        subst (λ (s : State). AreAsAsked old.configuration id s (asked_by id x.kind (mid.causes.to_refuse id)) piece (new.causes.to_refuse id)) state
+        (subst (λ (c : Configuration). AreAsAsked c id (after c mid.entries) (asked_by id x.kind (mid.causes.to_refuse id)) piece (new.causes.to_refuse id)) same (explained.refusals id))
 
     few : ops_behind 0 (joined walking.pieces) ≤ ops_behind 0 mid.entries
     few = subst (λ (es : List Entry). ops_behind 0 (joined walking.pieces) ≤ ops_behind 0 es) (sym walking.at) (ops_in_all walking.marks walking.ops (joined walking.pieces))
 
-    paid : PaysOffs x.kind (plan_behind None 0 made walking.pieces) (ops_behind 0 (joined walking.pieces)) piece mid new
-    paid = explained.offs (plan_behind None 0 made walking.pieces) (ops_behind 0 (joined walking.pieces)) planned few walking.plan_stays
+    tell : ops_at 0 (events_of made walking.pieces) ≡ ops_behind 0 (joined walking.pieces)
+    tell = events_tell 0 made walking.pieces walking.as_many
 
-pub has_walked : (p q r : Payer) (made : List Step) (old mid new : StackTold) → new.entries ≡ mid.entries → mid.faults ≤ new.faults → new.ops ≡ mid.ops → WereCounted 0 mid.causes.unplanned new.causes.unplanned → PaysBy q r mid [] → IsWalking p q made old mid → HasWalked p r made old new
-has_walked p q r made old mid new same counted operations cuts pays walking = record {
+    paid : AreCut (plan_behind None 0 (events_of made walking.pieces)) (ops_at 0 (events_of made walking.pieces)) (Made x.kind ∷ map Added piece) mid new
+    paid =
+        explained.offs (plan_behind None 0 (events_of made walking.pieces)) (ops_at 0 (events_of made walking.pieces)) planned (omega (arith, tell, few)) walking.off.plan_stays
+
+pub has_walked : (p q r : Payer) (made : List Step) (old mid new : StackTold) → new.entries ≡ mid.entries → mid.faults ≤ new.faults → new.ops ≡ mid.ops → WereCounted 0 mid.causes.unplanned new.causes.unplanned → new.causes.came ≡ mid.causes.came → (TellsOff mid → TellsOff new) → PaysBy q r mid [] → IsWalking p q made old mid → HasWalked p r made old new
+has_walked p q r made old mid new same counted operations cuts came power pays walking = record {
   more = walking.more;
   grows = same ∙ walking.grows;
   pieces = walking.pieces;
   walk = subst (λ (es : List Entry). IsWalkOf old.configuration made walking.pieces es) (sym (same ∙ walking.at)) walking.walk;
   room = subst (λ (es : List Entry). EachPiece old.configuration (HadRoom old.configuration old.cap) (after old.configuration (take 1 es)) made walking.pieces) (sym (same ∙ walking.at)) walking.room;
-  refusals = λ id. subst (λ (es : List Entry). RefusalsExplain old.configuration (Played made walking.pieces []) es id) (sym (same ∙ walking.at)) (walking.refusals id);
-  off = subst (λ (n : ℕ). WereCounted n old.causes.unplanned new.causes.unplanned) (nothing_more (unpaid_offs None 0 made walking.pieces))
-      (counted_more (unpaid_offs None 0 made walking.pieces) 0 old.causes.unplanned mid.causes.unplanned new.causes.unplanned walking.off cuts);
-  complete = λ calm.
-      subst (λ (h : List Entry). IsServed old.configuration old.most made walking.pieces h) (sym (same ∙ walking.at))
-      (is_served (Found walking.marks walking.ops) made walking.pieces old mid
-      (walking.serves (calm_until old mid new [] (same ∙ sym (append-nil mid.entries)) counted calm)));
+  refusals = λ id.
+      subst (λ (es : List Entry). RefusesAsAsked old.configuration (Played made walking.pieces []) es id) (sym (same ∙ walking.at)) (mid.causes.to_refuse id, walking.refusals id);
+  came = walking.off.cuts;
+  more_came = came ∙ walking.off.came;
+  power = λ tells. power (walking.off.power tells);
+  off = (
+    walking.off.others,
+    walking.off.are,
+    subst (λ (n : ℕ). WereCounted n old.causes.unplanned new.causes.unplanned) (nothing_more walking.off.others)
+        (counted_more walking.off.others 0 old.causes.unplanned mid.causes.unplanned new.causes.unplanned walking.off.counted cuts),
+  );
   last = moment_of mid;
   serves = each_posted (all_moves walking.moves.moves) (shown_of old) (shown_of mid) walking.chain;
   rests = each_rests (all_moves walking.moves.moves) (shown_of old) (shown_of mid) walking.chain;
@@ -177,14 +175,15 @@ has_walked p q r made old mid new same counted operations cuts pays walking = re
   counted = counted;
   cuts = λ one. (walking.cuts one).0;
   pays = record {
+    tells = λ tells. walking.pays.tells (pays.tells tells);
     failed = λ k few is. walking.pays.failed k few (pays.failed k (let later = behind_later q.failed (moment_of old) (all_moves walking.moves.moves) walking.pays.counts in omega (arith, few, later, ends)) is);
     counts = counted_by q.failed r.failed mid.ops pays.failed (moment_of old) (all_moves walking.moves.moves) (omega (arith, ends)) walking.pays.counts;
     worn = λ k n is. pays.worn k n (walking.pays.worn k n is);
-    pays = λ since owes.
-        let (paid, then_owes) = walking.pays.pays since owes in
+    pays = λ tells since owes.
+        let (paid, then_owes) = walking.pays.pays (pays.tells tells) since owes in
         let moves = all_moves walking.moves.moves in (
           since_too old.configuration q.worn r.worn pays.worn since (moment_of old) (state_of old) moves paid,
-          (pays.pays (since_behind since (moment_of old) moves) then_owes).1,
+          (pays.pays tells (since_behind since (moment_of old) moves) then_owes).1,
         );
   };
 }
@@ -194,10 +193,6 @@ has_walked p q r made old mid new same counted operations cuts pays walking = re
 
     ends : (moment_behind (moment_of old) (all_moves walking.moves.moves)).ops ≡ mid.ops
     ends = ap (λ (m : Moment). m.ops) (all_behind (moment_of old) walking.moves.moves ∙ walking.moves.behind)
-
-none_taken : (c : Configuration) (id n : ℕ) (marks : List (Instance × Mark)) (ops : ℕ) → prices_in_refusals c id (Found marks ops ∷ joined (take n [])) ≤ refusals_in id (take n [])
-none_taken c id zero marks ops = omega arith
-none_taken c id (suc n) marks ops = omega arith
 
 -- a fresh stack has walked no step
 pub fresh_walking : (p : Payer) (t : StackTold) → IsFresh t → IsWalking p p [] t t
@@ -211,17 +206,14 @@ fresh_walking p t fresh = record {
   walk = (refl, tt);
   as_many = refl;
   room = tt;
-  refusals = λ id n. none_taken t.configuration id n fresh.marks fresh.ops;
-  refusable = λ id. let none = fresh.none_refused id in omega (arith, none);
-  off = none_counted t.causes.unplanned;
-  plan_stays = subst (λ (p : Option ℕ). IsNoEarlier None p) (sym fresh.none_planned) tt;
+  refusals = fresh.none_to_refuse;
+  off = none_cut_same None 0 t t refl refl (subst (λ (p : Option DueCut). IsNoEarlier None p) (sym fresh.none_planned) tt) refl refl;
   takes = omega arith;
   moves = record { moves = []; are = tt; tell = refl; behind = refl };
   closes = λ calm. tt;
   chain = refl;
   pays = none_pays p t;
   cuts = λ one. (tt, tt);
-  serves = λ calm. record { posts = tt; drains = tt; within = none_within t fresh.marks fresh.ops fresh.entries };
 }
 
 length_mapped : (c : Configuration) → length (map store_of (plain_blocks_of c)) ≡ length c.blocks + 1
@@ -246,7 +238,7 @@ were_left HistoryFull x xs old mid new configuration cap left =
 
 -- nothing was made for want of memory
 pub none_made : (p : Payer) (steps : List Step) (t : StackTold) → IsFresh t → WasBroken p p Memory steps t t
-none_made p steps t fresh = record { made = []; left = steps; order = refl; walked = has_walked p p p [] t t t refl (omega arith) refl (none_counted t.causes.unplanned) (none_pays p t) (fresh_walking p t fresh); why = tt }
+none_made p steps t fresh = record { made = []; left = steps; order = refl; walked = has_walked p p p [] t t t refl (omega arith) refl (none_counted t.causes.unplanned) refl (λ tells. tells) (none_pays p t) (fresh_walking p t fresh); why = tt }
 
 -- UNDER WAY
 
@@ -290,7 +282,7 @@ go_on p q r steps made left x table table' old mid new order few planned way mak
 -- all of them
 pub all_made : (p q : Payer) (steps made : List Step) (table : List ℕ) (old now : StackTold) → made ≡ steps → AreUnderWay p q made table old now → HasWalked p q steps old now
 all_made p q steps made table old now all way =
-    subst (λ (xs : List Step). HasWalked p q xs old now) all (has_walked p q q made old now now refl (omega arith) refl (none_counted now.causes.unplanned) (none_pays q now) way.walking)
+    subst (λ (xs : List Step). HasWalked p q xs old now) all (has_walked p q q made old now now refl (omega arith) refl (none_counted now.causes.unplanned) refl (λ tells. tells) (none_pays q now) way.walking)
 
 pub some_made : (p q r : Payer) (fault : StepFault) (steps made left : List Step) (x : Step) (table : List ℕ) (old mid new : StackTold) → steps ≡ made ++ x ∷ left → AreUnderWay p q made table old mid → IsLeft fault x mid new → PaysBy q r mid []
     → WasBroken p r fault steps old new
@@ -299,6 +291,6 @@ some_made p q r fault steps made left x table old mid new order way leaves pays 
   made = made;
   left = x ∷ left;
   order = order;
-  walked = has_walked p q r made old mid new leaves.entries leaves.counted leaves.operations leaves.cuts pays way.walking;
+  walked = has_walked p q r made old mid new leaves.entries leaves.counted leaves.operations leaves.cuts leaves.came leaves.power pays way.walking;
   why = were_left fault x left old mid new way.configuration way.cap leaves;
 }

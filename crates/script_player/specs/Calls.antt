@@ -1,7 +1,7 @@
 -- What each call of a stack does.
-use Rattle.std.specs.Prelude.{◌≡◌, ◌⊎◌, ◌<◌, ◌≤◌, ◌+◌, ℕ, not, ◌&&◌, Bool, true, false, IsTrue, List, [], ◌∷◌, ◌++◌, get_or, slice_set, sum_by, is_some, Option, Some, None, Result, Ok, Err}
+use Rattle.std.specs.Prelude.{◌≡◌, ◌⊎◌, ◌<◌, ◌≤◌, ◌+◌, ℕ, not, ◌&&◌, Bool, true, false, IsTrue, List, [], ◌∷◌, ◌++◌, get_or, slice_set, map, is_some, Option, Some, None, Result, Ok, Err}
 use Rattle.std.specs.List.{list_any}
-use Rattle.nvm_core.specs.nv_base.Count.{Rose, WereCounted}
+use Rattle.nvm_core.specs.nv_base.Count.{Rose}
 use Rattle.nvm_core.specs.nv_base.Entry.{ops_of, ops_behind}
 use Rattle.nvm_core.specs.nv_desk.declared.ask.AskFault.{AskFault}
 use Rattle.nvm_core.specs.nv_desk.declared.ask.AskFault.TheVariants as fault
@@ -14,25 +14,24 @@ use Rattle.nvm_core.specs.block_machine.State.{Job}
 use Rattle.nvm_core.specs.block_machine.Blocks.{job_block}
 use Rattle.nvm_core.specs.block_machine.Steps.{after_from}
 use Rattle.nvm_core.specs.block_machine.Reply.{fits}
-use Rattle.nvm_core.specs.block_machine.Prices.{sum_from, block_price}
 use Rattle.nvm_core.specs.ram_blocks.Copies.{next_number}
 use Rattle.script_walks.specs.Words.{Cut, Refuse}
 use Rattle.script_walks.specs.Walk.{is_at_rest}
 use Rattle.script_walks.specs.Turn.{IsTurn}
-use Rattle.promise_run.specs.Run.{unpaid_off, refusals_of}
+use Rattle.promise_run.specs.Run.{DueCut, Added, plan_after}
+use Rattle.promise_run.specs.Refusals.{AreAsAsked, asked_by}
 use Rattle.promise_run.specs.Completeness.{ends_job}
 use Rattle.promise_run.specs.Turns.{is_picked}
-use Rattle.script_player.specs.Told.{StackTold, state_of, moment_of, IsWithin, IsGrown, IsNoEarlier}
-use Rattle.script_player.specs.Coming.{MissesNone, PlansCuts, KeepsBy}
+use Rattle.script_player.specs.Told.{StackTold, state_of, moment_of, IsWithin, IsGrown, IsNoEarlier, AreCut}
+use Rattle.script_player.specs.Coming.{MissesNone, PlansCuts}
 
 -- CAUSES
 
--- Entries are explained: their Posts tell of no more refused copies than could be told of, and each Off comes where its cut
--- was planned, or a cut was counted.
-pub record AreExplained (plan : Option ℕ) (es : List Entry) (old new : StackTold) : Type 0 where
-  pub refusals : (id : ℕ) → sum_from old.configuration (block_price id) (state_of old) es + new.causes.refusable id ≤ old.causes.refusable id
-  pub off : WereCounted (sum_by (unpaid_off plan) es) old.causes.unplanned new.causes.unplanned
-  pub plan_stays : IsNoEarlier plan new.causes.plan
+-- Entries are explained: their copies are refused exactly where they are to be, and each Off is the planned cut, or a cut was
+-- counted.
+pub record AreExplained (plan : Option DueCut) (es : List Entry) (old new : StackTold) : Type 0 where
+  pub refusals : (id : ℕ) → AreAsAsked old.configuration id (state_of old) (old.causes.to_refuse id) es (new.causes.to_refuse id)
+  pub off : AreCut plan 0 (map Added es) old new
   pub takes : old.causes.takes ≤ new.causes.takes
 
 -- THE JOB IN HAND
@@ -54,7 +53,7 @@ pub record Serves (turns : ℕ) (es : List Entry) (old new : StackTold) : Type 0
 pub record AddsAsk (e : Entry) (old new : StackTold) : Type 0 where
   pub room : IsTrue (fits old.configuration old.cap (state_of old) 1)
   pub adds : new ≡ record old { entries = old.entries ++ e ∷ []; work = new.work; causes = new.causes }
-  pub due : new.causes.due ≡ old.causes.due
+  pub plan : new.causes.plan ≡ old.causes.plan
   pub explained : AreExplained old.causes.plan (e ∷ []) old new
   pub within : IsWithin old → IsWithin new
 
@@ -149,23 +148,23 @@ Restarts found.Memory old new = new ≡ old
 -- THE PLAYER'S OWN STEPS
 
 -- A power cut is planned, where a plan is taken: it comes no earlier than at the nth operation behind those that the entries
--- tell, and over a device of one part with the nth operation from now, of which so much is done.
+-- tell, and lets so much of it be done; and over a device of one part it comes with the nth operation from now.
 pub record Arms (nth keep : ℕ) (old new : StackTold) : Type 0 where
-  pub only : new ≡ record old { causes = record old.causes { takes = new.causes.takes; plan = new.causes.plan; due = new.causes.due; keep = new.causes.keep } }
+  pub only : new ≡ record old { causes = record old.causes { takes = new.causes.takes; plan = new.causes.plan } }
   pub takes : old.causes.takes ≤ new.causes.takes + 1
-  pub planned : 1 ≤ old.causes.takes → IsNoEarlier (Some (ops_behind 0 old.entries + nth)) new.causes.plan
+  pub planned : 1 ≤ old.causes.takes → (plan : Option DueCut) → IsNoEarlier plan old.causes.plan
+      → IsNoEarlier (plan_after (Cut nth keep) plan (ops_behind 0 old.entries)) new.causes.plan
   pub comes : 1 ≤ old.causes.takes → PlansCuts (Cut nth keep) [] old new
-  pub keeps : KeepsBy (Cut nth keep) old new
 
 -- the application stored a content of a block
 pub record Stores (block : ℕ) (content : List ℕ) (number : ℕ) (old new : StackTold) : Type 0 where
   pub numbered : number ≡ next_number (get_or old.stores block (0, [])).0
   pub stored : new ≡ record old { stores = slice_set old.stores block (number, content) }
 
--- so many copies of a block are refused yet
+-- so many more of a block's next copies are refused
 pub record Refuses (block count : ℕ) (old new : StackTold) : Type 0 where
-  pub only : new ≡ record old { causes = record old.causes { refusable = new.causes.refusable } }
-  pub more : (id : ℕ) → new.causes.refusable id ≤ old.causes.refusable id + refusals_of id (Refuse block count)
+  pub only : new ≡ record old { causes = record old.causes { to_refuse = new.causes.to_refuse } }
+  pub more : (id : ℕ) → new.causes.to_refuse id ≡ asked_by id (Refuse block count) (old.causes.to_refuse id)
 
 -- THE END OF A DRAIN
 

@@ -1,16 +1,17 @@
 -- Power cuts that are planned, until they come.
-use Rattle.std.specs.Prelude.{◌≡◌, ◌⊎◌, ◌<◌, ◌≤◌, ◌+◌, ℕ, suc, true, List, Option, Some, None}
+use Rattle.std.specs.Prelude.{◌≡◌, ◌⊎◌, ◌<◌, ◌≤◌, ◌+◌, true, List, Option, Some, None}
 use Rattle.nvm_core.specs.nv_base.Count.{last_count}
-use Rattle.script_walks.specs.Words.{StepKind, Cut}
+use Rattle.script_walks.specs.Words.{StepKind}
+use Rattle.promise_run.specs.Run.{DueCut}
 use Rattle.promise_run.specs.Turns.{Move, Planned, planned_by, AreInTime}
 use Rattle.script_player.specs.Told.{StackTold, state_of, moment_of}
 
 -- one stands, no later than it was planned, but for the faults since
 pub record Stands (p : Planned) (t : StackTold) : Type 0 where
-  pub due : ℕ
-  pub is : t.causes.due ≡ Some due
-  pub later : t.ops < due
-  pub soon : due + p.since ≤ p.due + t.faults
+  pub cut : DueCut
+  pub is : t.causes.plan ≡ Some cut
+  pub later : t.ops < cut.due
+  pub soon : cut.due + p.since ≤ p.due + t.faults
 
 -- or the power is off; a count of faults at its end tells none
 abbrev pub IsComing : Planned → StackTold → Type 0
@@ -36,8 +37,3 @@ abbrev pub PlansCuts : StepKind → List Move → StackTold → StackTold → Ty
 PlansCuts kind ms old new =
     old.one ≡ true → (plan : Option Planned) → IsPending plan old
     → AreInTime old.configuration (planned_by kind (moment_of old) plan) (state_of old) ms × IsPending (planned_by kind (moment_of old) plan) new
-
--- of the operation that it plans a cut for, so much is to be done
-abbrev pub KeepsBy : StepKind → StackTold → StackTold → Type 0
-KeepsBy (Cut (suc n) keep) old new = 1 ≤ old.causes.takes → new.causes.keep ≡ Some keep
-KeepsBy kind old new = Unit {0}

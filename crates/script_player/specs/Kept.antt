@@ -10,7 +10,7 @@ use Rattle.script_walks.specs.StoreLaws.{KeepsStored}
 use Rattle.promise_run.specs.Completeness.{is_calm_entry}
 use Rattle.promise_run.specs.Turns.{Move, entries_of, moment_behind, AreTurnsMade}
 use Rattle.script_player.specs.Told.{StackTold, state_of, moment_of, IsGrown}
-use Rattle.script_player.specs.Calls.{AreExplained, Serves}
+use Rattle.script_player.specs.Calls.{AreExplained}
 use Rattle.script_player.specs.Chain.{shown_of, AreMoved}
 use Rattle.script_player.specs.Coming.{CarriesCuts}
 use Rattle.script_player.specs.Paying.{Payer, PaysBy}
@@ -27,13 +27,12 @@ pub record StaysCalm (old new : StackTold) : Type 0 where
   pub no_fault : ¬ Rose old.faults new.faults
   pub entries : IsTrue (list_all is_calm_entry new.entries)
 
--- So many turns added these entries, which are explained, and it is kept. They serve the job in hand, where nothing failed.
-pub record HasTurned (turns : ℕ) (before : List Step) (old new : StackTold) (es : List Entry) : Type 0 where
+-- Turns added these entries, which are explained, and it is kept.
+pub record HasTurned (before : List Step) (old new : StackTold) (es : List Entry) : Type 0 where
   pub grows : IsGrown es old new
   pub counted : old.faults ≤ new.faults
   pub explained : AreExplained old.causes.plan es old new
   pub keeps : KeepsStored old.configuration before (state_of old) es
-  pub serves : StaysCalm old new → Serves turns es old new
 
 -- these moves are turns from one to the other, which added these entries, and pay
 pub record AreMade (p q : Payer) (es : List Entry) (moves : List Move) (old new : StackTold) : Type 0 where
@@ -47,10 +46,10 @@ pub record AreMade (p q : Payer) (es : List Entry) (moves : List Move) (old new 
 -- so many turns
 abbrev pub MakesTurns : Payer → Payer → ℕ → List Step → StackTold → StackTold → Type 0
 MakesTurns p q zero before old new = (new ≡ old) × PaysBy p q old []
-MakesTurns p q (suc n) before old new = (es : List Entry) × HasTurned (suc n) before old new es × AreTurns (state_of old) (suc n) es
+MakesTurns p q (suc n) before old new = (es : List Entry) × HasTurned before old new es × AreTurns (state_of old) (suc n) es
     × ((moves : List Move) × (length moves ≡ suc n) × AreMade p q es moves old new)
 
 -- turns, however many, until nothing is pending, or the power is off
 abbrev pub Drains : Payer → Payer → List Step → StackTold → StackTold → Type 0
-Drains p q before old new = (es : List Entry) × HasTurned 0 before old new es × IsDrain old.configuration (state_of old) es
+Drains p q before old new = (es : List Entry) × HasTurned before old new es × IsDrain old.configuration (state_of old) es
     × ((moves : List Move) × AreMade p q es moves old new)

@@ -3,21 +3,21 @@ use Rattle.std.specs.Prelude.{◌≡◌, ◌≤◌, ◌<◌, ◌+◌, ◌^◌, �
 use Rattle.nvm_core.specs.nv_base.Count.{Rose, WereCounted}
 use Rattle.nvm_core.specs.nv_base.Entry.{ops_behind}
 use Rattle.nvm_core.specs.block_machine.Words.{Instance, Mark, Request, Reply, Entry, Ask, Found}
-use Rattle.nvm_core.specs.block_machine.Prices.{sum_from, block_price}
 use Rattle.nvm_core.specs.block_machine.Steps.{after}
 use Rattle.nvm_core.specs.ram_blocks.Plain.{store_of, plain_blocks_of}
 use Rattle.script_walks.specs.Words.{Step, StepKind, Cut, Restart}
 use Rattle.script_walks.specs.Walk.{request_after, is_at_rest, IsPiece, IsWalkOf}
-use Rattle.promise_run.specs.Run.{Played, EachPiece, HasNoRoom, HadRoom, plan_after, unpaid_off, offs_of_flash, refusals_of, RefusalsExplain}
-use Rattle.promise_run.specs.Completeness.{turns_of, is_drain, is_restart, IsServed}
+use Rattle.promise_run.specs.Run.{Played, EachPiece, HasNoRoom, HadRoom, DueCut, Made, Added, CutsExplain}
+use Rattle.promise_run.specs.Refusals.{AreAsAsked, RefusesAsAsked, asked_by}
+use Rattle.promise_run.specs.InRoom.{is_drain}
 use Rattle.promise_run.specs.Turns.{Moment, Move, entries_of, moment_behind, AreMovesOf, HasMoves, EachMove, ServesTurn, StaysAtRest, ClosesAtDrains, all_moves, CutsCome}
 use Rattle.script_player.specs.declared.steps.StepFault.{StepFault}
 use Rattle.script_player.specs.declared.steps.StepFault.TheVariants.{Flash, HistoryFull, Memory}
-use Rattle.script_player.specs.Told.{StackTold, state_of, moment_of, IsWithin, IsNoEarlier}
-use Rattle.script_player.specs.Calls.{Nears, AddsAsk}
+use Rattle.script_player.specs.Told.{StackTold, state_of, moment_of, IsWithin, IsNoEarlier, AreCut, TellsOff}
+use Rattle.script_player.specs.Calls.{AddsAsk}
 use Rattle.script_player.specs.Kept.{IsKept, StaysCalm}
 use Rattle.script_player.specs.Chain.{shown_of, AreMoved}
-use Rattle.script_player.specs.Coming.{PlansCuts, KeepsBy}
+use Rattle.script_player.specs.Coming.{PlansCuts}
 use Rattle.script_player.specs.Paying.{Payer, PaysBy}
 use Rattle.script_player.specs.Table.{HasLastStores}
 
@@ -31,27 +31,15 @@ cuts_in kind = 0
 abbrev pub cuts_of : List Step → ℕ
 cuts_of steps = sum_by (λ x. cuts_in x.kind) steps
 
--- Offs are those that were planned, or were counted, where these steps' plan stood before: so it is behind this step
-pub record PaysOffs (kind : StepKind) (plan : Option ℕ) (ops : ℕ) (piece : List Entry) (old new : StackTold) : Type 0 where
-  pub off : WereCounted (sum_by (unpaid_off (plan_after kind plan ops)) piece) old.causes.unplanned new.causes.unplanned
-  pub plan_stays : IsNoEarlier (plan_after kind plan ops) new.causes.plan
-
--- What a step adds is explained: its Posts tell of no more refused copies than could be told of, with those that the step
--- asked for, and its Offs are paid.
+-- What a step adds is explained: its copies are refused exactly where they are to be, with those that the step asked for, and its
+-- Offs are planned cuts or others, where these steps' plan stood before.
 pub record IsExplained (kind : StepKind) (piece : List Entry) (old new : StackTold) : Type 0 where
-  pub refusals : (id : ℕ) → sum_from old.configuration (block_price id) (state_of old) piece + new.causes.refusable id ≤ old.causes.refusable id + refusals_of id kind
+  pub refusals : (id : ℕ) → AreAsAsked old.configuration id (state_of old) (asked_by id kind (old.causes.to_refuse id)) piece (new.causes.to_refuse id)
   pub takes : old.causes.takes ≤ new.causes.takes + cuts_in kind
-  pub offs : (plan : Option ℕ) (ops : ℕ) → cuts_in kind ≤ old.causes.takes → ops ≤ ops_behind 0 old.entries → IsNoEarlier plan old.causes.plan
-      → PaysOffs kind plan ops piece old new
+  pub offs : (plan : Option DueCut) (ops : ℕ) → cuts_in kind ≤ old.causes.takes → ops ≤ ops_behind 0 old.entries → IsNoEarlier plan old.causes.plan
+      → AreCut plan ops (Made kind ∷ map Added piece) old new
 
 -- A STEP
-
--- The step serves the jobs: one in hand is ended, or has as many turns fewer left as the step made, but a restart drops it.
--- Behind a drain nothing is pending.
-pub record ServesJobs (kind : StepKind) (piece : List Entry) (old new : StackTold) : Type 0 where
-  pub nears : is_restart kind ≡ false → Nears (turns_of kind) piece old new
-  pub within : IsWithin old → IsWithin new
-  pub drains : is_drain kind ≡ true → IsTrue (is_at_rest (state_of new))
 
 -- the step is made: it added its piece
 pub record IsMade (p q : Payer) (before : List Step) (x : Step) (old new : StackTold) : Type 0 where
@@ -64,7 +52,6 @@ pub record IsMade (p q : Payer) (before : List Step) (x : Step) (old new : Stack
   pub is : IsPiece old.configuration before (state_of old) x piece
   pub room : ¬ HasNoRoom old.configuration old.cap (state_of old) x.kind
   pub explained : IsExplained x.kind piece old new
-  pub serves : StaysCalm old new → ServesJobs x.kind piece old new
   pub closes : StaysCalm old new → is_drain x.kind ≡ true → new.busy ≡ false
   -- its moves, whose entries are the piece
   pub moves : List Move
@@ -76,7 +63,6 @@ pub record IsMade (p q : Payer) (before : List Step) (x : Step) (old new : Stack
   -- no planned cut is missed
   pub one : new.one ≡ old.one
   pub cuts : cuts_in x.kind ≤ old.causes.takes → PlansCuts x.kind moves old new
-  pub keeps : KeepsBy x.kind old new
   pub kept : IsKept (before ++ x ∷ []) new
 
 -- a request was entered as the step asks it
@@ -104,6 +90,8 @@ pub record IsLeft (fault : StepFault) (x : Step) (old new : StackTold) : Type 0 
   pub counted : old.faults ≤ new.faults
   pub operations : new.ops ≡ old.ops
   pub cuts : WereCounted 0 old.causes.unplanned new.causes.unplanned
+  pub came : new.causes.came ≡ old.causes.came
+  pub power : TellsOff old → TellsOff new
   pub why : Stops fault x.kind old new
 
 -- ALL STEPS
@@ -115,20 +103,22 @@ pub record IsFresh (t : StackTold) : Type 0 where
   pub ops : ℕ
   pub entries : t.entries ≡ Found marks ops ∷ []
   pub stores : t.stores ≡ map store_of (plain_blocks_of t.configuration)
-  pub none_refused : (id : ℕ) → t.causes.refusable id ≡ 0
+  pub none_to_refuse : (id : ℕ) → t.causes.to_refuse id ≡ 0
   pub none_planned : t.causes.plan ≡ None
 
--- The history went on, and is a walk of these steps. They explain the copies that its Posts tell as refused, and each Off
--- comes where they planned a cut, or a cut was counted. Where nothing failed they serve its jobs.
+-- The history went on, and is a walk of these steps. Its copies are refused exactly as they ask, and each Off is a cut
+-- that they planned, or a cut was counted.
 pub record HasWalked (p q : Payer) (made : List Step) (old new : StackTold) : Type 0 where
   pub more : List Entry
   pub grows : new.entries ≡ old.entries ++ more
   pub pieces : List (List Entry)
   pub walk : IsWalkOf old.configuration made pieces new.entries
   pub room : EachPiece old.configuration (HadRoom old.configuration old.cap) (after old.configuration (take 1 new.entries)) made pieces
-  pub refusals : (id : ℕ) → RefusalsExplain old.configuration (Played made pieces []) new.entries id
-  pub off : WereCounted (offs_of_flash (Played made pieces []) new.entries) old.causes.unplanned new.causes.unplanned
-  pub complete : StaysCalm old new → IsServed old.configuration old.most made pieces new.entries
+  pub refusals : (id : ℕ) → RefusesAsAsked old.configuration (Played made pieces []) new.entries id
+  pub came : List ℕ
+  pub more_came : new.causes.came ≡ old.causes.came ++ came
+  pub off : CutsExplain (Played made pieces []) new.entries came old.causes.unplanned new.causes.unplanned
+  pub power : TellsOff old → TellsOff new
   -- its turns, one by one, from the first moment on
   pub last : Moment
   pub moves : HasMoves made pieces (moment_of old) last

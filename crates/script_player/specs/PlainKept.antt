@@ -1,18 +1,19 @@
--- What a stack keeps from call to call, over a device that tells what it holds.
+-- What a stack keeps from call to call, as far as its device tells what it holds.
 use Rattle.std.specs.Prelude.{Bool, Option}
 use Rattle.nvm_core.specs.memif.Told.{DeviceTold, IfElse, Part, PartTold}
 use Rattle.nvm_core.specs.memif.Clock.{Clock}
 use Rattle.nvm_core.specs.promise_blocks.OverDevice.{HasStarted}
 use Rattle.nvm_core.specs.job_progress.Hand.{HandState}
 use Rattle.nvm_core.specs.nv_desk.Desk.{DeskState}
-use Rattle.nvm_core.specs.nvm_laws.Keeps.{StackKeeps}
-use Rattle.nvm_core.specs.StartUps.{KeepsDown}
+use Rattle.nvm_core.specs.nvm_device_laws.Turn.{TellsSlots}
+use Rattle.nvm_core.specs.nvm_laws.Keeps.{StackKeepsAsTold}
+use Rattle.nvm_core.specs.StartUps.{DownKeepsAsTold}
 
 -- behind a start-up that failed: a start-up was made before, and a further one has what it needs
 pub record IsDown (before : Part → PartTold) (desk : DeskState) (d : DeviceTold) (clock : Clock) : Type 0 where
-  pub started : HasStarted desk.entries
-  pub keeps : KeepsDown before desk d clock
+  pub started : TellsSlots d → HasStarted desk.entries
+  pub keeps : DownKeepsAsTold before desk d clock
 
 -- where its last start-up stands, all
 abbrev pub IsKept : Bool → (Part → PartTold) → DeskState → Option HandState → DeviceTold → Clock → Type 0
-IsKept ready before desk hand d clock = IfElse ready (StackKeeps before desk hand d clock) (IsDown before desk d clock)
+IsKept ready before desk hand d clock = IfElse ready (StackKeepsAsTold before desk hand d clock) (IsDown before desk d clock)

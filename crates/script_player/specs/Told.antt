@@ -1,25 +1,28 @@
 -- What is told of a stack to whoever plays steps on it.
-use Rattle.std.specs.Prelude.{◌≡◌, ◌⊎◌, ◌<◌, ◌≤◌, ℕ, Bool, List, ◌++◌, Option, Some, None}
-use Rattle.nvm_core.specs.nv_base.Count.{last_count}
-use Rattle.nvm_core.specs.block_machine.Words.{Entry, Configuration}
+use Rattle.std.specs.Prelude.{◌≡◌, ◌⊎◌, ◌<◌, ◌≤◌, ℕ, Bool, true, List, [], ◌∷◌, ◌++◌, Option, Some, None}
+use Rattle.nvm_core.specs.nv_base.Count.{last_count, WereCounted}
+use Rattle.nvm_core.specs.nv_base.Entry.{ops_behind}
+use Rattle.nvm_core.specs.block_machine.Words.{Entry, Off, Configuration}
 use Rattle.nvm_core.specs.block_machine.State.{State, Job}
 use Rattle.nvm_core.specs.block_machine.Steps.{after}
+use Rattle.promise_run.specs.Run.{DueCut, Event, Made, Added, plan_after, CutsAre}
 use Rattle.promise_run.specs.Turns.{Moment}
 
 -- what explains refused copies and power cuts
 pub record Causes : Type 0 where
-  -- of each block: how many refused copies its Posts may tell of yet
-  pub refusable : ℕ → ℕ
-  -- the power cuts that no plan asked for
+  -- of each block: how many of its next copies are refused
+  pub to_refuse : ℕ → ℕ
+  -- the power cuts that no step asked for
   pub unplanned : ℕ
+  -- of each one that was planned and came, in their order, how many bytes of its operation it let be done
+  pub came : List ℕ
   -- the plans of a power cut that are taken yet
   pub takes : ℕ
-  -- where one stands: how many operations were made, at the least, when its cut comes
-  pub plan : Option ℕ
-  -- where one stands at the flash of the device's first part: how many operations are made when its cut comes, if no fault is
-  -- counted, and how much of its operation is done then
-  pub due : Option ℕ
-  pub keep : Option ℕ
+  -- where one stands at the flash of the device's first part, and the power is on: how many operations are made when its cut
+  -- comes, if no fault is counted, and how many bytes of the last it lets be done
+  pub plan : Option DueCut
+  -- a power cut stands in the device
+  pub off : Bool
 
 pub record StackTold : Type 0 where
   -- what never changes: the configuration, and the most entries of the history
@@ -64,8 +67,36 @@ IsWithin t = (j : Job) → (state_of t).hand ≡ Some j → (0 < t.left) × (t.l
 abbrev pub IsGrown : List Entry → StackTold → StackTold → Type 0
 IsGrown es old new = new ≡ record old { entries = old.entries ++ es; faults = new.faults; ops = new.ops; work = new.work; left = new.left; busy = new.busy; causes = new.causes }
 
--- a cut that is planned at all comes no earlier than another plan says; a count at its end tells no moment
-abbrev pub IsNoEarlier : Option ℕ → Option ℕ → Type 0
+-- a cut that is planned at all comes no earlier than another plan says, and lets as much be done; a count at its end tells no moment
+abbrev pub IsNoEarlier : Option DueCut → Option DueCut → Type 0
 IsNoEarlier plan None = Unit {0}
-IsNoEarlier (Some least) (Some due) = (least ≤ due) ⊎ (last_count ≤ due)
-IsNoEarlier None (Some due) = ⊥
+IsNoEarlier (Some least) (Some cut) = ((least.due ≤ cut.due) ⊎ (last_count ≤ cut.due)) × (cut.keep ≡ least.keep)
+IsNoEarlier None (Some cut) = ⊥
+
+-- the plan that stands behind steps and entries: an Off drops it
+abbrev pub plan_behind : Option DueCut → ℕ → List Event → Option DueCut
+plan_behind plan ops [] = plan
+plan_behind plan ops (Made kind ∷ es) = plan_behind (plan_after kind plan ops) ops es
+plan_behind plan ops (Added (Off now) ∷ es) = plan_behind None now es
+plan_behind plan ops (Added e ∷ es) = plan_behind plan (ops_behind ops (e ∷ [])) es
+
+-- and the operations
+abbrev pub ops_at : ℕ → List Event → ℕ
+ops_at ops [] = ops
+ops_at ops (Made kind ∷ es) = ops_at ops es
+ops_at ops (Added e ∷ es) = ops_at (ops_behind ops (e ∷ [])) es
+
+-- the power is off only where the entries tell it
+abbrev pub TellsOff : StackTold → Type 0
+TellsOff t = t.causes.off ≡ true → (state_of t).off ≡ true
+
+-- From one to the other the Offs among these are planned cuts that came, and others that were counted; and a cut that is planned
+-- behind them is a step's.
+pub record AreCut (plan : Option DueCut) (ops : ℕ) (es : List Event) (old new : StackTold) : Type 0 where
+  pub cuts : List ℕ
+  pub others : ℕ
+  pub are : CutsAre plan ops es cuts others
+  pub came : new.causes.came ≡ old.causes.came ++ cuts
+  pub counted : WereCounted others old.causes.unplanned new.causes.unplanned
+  pub plan_stays : IsNoEarlier (plan_behind plan ops es) new.causes.plan
+  pub power : TellsOff old → TellsOff new

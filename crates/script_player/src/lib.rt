@@ -2,8 +2,8 @@
 //! made on.
 //!
 //! It promises that the history stays a walk of the steps that were made, that they explain its refused copies and its
-//! power cuts and serve its jobs where nothing fails, that what each call keeps is kept, and that each step that is
-//! left has its cause. Which device it is, and what becomes of the history, is left to the crates above.
+//! power cuts, that their turns serve its jobs, that what each call keeps is kept, and that each step that is left has
+//! its cause. Which device it is, and what becomes of the history, is left to the crates above.
 #![tactic(auto)]
 
 mod cuts;

@@ -1,47 +1,38 @@
 // The stack, as its player sees it.
-ghost use Rattle.std.specs.Prelude.{◌≡◌, ◌++◌, ◌∷◌, [], IsTrue, List};
-ghost use Rattle.nvm_core.specs.block_machine.Words.{Configuration, Entry};
-ghost use Rattle.nvm_core.specs.ram_blocks.Plain.{plain_blocks_of};
-ghost use Rattle.script_player.specs.PlainTold.{AreWithin, IfCopied, may_copy};
+ghost use Rattle.std.specs.Prelude.{◌≡◌};
 
 use crate::PlayedStack;
 use nvm_core::Stack;
 use nvm_core::memif::MemDevice;
-use nvm_core::nv_base::{Entry, Reply, Request};
+use nvm_core::nv_base::{Reply, Request};
 use nvm_core::nv_desk::AskFault;
 use nvm_core::nvm_laws::{FoundAnswer, Turned};
 use nvm_core::ram_blocks::PlainSync;
 use std::alloc::Global;
 use std::marker::Model;
 
-/// A stack whose application stores in memory, with the count of the refusals of copies that it was asked for. Contracts see
-/// the stack.
+/// A stack whose application stores in memory. Contracts see the stack.
 #[derive(Drop)]
 pub struct PlainStack<D: MemDevice> {
     stack: Stack<D, PlainSync>,
-    asked: u64,
 }
 
 impl<D: MemDevice> Model for PlainStack<D> {
     ghost use Rattle.std.specs.Prelude.{List};
     ghost use Rattle.nvm_core.specs.ram_blocks.declared.plain_block.PlainBlock.{PlainBlock};
     ghost use Rattle.nvm_core.specs.Stack.{StackState};
-    ghost use Rattle.script_player.specs.PlainTold.{AreFew};
 
     ghost Value = { StackState D (List PlainBlock) };
 
     ghost view = { λ s. s.stack };
-
-    ghost invariant = { λ s. AreFew s.asked s.stack.copies };
 }
 
 impl<D: MemDevice> PlainStack<D> {
-    /// A stack before the first store and the first refusal.
+    /// The player's view of a stack.
     pub fn over(stack: Stack<D, PlainSync>) -> PlainStack<D>
-        requires { (c : Configuration) × (stack.copies ≡ plain_blocks_of c) }
         ensures { result ≡ stack }
     {
-        PlainStack { stack, asked: 0 }
+        PlainStack { stack }
     }
 
     /// The stack.
@@ -82,7 +73,6 @@ impl<D: MemDevice> PlayedStack for PlainStack<D> {
         let _device = self.stack.device();
         let turned = self.stack.turn();
         let _behind = self.stack.device();
-        see_refusals(&self.stack, turned);
         turned
     }
 
@@ -100,13 +90,9 @@ impl<D: MemDevice> PlayedStack for PlainStack<D> {
         self.stack.store(block, content)
     }
 
-    // No more are counted than can be.
     fn refuse(&mut self, block: u16, count: u32) {
-        let asked = self.asked.saturating_add(u64::from(count));
-        if asked < u64::MAX {
-            self.stack.refuse(block, count);
-            self.asked = asked;
-        }
+        let _device = self.stack.device();
+        self.stack.refuse(block, count);
     }
 
     fn in_hand(&self) -> bool {
@@ -115,32 +101,5 @@ impl<D: MemDevice> PlayedStack for PlainStack<D> {
 
     fn faults(&self) -> u64 {
         self.stack.faults()
-    }
-}
-
-// Behind a Pick or a Post no more copies of the last entry's block were refused than were to be.
-fn see_refusals<D: MemDevice>(stack: &Stack<D, PlainSync>, turned: Turned)
-    ensures { IsTrue (may_copy turned) → (h : List Entry) (e : Entry) → stack.now.desk.entries ≡ h ++ e ∷ [] → IfCopied e (AreWithin stack.now.copies) }
-{
-    match turned {
-        Turned::Picked | Turned::Posted => see_last(stack),
-        Turned::Idle | Turned::Off | Turned::Worked => {}
-    }
-}
-
-// Those of the last entry.
-fn see_last<D: MemDevice>(stack: &Stack<D, PlainSync>)
-    ensures { (h : List Entry) (e : Entry) → stack.now.desk.entries ≡ h ++ e ∷ [] → IfCopied e (AreWithin stack.now.copies) }
-{
-    let history = stack.history();
-    let count = history.len();
-    if count == 0 {
-        return;
-    }
-    match history.entry(count - 1) {
-        Some(Entry::Pick { block, .. } | Entry::Post { block, .. }) => {
-            stack.refusals(*block);
-        }
-        _ => {}
     }
 }

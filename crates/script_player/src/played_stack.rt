@@ -1,5 +1,5 @@
 // A stack, as its player sees it.
-ghost use Rattle.std.specs.Prelude.{◌≡◌, ◌≤◌, true, Some, length, is_some};
+ghost use Rattle.std.specs.Prelude.{◌≡◌, ◌≤◌, true, Some, IsSome, length, is_some};
 ghost use Rattle.nvm_core.specs.block_machine.Legal.{HasStore};
 ghost use Rattle.nvm_core.specs.memif.Told.{Part, PartTold};
 ghost use Rattle.nvm_script.specs.Rules.{sync_length_of};
@@ -61,6 +61,7 @@ pub trait PlayedStack {
 
     /// So many next copies of a synchronized block are refused.
     fn refuse(&mut self, block: u16, count: u32)
+        requires { IsSome (sync_length_of (told self.old).configuration block) }
         ensures refuses { Refuses block count (told self.old) (told self.new) }
         ensures pays { PaysNothing (payer self.old) (payer self.new) (told self.new) }
         ensures keeps { (before : Part → PartTold) → kept self.old before → kept self.new before };

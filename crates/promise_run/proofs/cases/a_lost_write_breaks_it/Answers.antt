@@ -15,6 +15,9 @@ returns-clause-order c = law.keeps_order
 pub returns-clause-found : goal.returns-clause-found
 returns-clause-found c = law.start_ups_find
 
+pub returns-clause-early : goal.returns-clause-early
+returns-clause-early c = law.begins_well
+
 pub returns-clause-at_exit : goal.returns-clause-at_exit
 returns-clause-at_exit c = λ started few. law.exit_keeps sound_images_compute
 

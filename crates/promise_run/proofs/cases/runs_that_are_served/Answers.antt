@@ -1,9 +1,9 @@
 use Rattle.fee_image.proofs.Soundness.{sound_images_compute}
-use Rattle.promise_run.proofs.WrongCalls.{posted_well, not_posted, not_failed}
+use Rattle.promise_run.proofs.WrongCalls.{posted_well, not_drained_by_order, not_failed}
 use Rattle.promise_run.proofs.cases.runs_that_are_served.Goals as goal
 
-pub returns-clause-not_posted : goal.returns-clause-not_posted
-returns-clause-not_posted c = not_posted
+pub returns-clause-not_drained : goal.returns-clause-not_drained
+returns-clause-not_drained c = (λ p. p.order, not_drained_by_order)
 
 pub returns-clause-served : goal.returns-clause-served
 returns-clause-served c = posted_well

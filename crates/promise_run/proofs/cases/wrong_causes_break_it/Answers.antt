@@ -1,8 +1,20 @@
-use Rattle.promise_run.proofs.WrongCauses.{no_off_without_a_cut, no_worn_but_roomy, no_worn_long_ago, full_is_worn}
+use Rattle.promise_run.proofs.WrongCauses.{no_off_without_a_cut, not_15, just_16, not_too_soon, not_twice, no_worn_but_roomy, no_worn_long_ago, full_is_worn}
 use Rattle.promise_run.proofs.cases.wrong_causes_break_it.Goals as goal
 
 pub returns-clause-off_without_a_cut : goal.returns-clause-off_without_a_cut
 returns-clause-off_without_a_cut c = (λ p. p.off, no_off_without_a_cut)
+
+pub returns-clause-let_15_done : goal.returns-clause-let_15_done
+returns-clause-let_15_done c = (λ p. p.off, not_15)
+
+pub returns-clause-let_16_done : goal.returns-clause-let_16_done
+returns-clause-let_16_done c = just_16
+
+pub returns-clause-cut_too_soon : goal.returns-clause-cut_too_soon
+returns-clause-cut_too_soon c = (λ p. p.off, not_too_soon)
+
+pub returns-clause-cut_twice : goal.returns-clause-cut_twice
+returns-clause-cut_twice c = (λ p. p.off, not_twice)
 
 pub returns-clause-worn_but_roomy : goal.returns-clause-worn_but_roomy
 returns-clause-worn_but_roomy c = (λ p. p.faults, no_worn_but_roomy)

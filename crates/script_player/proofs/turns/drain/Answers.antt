@@ -2,7 +2,7 @@ use Rattle.std.proofs.Common.{[], ◌∷◌, ◌++◌, arith}
 use Rattle.nvm_core.proofs.memif.Turning.{rose_since}
 use Rattle.script_player.proofs.Grown.{ready_grown}
 use Rattle.script_player.proofs.Moves.{none_moved, made_more, move_to, turn_moved}
-use Rattle.script_player.proofs.Turned.{turn_kept, turned_more, none_turned, any_turned, drained}
+use Rattle.script_player.proofs.Turned.{turn_kept, turned_more, none_turned, drained}
 use Rattle.script_player.proofs.turns.drain.Goals as goal
 
 pub loop-init : goal.loop-init
@@ -18,8 +18,8 @@ loop-preserved g c =
           let (es, turned, (ms, moved), now) = was.kept before kept in
           let (one, then_kept) = turn_kept before (g.S.PlayedStack.told c.loop.stack) (g.S.PlayedStack.told c.ends_drain.new.stack) c.ends_drain.ensures.turn now in (
             es ++ c.ends_drain.ensures.turn.entries,
-            turned_more 0 0 before (g.S.PlayedStack.told c.args.stack.now) (g.S.PlayedStack.told c.loop.stack) (g.S.PlayedStack.told c.ends_drain.new.stack) es c.ends_drain.ensures.turn.entries turned
-                (any_turned 1 before (g.S.PlayedStack.told c.loop.stack) (g.S.PlayedStack.told c.ends_drain.new.stack) c.ends_drain.ensures.turn.entries one),
+            turned_more before (g.S.PlayedStack.told c.args.stack.now) (g.S.PlayedStack.told c.loop.stack) (g.S.PlayedStack.told c.ends_drain.new.stack) es c.ends_drain.ensures.turn.entries turned
+                one,
             (
               ms ++ move_to c.ends_drain.ensures.turn.entries (g.S.PlayedStack.told c.ends_drain.new.stack) ∷ [],
               made_more (g.S.PlayedStack.payer c.args.stack.now) (g.S.PlayedStack.payer c.loop.stack) (g.S.PlayedStack.payer c.ends_drain.new.stack) (g.S.PlayedStack.told c.args.stack.now) (g.S.PlayedStack.told c.loop.stack) (g.S.PlayedStack.told c.ends_drain.new.stack) es c.ends_drain.ensures.turn.entries ms (move_to c.ends_drain.ensures.turn.entries (g.S.PlayedStack.told c.ends_drain.new.stack) ∷ []) turned.grows moved
@@ -43,8 +43,8 @@ pub returns-clause-drains : goal.returns-clause-drains
 returns-clause-drains g c before kept =
     let (es, turned, (ms, moved), now) = c.loop.invariant.kept before kept in
     let (one, then_kept) = turn_kept before (g.S.PlayedStack.told c.loop.stack) (g.S.PlayedStack.told c.ends_drain.new.stack) c.ends_drain.ensures.turn now in
-    let all = turned_more 0 0 before (g.S.PlayedStack.told c.args.stack.now) (g.S.PlayedStack.told c.loop.stack) (g.S.PlayedStack.told c.ends_drain.new.stack) es c.ends_drain.ensures.turn.entries turned
-    (any_turned 1 before (g.S.PlayedStack.told c.loop.stack) (g.S.PlayedStack.told c.ends_drain.new.stack) c.ends_drain.ensures.turn.entries one) in (
+    let all = turned_more before (g.S.PlayedStack.told c.args.stack.now) (g.S.PlayedStack.told c.loop.stack) (g.S.PlayedStack.told c.ends_drain.new.stack) es c.ends_drain.ensures.turn.entries turned
+    one in (
       drained (g.S.PlayedStack.payer c.args.stack.now) (g.S.PlayedStack.payer c.ends_drain.new.stack) before (g.S.PlayedStack.told c.args.stack.now) (g.S.PlayedStack.told c.ends_drain.new.stack) (es ++ c.ends_drain.ensures.turn.entries) (ms ++ move_to c.ends_drain.ensures.turn.entries (g.S.PlayedStack.told c.ends_drain.new.stack) ∷ []) all
           (made_more (g.S.PlayedStack.payer c.args.stack.now) (g.S.PlayedStack.payer c.loop.stack) (g.S.PlayedStack.payer c.ends_drain.new.stack) (g.S.PlayedStack.told c.args.stack.now) (g.S.PlayedStack.told c.loop.stack) (g.S.PlayedStack.told c.ends_drain.new.stack) es c.ends_drain.ensures.turn.entries ms (move_to c.ends_drain.ensures.turn.entries (g.S.PlayedStack.told c.ends_drain.new.stack) ∷ []) turned.grows moved
           (turn_moved (g.S.PlayedStack.payer c.loop.stack) (g.S.PlayedStack.payer c.ends_drain.new.stack) (g.S.PlayedStack.told c.loop.stack) (g.S.PlayedStack.told c.ends_drain.new.stack) c.ends_drain.ensures.turn c.ends_drain.ensures.pays)) (c.ends_drain.ensures.ends c.loop-test.false),

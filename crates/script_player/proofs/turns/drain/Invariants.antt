@@ -11,7 +11,7 @@ invariant-loop g l = record {
   ready : (g.S.PlayedStack.told l.stack).ready ≡ true;
   counted : (g.S.PlayedStack.told l.initial.stack).faults ≤ (g.S.PlayedStack.told l.stack).faults;
   kept : (before : List Step) → IsKept before (g.S.PlayedStack.told l.initial.stack)
-      → (es : List Entry) × HasTurned 0 before (g.S.PlayedStack.told l.initial.stack) (g.S.PlayedStack.told l.stack) es
+      → (es : List Entry) × HasTurned before (g.S.PlayedStack.told l.initial.stack) (g.S.PlayedStack.told l.stack) es
       × ((ms : List Move) × AreMade (g.S.PlayedStack.payer l.initial.stack) (g.S.PlayedStack.payer l.stack) es ms (g.S.PlayedStack.told l.initial.stack) (g.S.PlayedStack.told l.stack)) × IsKept before (g.S.PlayedStack.told l.stack);
   keeps : (before : Part → PartTold) → g.S.PlayedStack.kept l.initial.stack before → g.S.PlayedStack.kept l.stack before;
 }

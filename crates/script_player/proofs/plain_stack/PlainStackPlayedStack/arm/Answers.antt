@@ -1,7 +1,8 @@
 use Rattle.std.proofs.Common.{◌≡◌, List, sym, subst, ap, ◌∙◌}
-use Rattle.nvm_core.specs.memif.Told.{armed}
+use Rattle.nvm_core.specs.memif.Told.{armed, Part, PartTold}
 use Rattle.nvm_core.specs.ram_blocks.declared.plain_block.PlainBlock.{PlainBlock}
 use Rattle.nvm_core.specs.Stack.{StackState}
+use Rattle.script_player.specs.PlainKept.{IsKept}
 use Rattle.script_player.specs.Told.{StackTold}
 use Rattle.script_player.specs.Calls.{Arms}
 use Rattle.script_player.specs.Paying.{PaysNothing}
@@ -31,5 +32,16 @@ returns-clause-pays g c =
     let ready = ap (λ (t : StackState g.row.D.Denot (List PlainBlock)). t.ready) c.self.view_is ∙ c.requires in
     let same = ap (λ (t : StackState g.row.D.Denot (List PlainBlock)). t.ready) c.arm.ensures.only in
     subst (λ (t : StackState g.row.D.Denot (List PlainBlock)). PaysNothing (payer_by told clock t) (payer_by told clock new) (told_by told new)) c.self.view_is
-    (arm_paid told clock s new (keeps_by s.ready new.ready s.desk new.desk s.hand new.hand (told s.device) (told new.device) (clock s.device) (clock new.device) ready same c.arm.ensures.keeps)
+    (arm_paid told clock s new (keeps_by s.ready new.ready s.desk new.desk s.hand new.hand (told s.device) (told new.device) (clock s.device) (clock new.device) ready same c.arm.ensures.keeps) c.arm.ensures.keeps.told
     c.args.nth c.args.keep (ap (λ (t : StackState g.row.D.Denot (List PlainBlock)). t.hand) c.arm.ensures.only) c.arm.ensures.arms)
+
+pub returns-clause-keeps : goal.returns-clause-keeps
+returns-clause-keeps g c =
+    let s = c.self.inside.stack in
+    let new = c.arm.new.self in
+    let told = g.D.MemDevice.told in
+    let clock = g.D.MemDevice.clock in
+    let ready = ap (λ (t : StackState g.row.D.Denot (List PlainBlock)). t.ready) c.self.view_is ∙ c.requires in
+    let same = ap (λ (t : StackState g.row.D.Denot (List PlainBlock)). t.ready) c.arm.ensures.only in
+    subst (λ (t : StackState g.row.D.Denot (List PlainBlock)). (before : Part → PartTold) → IsKept t.ready before t.desk t.hand (told t.device) (clock t.device) → IsKept new.ready before new.desk new.hand (told new.device) (clock new.device)) c.self.view_is
+    (keeps_by s.ready new.ready s.desk new.desk s.hand new.hand (told s.device) (told new.device) (clock s.device) (clock new.device) ready same c.arm.ensures.keeps)

@@ -1,25 +1,31 @@
-use Rattle.std.specs.Prelude.{slice_set}
-use Rattle.std.proofs.Common.{◌≡◌, List, get_or, sym, subst, ap, arith}
+use Rattle.std.specs.Prelude.{map, IsSome}
+use Rattle.std.proofs.Common.{◌≡◌, ℕ, List, sym, subst, get_or, Option, Some, None, refl}
+use Rattle.nvm_core.specs.block_machine.Words.{Configuration}
 use Rattle.nvm_core.specs.ram_blocks.declared.plain_block.PlainBlock.{PlainBlock}
-use Rattle.nvm_core.specs.ram_blocks.Plain.{refusing, no_plain}
+use Rattle.nvm_core.specs.ram_blocks.Told.{Told, IsSynchronized}
+use Rattle.nvm_core.specs.ram_blocks.Plain.{told_of}
+use Rattle.nvm_core.specs.nv_desk_copies.Front.{AreSynchronized}
+use Rattle.nvm_script.specs.Rules.{sync_length_of}
 use Rattle.nvm_core.specs.Stack.{StackState}
 use Rattle.script_player.specs.Calls.{Refuses}
-use Rattle.script_player.specs.PlainTold.{told_by, AreFew}
-use Rattle.script_player.proofs.PlainFew.{few_refusing}
+use Rattle.script_player.specs.PlainTold.{told_by}
+use Rattle.script_player.proofs.PlainCopies.{may_store}
 use Rattle.script_player.proofs.PlainSteps.{refuses}
 use Rattle.script_player.proofs.plain_stack.PlainStackPlayedStack.refuse.Goals as goal
 
-pub invariant_of-self : goal.invariant_of-self
-invariant_of-self g c =
-    let add = c.saturating_add-asked.ensures in
-    let from = c.from.ensures in
-    let small = c.if-asked-lt18446744073709551615.true in
-    subst (λ (bs : List PlainBlock). AreFew c.saturating_add-asked.result bs) (sym (ap (λ (s : StackState g.row.D.Denot (List PlainBlock)). s.copies) c.refuse.ensures))
-    (few_refusing c.self.inside.asked c.saturating_add-asked.result c.self.inside.stack.copies c.args.block c.args.count (omega (arith, add, from)) (omega (arith, small)) c.self.invariant)
+-- a block whose copies may be refused is the application's
+synchronized : (c : Configuration) (told : List Told) (id : ℕ) → AreSynchronized c told → IsSome (sync_length_of c id) → (n : ℕ) × IsSynchronized told id n
+synchronized c told id are some = by (sync_length_of c id) refl some
+  where
+    by : (o : Option ℕ) → sync_length_of c id ≡ o → IsSome o → (n : ℕ) × IsSynchronized told id n
+    by None is none = absurd (cc none)
+    by (Some n) is has = (n, may_store c told id n are is)
 
-pub returns-then-asked-lt18446744073709551615-clause-refuses : goal.returns-then-asked-lt18446744073709551615-clause-refuses
-returns-then-asked-lt18446744073709551615-clause-refuses g c =
-    let old = c.args.self.now in
-    let is = subst (λ (s : StackState g.row.D.Denot (List PlainBlock)). c.refuse.new.self ≡ record s { copies = slice_set s.copies c.args.block (refusing c.args.count (get_or s.copies c.args.block no_plain)) }) c.self.view_is c.refuse.ensures in
-    subst (λ (s : StackState g.row.D.Denot (List PlainBlock)). Refuses c.args.block c.args.count (told_by g.D.MemDevice.told old) (told_by g.D.MemDevice.told s)) (sym is)
-    (refuses c.args.block c.args.count old.desk old.hand old.copies old.ready (g.D.MemDevice.told old.device))
+pub returns-clause-refuses : goal.returns-clause-refuses
+returns-clause-refuses g c =
+    let s = c.self.inside.stack in
+    let (n, is) = synchronized s.desk.config (map told_of s.copies) c.args.block c.device-device.ensures.synchronized
+    (subst (λ (t : StackState g.row.D.Denot (List PlainBlock)). IsSome (sync_length_of t.desk.config c.args.block)) (sym c.self.view_is) c.requires) in
+    subst (λ (t : StackState g.row.D.Denot (List PlainBlock)). Refuses c.args.block c.args.count (told_by g.D.MemDevice.told t) (told_by g.D.MemDevice.told c.refuse.new.self)) c.self.view_is
+    (subst (λ (t : StackState g.row.D.Denot (List PlainBlock)). Refuses c.args.block c.args.count (told_by g.D.MemDevice.told s) (told_by g.D.MemDevice.told t)) (sym c.refuse.ensures)
+    (refuses c.args.block n c.args.count s.desk s.hand s.copies s.ready (g.D.MemDevice.told s.device) is))

@@ -1,58 +1,44 @@
-use Rattle.std.specs.Prelude.{IsSome}
 use Rattle.std.proofs.Common.{rules, ◌≡◌, ℕ, Bool, true, false, List, Option, Some, None, refl, sym, ap, subst, inl}
-use Rattle.nvm_core.specs.nv_base.declared.instance.DeviceNumber.{DeviceNumber}
-use Rattle.nvm_core.specs.memif.Told.{DeviceTold, Slot, Part, PartTold}
+use Rattle.nvm_core.specs.memif.Told.{DeviceTold, Part, PartTold}
 use Rattle.nvm_core.specs.memif.Clock.{Clock}
-use Rattle.nvm_core.specs.block_machine.Words.{Configuration}
-use Rattle.nvm_core.specs.block_machine.State.{State}
-use Rattle.nvm_core.specs.block_machine.Steps.{after}
-use Rattle.nvm_core.specs.promise_blocks.Counts.{count_due}
 use Rattle.nvm_core.specs.promise_blocks.OverDevice.{HasStarted}
-use Rattle.nvm_core.specs.nvm_device_laws.Pairing.{Allows, Pairs}
 use Rattle.nvm_core.specs.job_progress.Hand.{HandState}
 use Rattle.nvm_core.specs.nv_desk.Desk.{DeskState}
 use Rattle.nvm_core.specs.ram_blocks.declared.plain_block.PlainBlock.{PlainBlock}
-use Rattle.nvm_core.specs.nvm_laws.Keeps.{StackKeeps}
+use Rattle.nvm_core.specs.nvm_device_laws.Turn.{TellsSlots}
+use Rattle.nvm_core.specs.nvm_laws.Keeps.{StackKeepsAsTold}
 use Rattle.nvm_core.specs.nvm_laws.declared.turned.FoundAnswer.{FoundAnswer}
 use Rattle.nvm_core.specs.nvm_laws.declared.turned.FoundAnswer.TheVariants as found
 use Rattle.nvm_core.specs.Stack.{StackState}
-use Rattle.nvm_core.specs.StartUps.{KeepsDown, Restarts, StartsKeep}
+use Rattle.nvm_core.specs.StartUps.{DownKeepsAsTold, Restarts, StartsKeep}
 use Rattle.nvm_core.specs.block_laws.Laws.{EntriesAreCounted, HistoriesGoOn, HistoriesStep, SumsGrow}
 use Rattle.nvm_core.proofs.block_laws.HistoryLaws.{entries_are_counted, histories_go_on, histories_step, sums_grow}
 use Rattle.script_player.specs.Paying.{PaysNothing}
 use Rattle.script_player.specs.PlainTold.{told_by}
 use Rattle.script_player.specs.PlainKept.{IsKept}
 use Rattle.script_player.specs.PlainPaying.{payer_by}
-use Rattle.script_player.proofs.PlainPaying.{nothing_paid, restart_ops, restart_owes}
+use Rattle.script_player.proofs.PlainPaying.{nothing_paid, restart_ops, restart_owes, restart_tells}
 use Rattle.script_player.proofs.plain_stack.PlainStackPlayedStack.restart.Goals as goal
-
--- a device whose slots are paired with the machine's tells them
-told_slots : (c : Configuration) (s : State) (due : ℕ → ℕ) (numbers : List (DeviceNumber × ℕ)) (o : Option (List Slot)) → Pairs Allows c s due numbers o → IsSome o
-told_slots c s due numbers (Some slots) pairs = refl
-told_slots c s due numbers None pairs = absurd pairs
 
 -- whatever the last start-up came to, a further one has what it needs
 module _ (before : Part → PartTold) (desk : DeskState) (hand : Option HandState) (d : DeviceTold) (clock : Clock)
-    (comes : (x : DeskState) (h : Option HandState) → StackKeeps before x h d clock → KeepsDown before x d clock) where
-  is_down : (ready : Bool) → IsKept ready before desk hand d clock → KeepsDown before desk d clock
+    (comes : (x : DeskState) (h : Option HandState) → StackKeepsAsTold before x h d clock → DownKeepsAsTold before x d clock) where
+  is_down : (ready : Bool) → IsKept ready before desk hand d clock → DownKeepsAsTold before desk d clock
   is_down true kept = comes desk hand kept
   is_down false kept = kept.keeps
 
-  is_started : (ready : Bool) → IsKept ready before desk hand d clock → HasStarted desk.entries
-  is_started true kept = kept.started
-  is_started false kept = kept.started
+  is_started : (ready : Bool) → IsKept ready before desk hand d clock → TellsSlots d → HasStarted desk.entries
+  is_started true kept told = (kept.all told).started
+  is_started false kept told = kept.started told
 
 module _ {D : Type 0} (told : D → DeviceTold) (clock : D → Clock) (before : Part → PartTold) (old new : StackState D (List PlainBlock))
-    (comes : (x : DeskState) (h : Option HandState) → StackKeeps before x h (told old.device) (clock old.device) → KeepsDown before x (told old.device) (clock old.device))
+    (comes : (x : DeskState) (h : Option HandState) → StackKeepsAsTold before x h (told old.device) (clock old.device) → DownKeepsAsTold before x (told old.device) (clock old.device))
     (kept : IsKept old.ready before old.desk old.hand (told old.device) (clock old.device)) where
-  downs : KeepsDown before old.desk (told old.device) (clock old.device)
+  downs : DownKeepsAsTold before old.desk (told old.device) (clock old.device)
   downs = is_down before old.desk old.hand (told old.device) (clock old.device) comes old.ready kept
 
-  begun : HasStarted old.desk.entries
+  begun : TellsSlots (told old.device) → HasStarted old.desk.entries
   begun = is_started before old.desk old.hand (told old.device) (clock old.device) comes old.ready kept
-
-  slots : IsSome (told old.device).slots
-  slots = told_slots old.desk.config (after old.desk.config old.desk.entries) (count_due old.desk.entries downs.keeps.base) (told old.device).fixed.numbers (told old.device).slots (downs.keeps.marks begun)
 
   same : new ≡ old → IsKept new.ready before new.desk new.hand (told new.device) (clock new.device)
   same is = subst (λ (s : StackState D (List PlainBlock)). IsKept s.ready before s.desk s.hand (told s.device) (clock s.device)) (sym is) kept
@@ -61,12 +47,12 @@ module _ {D : Type 0} (told : D → DeviceTold) (clock : D → Clock) (before : 
       → IsKept new.ready before new.desk new.hand (told new.device) (clock new.device)
   restart_keeps found.Ready restarts keeps =
       subst (λ (b : Bool). IsKept b before new.desk new.hand (told new.device) (clock new.device)) (sym (ap (λ (s : StackState D (List PlainBlock)). s.ready) restarts.only))
-      (subst (λ (h : Option HandState). StackKeeps before new.desk h (told new.device) (clock new.device)) (sym (ap (λ (s : StackState D (List PlainBlock)). s.hand) restarts.only))
-      (keeps before slots (inl begun) downs))
+      (subst (λ (h : Option HandState). StackKeepsAsTold before new.desk h (told new.device) (clock new.device)) (sym (ap (λ (s : StackState D (List PlainBlock)). s.hand) restarts.only))
+      (keeps before (λ now. inl (begun (restart_tells told clock old new found.Ready restarts now))) downs))
   restart_keeps found.Failed restarts keeps =
       subst (λ (b : Bool). IsKept b before new.desk new.hand (told new.device) (clock new.device)) (sym (ap (λ (s : StackState D (List PlainBlock)). s.ready) restarts.only))
       (record {
-        started = subst HasStarted (sym (ap (λ (s : StackState D (List PlainBlock)). s.desk.entries) restarts.only)) begun;
+        started = λ now. subst HasStarted (sym (ap (λ (s : StackState D (List PlainBlock)). s.desk.entries) restarts.only)) (begun (restart_tells told clock old new found.Failed restarts now));
         keeps = keeps before downs;
       })
   restart_keeps found.NoRoom restarts keeps = same restarts.0
@@ -90,7 +76,7 @@ returns-clause-pays g c =
     subst (λ (t : StackState g.row.D.Denot (List PlainBlock)). PaysNothing (payer_by told clock t) (payer_by told clock new) (told_by told new)) c.self.view_is
     (nothing_paid told clock s new
     (λ before kept. restart_keeps told clock before s new (c.restart.ensures.down before) kept c.restart.result c.restart.ensures.restarts c.restart.ensures.keeps)
-    c.restart.ensures.lasts (restart_ops told clock s new c.restart.result c.restart.ensures.restarts) (restart_owes told clock s new c.restart.result c.restart.ensures.restarts))
+    (restart_tells told clock s new c.restart.result c.restart.ensures.restarts) c.restart.ensures.lasts (restart_ops told clock s new c.restart.result c.restart.ensures.restarts) (restart_owes told clock s new c.restart.result c.restart.ensures.restarts))
 
 pub returns-clause-restarts : goal.returns-clause-restarts
 returns-clause-restarts g c =

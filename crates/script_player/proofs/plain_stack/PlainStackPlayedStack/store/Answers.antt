@@ -1,13 +1,12 @@
 use Rattle.std.specs.Prelude.{map}
-use Rattle.std.proofs.Common.{◌≡◌, List, length, sym, subst, ap, Some}
+use Rattle.std.proofs.Common.{◌≡◌, List, length, sym, subst, Some}
 use Rattle.nvm_core.specs.ram_blocks.declared.plain_block.PlainBlock.{PlainBlock}
 use Rattle.nvm_core.specs.ram_blocks.Plain.{told_of}
 use Rattle.nvm_script.specs.Rules.{sync_length_of}
 use Rattle.nvm_core.specs.Stack.{StackState}
 use Rattle.script_player.specs.Calls.{Stores}
-use Rattle.script_player.specs.PlainTold.{told_by, AreFew}
+use Rattle.script_player.specs.PlainTold.{told_by}
 use Rattle.script_player.proofs.PlainCopies.{may_store}
-use Rattle.script_player.proofs.PlainFew.{few_stored}
 use Rattle.script_player.proofs.PlainSteps.{stores}
 use Rattle.script_player.proofs.plain_stack.PlainStackPlayedStack.store.Goals as goal
 
@@ -16,14 +15,6 @@ store-requires g c =
     let s = c.self.inside.stack in
     may_store s.desk.config (map told_of s.copies) c.args.block (length c.args.content.now) c.device-device.ensures.synchronized
     (subst (λ (t : StackState g.row.D.Denot (List PlainBlock)). sync_length_of t.desk.config c.args.block ≡ Some (length c.args.content.now)) (sym c.self.view_is) c.requires)
-
-pub invariant_of-self : goal.invariant_of-self
-invariant_of-self g c =
-    let s = c.self.inside.stack in
-    let synchronized = may_store s.desk.config (map told_of s.copies) c.args.block (length c.args.content.now) c.device-device.ensures.synchronized
-    (subst (λ (t : StackState g.row.D.Denot (List PlainBlock)). sync_length_of t.desk.config c.args.block ≡ Some (length c.args.content.now)) (sym c.self.view_is) c.requires) in
-    subst (λ (bs : List PlainBlock). AreFew c.self.inside.asked bs) (sym (ap (λ (t : StackState g.row.D.Denot (List PlainBlock)). t.copies) c.store.ensures.stored))
-    (few_stored c.self.inside.asked s.copies c.args.block c.args.content.now synchronized c.self.invariant)
 
 pub returns-clause-stores : goal.returns-clause-stores
 returns-clause-stores g c =

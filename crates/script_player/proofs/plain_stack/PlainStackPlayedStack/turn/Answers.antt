@@ -1,16 +1,13 @@
-use Rattle.std.proofs.Common.{◌≡◌, ◌<◌, List, sym, subst, ap, ◌∙◌, inl, inr, ℕ}
-use Rattle.std.specs.Prelude.{map}
-use Rattle.nvm_core.specs.nv_base.Count.{last_count}
+use Rattle.std.proofs.Common.{◌≡◌, List, subst, ap, ◌∙◌, inl, inr}
 use Rattle.nvm_core.specs.ram_blocks.declared.plain_block.PlainBlock.{PlainBlock}
-use Rattle.nvm_core.specs.ram_blocks.Told.{most_of}
-use Rattle.nvm_core.specs.ram_blocks.Plain.{told_of}
+use Rattle.nvm_core.specs.memif.Told.{Part, PartTold}
 use Rattle.nvm_core.specs.Stack.{StackState}
+use Rattle.script_player.specs.PlainKept.{IsKept}
 use Rattle.script_player.specs.Calls.{Turns}
 use Rattle.script_player.specs.Paying.{PaysTurn}
 use Rattle.script_player.specs.PlainPaying.{payer_by}
 use Rattle.script_player.proofs.PlainPaying.{keeps_by, turn_paid, turned_ready}
 use Rattle.script_player.specs.PlainTold.{told_by}
-use Rattle.script_player.proofs.PlainFew.{few_copied}
 use Rattle.script_player.proofs.PlainHalves.{IsBehind, ended}
 use Rattle.script_player.proofs.PlainBehind.{behind_device}
 use Rattle.script_player.proofs.plain_stack.PlainStackPlayedStack.turn.Goals as goal
@@ -21,24 +18,21 @@ returns-clause-turns g c =
     let old = c.self.inside.stack in
     let new = c.turn-turned.new.self in
     let ready = ap (λ (s : StackState g.row.D.Denot (List PlainBlock)). s.ready) c.self.view_is ∙ c.requires in
-    let behind : new.ready ≡ old.ready → ((id : ℕ) → most_of (map told_of new.copies) id < last_count) → IsBehind told c.turn-turned.result old new =
-    λ same small. record {
+    let behind : new.ready ≡ old.ready → IsBehind told c.turn-turned.result old new =
+    λ same. record {
       power = c.device-behind.ensures.power (same ∙ ready);
       counted = c.turn-turned.ensures.counted;
       lowers = c.turn-turned.ensures.lowers;
       takes = c.turn-turned.ensures.left;
       tied = c.device-device.ensures.tied ready;
       tied_behind = c.device-behind.ensures.tied (same ∙ ready);
-      small = small;
-      within = c.see_refusals.ensures;
+      synchronized = c.device-device.ensures.synchronized;
     } in
     subst (λ (s : StackState g.row.D.Denot (List PlainBlock)). Turns c.turn-turned.result (told_by told s) (told_by told new)) c.self.view_is
     (elim c.turn-turned.ensures.turns [
-      | inl half ↦ ended told old new c.turn-turned.result half
-          (behind half.ready (few_copied c.self.inside.asked old.copies new.copies half.refuses c.self.invariant))
+      | inl half ↦ ended told old new c.turn-turned.result half (behind half.ready)
       | inr more ↦ behind_device told g.D.MemDevice.clock old more.0 new more.1 (c.device-device.ensures.power ready) c.turn-turned.result more.2
-          (behind (more.2.ready ∙ more.1.ready)
-          (subst (λ (bs : List PlainBlock). (id : ℕ) → most_of (map told_of bs) id < last_count) (sym more.2.copies) (few_copied c.self.inside.asked old.copies more.0.copies more.1.refuses c.self.invariant)))
+          (behind (more.2.ready ∙ more.1.ready))
     ])
 
 pub returns-clause-pays : goal.returns-clause-pays
@@ -51,4 +45,14 @@ returns-clause-pays g c =
     subst (λ (t : StackState g.row.D.Denot (List PlainBlock)). PaysTurn (payer_by told clock t) (payer_by told clock new) (told_by told t) (told_by told new)) c.self.view_is
     (turn_paid told clock s new
     (keeps_by s.ready new.ready s.desk new.desk s.hand new.hand (told s.device) (told new.device) (clock s.device) (clock new.device) ready (turned_ready told clock s new c.turn-turned.result c.turn-turned.ensures.turns) c.turn-turned.ensures.keeps)
-    c.turn-turned.ensures.lasts ready c.turn-turned.ensures.pays)
+    c.turn-turned.ensures.keeps.told c.turn-turned.ensures.lasts ready c.turn-turned.ensures.pays)
+
+pub returns-clause-keeps : goal.returns-clause-keeps
+returns-clause-keeps g c =
+    let s = c.self.inside.stack in
+    let new = c.turn-turned.new.self in
+    let told = g.D.MemDevice.told in
+    let clock = g.D.MemDevice.clock in
+    let ready = ap (λ (t : StackState g.row.D.Denot (List PlainBlock)). t.ready) c.self.view_is ∙ c.requires in
+    subst (λ (t : StackState g.row.D.Denot (List PlainBlock)). (before : Part → PartTold) → IsKept t.ready before t.desk t.hand (told t.device) (clock t.device) → IsKept new.ready before new.desk new.hand (told new.device) (clock new.device)) c.self.view_is
+    (keeps_by s.ready new.ready s.desk new.desk s.hand new.hand (told s.device) (told new.device) (clock s.device) (clock new.device) ready (turned_ready told clock s new c.turn-turned.result c.turn-turned.ensures.turns) c.turn-turned.ensures.keeps)
