@@ -1,5 +1,6 @@
 -- A call of the program that calls no command.
 use Rattle.std.proofs.Common.{ℕ, Bool, List, Option, Some, None, inr, refl}
+use Rattle.nv_streams.specs.Sink.{Written}
 use Rattle.nvm_flash.specs.fls_model.Told.{Told}
 use Rattle.nvm_words.specs.declared.words.CommandKind.{CommandKind}
 use Rattle.nvm_words.specs.declared.words.CommandKind.TheVariants.{Play, Run, Dump, Check, Soak}
@@ -15,7 +16,7 @@ no_cause : (reads writes : ℕ) (left : Option (List ℕ)) → HasCauses status.
 no_cause reads writes left = record { read_fault = λ is. cc; write_fault = λ is. cc; ended = λ is. cc }
 
 -- before any command nothing was read, written or changed
-pub wanting : (k : Option CommandKind) (left : Option (List ℕ)) (reads : ℕ) (written : Option (List ℕ)) (writes : ℕ) (told : Told) → KeepsCommand k (ended status.Memory left left reads reads written written writes writes told told)
+pub wanting : (k : Option CommandKind) (left : Option (List ℕ)) (reads : ℕ) (written : Written) (writes : ℕ) (told : Told) → KeepsCommand k (ended status.Memory left left reads reads written written writes writes told told)
 wanting None left reads written writes told = record { line = refl; unread = refl; untouched = refl; causes = no_cause reads writes left }
 wanting (Some Run) left reads written writes told = record { line = refl; unread = refl; untouched = refl; causes = no_cause reads writes left }
 wanting (Some Check) left reads written writes told = record { by_input = refl; untouched = refl; causes = no_cause reads writes left }
@@ -23,5 +24,5 @@ wanting (Some Dump) left reads written writes told = record { by_input = refl; k
 wanting (Some Play) left reads written writes told = record { promise = inr (record { line = refl; alone = alone told }); untouched = λ is. refl; causes = no_cause reads writes left }
 wanting (Some (Soak seed count)) left reads written writes told = record { promise = inr (record { line = refl; alone = alone told }); untouched = λ is. refl; causes = no_cause reads writes left }
 
-pub wanting_only : (is_served : Option CommandKind → Bool) (k : Option CommandKind) (left : Option (List ℕ)) (reads : ℕ) (written : Option (List ℕ)) (writes : ℕ) (told : Told) → KeepsOnly is_served k (ended status.Memory left left reads reads written written writes writes told told)
+pub wanting_only : (is_served : Option CommandKind → Bool) (k : Option CommandKind) (left : Option (List ℕ)) (reads : ℕ) (written : Written) (writes : ℕ) (told : Told) → KeepsOnly is_served k (ended status.Memory left left reads reads written written writes writes told told)
 wanting_only is_served k left reads written writes told = record { served = λ _. wanting k left reads written writes told; refused = λ _. wanting None left reads written writes told }

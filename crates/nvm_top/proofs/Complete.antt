@@ -1,24 +1,19 @@
--- Where nothing fails a run serves its jobs.
-use Rattle.std.proofs.Common.{◌≡◌, ℕ, List, [], ◌∷◌, Option, None, refl, sym, subst}
+-- Where nothing fails a run ends well.
+use Rattle.std.proofs.Common.{◌≡◌, List, [], ◌∷◌, Option, None, refl, subst}
 use Rattle.nvm_flash.specs.nv_base.Count.{Rose}
 use Rattle.nvm_flash.specs.block_config.Config.{Configuration}
-use Rattle.nvm_flash.specs.memif.Told.{PartTold}
 use Rattle.nvm_flash.specs.fls_model.Told.{Told, Change}
 use Rattle.script_walks.specs.Words.{Step}
 use Rattle.nvm_flash.specs.block_machine.Words.{Entry}
-use Rattle.nvm_flash.specs.block_machine.State.{State, Job}
+use Rattle.nvm_flash.specs.block_machine.State.{State}
 use Rattle.nvm_flash.specs.block_machine.Steps.{after}
 use Rattle.nvm_flash.specs.promise_run.Beside.{Beside}
 use Rattle.nvm_flash.specs.promise_run.Run.{Run, Course, Played, Ran, End, FlashFault, HasOrder, Follows, LeavesFor, RunsBy, EndsAtStart, EndsBefore, FaultWasCounted}
-use Rattle.nvm_flash.specs.promise_run.Completeness.{Completeness, IsCalm, IsServed, PostWell}
+use Rattle.nvm_flash.specs.promise_run.Completeness.{Completeness, IsCalm, PostWell}
 use Rattle.nvm_flash.specs.promise_run.Promise.{making_of}
 use Rattle.nvm_flash.specs.promise_device.FlashRun.{TellsBytes, StartsSound}
 use Rattle.script_player.specs.Told.{StackTold}
-use Rattle.script_player.specs.Made.{HasWalked}
-use Rattle.script_player.specs.Paying.{Payer}
-use Rattle.nvm_flash.specs.promise_run.JobTurns.{job_turns}
-use Rattle.nvm_top.specs.Stack.{IsStarted, run_of}
-use Rattle.nvm_top.proofs.PlayLemmas.{Rose-after}
+use Rattle.nvm_top.specs.Stack.{run_of}
 
 -- A FLASH FAULT WAS COUNTED
 
@@ -37,33 +32,20 @@ by_order r (e ∷ es) one is order = by_course r r.course (e ∷ es) one is orde
 
 -- RUNS
 
--- one without a start-up has no job
-pub early_complete : (c : Configuration) (steps : List Step) (entry exit : Told) (end : End) → HasOrder (run_of c [] entry exit [] (Played [] [] steps) end) []
-    → Completeness (job_turns c) (run_of c [] entry exit [] (Played [] [] steps) end) (Played [] [] steps)
+-- one without a start-up, and one behind it
+pub early_complete : (c : Configuration) (steps : List Step) (entry exit : Told) (end : End) → HasOrder (run_of c [] entry exit [] [] (Played [] [] steps) end) []
+    → Completeness (run_of c [] entry exit [] [] (Played [] [] steps) end) (Played [] [] steps)
 early_complete c steps entry exit end order calm = record {
-  well = record {
-    ends = λ is. calm.no_fault (by_order (run_of c [] entry exit [] (Played [] [] steps) end) [] refl is order);
-    results = λ alone told sound. tt;
-  };
-  served = record { posts = tt; drains = tt };
+  ends = λ is. calm.no_fault (by_order (run_of c [] entry exit [] [] (Played [] [] steps) end) [] refl is order);
+  results = λ alone told sound. tt;
 }
 
--- the faults that the stack was told are its flash's
-pub walked_complete : {c : Configuration} {cuts : ℕ} {p q : Payer} (made left : List Step) (end : End) (before : PartTold) (old t : StackTold) (entry exit : Told) (operations : List Change) → IsStarted c cuts before old → (walked : HasWalked p q made old t)
-    → t.configuration ≡ old.configuration → (Rose before.faults t.faults → Rose entry.faults exit.faults) → HasOrder (run_of t.configuration t.entries entry exit operations (Played made walked.pieces left) end) t.entries
-    → (IsCalm (run_of t.configuration t.entries entry exit operations (Played made walked.pieces left) end) → TellsBytes (record { entry = entry; exit = exit; operations = operations })
-    → StartsSound (making_of t.configuration) (record { entry = entry; exit = exit; operations = operations }) → PostWell (run_of t.configuration t.entries entry exit operations (Played made walked.pieces left) end))
-    → Completeness (job_turns t.configuration) (run_of t.configuration t.entries entry exit operations (Played made walked.pieces left) end) (Played made walked.pieces left)
-walked_complete {c} {cuts} {p} {q} made left end before old t entry exit operations started walked same faults order results calm = record {
-  well = record {
-    ends = λ is. calm.no_fault (by_order (run_of t.configuration t.entries entry exit operations (Played made walked.pieces left) end) t.entries refl is order);
-    results = λ alone told sound. results calm told sound;
-  };
-  served =
-      subst (λ (x : Configuration). IsServed x (job_turns x) made walked.pieces t.entries) (sym same)
-      (subst (λ (x : Configuration). IsServed old.configuration (job_turns x) made walked.pieces t.entries) (sym started.configuration)
-      (subst (λ (most : State → Job → ℕ). IsServed old.configuration most made walked.pieces t.entries) started.turns (walked.complete (record {
-        no_fault = λ rose. calm.no_fault (faults (Rose-after before.faults old.faults t.faults started.faults rose));
-        entries = calm.entries;
-      }))));
+pub walked_complete : (made left : List Step) (pieces : List (List Entry)) (end : End) (t : StackTold) (entry exit : Told) (operations : List Change)
+    → HasOrder (run_of t.configuration t.entries entry exit operations t.causes.came (Played made pieces left) end) t.entries
+    → (IsCalm (run_of t.configuration t.entries entry exit operations t.causes.came (Played made pieces left) end) → TellsBytes (record { entry = entry; exit = exit; operations = operations })
+    → StartsSound (making_of t.configuration) (record { entry = entry; exit = exit; operations = operations }) → PostWell (run_of t.configuration t.entries entry exit operations t.causes.came (Played made pieces left) end))
+    → Completeness (run_of t.configuration t.entries entry exit operations t.causes.came (Played made pieces left) end) (Played made pieces left)
+walked_complete made left pieces end t entry exit operations order results calm = record {
+  ends = λ is. calm.no_fault (by_order (run_of t.configuration t.entries entry exit operations t.causes.came (Played made pieces left) end) t.entries refl is order);
+  results = λ alone told sound. results calm told sound;
 }

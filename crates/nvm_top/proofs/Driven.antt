@@ -1,5 +1,5 @@
 -- The stack over a flash: what it is behind its first start-up, and what its flash comes back with.
-use Rattle.std.specs.Prelude.{not, IfSome, IfOk, IsSome, slice_get, option_map, min}
+use Rattle.std.specs.Prelude.{◌||◌, not, IfSome, IfOk, slice_get, option_map, min}
 use Rattle.std.proofs.Common.{◌≡◌, ◌≢◌, ◌<◌, ◌≤◌, ◌+◌, ◌*◌, ◌⊎◌, ℕ, Bool, true, false, IsTrue, List, [], ◌∷◌, Option, Some, None, Result, Ok, Err, length, refl, sym, ap, ◌∙◌, subst, inl, inr, arith}
 use Rattle.std.proofs.lemmas.Bool.Decides.{leb_tells}
 use Rattle.std.proofs.Math.Nat.{eq-or-lt_of_le}
@@ -15,28 +15,25 @@ use Rattle.nvm_flash.specs.memif.Told.{Part, PartTold, DeviceTold, Fixed, First,
 use Rattle.nvm_flash.specs.memif.Calls.{InOrder}
 use Rattle.nvm_flash.specs.fls_model.Told.{Told, ToldBytes, Change, IfBothTold, bytes_now}
 use Rattle.nvm_flash.specs.fls_devices.Cutter.{cutting, told_cutting}
-use Rattle.nvm_flash.specs.fee_image.Laws.{SoundImagesCompute}
-use Rattle.nvm_flash.specs.promise_device.Making.{Making, banks_of}
+use Rattle.nvm_flash.specs.promise_device.Making.{Making}
 use Rattle.nvm_flash.specs.promise_device.Reading.{Reading}
-use Rattle.nvm_flash.specs.promise_device.Bridge.{Bridges, reading_of}
-use Rattle.nvm_flash.specs.promise_device.FlashRun.{HasFailed}
-use Rattle.nvm_flash.specs.promise_device.Image.{attached}
-use Rattle.nvm_flash.specs.fls_told.Device.{is_told_sound}
+use Rattle.nvm_flash.specs.promise_device.Bridge.{Bridges, reading_of, cuts_of}
+use Rattle.nvm_flash.specs.promise_device.FlashRun.{HasFailed, TellsBytes, StartsSound}
 use Rattle.nvm_flash.specs.fls_told.Clock.{off_in_of}
-use Rattle.nvm_flash.specs.fee_told.Device.{Device, flash_device, told_of, clock_of, tells, slots_told}
+use Rattle.nvm_flash.specs.fee_told.Device.{Device, flash_device, told_of, clock_of}
 use Rattle.nvm_flash.specs.fee_core.Tells.{told_clock}
 use Rattle.nvm_flash.specs.fee_laws.Made.{IsMadeOf, part_at}
 use Rattle.nvm_flash.specs.ram_blocks.declared.plain_block.PlainBlock.{PlainBlock}
 use Rattle.nvm_flash.specs.ram_blocks.Plain.{plain_blocks_of}
 use Rattle.nvm_flash.specs.nv_desk.Desk.{DeskState}
 use Rattle.nvm_flash.specs.job_progress.Hand.{HandState}
-use Rattle.nvm_flash.specs.promise_blocks.OverDevice.{KeepsOver}
-use Rattle.nvm_flash.specs.nvm_device_laws.Turn.{Keeps, BeginsKept, down}
+use Rattle.nvm_flash.specs.promise_blocks.OverDevice.{KeepsOver, KeepsEarly}
+use Rattle.nvm_flash.specs.nvm_device_laws.Turn.{Keeps, BeginsKept, TellsSlots, down}
 use Rattle.nvm_flash.specs.nvm_core.Stack.{StackState}
 use Rattle.nvm_flash.specs.nvm_core.StartUps.{StartsUp, StartsKeep}
-use Rattle.nvm_flash.specs.nvm_laws.Keeps.{StackKeeps, KeepsWhileDown}
+use Rattle.nvm_flash.specs.nvm_laws.Keeps.{StackKeepsAsTold, KeepsAsTold, KeepsWhileDown}
 use Rattle.nvm_flash.specs.nvm_laws.declared.turned.FoundAnswer.TheVariants as found
-use Rattle.nvm_flash.specs.promise_run.Run.{Played, cap, offs_of_flash}
+use Rattle.nvm_flash.specs.promise_run.Run.{Played, cap}
 use Rattle.nvm_flash.specs.promise_run.Promise.{making_of}
 use Rattle.nvm_flash.specs.promise_run.Halves.{HalvesMakeIt, beyond_end}
 use Rattle.script_walks.specs.Texts.{AreValues}
@@ -53,12 +50,13 @@ use Rattle.script_player.proofs.Fresh.{is_fresh}
 use Rattle.nvm_flash.proofs.nvm_device_laws.DownCalls.{over_with}
 use Rattle.nvm_flash.proofs.nvm_laws.StartingUp.{stacks_begin}
 use Rattle.nvm_flash.proofs.promise_device.FlashRun.{seen_more}
-use Rattle.nvm_flash.proofs.promise_device.Readings.{worn_banks_compute}
+use Rattle.nvm_flash.proofs.promise_device.Readings.{sound_starts_compute, worn_banks_compute}
+use Rattle.nvm_flash.proofs.promise_run.Composition.{begins_well}
 use Rattle.nvm_flash.specs.Made.{IsOrigin, IsMadeStack, AreOfFirst, ComesBack, IsBack}
 use Rattle.nvm_flash.specs.promise_device.Bridge.{IsWornOut}
 use Rattle.nvm_flash.specs.nvm_core.Paying.{counted_of, TriesSince}
 use Rattle.script_player.specs.PlainPaying.{payer_by}
-use Rattle.nvm_top.specs.Stack.{IsKeptFrom, IsStarted, StartsWell, StopsAtStart, Vouches, run_of, one_part, stop_of_make}
+use Rattle.nvm_top.specs.Stack.{IsKeptFrom, IsStarted, StopsAtStart, Vouches, run_of, one_part, stop_of_make}
 use Rattle.nvm_flash.specs.fls_model.Attach.{IsFilled}
 use Rattle.nvm_top.specs.Play.{IsRightSize, IsWrongSize}
 use Rattle.nvm_top.specs.declared.stop.Stop.{Stop}
@@ -113,12 +111,12 @@ fresh_down d c inner cuts making entry most begins order origin legal made parts
 
 pub begins_up : (c : Configuration) (making : Making) (entry : Told) (m s : StackState Device (List PlainBlock)) → IsMadeStack m.desk.config making entry m → BeginsKept (told_of m.device) (told_clock m.device) → InOrder (told_of m.device) (told_clock m.device)
     → StartsUp told_of m s → StartsKeep found.Ready m.desk (told_of m.device) (told_clock m.device) s.desk (told_of s.device) (told_clock s.device)
-    → (inner : Told) (cuts : ℕ) → m.desk.config ≡ c → IsLegalConfig c → IsOrigin c inner cuts making entry → IsSome (told_of m.device).slots → StackKeeps (one_part (part_at entry)) s.desk None (told_of s.device) (told_clock s.device)
-begins_up c making entry m s made begins order starts keeps inner cuts same legal origin slots =
-    keeps (one_part (part_at entry)) slots (inr (starts.finds.up.restarted.ops ∙ made.device.ops))
-    (subst (λ (h : List Entry). KeepsWhileDown m.desk.config m.desk.cap h (one_part (part_at entry)) (told_of m.device) (told_clock m.device)) (sym (ap (λ x. x.desk.entries) made.only))
-    (subst (λ (x : Configuration). KeepsWhileDown x m.desk.cap [] (one_part (part_at entry)) (told_of m.device) (told_clock m.device)) (sym same)
-    (stacks_begin (told_of m.device) (told_clock m.device) c m.desk.cap (one_part (part_at entry)) made.device.ops made.device.starts
+    → (inner : Told) (cuts : ℕ) → m.desk.config ≡ c → IsLegalConfig c → IsOrigin c inner cuts making entry → StackKeepsAsTold (one_part (part_at entry)) s.desk None (told_of s.device) (told_clock s.device)
+begins_up c making entry m s made begins order starts keeps inner cuts same legal origin =
+    keeps (one_part (part_at entry)) (λ told. inr (starts.finds.up.restarted.ops ∙ made.device.ops))
+    (subst (λ (h : List Entry). KeepsAsTold (KeepsWhileDown m.desk.config m.desk.cap h (one_part (part_at entry)) (told_of m.device) (told_clock m.device)) m.desk.config m.desk.cap h (told_of m.device) (told_clock m.device)) (sym (ap (λ x. x.desk.entries) made.only))
+    (subst (λ (x : Configuration). KeepsAsTold (KeepsWhileDown x m.desk.cap [] (one_part (part_at entry)) (told_of m.device) (told_clock m.device)) x m.desk.cap [] (told_of m.device) (told_clock m.device)) (sym same)
+    (stacks_begin (told_of m.device) (told_clock m.device) c m.desk.cap (one_part (part_at entry)) order made.device.ops made.device.starts
     (fresh_down m.device c inner cuts making entry m.desk.cap begins order origin legal made.device made.parts))))
 
 -- WHERE THE FLASH TELLS ITS BYTES
@@ -126,23 +124,6 @@ begins_up c making entry m s made begins order starts keeps inner cuts same lega
 now_told : (o : Option ToldBytes) (f : ToldBytes → Option (List Change)) → option_map (λ (b : ToldBytes). b.now) (option_map {T = ToldBytes} {U = ToldBytes} (λ b. record { now = b.now; changes = f b; room = b.room }) o) ≡ option_map (λ (b : ToldBytes). b.now) o
 now_told None f = refl
 now_told (Some b) f = refl
-
-both_some : (a b : Option ToldBytes) (P : ToldBytes → ToldBytes → Type 0) (first : List ℕ) → IfBothTold a b P → option_map (λ (x : ToldBytes). x.now) a ≡ Some first → (last : List ℕ) × (option_map (λ (x : ToldBytes). x.now) b ≡ Some last)
-both_some None b P first both is = cc is
-both_some (Some x) None P first both is = absurd both
-both_some (Some x) (Some y) P first both is = (y.now, refl)
-
-some_slots : (d : Device) (image last : List ℕ) → tells d ≡ true → bytes_now d.flash ≡ Some last → IsSome (slots_told d)
-some_slots d image last told bytes = rw (told, bytes) refl
-
-pub tells_slots : SoundImagesCompute → (c : Configuration) (inner : Told) (cuts : ℕ) (making : Making) (entry : Told) (d : Device) → IsOrigin c inner cuts making entry → IsMadeOf making entry d → StartsWell c inner → IsSome (told_of d).slots
-tells_slots sounds c inner cuts making entry d origin made well =
-    let bytes : bytes_now d.entry ≡ Some well.first = ap bytes_now (made.told_entry ∙ origin.over) ∙ now_told inner.bytes _ ∙ well.bytes in
-    let made_for : d.making ≡ making_of c = made.making ∙ origin.made_for in
-    let sound : is_told_sound (reading_of (making_of c)) (Some well.first) ≡ true = (sounds (banks_of (making_of c)) (attached c.geometry well.first)).1 well.sound in
-    let told : tells d ≡ true = ap (λ o. is_told_sound (reading_of d.making) o) bytes ∙ ap (λ m. is_told_sound (reading_of m) (Some well.first)) made_for ∙ sound in
-    let (last, out) = both_some d.entry.bytes d.flash.bytes _ well.first made.made.attaches.bytes bytes in
-    some_slots d well.first last told out
 
 -- its flash has the configuration's size, or had no bytes
 filled_size : (g : Geometry) (x y : Option ToldBytes) → IfBothTold x y (IsFilled g) → IsRightSize (size_of g) x
@@ -183,6 +164,8 @@ started c inner cuts making entry m s legal origin made starts = record {
   unplanned =
       let is = ap (λ p. p.planning.unplanned) starts.finds.up.restarted.first.only ∙ ap (λ p. p.planning.unplanned) part in
       let over = ap (λ x. x.planning.unplanned) origin.over in omega (arith, is, over);
+  came = ap (λ p. p.planning.came) starts.finds.up.restarted.first.only ∙ ap (λ p. p.planning.came) part;
+  on = ap (λ t. t || (told_of s.device).second.off) starts.finds.up.first_on;
 }
   where
     config : s.desk.config ≡ c
@@ -194,12 +177,12 @@ started c inner cuts making entry m s legal origin made starts = record {
     part : (told_of m.device).first ≡ part_at (told_cutting (cutting inner cuts))
     part = made.device.part ∙ ap part_at origin.over
 
-is_kept : (before : Part → PartTold) (m s t : StackState Device (List PlainBlock)) → t ≡ s → StartsUp told_of m s → StackKeeps before s.desk None (told_of s.device) (told_clock s.device)
+is_kept : (before : Part → PartTold) (m s t : StackState Device (List PlainBlock)) → t ≡ s → StartsUp told_of m s → StackKeepsAsTold before s.desk None (told_of s.device) (told_clock s.device)
     → IsKept t.ready before t.desk t.hand (told_of t.device) (told_clock t.device)
 is_kept before m s t same starts keeps =
     subst (λ (x : StackState Device (List PlainBlock)). IsKept x.ready before x.desk x.hand (told_of x.device) (told_clock x.device)) (sym same)
     (subst (λ (b : Bool). IsKept b before s.desk s.hand (told_of s.device) (told_clock s.device)) (sym (ap (λ x. x.ready) starts.only))
-    (subst (λ (h : Option HandState). StackKeeps before s.desk h (told_of s.device) (told_clock s.device)) (sym (ap (λ x. x.hand) starts.only)) keeps))
+    (subst (λ (h : Option HandState). StackKeepsAsTold before s.desk h (told_of s.device) (told_clock s.device)) (sym (ap (λ x. x.hand) starts.only)) keeps))
 
 -- no job is in hand
 none_owed : (before : Part → PartTold) (m s t : StackState Device (List PlainBlock)) → t ≡ s → StartsUp told_of m s → IfSome t.hand (λ h. TriesSince (told_clock t.device).worn (faults_of (told_of t.device)) (counted_of (told_of t.device)) h.program)
@@ -207,15 +190,20 @@ none_owed before m s t same starts =
     let none : t.hand ≡ None = ap (λ x. x.hand) same ∙ ap (λ x. x.hand) starts.only in
     subst (λ (h : Option HandState). IfSome h (λ x. TriesSince (told_clock t.device).worn (faults_of (told_of t.device)) (counted_of (told_of t.device)) x.program)) (sym none) tt
 
-pub kept_up : (before : Part → PartTold) (m s t : StackState Device (List PlainBlock)) → t ≡ s → StartsUp told_of m s → StackKeeps before s.desk None (told_of s.device) (told_clock s.device)
+pub kept_up : (before : Part → PartTold) (m s t : StackState Device (List PlainBlock)) → t ≡ s → StartsUp told_of m s → StackKeepsAsTold before s.desk None (told_of s.device) (told_clock s.device)
     → IsKeptFrom (IsKept t.ready before t.desk t.hand (told_of t.device) (told_clock t.device)) (payer_by told_of told_clock t) (told_by told_of t)
 kept_up before m s t same starts keeps = let kept = is_kept before m s t same starts keeps in (kept, ((before, kept), (omega arith, none_owed before m s t same starts)))
 
 -- ITS END
 
-over_of : (b : Bool) (before : Part → PartTold) (desk : DeskState) (hand : Option HandState) (d : Device) → IsKept b before desk hand (told_of d) (told_clock d) → KeepsOver desk.config desk.cap desk.entries before (told_of d) (told_clock d)
-over_of true before desk hand d keeps = keeps.keeps.over
-over_of false before desk hand d keeps = over_with (told_of d).started desk.config desk.cap desk.entries before (down (told_of d)) (told_clock d) keeps.keeps.keeps.over
+over_of : (b : Bool) (before : Part → PartTold) (desk : DeskState) (hand : Option HandState) (d : Device) → IsKept b before desk hand (told_of d) (told_clock d) → TellsSlots (told_of d) → KeepsOver desk.config desk.cap desk.entries before (told_of d) (told_clock d)
+over_of true before desk hand d keeps told = (keeps.all told).keeps.over
+over_of false before desk hand d keeps told = over_with (told_of d).started desk.config desk.cap desk.entries before (down (told_of d)) (told_clock d) (keeps.keeps.all told).keeps.over
+
+-- until the first operation
+early_of : (b : Bool) (before : Part → PartTold) (desk : DeskState) (hand : Option HandState) (d : Device) → IsKept b before desk hand (told_of d) (told_clock d) → (told_of d).tells ≡ true → KeepsEarly desk.config desk.cap desk.entries (told_clock d)
+early_of true before desk hand d keeps tells = keeps.early tells
+early_of false before desk hand d keeps tells = keeps.keeps.early tells
 
 -- what the device told of its operations, by the clock that it tells
 told_bridge : (r : Reading) (inner exit : Told) (operations : List Change) (before : PartTold) (d : Device) → Bridges r true (record { entry = inner; exit = exit; operations = operations }) before (told_of d) (clock_of d)
@@ -223,17 +211,22 @@ told_bridge : (r : Reading) (inner exit : Told) (operations : List Change) (befo
 told_bridge r inner exit operations before d b = record {
   after = b.after;
   cut = b.cut;
+  tells = b.tells;
+  slots = b.slots;
   sound = b.sound;
   sound_cut = b.sound_cut;
   operations = record {
     told_alike = b.operations.told_alike;
     chain = b.operations.chain;
-    seen = λ t. seen_more (λ k. IsTrue true × off_in_of (flash_device d) k) (λ k. IsTrue true × ((last_count ≤ k) ⊎ ((k < last_count) × off_in_of (flash_device d) k))) 0 t.bytes.last operations t.changes (λ k is. (is.0, later k is.1)) (b.operations.seen t);
+    seen = λ t. seen_more (λ k. IsTrue true × off_in_of (flash_device d) k) (λ k. IsTrue true × ((last_count ≤ k) ⊎ ((k < last_count) × off_in_of (flash_device d) k))) 0 t.bytes.last operations (cuts_of true (told_of d)) t.changes (λ k is. (is.0, later k is.1)) (b.operations.seen t);
+    counted = b.operations.counted;
     told = b.operations.told;
   };
   ops = b.ops;
   faults = b.faults;
   cuts = b.cuts;
+  off = b.off;
+  withheld = b.withheld;
   failed = b.failed;
   worn = b.worn;
 }
@@ -260,7 +253,10 @@ pub vouched : (c : Configuration) (inner : Told) (cuts : ℕ) (making : Making) 
 vouched c inner cuts making entry exit s e same halves values origin config most back = record {
   operations = back.operations;
   ops = own.ops;
+  counts = own.operations.counted;
   geometry = back.geometry ∙ ap (λ (x : Configuration). x.geometry) (sym config);
+  off = λ is. ap (λ t. t || (told_of s.device).second.off) (own.off is);
+  plan = back.no_plan;
   failed = λ k few is.
       let all = own.ops in
       (few, own.failed k (omega (arith, few, all)) (subst (λ (x : Configuration). HasFailed (record { entry = inner; exit = exit; operations = back.operations }) k) config is));
@@ -271,21 +267,33 @@ vouched c inner cuts making entry exit s e same halves values origin config most
   worn = λ k n (few, is).
       subst (λ (x : Configuration). IsWornOut (making_of x) (record { entry = inner; exit = exit; operations = back.operations }) k n) (sym config) (worn_banks_compute (making_of c) (record { entry = inner; exit = exit; operations = back.operations }) k n (own.worn k n is));
   values = values;
-  promise = λ kept made left pieces end order refusals off.
-      its (run_of s.desk.config s.desk.entries inner exit back.operations (Played made pieces left) end) (one_part (part_at entry)) (told_of s.device)
+  tells = λ told sound. slots told sound;
+  early = λ kept told made left pieces end.
+      begins_well (told_clock s.device) (run_of s.desk.config s.desk.entries inner exit back.operations (told_of s.device).first.planning.came (Played made pieces left) end) (part_at entry) (told_of s.device)
+      (subst (λ (n : ℕ). KeepsEarly s.desk.config n s.desk.entries (told_clock s.device)) most (early_of s.ready (one_part (part_at entry)) s.desk s.hand s.device kept (bridge.tells told)))
+      (told_bridge (reading_of (making_of s.desk.config)) inner exit back.operations (part_at entry) s.device bridge) told;
+  promise = λ kept told sound made left pieces end order refusals off.
+      its (run_of s.desk.config s.desk.entries inner exit back.operations (told_of s.device).first.planning.came (Played made pieces left) end) (one_part (part_at entry)) (told_of s.device)
       (record {
         alone = refl;
         order = order;
-        over = subst (λ (n : ℕ). KeepsOver s.desk.config n s.desk.entries (one_part (part_at entry)) (told_of s.device) (told_clock s.device)) most (over_of s.ready (one_part (part_at entry)) s.desk s.hand s.device kept);
+        over = subst (λ (n : ℕ). KeepsOver s.desk.config n s.desk.entries (one_part (part_at entry)) (told_of s.device) (told_clock s.device)) most (over_of s.ready (one_part (part_at entry)) s.desk s.hand s.device kept (slots told sound));
         refusals = refusals;
-        off = subst (λ (k : ℕ). WereCounted (offs_of_flash (Played made pieces left) s.desk.entries) (part_at entry).planning.unplanned k) one_part_cuts off;
+        off = (off.0, off.1, subst (λ (k : ℕ). WereCounted off.0 (part_at entry).planning.unplanned k) one_part_cuts off.2);
+        came = refl;
         one = λ block. rw (parts (block * 64)) refl;
       })
-      (told_bridge (reading_of (making_of s.desk.config)) inner exit back.operations (part_at entry) s.device (subst (λ (x : Configuration). Bridges (reading_of (making_of x)) true (record { entry = inner; exit = exit; operations = back.operations }) (part_at entry) (told_of s.device) (clock_of s.device)) (sym config) own));
+      (told_bridge (reading_of (making_of s.desk.config)) inner exit back.operations (part_at entry) s.device bridge);
 }
   where
     own : Bridges (reading_of (making_of c)) true (record { entry = inner; exit = exit; operations = back.operations }) (part_at entry) (told_of s.device) (clock_of s.device)
     own = subst (λ (d : Device). Bridges (reading_of (making_of c)) true (record { entry = inner; exit = exit; operations = back.operations }) (part_at entry) (told_of d) (clock_of d)) same back.bridges
+
+    bridge : Bridges (reading_of (making_of s.desk.config)) true (record { entry = inner; exit = exit; operations = back.operations }) (part_at entry) (told_of s.device) (clock_of s.device)
+    bridge = subst (λ (x : Configuration). Bridges (reading_of (making_of x)) true (record { entry = inner; exit = exit; operations = back.operations }) (part_at entry) (told_of s.device) (clock_of s.device)) (sym config) own
+
+    slots : TellsBytes (record { entry = inner; exit = exit; operations = back.operations }) → StartsSound (making_of s.desk.config) (record { entry = inner; exit = exit; operations = back.operations }) → TellsSlots (told_of s.device)
+    slots told sound = bridge.slots told (sound_starts_compute (making_of s.desk.config) (record { entry = inner; exit = exit; operations = back.operations }) sound)
 
     its : HalvesMakeIt (told_clock s.device)
     its = subst (λ (d : Device). HalvesMakeIt (told_clock d)) same halves

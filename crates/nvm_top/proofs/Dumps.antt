@@ -1,5 +1,6 @@
 -- What `dump` writes and answers, from what its parts do.
-use Rattle.std.proofs.Common.{◌≡◌, ◌≢◌, ℕ, List, Option, IfSome, refl, sym, ap, subst, inl, inr}
+use Rattle.std.proofs.Common.{◌≡◌, ◌≢◌, ℕ, List, [], ◌∷◌, Option, IfSome, refl, sym, ap, subst, inl, inr}
+use Rattle.nv_streams.specs.Sink.{Written}
 use Rattle.nvm_flash.specs.nv_base.Count.{Rose}
 use Rattle.nvm_flash.specs.nv_base.declared.geometry.Geometry.{Geometry}
 use Rattle.nvm_flash.specs.nv_base.Geometry.{size_of}
@@ -19,28 +20,28 @@ use Rattle.nvm_top.proofs.PlayLemmas.{report-by}
 use Rattle.nvm_top.proofs.RunLines.{Writes-as, by_stop, read_line}
 
 -- FROM THE ATTACH ON
-stop_line : (g : Geometry) (s t : Told) (why : Stop) → IsAttachStop (size_of g) s.bytes why → IsPlayEnd (size_of g) s t (status_of why) → why ≢ stop.Memory → DumpsFlash g s t (status_of why) (line_of why)
-stop_line g s t (stop.WrongSize found needed) is end other = (end.0, (found, is.0, ap (λ (n : ℕ). line_of (stop.WrongSize found n)) is.1))
+stop_line : (g : Geometry) (s t : Told) (why : Stop) → IsAttachStop (size_of g) s.bytes why → IsPlayEnd (size_of g) s t (status_of why) → why ≢ stop.Memory → DumpsFlash g s t (status_of why) (line_of why ∷ [])
+stop_line g s t (stop.WrongSize found needed) is end other = (end.0, (found, is.0, ap (λ (n : ℕ). line_of (stop.WrongSize found n) ∷ []) is.1))
 stop_line g s t stop.FlashFault is end other = (end, refl)
 stop_line g s t stop.Memory is end other = absurd (other refl)
 stop_line g s t _ is end other = absurd is
 
-pub stopped-text : (g : Geometry) (s t : Told) (why : Stop) (w w' : Option (List ℕ)) (x : Status) → IsAttachStop (size_of g) s.bytes why → IsPlayEnd (size_of g) s t (status_of why) → Writes (IsStop why) w w' x → Writes (DumpsFlash g s t) w w' x
+pub stopped-text : (g : Geometry) (s t : Told) (why : Stop) (w w' : Written) (x : Status) → IsAttachStop (size_of g) s.bytes why → IsPlayEnd (size_of g) s t (status_of why) → Writes (IsStop why) w w' x → Writes (DumpsFlash g s t) w w' x
 stopped-text g s t why w w' x stops end is =
-    Writes-as (IsStop why) (DumpsFlash g s t) w w' x (λ y line at. by_stop (DumpsFlash g s t) why y line (stop_line g s t why stops end) at) is
+    Writes-as (IsStop why) (DumpsFlash g s t) w w' x (λ y lines at. by_stop (DumpsFlash g s t) why y lines (stop_line g s t why stops end) at) is
 
-pub read-text : (g : Geometry) (s t : Told) (image : List ℕ) (w w' : Option (List ℕ)) (x : Status) → IsImageOf g s.bytes image → Writes (IsDump g image) w w' x → Writes (DumpsFlash g s t) w w' x
+pub read-text : (g : Geometry) (s t : Told) (image : List ℕ) (w w' : Written) (x : Status) → IsImageOf g s.bytes image → Writes (IsDump g image) w w' x → Writes (DumpsFlash g s t) w w' x
 read-text g s t image w w' x of is =
-    Writes-as (IsDump g image) (DumpsFlash g s t) w w' x (λ y text at. subst (λ (z : Status). DumpsFlash g s t z text) (sym at.0) (image, of, at.1)) is
+    Writes-as (IsDump g image) (DumpsFlash g s t) w w' x (λ y lines at. subst (λ (z : Status). DumpsFlash g s t z lines) (sym at.0) (image, of, at.1)) is
 
 -- AS A WHOLE
-pub configured-text : (left : Option (List ℕ)) (reads reads' : ℕ) (s t : Told) (c : Configuration) (w w' : Option (List ℕ)) (x : Status) → IfSome left (λ bytes. HasConfig bytes c) → Writes (DumpsFlash c.geometry s t) w w' x → Writes (DumpsBy left reads reads' s t) w w' x
-configured-text left reads reads' s t c w w' x has is = Writes-as (DumpsFlash c.geometry s t) (DumpsBy left reads reads' s t) w w' x (λ y text at. inr (c, has, at)) is
+pub configured-text : (left : Option (List ℕ)) (reads reads' : ℕ) (s t : Told) (c : Configuration) (w w' : Written) (x : Status) → IfSome left (λ bytes. HasConfig bytes c) → Writes (DumpsFlash c.geometry s t) w w' x → Writes (DumpsBy left reads reads' s t) w w' x
+configured-text left reads reads' s t c w w' x has is = Writes-as (DumpsFlash c.geometry s t) (DumpsBy left reads reads' s t) w w' x (λ y lines at. inr (c, has, at)) is
 
 -- where the configuration isn't read
-pub unread-text : (left : Option (List ℕ)) (reads reads' : ℕ) (s t : Told) (why : Stop) (w w' : Option (List ℕ)) (x : Status) → (why ≡ stop.ReadFault → Rose reads reads') → IsCheckStop left why → Writes (IsStop why) w w' x → Writes (DumpsBy left reads reads' s t) w w' x
+pub unread-text : (left : Option (List ℕ)) (reads reads' : ℕ) (s t : Told) (why : Stop) (w w' : Written) (x : Status) → (why ≡ stop.ReadFault → Rose reads reads') → IsCheckStop left why → Writes (IsStop why) w w' x → Writes (DumpsBy left reads reads' s t) w w' x
 unread-text left reads reads' s t why w w' x fault stops is =
-    Writes-as (IsStop why) (DumpsBy left reads reads' s t) w w' x (λ y line at. inl (by_stop (ReadsBy left reads reads') why y line (read_line left reads reads' why fault stops) at)) is
+    Writes-as (IsStop why) (DumpsBy left reads reads' s t) w w' x (λ y lines at. inl (by_stop (ReadsBy left reads reads') why y lines (read_line left reads reads' why fault stops) at)) is
 
 -- CAUSES
 before : (need : ℕ) (s t : Told) (x : Status) → IsPlayEnd need s t x → IsBeforeStart x → t ≡ s

@@ -1,60 +1,69 @@
--- Lines of entries that are appended one behind the other.
-use Rattle.std.proofs.Common.{◌≡◌, ◌≤◌, ◌-◌, ℕ, ◌+◌, List, [], ◌∷◌, ◌++◌, length, take, drop, Option, Some, slice_get, ap, sym, subst, ◌∙◌, arith, append-nil}
-use Rattle.std.proofs.KnownBytes.{Appends-trans}
-use Rattle.std.proofs.Math.Seq.{take-add, take-append-add}
-use Rattle.std.proofs.lemmas.List.{take-append-le, take_more, take-append-drop, length-append}
-use Rattle.std.proofs.lemmas.List.Concat.{flat_map-append}
+-- Lines that are put one behind the other.
+use Rattle.std.proofs.Common.{◌≡◌, ◌-◌, ℕ, ◌+◌, List, [], ◌∷◌, ◌++◌, take, drop, Some, Result, Ok, Err, IfErr, slice_get, ap, sym, subst, ◌∙◌, append_assoc, arith}
+use Rattle.std.proofs.lemmas.List.{take_more, take-append-drop, drop-drop, map-append}
 use Rattle.std.proofs.lemmas.Option.{slice_get_within, get_or_from_slice_get}
-use Rattle.std.specs.List.{flat_map, slice_range}
-use Rattle.std.specs.Io.KnownBytes.{Appends}
-use Rattle.nv_streams.specs.Sink.{AppendsPrefix}
+use Rattle.std.specs.List.{slice_range}
+use Rattle.std.specs.Result.{IsErrAnd}
+use Rattle.nv_streams.specs.Sink.{Written, Puts, PutsPart}
+use Rattle.nv_streams.proofs.Puts.{Puts-trans, PutsPart-longer, PutsPart-behind}
 use Rattle.nvm_flash.specs.nv_base.declared.entry.Entry.{Entry}
+use Rattle.nvm_script.specs.Cut.{cut_lines}
 use Rattle.nvm_script.specs.Lines.{entry_line}
-use Rattle.nvm_script.specs.Printed.{history_text}
-
--- A PREFIX
--- of a text is one of a longer text
-pub prefix-longer : (w w' : Option (List ℕ)) (a b : List ℕ) → AppendsPrefix w w' a → AppendsPrefix w w' (a ++ b)
-prefix-longer w w' a b is =
-    (is.0, omega (arith, is.1, length-append a b), subst (λ (l : List ℕ). Appends w w' l) (sym (take-append-le is.0 a b is.1)) is.2)
-
--- behind a whole text
-pub prefix-behind : (w w1 w2 : Option (List ℕ)) (a b : List ℕ) → Appends w w1 a → AppendsPrefix w1 w2 b → AppendsPrefix w w2 (a ++ b)
-prefix-behind w w1 w2 a b whole is =
-    (length a + is.0, omega (arith, is.1, length-append a b), subst (λ (l : List ℕ). Appends w w2 l) (sym (take-append-add a b is.0)) (Appends-trans w w1 w2 a (take is.0 b) whole is.2))
+use Rattle.nvm_script.specs.Printed.{history_lines}
+use Rattle.nvm_top.specs.Output.{BreaksOff}
+use Rattle.nvm_top.specs.declared.output.OutputFault.{OutputFault}
+use Rattle.nvm_top.specs.declared.output.OutputFault.TheVariants.{Memory}
 
 -- ENTRIES
 -- one more
-pub history_text-more : (entries : List Entry) (i : ℕ) (e : Entry) → slice_get entries i ≡ Some e → history_text (take (i + 1) entries) ≡ history_text (take i entries) ++ entry_line e
-history_text-more entries i e at =
-    rw (take_more entries i e (slice_get_within entries i e at), get_or_from_slice_get entries i e e at, flat_map-append entry_line (take i entries) (e ∷ [])) (ap (λ (l : List ℕ). flat_map entry_line (take i entries) ++ l) (append-nil (entry_line e)))
+lines-more : (entries : List Entry) (i : ℕ) (e : Entry) → slice_get entries i ≡ Some e → history_lines (take (i + 1) entries) ≡ history_lines (take i entries) ++ entry_line e ∷ []
+lines-more entries i e at =
+    rw (take_more entries i e (slice_get_within entries i e at), get_or_from_slice_get entries i e e at) (map-append entry_line (take i entries) (e ∷ []))
 
-pub entries-more : (w w1 w2 : Option (List ℕ)) (entries : List Entry) (i : ℕ) (e : Entry) → (piece : List ℕ) → slice_get entries i ≡ Some e → Appends w w1 (history_text (take i entries)) → piece ≡ entry_line e → Appends w1 w2 piece → Appends w w2 (history_text (take (i + 1) entries))
-entries-more w w1 w2 entries i e piece at before same line =
-    subst (λ (l : List ℕ). Appends w w2 l) (ap (λ (l : List ℕ). history_text (take i entries) ++ l) same ∙ sym (history_text-more entries i e at)) (Appends-trans w w1 w2 (history_text (take i entries)) piece before line)
+pub entries-more : (w w1 w2 : Written) (entries : List Entry) (i : ℕ) (e : Entry) (line : List ℕ) → slice_get entries i ≡ Some e → Puts w w1 (history_lines (take i entries)) → line ≡ entry_line e → Puts w1 w2 (line ∷ []) → Puts w w2 (history_lines (take (i + 1) entries))
+entries-more w w1 w2 entries i e line at before same put =
+    subst (λ (l : List (List ℕ)). Puts w w2 l) (ap (λ (l : List ℕ). history_lines (take i entries) ++ l ∷ []) same ∙ sym (lines-more entries i e at)) (Puts-trans w w1 w2 (history_lines (take i entries)) (line ∷ []) before put)
 
--- a prefix of one more is one of all
-pub entries-prefix : (w w1 w2 : Option (List ℕ)) (entries : List Entry) (i : ℕ) (e : Entry) → (piece : List ℕ) → slice_get entries i ≡ Some e → Appends w w1 (history_text (take i entries)) → piece ≡ entry_line e → AppendsPrefix w1 w2 piece → AppendsPrefix w w2 (history_text entries)
-entries-prefix w w1 w2 entries i e piece at before same line =
-    let joined : history_text (take i entries) ++ piece ≡ history_text (take (i + 1) entries) = ap (λ (l : List ℕ). history_text (take i entries) ++ l) same ∙ sym (history_text-more entries i e at) in
-    let front : AppendsPrefix w w2 (history_text (take (i + 1) entries)) = subst (λ (l : List ℕ). AppendsPrefix w w2 l) joined (prefix-behind w w1 w2 (history_text (take i entries)) piece before line) in
-    let parts : history_text entries ≡ history_text (take (i + 1) entries) ++ history_text (drop (i + 1) entries) =
-    ap history_text (sym (take-append-drop (i + 1) entries)) ∙ flat_map-append entry_line (take (i + 1) entries) (drop (i + 1) entries) in
-    subst (λ (l : List ℕ). AppendsPrefix w w2 l) (sym parts) (prefix-longer w w2 _ _ front)
+-- a part of one more is one of all
+pub entries-part : (w w1 w2 : Written) (entries : List Entry) (i : ℕ) (e : Entry) (line : List ℕ) → slice_get entries i ≡ Some e → Puts w w1 (history_lines (take i entries)) → line ≡ entry_line e → PutsPart w1 w2 (line ∷ []) → PutsPart w w2 (history_lines entries)
+entries-part w w1 w2 entries i e line at before same part =
+    let joined : history_lines (take i entries) ++ line ∷ [] ≡ history_lines (take (i + 1) entries) = ap (λ (l : List ℕ). history_lines (take i entries) ++ l ∷ []) same ∙ sym (lines-more entries i e at) in
+    let front : PutsPart w w2 (history_lines (take (i + 1) entries)) = subst (λ (l : List (List ℕ)). PutsPart w w2 l) joined (PutsPart-behind w w1 w2 (history_lines (take i entries)) (line ∷ []) before part) in
+    let parts : history_lines entries ≡ history_lines (take (i + 1) entries) ++ history_lines (drop (i + 1) entries) =
+    ap history_lines (sym (take-append-drop (i + 1) entries)) ∙ map-append entry_line (take (i + 1) entries) (drop (i + 1) entries) in
+    subst (λ (l : List (List ℕ)). PutsPart w w2 l) (sym parts) (PutsPart-longer w w2 _ _ front)
+
+-- want of memory breaks them off behind one
+pub entries-wanting : (w w' : Written) (entries : List Entry) (i : ℕ) (r : Result (Unit {0}) OutputFault) → IsErrAnd r (λ fault. fault ≡ Memory) → Puts w w' (history_lines (take i entries)) → IfErr r (λ fault. BreaksOff fault entries w w')
+entries-wanting w w' entries i (Ok done) is put = tt
+entries-wanting w w' entries i (Err fault) is put = subst (λ (f : OutputFault). BreaksOff f entries w w') (sym is) (i, put)
 
 -- LINES OF A TEXT
-front : (text : List ℕ) (at next : ℕ) → at ≤ next → take at text ++ slice_range text at next ≡ take next text
-front text at next le =
-    let there : at + (next - at) ≡ next = omega arith in
-    sym (take-add at (next - at) text) ∙ ap (λ (n : ℕ). take n text) there
+-- these are put of a text, whose rest stands from this place on
+pub record PutsUpTo (w w' : Written) (text : List ℕ) (at : ℕ) : Type 0 where
+  pub done : List (List ℕ)
+  pub are : cut_lines text ≡ done ++ cut_lines (drop at text)
+  pub put : Puts w w' done
+
+-- the next line, of so many bytes
+next_line : (text : List ℕ) (at n : ℕ) → cut_lines (drop at text) ≡ take n (drop at text) ∷ cut_lines (drop n (drop at text)) → cut_lines (drop at text) ≡ slice_range text at (at + n) ∷ cut_lines (drop (at + n) text)
+next_line text at n is =
+    let so_many : at + n - at ≡ n = omega arith in
+    is ∙ ap (λ (l : List ℕ). take n (drop at text) ∷ cut_lines l) (drop-drop n at text) ∙ ap (λ (k : ℕ). take k (drop at text) ∷ cut_lines (drop (at + n) text)) (sym so_many)
 
 -- one more
-pub line-more : (w w1 w2 : Option (List ℕ)) (text : List ℕ) (at next : ℕ) → at ≤ next → Appends w w1 (take at text) → Appends w1 w2 (slice_range text at next) → Appends w w2 (take next text)
-line-more w w1 w2 text at next le before line =
-    subst (λ (l : List ℕ). Appends w w2 l) (front text at next le) (Appends-trans w w1 w2 (take at text) (slice_range text at next) before line)
+pub line-more : (w w1 w2 : Written) (text : List ℕ) (at n : ℕ) → cut_lines (drop at text) ≡ take n (drop at text) ∷ cut_lines (drop n (drop at text)) → PutsUpTo w w1 text at → Puts w1 w2 (slice_range text at (at + n) ∷ []) → PutsUpTo w w2 text (at + n)
+line-more w w1 w2 text at n first before put =
+    let line = slice_range text at (at + n) in
+    record {
+      done = before.done ++ line ∷ [];
+      are = before.are ∙ ap (λ (l : List (List ℕ)). before.done ++ l) (next_line text at n first) ∙ sym (append_assoc before.done (line ∷ []) (cut_lines (drop (at + n) text)));
+      put = Puts-trans w w1 w2 before.done (line ∷ []) before.put put;
+    }
 
--- a prefix of one more is one of the whole text
-pub line-prefix : (w w1 w2 : Option (List ℕ)) (text : List ℕ) (at next : ℕ) → at ≤ next → Appends w w1 (take at text) → AppendsPrefix w1 w2 (slice_range text at next) → AppendsPrefix w w2 text
-line-prefix w w1 w2 text at next le before line =
-    let part : AppendsPrefix w w2 (take next text) = subst (λ (l : List ℕ). AppendsPrefix w w2 l) (front text at next le) (prefix-behind w w1 w2 (take at text) (slice_range text at next) before line) in
-    subst (λ (l : List ℕ). AppendsPrefix w w2 l) (take-append-drop next text) (prefix-longer w w2 (take next text) (drop next text) part)
+-- a part of one more is one of the whole text
+pub line-part : (w w1 w2 : Written) (text : List ℕ) (at n : ℕ) → cut_lines (drop at text) ≡ take n (drop at text) ∷ cut_lines (drop n (drop at text)) → PutsUpTo w w1 text at → PutsPart w1 w2 (slice_range text at (at + n) ∷ []) → PutsPart w w2 (cut_lines text)
+line-part w w1 w2 text at n first before part =
+    let line = slice_range text at (at + n) in
+    subst (λ (l : List (List ℕ)). PutsPart w w2 l) (sym (before.are ∙ ap (λ (l : List (List ℕ)). before.done ++ l) (next_line text at n first)))
+    (PutsPart-behind w w1 w2 before.done (line ∷ cut_lines (drop (at + n) text)) before.put (PutsPart-longer w1 w2 (line ∷ []) (cut_lines (drop (at + n) text)) part))

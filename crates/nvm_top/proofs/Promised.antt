@@ -2,6 +2,7 @@
 use Rattle.std.specs.Prelude.{OnOk, IfErr, IfSome, sum_by, take}
 use Rattle.std.specs.List.{Contains}
 use Rattle.std.proofs.Common.{◌≡◌, ◌≢◌, ◌≤◌, ◌+◌, ◌⊎◌, ℕ, false, zero, suc, List, [], ◌∷◌, ◌++◌, length, Option, Some, None, Result, Ok, Err, refl, sym, ap, ◌∙◌, subst, inl, inr, arith, append-nil}
+use Rattle.nv_streams.specs.Sink.{Written}
 use Rattle.nvm_flash.specs.nv_base.Count.{Rose, WereCounted}
 use Rattle.nvm_flash.specs.nv_base.Geometry.{size_of}
 use Rattle.nvm_flash.specs.block_config.Config.{Configuration}
@@ -9,15 +10,15 @@ use Rattle.nvm_flash.specs.memif.Told.{PartTold}
 use Rattle.nvm_flash.specs.fls_model.Told.{Told, ToldBytes, Change}
 use Rattle.nvm_flash.specs.promise_device.Image.{IsSoundFlash}
 use Rattle.nvm_flash.specs.promise_device.FlashRun.{FlashRun, TellsBytes, StartsSound, HasFailed}
-use Rattle.nvm_script.specs.Printed.{history_text}
+use Rattle.nvm_script.specs.Printed.{history_lines}
 use Rattle.script_walks.specs.Words.{Step}
 use Rattle.script_walks.specs.Walk.{IsWalkOf, joined}
 use Rattle.nvm_flash.specs.block_machine.Words.{Entry, Found}
 use Rattle.nvm_flash.specs.block_machine.State.{State, Job}
 use Rattle.nvm_flash.specs.block_machine.Steps.{after}
-use Rattle.nvm_flash.specs.block_machine.Prices.{prices_in_refusals}
 use Rattle.nvm_flash.specs.promise_run.Beside.{Beside}
-use Rattle.nvm_flash.specs.promise_run.Run.{Run, Played, End, Whole, cap, FaultWasCounted, HasOrder, LeavesFor, EndsAtStart, EachPiece, HasNoRoom, HadRoom, RefusalsExplain, refusals_of, unpaid_offs}
+use Rattle.nvm_flash.specs.promise_run.Run.{Run, Played, End, Whole, cap, FaultWasCounted, HasOrder, LeavesFor, EndsAtStart, EachPiece, HasNoRoom, HadRoom, CutsAre, CutsExplain, events_of}
+use Rattle.nvm_flash.specs.promise_run.Refusals.{RefusesAsAsked}
 use Rattle.nvm_flash.specs.promise_run.Run.{FlashFault, HistoryFull, LeavesAlone, Memory}
 use Rattle.nvm_flash.specs.promise_run.Promise.{Promise, making_of}
 use Rattle.nvm_flash.specs.promise_run.Call.{EndsWith, IsCourseOf, IsInputOf}
@@ -45,9 +46,9 @@ use Rattle.nvm_top.specs.declared.runs.RunText.{RunText}
 use Rattle.nvm_top.specs.declared.runs.RunText.TheVariants.{History, Summary}
 use Rattle.nvm_top.specs.declared.stop.Stop.{Stop}
 use Rattle.nvm_top.specs.declared.stop.Stop.TheVariants as stop
-use Rattle.nvm_top.specs.Stack.{IsStarted, StartsWell, StopsAtStart, Vouches, run_of}
+use Rattle.nvm_top.specs.Stack.{IsStarted, StopsAtStart, Vouches, run_of}
 use Rattle.nvm_top.specs.Output.{Writes, IsReport}
-use Rattle.nvm_top.specs.Promised.{played_call, HasNoRun, HasRun, WritesText, HasPromise, EndsIn, entries_in, line_in}
+use Rattle.nvm_top.specs.Promised.{played_call, HasNoRun, HasRun, WritesText, HasPromise, EndsIn, entries_in, lines_in}
 use Rattle.nvm_top.specs.Runs as ends
 use Rattle.nvm_top.specs.Stop.{status_of, line_of, IsStop}
 use Rattle.nvm_top.proofs.PlayLemmas.{Rose-after, report-by}
@@ -57,15 +58,11 @@ use Rattle.nvm_top.proofs.Texts.{stop_alone}
 
 -- A RUN WITHOUT A START-UP
 
-none_refused : (c : Configuration) (id n : ℕ) → prices_in_refusals c id (joined (take n [])) ≤ sum_by (λ (x : Step). refusals_of id x.kind) (take n [])
-none_refused c id zero = omega arith
-none_refused c id (suc n) = omega arith
-
 not_there : (h : Entry) → Contains [] h → ⊥
 not_there h is = let few = is.1 in omega (arith, few)
 
 pub early_promise : (c : Configuration) (steps : List Step) (entry exit : Told) (stop : Stop) (end : End) → StopsAtStart c entry exit stop → EndsAtStart (record { entry = entry; exit = exit; operations = [] }) end
-    → Promise (run_of c [] entry exit [] (Played [] [] steps) end)
+    → Promise (run_of c [] entry exit [] [] (Played [] [] steps) end)
 early_promise c steps entry exit stop end stops ends = record {
   order = (ends, (refl, refl), stops.flash);
   power_cut = λ tells sound k image few is. absurd (let none = is.1 in cc none);
@@ -74,8 +71,8 @@ early_promise c steps entry exit stop end stops ends = record {
   at_exit = λ tells sound started few. absurd started;
   block_machine = tt;
   faults = record { faults = 0; counted = inl (let more = stops.faults in omega (arith, more)); pay = tt };
-  refusals = λ id n. none_refused c id n;
-  off = inl (let more = stops.cuts in omega (arith, more));
+  refusals = λ id. (0, refl);
+  off = (0, (refl, refl), inl (let more = stops.cuts in omega (arith, more)));
   operations = λ started. absurd started;
   begins = tt;
   counted = λ e ops has is. absurd (not_there e has);
@@ -90,7 +87,7 @@ one_fault f Whole ends = tt
 one_fault f HistoryFull ends = tt
 
 -- no step was made
-early_turns : (c : Configuration) (steps : List Step) (entry exit : Told) (end : End) → entry.faults ≤ exit.faults → EndsAtStart (record { entry = entry; exit = exit; operations = [] }) end → HasTurns (job_turns c) (run_of c [] entry exit [] (Played [] [] steps) end) (Played [] [] steps)
+early_turns : (c : Configuration) (steps : List Step) (entry exit : Told) (end : End) → entry.faults ≤ exit.faults → EndsAtStart (record { entry = entry; exit = exit; operations = [] }) end → HasTurns (job_turns c) (run_of c [] entry exit [] [] (Played [] [] steps) end) (Played [] [] steps)
 early_turns c steps entry exit end more ends = record {
   first = record { faults = 0; ops = 0; busy = false };
   last = record { faults = 0; ops = 0; busy = false };
@@ -108,9 +105,9 @@ early_turns c steps entry exit end more ends = record {
 }
 
 pub early_has : (c : Configuration) (steps : List Step) (Tells : Run → Type 0) (entry exit : Told) (stop : Stop) (end : End) → StopsAtStart c entry exit stop → EndsAtStart (record { entry = entry; exit = exit; operations = [] }) end
-    → Tells (run_of c [] entry exit [] (Played [] [] steps) end) → HasRun c steps Tells entry exit
+    → Tells (run_of c [] entry exit [] [] (Played [] [] steps) end) → HasRun c steps Tells entry exit
 early_has c steps Tells entry exit stop end stops ends tells = record {
-  run = run_of c [] entry exit [] (Played [] [] steps) end;
+  run = run_of c [] entry exit [] [] (Played [] [] steps) end;
   configuration = refl;
   course = refl;
   at_entry = refl;
@@ -119,7 +116,7 @@ early_has c steps Tells entry exit stop end stops ends tells = record {
   ends = tells;
   keeps =
       let promise = early_promise c steps entry exit stop end stops ends in
-      record { order = promise.order; size = λ started. absurd started; refusals = promise.refusals; off = promise.off; complete = early_complete c steps entry exit end promise.order; geometry = λ started. absurd started; turns = early_turns c steps entry exit end stops.faults ends; values = tt; promise = λ told sound. promise };
+      record { order = promise.order; size = λ started. absurd started; refusals = promise.refusals; off = promise.off; counted = inl (let same = stops.flash.ops in omega (arith, same)); complete = early_complete c steps entry exit end promise.order; exit = λ started. absurd started; turns = early_turns c steps entry exit end stops.faults ends; values = tt; early = λ told. record { found = λ marks has. absurd (omega (arith, has.1)); legal = tt }; promise = λ told sound. promise };
 }
 
 -- WHAT IS TOLD OF A RUN
@@ -137,54 +134,54 @@ end_at status.Memory end = Memory
 end_at x end = end
 
 -- a call ends as its output was written
-ends_told : (input : Option (List ℕ)) (entry exit : Told) (w w' : Option (List ℕ)) (entries : List Entry) (line : End → List ℕ) (end : End) (x : Status) → WritesText (status_at end) entries (line end) w w' x
-    → EndsWith entries (history_text entries ++ line (end_at x end)) (played_call input x entry exit w w') (end_at x end)
-ends_told input entry exit w w' entries line end status.Memory is = (refl, is)
-ends_told input entry exit w w' entries line Memory status.WriteFault is = absurd (is.0 refl)
-ends_told input entry exit w w' entries line Whole status.WriteFault is = inr (refl, is.1)
-ends_told input entry exit w w' entries line FlashFault status.WriteFault is = inr (refl, is.1)
-ends_told input entry exit w w' entries line HistoryFull status.WriteFault is = inr (refl, is.1)
-ends_told input entry exit w w' entries line Whole status.Ok is = inl (refl, is.1)
-ends_told input entry exit w w' entries line FlashFault status.FlashFault is = inl (refl, is.1)
-ends_told input entry exit w w' entries line HistoryFull status.HistoryFull is = inl (refl, is.1)
-ends_told input entry exit w w' entries line Whole _ is = absurd (let same = is.0 in cc same)
-ends_told input entry exit w w' entries line FlashFault _ is = absurd (let same = is.0 in cc same)
-ends_told input entry exit w w' entries line HistoryFull _ is = absurd (let same = is.0 in cc same)
-ends_told input entry exit w w' entries line Memory _ is = absurd (let same = is.0 in cc same)
+ends_told : (input : Option (List ℕ)) (entry exit : Told) (w w' : Written) (entries : List Entry) (lines : End → List (List ℕ)) (end : End) (x : Status) → WritesText (status_at end) entries (lines end) w w' x
+    → EndsWith entries (history_lines entries ++ lines (end_at x end)) (played_call input x entry exit w w') (end_at x end)
+ends_told input entry exit w w' entries lines end status.Memory is = (refl, is)
+ends_told input entry exit w w' entries lines Memory status.WriteFault is = absurd (is.0 refl)
+ends_told input entry exit w w' entries lines Whole status.WriteFault is = inr (refl, is.1)
+ends_told input entry exit w w' entries lines FlashFault status.WriteFault is = inr (refl, is.1)
+ends_told input entry exit w w' entries lines HistoryFull status.WriteFault is = inr (refl, is.1)
+ends_told input entry exit w w' entries lines Whole status.Ok is = inl (refl, is.1)
+ends_told input entry exit w w' entries lines FlashFault status.FlashFault is = inl (refl, is.1)
+ends_told input entry exit w w' entries lines HistoryFull status.HistoryFull is = inl (refl, is.1)
+ends_told input entry exit w w' entries lines Whole _ is = absurd (let same = is.0 in cc same)
+ends_told input entry exit w w' entries lines FlashFault _ is = absurd (let same = is.0 in cc same)
+ends_told input entry exit w w' entries lines HistoryFull _ is = absurd (let same = is.0 in cc same)
+ends_told input entry exit w w' entries lines Memory _ is = absurd (let same = is.0 in cc same)
 
 -- WHERE NO START-UP WAS MADE
 
-early_end : (text : RunText) (c : Configuration) (steps : List Step) (entry exit : Told) (why : Stop) (end : End) (x : Status) (w w' input : Option (List ℕ)) → StopsAtStart c entry exit why → EndsAtStart (record { entry = entry; exit = exit; operations = [] }) end
-    → WritesText (status_at end) (entries_in text []) (line_in text end []) w w' x → HasRun c steps (EndsIn text (played_call input x entry exit w w')) entry exit
+early_end : (text : RunText) (c : Configuration) (steps : List Step) (entry exit : Told) (why : Stop) (end : End) (x : Status) (w w' : Written) (input : Option (List ℕ)) → StopsAtStart c entry exit why → EndsAtStart (record { entry = entry; exit = exit; operations = [] }) end
+    → WritesText (status_at end) (entries_in text []) (lines_in text end []) w w' x → HasRun c steps (EndsIn text (played_call input x entry exit w w')) entry exit
 early_end text c steps entry exit why end status.Memory w w' input stops ends is =
-    early_has c steps (EndsIn text (played_call input status.Memory entry exit w w')) entry exit why Memory stops tt (ends_told input entry exit w w' (entries_in text []) (λ e. line_in text e []) end status.Memory is)
+    early_has c steps (EndsIn text (played_call input status.Memory entry exit w w')) entry exit why Memory stops tt (ends_told input entry exit w w' (entries_in text []) (λ e. lines_in text e []) end status.Memory is)
 early_end text c steps entry exit why end x w w' input stops ends is =
-    early_has c steps (EndsIn text (played_call input x entry exit w w')) entry exit why end stops ends (ends_told input entry exit w w' (entries_in text []) (λ e. line_in text e []) end x is)
+    early_has c steps (EndsIn text (played_call input x entry exit w w')) entry exit why end stops ends (ends_told input entry exit w w' (entries_in text []) (λ e. lines_in text e []) end x is)
 
 -- its line stands alone
-early_line : (why : Stop) (meant : Status) (line : List ℕ) (text : RunText) (w w' : Option (List ℕ)) (x : Status) → meant ≡ status_of why → line ≡ line_of why → Writes (IsStop why) w w' x → WritesText meant (entries_in text []) line w w' x
-early_line why meant line History w w' x one two is = stop_alone why meant line w w' x one two is
-early_line why meant line Summary w w' x one two is = stop_alone why meant line w w' x one two is
+early_line : (why : Stop) (meant : Status) (lines : List (List ℕ)) (text : RunText) (w w' : Written) (x : Status) → meant ≡ status_of why → lines ≡ line_of why ∷ [] → Writes (IsStop why) w w' x → WritesText meant (entries_in text []) lines w w' x
+early_line why meant lines History w w' x one two is = stop_alone why meant lines w w' x one two is
+early_line why meant lines Summary w w' x one two is = stop_alone why meant lines w w' x one two is
 
 -- the flash isn't attached for its size, or there is a run without a start-up
-pub early_in : (text : RunText) (c : Configuration) (steps : List Step) (entry exit : Told) (why : Stop) (x : Status) (w w' input : Option (List ℕ)) → StopsAtStart c entry exit why → Writes (IsStop why) w w' x
+pub early_in : (text : RunText) (c : Configuration) (steps : List Step) (entry exit : Told) (why : Stop) (x : Status) (w w' : Written) (input : Option (List ℕ)) → StopsAtStart c entry exit why → Writes (IsStop why) w w' x
     → HasRun c steps (EndsIn text (played_call input x entry exit w w')) entry exit ⊎ HasNoRun (IsSizeStop (size_of c.geometry) entry.bytes) w w' x entry exit
 early_in text c steps entry exit (stop.WrongSize found needed) x w w' input stops is =
     inr (record {
       line = Writes-as (IsStop (stop.WrongSize found needed)) (IsSizeStop (size_of c.geometry) entry.bytes) w w' x
-          (λ y line at. by_stop (IsSizeStop (size_of c.geometry) entry.bytes) (stop.WrongSize found needed) y line (λ other. (stops.end.0, (found, stops.why.0, ap (λ n. line_of (stop.WrongSize found n)) stops.why.1))) at) is;
+          (λ y lines at. by_stop (IsSizeStop (size_of c.geometry) entry.bytes) (stop.WrongSize found needed) y lines (λ other. (stops.end.0, (found, stops.why.0, ap (λ n. line_of (stop.WrongSize found n) ∷ []) stops.why.1))) at) is;
       alone = stops.end.1;
     })
 early_in text c steps entry exit stop.FlashFault x w w' input stops is =
-    inl (early_end text c steps entry exit stop.FlashFault FlashFault x w w' input stops stops.end (early_line stop.FlashFault status.FlashFault (line_in text FlashFault []) text w w' x refl (fault_line text) is))
+    inl (early_end text c steps entry exit stop.FlashFault FlashFault x w w' input stops stops.end (early_line stop.FlashFault status.FlashFault (lines_in text FlashFault []) text w w' x refl (fault_line text) is))
   where
-    fault_line : (t : RunText) → line_in t FlashFault [] ≡ line_of stop.FlashFault
+    fault_line : (t : RunText) → lines_in t FlashFault [] ≡ line_of stop.FlashFault ∷ []
     fault_line History = refl
     fault_line Summary = refl
 early_in text c steps entry exit stop.Memory x w w' input stops is =
-    inl (early_end text c steps entry exit stop.Memory Memory x w w' input stops tt (early_line stop.Memory status.Memory (line_in text Memory []) text w w' x refl (no_line text) is))
+    inl (early_end text c steps entry exit stop.Memory Memory x w w' input stops tt (early_line stop.Memory status.Memory (lines_in text Memory []) text w w' x refl (no_line text) is))
   where
-    no_line : (t : RunText) → line_in t Memory [] ≡ []
+    no_line : (t : RunText) → lines_in t Memory [] ≡ [] ∷ []
     no_line History = refl
     no_line Summary = refl
 early_in text c steps entry exit _ x w w' input stops is = absurd stops.why
@@ -231,11 +228,11 @@ ends_by fault.Memory left before last old t f none counted is = tt
 
 -- the history of steps that were made is one of a run
 ordered : {p q : Payer} (made left : List Step) (end : End) (old t : StackTold) (entry exit : Told) (operations : List Change) (fresh : steps.IsFresh old) (walked : HasWalked p q made old t) → t.configuration ≡ old.configuration → old.cap ≡ cap
-    → LeavesFor (run_of t.configuration t.entries entry exit operations (Played made walked.pieces left) end) (after t.configuration t.entries) end left
-    → HasOrder (run_of t.configuration t.entries entry exit operations (Played made walked.pieces left) end) t.entries
+    → LeavesFor (run_of t.configuration t.entries entry exit operations t.causes.came (Played made walked.pieces left) end) (after t.configuration t.entries) end left
+    → HasOrder (run_of t.configuration t.entries entry exit operations t.causes.came (Played made walked.pieces left) end) t.entries
 ordered made left end old t entry exit operations fresh walked same most leaves =
     let is : t.entries ≡ Found fresh.marks fresh.ops ∷ walked.more = walked.grows ∙ ap (λ (h : List Entry). h ++ walked.more) fresh.entries in
-    let r = run_of t.configuration t.entries entry exit operations (Played made walked.pieces left) end in
+    let r = run_of t.configuration t.entries entry exit operations t.causes.came (Played made walked.pieces left) end in
     subst (λ (h : List Entry). HasOrder r h) (sym is) (
       subst (λ (h : List Entry). IsWalkOf t.configuration made walked.pieces h) is (subst (λ (c : Configuration). IsWalkOf c made walked.pieces t.entries) (sym same) walked.walk),
       subst (λ (h : List Entry). EachPiece t.configuration (HadRoom t.configuration cap) (after t.configuration (take 1 h)) made walked.pieces) is
@@ -248,14 +245,14 @@ counted_from : (n a b d : ℕ) → a ≤ b → WereCounted n b d → WereCounted
 counted_from n a b d less (inl is) = inl (omega (arith, less, is))
 counted_from n a b d less (inr full) = inr full
 
--- a run keeps the promise where its flash starts well
+-- a run keeps the promise where its flash begins sound
 has_run : (Kept : Type 0) (p q : Payer) (c : Configuration) (cuts : ℕ) (all made left : List Step) (end : End) (before : PartTold) (old t : StackTold) (entry exit : Told) (Tells : Run → Type 0) (started : IsStarted c cuts before old) (walked : HasWalked p q made old t)
-    → t.configuration ≡ old.configuration → (StartsWell c entry → Kept) → (StartsWell c entry → p.owes old.faults) → (v : Vouches Kept q before t entry exit) → made ++ left ≡ all
-    → LeavesFor (run_of t.configuration t.entries entry exit v.operations (Played made walked.pieces left) end) (after t.configuration t.entries) end left
+    → t.configuration ≡ old.configuration → Kept → p.owes old.faults → (v : Vouches Kept q before t entry exit) → made ++ left ≡ all
+    → LeavesFor (run_of t.configuration t.entries entry exit v.operations t.causes.came (Played made walked.pieces left) end) (after t.configuration t.entries) end left
     → EndsBy walked.last (record { entry = entry; exit = exit; operations = v.operations }) end
-    → Tells (run_of t.configuration t.entries entry exit v.operations (Played made walked.pieces left) end) → IsRightSize (size_of c.geometry) entry.bytes → HasRun c all Tells entry exit
+    → Tells (run_of t.configuration t.entries entry exit v.operations t.causes.came (Played made walked.pieces left) end) → IsRightSize (size_of c.geometry) entry.bytes → HasRun c all Tells entry exit
 has_run Kept p q c cuts all made left end before old t entry exit Tells started walked same keeps owes v parts leaves own tells size = record {
-  run = run_of t.configuration t.entries entry exit v.operations (Played made walked.pieces left) end;
+  run = run_of t.configuration t.entries entry exit v.operations t.causes.came (Played made walked.pieces left) end;
   configuration = of;
   course = parts;
   at_entry = refl;
@@ -266,10 +263,11 @@ has_run Kept p q c cuts all made left end before old t entry exit Tells started 
     order = order;
     size = λ _. subst (λ (x : Configuration). IsRightSize (size_of x.geometry) entry.bytes) (sym of) size;
     refusals = refusals;
-    off = v.cuts (unpaid_offs None 0 made walked.pieces) off;
-    geometry = λ has. v.geometry;
-    complete = walked_complete made left end before old t entry exit v.operations started walked same v.faults order (λ calm told sound.
-        let promise = v.promise (keeps (well told sound)) made left walked.pieces end order refusals off in
+    off = (off.0, off.1, v.cuts off.0 off.2);
+    counted = v.counts;
+    exit = λ has. record { geometry = v.geometry; off = λ is. walked.power (λ off. absurd (let no_ = sym started.on ∙ off in cc no_)) (v.off is); plan = v.plan };
+    complete = walked_complete made left walked.pieces end t entry exit v.operations order (λ calm told sound.
+        let promise = v.promise keeps told sound made left walked.pieces end order refusals off in
         calm_posts t.configuration cap (IsWornOut (making_of t.configuration) (record { entry = entry; exit = exit; operations = v.operations })) t.entries entry.faults exit.faults v.more calm.no_fault calm.entries promise.block_machine promise.faults);
     turns = record {
       first = moment_of old;
@@ -290,7 +288,8 @@ has_run Kept p q c cuts all made left end before old t entry exit Tells started 
       paid = λ told sound. paid told sound;
     };
     values = v.values;
-    promise = λ told sound. v.promise (keeps (well told sound)) made left walked.pieces end order refusals off;
+    early = λ told. v.early keeps told made left walked.pieces end;
+    promise = λ told sound. v.promise keeps told sound made left walked.pieces end order refusals off;
   };
 }
   where
@@ -326,21 +325,21 @@ has_run Kept p q c cuts all made left end before old t entry exit Tells started 
         subst (λ (h : List Entry). CutsCome t.configuration None (moment_of old) (after t.configuration h) made walked.moves.moves) (sym first)
         (subst (λ (x : Configuration). CutsCome x None (moment_of old) (after x old.entries) made walked.moves.moves) (sym same) (walked.cuts started.one))
 
-    order : HasOrder (run_of t.configuration t.entries entry exit v.operations (Played made walked.pieces left) end) t.entries
+    order : HasOrder (run_of t.configuration t.entries entry exit v.operations t.causes.came (Played made walked.pieces left) end) t.entries
     order = ordered made left end old t entry exit v.operations started.fresh walked same started.most leaves
 
-    refusals : (id : ℕ) → RefusalsExplain t.configuration (Played made walked.pieces left) t.entries id
-    refusals id = subst (λ (x : Configuration). RefusalsExplain x (Played made walked.pieces []) t.entries id) (sym same) (walked.refusals id)
+    refusals : (id : ℕ) → RefusesAsAsked t.configuration (Played made walked.pieces left) t.entries id
+    refusals id = subst (λ (x : Configuration). RefusesAsAsked x (Played made walked.pieces []) t.entries id) (sym same) (walked.refusals id)
 
-    off : WereCounted (unpaid_offs None 0 made walked.pieces) before.planning.unplanned t.causes.unplanned
-    off = counted_from (unpaid_offs None 0 made walked.pieces) before.planning.unplanned old.causes.unplanned t.causes.unplanned started.unplanned walked.off
+    came : t.causes.came ≡ walked.came
+    came = walked.more_came ∙ ap (λ (ks : List ℕ). ks ++ walked.came) started.came
 
-    well : (told : TellsBytes (record { entry = entry; exit = exit; operations = v.operations })) → StartsSound (making_of t.configuration) (record { entry = entry; exit = exit; operations = v.operations }) → StartsWell c entry
-    well told sound = record {
-      first = told.first;
-      bytes = told.entry;
-      sound = subst (λ (x : Configuration). IsSoundFlash (making_of x) told.first) of (subst (λ (o : Option (List ℕ)). IfSome o (IsSoundFlash (making_of t.configuration))) told.entry sound);
-    }
+    off : CutsExplain (Played made walked.pieces left) t.entries t.causes.came before.planning.unplanned t.causes.unplanned
+    off = (
+      walked.off.0,
+      subst (λ (ks : List ℕ). CutsAre None 0 (events_of made walked.pieces) ks walked.off.0) (sym came) walked.off.1,
+      counted_from walked.off.0 before.planning.unplanned old.causes.unplanned t.causes.unplanned started.unplanned walked.off.2,
+    )
 
     paid : TellsBytes (record { entry = entry; exit = exit; operations = v.operations }) → StartsSound (making_of t.configuration) (record { entry = entry; exit = exit; operations = v.operations })
         → ArePaidSince t.configuration (IsWornOut (making_of t.configuration) (record { entry = entry; exit = exit; operations = v.operations })) old.faults (moment_of old) (after t.configuration (take 1 t.entries)) (all_moves walked.moves.moves)
@@ -348,42 +347,42 @@ has_run Kept p q c cuts all made left end before old t entry exit Tells started 
         since_too t.configuration q.worn (IsWornOut (making_of t.configuration) (record { entry = entry; exit = exit; operations = v.operations })) v.worn old.faults (moment_of old) (after t.configuration (take 1 t.entries)) (all_moves walked.moves.moves)
         (subst (λ (h : List Entry). ArePaidSince t.configuration q.worn old.faults (moment_of old) (after t.configuration h) (all_moves walked.moves.moves)) (sym first)
         (subst (λ (x : Configuration). ArePaidSince x q.worn old.faults (moment_of old) (after x old.entries) (all_moves walked.moves.moves)) (sym same)
-        (walked.pays.pays old.faults (owes (well told sound))).0))
+        (walked.pays.pays (v.tells told sound) old.faults owes).0))
 
 -- of the status, the output and the steps
-end_runs : (text : RunText) (Kept : Type 0) (p q : Payer) (c : Configuration) (cuts : ℕ) (all made left : List Step) (end : End) (before : PartTold) (old t : StackTold) (entry exit : Told) (x : Status) (w w' input : Option (List ℕ))
-    → IsStarted c cuts before old → (walked : HasWalked p q made old t) → t.configuration ≡ old.configuration → (StartsWell c entry → Kept) → (StartsWell c entry → p.owes old.faults) → (v : Vouches Kept q before t entry exit) → made ++ left ≡ all
-    → LeavesFor (run_of t.configuration t.entries entry exit v.operations (Played made walked.pieces left) end) (after t.configuration t.entries) end left
-    → EndsBy walked.last (record { entry = entry; exit = exit; operations = v.operations }) end → IsRightSize (size_of c.geometry) entry.bytes → WritesText (status_at end) (entries_in text t.entries) (line_in text end t.entries) w w' x
+end_runs : (text : RunText) (Kept : Type 0) (p q : Payer) (c : Configuration) (cuts : ℕ) (all made left : List Step) (end : End) (before : PartTold) (old t : StackTold) (entry exit : Told) (x : Status) (w w' : Written) (input : Option (List ℕ))
+    → IsStarted c cuts before old → (walked : HasWalked p q made old t) → t.configuration ≡ old.configuration → Kept → p.owes old.faults → (v : Vouches Kept q before t entry exit) → made ++ left ≡ all
+    → LeavesFor (run_of t.configuration t.entries entry exit v.operations t.causes.came (Played made walked.pieces left) end) (after t.configuration t.entries) end left
+    → EndsBy walked.last (record { entry = entry; exit = exit; operations = v.operations }) end → IsRightSize (size_of c.geometry) entry.bytes → WritesText (status_at end) (entries_in text t.entries) (lines_in text end t.entries) w w' x
     → HasRun c all (EndsIn text (played_call input x entry exit w w')) entry exit
 end_runs text Kept p q c cuts all made left end before old t entry exit status.Memory w w' input started walked same keeps owes v parts leaves own size is =
     has_run Kept p q c cuts all made left Memory before old t entry exit (EndsIn text (played_call input status.Memory entry exit w w')) started walked same keeps owes v parts tt tt
-    (ends_told input entry exit w w' (entries_in text t.entries) (λ e. line_in text e t.entries) end status.Memory is) size
+    (ends_told input entry exit w w' (entries_in text t.entries) (λ e. lines_in text e t.entries) end status.Memory is) size
 end_runs text Kept p q c cuts all made left end before old t entry exit x w w' input started walked same keeps owes v parts leaves own size is =
     has_run Kept p q c cuts all made left end before old t entry exit (EndsIn text (played_call input x entry exit w w')) started walked same keeps owes v parts leaves own
-    (ends_told input entry exit w w' (entries_in text t.entries) (λ e. line_in text e t.entries) end x is) size
+    (ends_told input entry exit w w' (entries_in text t.entries) (λ e. lines_in text e t.entries) end x is) size
 
 -- the end of steps that were made, or left
 abbrev pub end_by : Result (Unit {0}) StepFault → End
 end_by (Ok done) = Whole
 end_by (Err why) = ends.end_of why
 
-runs_by : (text : RunText) (Kept : Type 0) (p q : Payer) (c : Configuration) (cuts : ℕ) (all : List Step) (before : PartTold) (old t : StackTold) (entry exit : Told) (x : Status) (w w' input : Option (List ℕ)) (result : Result (Unit {0}) StepFault)
-    → IsStarted c cuts before old → OnOk result (HasWalked p q all old t) → IfErr result (λ why. WasBroken p q why all old t) → t.configuration ≡ old.configuration → (StartsWell c entry → Kept) → (StartsWell c entry → p.owes old.faults) → Vouches Kept q before t entry exit
-    → IsRightSize (size_of c.geometry) entry.bytes → WritesText (status_at (end_by result)) (entries_in text t.entries) (line_in text (end_by result) t.entries) w w' x → HasRun c all (EndsIn text (played_call input x entry exit w w')) entry exit
+runs_by : (text : RunText) (Kept : Type 0) (p q : Payer) (c : Configuration) (cuts : ℕ) (all : List Step) (before : PartTold) (old t : StackTold) (entry exit : Told) (x : Status) (w w' : Written) (input : Option (List ℕ)) (result : Result (Unit {0}) StepFault)
+    → IsStarted c cuts before old → OnOk result (HasWalked p q all old t) → IfErr result (λ why. WasBroken p q why all old t) → t.configuration ≡ old.configuration → Kept → p.owes old.faults → Vouches Kept q before t entry exit
+    → IsRightSize (size_of c.geometry) entry.bytes → WritesText (status_at (end_by result)) (entries_in text t.entries) (lines_in text (end_by result) t.entries) w w' x → HasRun c all (EndsIn text (played_call input x entry exit w w')) entry exit
 runs_by text Kept p q c cuts all before old t entry exit x w w' input (Ok done) started walked broken same keeps owes v size is =
     end_runs text Kept p q c cuts all all [] Whole before old t entry exit x w w' input started walked same keeps owes v (append-nil all) refl tt size is
 runs_by text Kept p q c cuts all before old t entry exit x w w' input (Err why) started walked broken same keeps owes v size is =
     end_runs text Kept p q c cuts all broken.made broken.left (ends.end_of why) before old t entry exit x w w' input started broken.walked same keeps owes v (sym broken.order)
-    (left_for why broken.left (run_of t.configuration t.entries entry exit v.operations (Played broken.made broken.walked.pieces broken.left) (ends.end_of why)) before broken.walked.last old t (sym same) started.most refl none v.faults broken.why)
+    (left_for why broken.left (run_of t.configuration t.entries entry exit v.operations t.causes.came (Played broken.made broken.walked.pieces broken.left) (ends.end_of why)) before broken.walked.last old t (sym same) started.most refl none v.faults broken.why)
     (ends_by why broken.left before broken.walked.last old t (record { entry = entry; exit = exit; operations = v.operations }) started.none v.counted broken.why) size is
   where
     none : before.faults ≤ broken.walked.last.faults
     none = let first = started.none in omega (arith, first)
 
 -- a run that was written in one of these texts
-in_text : (text : RunText) (result : Result (Unit {0}) StepFault) (h : List Entry) (w w' : Option (List ℕ)) (x : Status) → WritesText (ends.status_of_run (ends.run_of result)) (entries_in text h) (ends.line_written text (ends.run_of result) h) w w' x
-    → WritesText (status_at (end_by result)) (entries_in text h) (line_in text (end_by result) h) w w' x
+in_text : (text : RunText) (result : Result (Unit {0}) StepFault) (h : List Entry) (w w' : Written) (x : Status) → WritesText (ends.status_of_run (ends.run_of result)) (entries_in text h) (ends.lines_written text (ends.run_of result) h) w w' x
+    → WritesText (status_at (end_by result)) (entries_in text h) (lines_in text (end_by result) h) w w' x
 in_text History (Ok done) h w w' x is = is
 in_text History (Err fault.Flash) h w w' x is = is
 in_text History (Err fault.HistoryFull) h w w' x is = is
@@ -394,14 +393,14 @@ in_text Summary (Err fault.HistoryFull) h w w' x is = is
 in_text Summary (Err fault.Memory) h w w' x is = is
 
 -- with the history and the run as they were written
-pub ran_in : (text : RunText) (Kept : Type 0) (p q : Payer) (c : Configuration) (cuts : ℕ) (all : List Step) (before : PartTold) (old t : StackTold) (entry exit : Told) (x : Status) (w w' input : Option (List ℕ)) (result : Result (Unit {0}) StepFault) (run : Result (Unit {0}) Stop) (h : List Entry) → IsStarted c cuts before old
-    → OnOk result (HasWalked p q all old t) → IfErr result (λ why. WasBroken p q why all old t) → t.configuration ≡ old.configuration → (StartsWell c entry → Kept) → (StartsWell c entry → p.owes old.faults) → Vouches Kept q before t entry exit → run ≡ ends.run_of result → h ≡ t.entries
-    → IsRightSize (size_of c.geometry) entry.bytes → WritesText (ends.status_of_run run) (entries_in text h) (ends.line_written text run h) w w' x → HasRun c all (EndsIn text (played_call input x entry exit w w')) entry exit
+pub ran_in : (text : RunText) (Kept : Type 0) (p q : Payer) (c : Configuration) (cuts : ℕ) (all : List Step) (before : PartTold) (old t : StackTold) (entry exit : Told) (x : Status) (w w' : Written) (input : Option (List ℕ)) (result : Result (Unit {0}) StepFault) (run : Result (Unit {0}) Stop) (h : List Entry) → IsStarted c cuts before old
+    → OnOk result (HasWalked p q all old t) → IfErr result (λ why. WasBroken p q why all old t) → t.configuration ≡ old.configuration → Kept → p.owes old.faults → Vouches Kept q before t entry exit → run ≡ ends.run_of result → h ≡ t.entries
+    → IsRightSize (size_of c.geometry) entry.bytes → WritesText (ends.status_of_run run) (entries_in text h) (ends.lines_written text run h) w w' x → HasRun c all (EndsIn text (played_call input x entry exit w w')) entry exit
 ran_in text Kept p q c cuts all before old t entry exit x w w' input result run h started walked broken same keeps owes v is_run is_history size is =
     runs_by text Kept p q c cuts all before old t entry exit x w w' input result started walked broken same keeps owes v size
     (in_text text result t.entries w w' x
-    (subst (λ (r : Result (Unit {0}) Stop). WritesText (ends.status_of_run r) (entries_in text t.entries) (ends.line_written text r t.entries) w w' x) is_run
-    (subst (λ (es : List Entry). WritesText (ends.status_of_run run) (entries_in text es) (ends.line_written text run es) w w' x) is_history is)))
+    (subst (λ (r : Result (Unit {0}) Stop). WritesText (ends.status_of_run r) (entries_in text t.entries) (ends.lines_written text r t.entries) w w' x) is_run
+    (subst (λ (es : List Entry). WritesText (ends.status_of_run run) (entries_in text es) (ends.lines_written text run es) w w' x) is_history is)))
 
 -- HOW IT ENDS
 -- at none of the statuses before the attach
@@ -412,14 +411,14 @@ run_late (Err fault.Flash) is = is
 run_late (Err fault.HistoryFull) is = is
 run_late (Err fault.Memory) is = is
 
-written_late : (meant x : Status) (entries : List Entry) (line : List ℕ) (w w' : Option (List ℕ)) → (IsBeforeAttach meant → ⊥) → WritesText meant entries line w w' x → IsBeforeAttach x → ⊥
-written_late meant status.Memory entries line w w' late is early = early
-written_late meant status.WriteFault entries line w w' late is early = early
-written_late meant x entries line w w' late is early = late (subst (λ (y : Status). IsBeforeAttach y) is.0 early)
+written_late : (meant x : Status) (entries : List Entry) (lines : List (List ℕ)) (w w' : Written) → (IsBeforeAttach meant → ⊥) → WritesText meant entries lines w w' x → IsBeforeAttach x → ⊥
+written_late meant status.Memory entries lines w w' late is early = early
+written_late meant status.WriteFault entries lines w w' late is early = early
+written_late meant x entries lines w w' late is early = late (subst (λ (y : Status). IsBeforeAttach y) is.0 early)
 
-pub ran_late : (result : Result (Unit {0}) StepFault) (run : Result (Unit {0}) Stop) (x : Status) (entries : List Entry) (line : List ℕ) (w w' : Option (List ℕ)) → run ≡ ends.run_of result → WritesText (ends.status_of_run run) entries line w w' x → IsBeforeAttach x → ⊥
-ran_late result run x entries line w w' is_run is =
-    written_late (ends.status_of_run run) x entries line w w' (subst (λ (r : Result (Unit {0}) Stop). IsBeforeAttach (ends.status_of_run r) → ⊥) (sym is_run) (run_late result)) is
+pub ran_late : (result : Result (Unit {0}) StepFault) (run : Result (Unit {0}) Stop) (x : Status) (entries : List Entry) (lines : List (List ℕ)) (w w' : Written) → run ≡ ends.run_of result → WritesText (ends.status_of_run run) entries lines w w' x → IsBeforeAttach x → ⊥
+ran_late result run x entries lines w w' is_run is =
+    written_late (ends.status_of_run run) x entries lines w w' (subst (λ (r : Result (Unit {0}) Stop). IsBeforeAttach (ends.status_of_run r) → ⊥) (sym is_run) (run_late result)) is
 
 attach_late : (need : ℕ) (bytes : Option ToldBytes) (why : Stop) → IsAttachStop need bytes why → IsBeforeAttach (status_of why) → ⊥
 attach_late need bytes (stop.WrongSize found needed) is early = early
@@ -446,7 +445,7 @@ short_input None c steps has = tt
 short_input (Some bytes) c steps has = has.config.short
 
 -- a run's promise is the call's
-has_promise : (left : Option (List ℕ)) (x : Status) (c : Configuration) (steps : List Step) (entry exit : Told) (w w' : Option (List ℕ)) → IfSome left (λ bytes. HasPlayable bytes c steps)
+has_promise : (left : Option (List ℕ)) (x : Status) (c : Configuration) (steps : List Step) (entry exit : Told) (w w' : Written) → IfSome left (λ bytes. HasPlayable bytes c steps)
     → HasRun c steps (EndsIn History (played_call left x entry exit w w')) entry exit → HasPromise (played_call left x entry exit w w')
 has_promise left x c steps entry exit w w' has run = (
   run.run,
@@ -462,29 +461,29 @@ alone told = record { geometry = refl; off = λ off. off; bytes = refl; ops = re
 -- WHERE NO RUN IS BEGUN
 
 -- the flash has a wrong size
-sized_line : (IsWrong : List ℕ → ℕ → Type 0) (Has : Configuration → List ℕ → Type 0) (left : Option (List ℕ)) (reads reads' : ℕ) (bytes : Option ToldBytes) (c : Configuration) (y : Status) (line : List ℕ) → IfSome left (Has c) → IsSizeStop (size_of c.geometry) bytes y line
-    → StopsBy IsWrong Has left reads reads' bytes y line
-sized_line IsWrong Has left reads reads' bytes c status.WrongSize line has is = (c, has, is)
-sized_line IsWrong Has left reads reads' bytes c _ line has is = absurd is
+sized_line : (IsWrong : List ℕ → ℕ → Type 0) (Has : Configuration → List ℕ → Type 0) (left : Option (List ℕ)) (reads reads' : ℕ) (bytes : Option ToldBytes) (c : Configuration) (y : Status) (lines : List (List ℕ)) → IfSome left (Has c) → IsSizeStop (size_of c.geometry) bytes y lines
+    → StopsBy IsWrong Has left reads reads' bytes y lines
+sized_line IsWrong Has left reads reads' bytes c status.WrongSize lines has is = (c, has, is)
+sized_line IsWrong Has left reads reads' bytes c _ lines has is = absurd is
 
-pub sized : (IsWrong : List ℕ → ℕ → Type 0) (Has : Configuration → List ℕ → Type 0) (left : Option (List ℕ)) (reads reads' : ℕ) (c : Configuration) (w w' : Option (List ℕ)) (x : Status) (entry exit : Told) → IfSome left (Has c) → HasNoRun (IsSizeStop (size_of c.geometry) entry.bytes) w w' x entry exit
+pub sized : (IsWrong : List ℕ → ℕ → Type 0) (Has : Configuration → List ℕ → Type 0) (left : Option (List ℕ)) (reads reads' : ℕ) (c : Configuration) (w w' : Written) (x : Status) (entry exit : Told) → IfSome left (Has c) → HasNoRun (IsSizeStop (size_of c.geometry) entry.bytes) w w' x entry exit
     → HasNoRun (StopsBy IsWrong Has left reads reads' entry.bytes) w w' x entry exit
 sized IsWrong Has left reads reads' c w w' x entry exit has none = record {
-  line = Writes-as (IsSizeStop (size_of c.geometry) entry.bytes) (StopsBy IsWrong Has left reads reads' entry.bytes) w w' x (λ y line at. sized_line IsWrong Has left reads reads' entry.bytes c y line has at) none.line;
+  line = Writes-as (IsSizeStop (size_of c.geometry) entry.bytes) (StopsBy IsWrong Has left reads reads' entry.bytes) w w' x (λ y lines at. sized_line IsWrong Has left reads reads' entry.bytes c y lines has at) none.line;
   alone = none.alone;
 }
 
 -- the input isn't read, or a line of it is wrong
 unread_line : (IsWrong : List ℕ → ℕ → Type 0) (Has : Configuration → List ℕ → Type 0) (left : Option (List ℕ)) (reads reads' : ℕ) (bytes : Option ToldBytes) (why : Stop) → (why ≡ stop.ReadFault → Rose reads reads') → IsReadStop IsWrong left why → why ≢ stop.Memory
-    → StopsBy IsWrong Has left reads reads' bytes (status_of why) (line_of why)
+    → StopsBy IsWrong Has left reads reads' bytes (status_of why) (line_of why ∷ [])
 unread_line IsWrong Has left reads reads' bytes (stop.BadScript number) fault is other = (number, is, refl)
 unread_line IsWrong Has left reads reads' bytes (stop.WrongSize found need) fault is other = absurd is
 unread_line IsWrong Has left reads reads' bytes why fault is other = read_line left reads reads' why fault is other
 
-pub unread : (IsWrong : List ℕ → ℕ → Type 0) (Has : Configuration → List ℕ → Type 0) (left : Option (List ℕ)) (reads reads' : ℕ) (why : Stop) (w w' : Option (List ℕ)) (x : Status) (told : Told) → (why ≡ stop.ReadFault → Rose reads reads') → IsReadStop IsWrong left why → Writes (IsStop why) w w' x
+pub unread : (IsWrong : List ℕ → ℕ → Type 0) (Has : Configuration → List ℕ → Type 0) (left : Option (List ℕ)) (reads reads' : ℕ) (why : Stop) (w w' : Written) (x : Status) (told : Told) → (why ≡ stop.ReadFault → Rose reads reads') → IsReadStop IsWrong left why → Writes (IsStop why) w w' x
     → HasNoRun (StopsBy IsWrong Has left reads reads' told.bytes) w w' x told told
 unread IsWrong Has left reads reads' why w w' x told fault stops is = record {
-  line = Writes-as (IsStop why) (StopsBy IsWrong Has left reads reads' told.bytes) w w' x (λ y line at. by_stop (StopsBy IsWrong Has left reads reads' told.bytes) why y line (unread_line IsWrong Has left reads reads' told.bytes why fault stops) at) is;
+  line = Writes-as (IsStop why) (StopsBy IsWrong Has left reads reads' told.bytes) w w' x (λ y lines at. by_stop (StopsBy IsWrong Has left reads reads' told.bytes) why y lines (unread_line IsWrong Has left reads reads' told.bytes why fault stops) at) is;
   alone = alone told;
 }
 
@@ -494,7 +493,7 @@ has_steps : (left : Option (List ℕ)) (c : Configuration) (steps : List Step) �
 has_steps None c steps has = tt
 has_steps (Some bytes) c steps has = (has.config, steps, has.script)
 
-pub played : (left : Option (List ℕ)) (reads reads' : ℕ) (x : Status) (c : Configuration) (steps : List Step) (entry exit : Told) (w w' : Option (List ℕ)) → IfSome left (λ bytes. HasPlayable bytes c steps)
+pub played : (left : Option (List ℕ)) (reads reads' : ℕ) (x : Status) (c : Configuration) (steps : List Step) (entry exit : Told) (w w' : Written) → IfSome left (λ bytes. HasPlayable bytes c steps)
     → HasRun c steps (EndsIn History (played_call left x entry exit w w')) entry exit ⊎ HasNoRun (IsSizeStop (size_of c.geometry) entry.bytes) w w' x entry exit
     → HasPromise (played_call left x entry exit w w') ⊎ HasNoRun (PlayStopsBy left reads reads' entry.bytes) w w' x entry exit
 played left reads reads' x c steps entry exit w w' has (inl run) = inl (has_promise left x c steps entry exit w w' has run)

@@ -3,6 +3,7 @@ use Rattle.std.specs.Prelude.{nat_le, IfSome, slice_get}
 use Rattle.std.specs.Str.Parse.{digits_value}
 use Rattle.std.proofs.Common.{◌≡◌, ◌≤◌, ◌⊎◌, ◌&&◌, ℕ, Bool, true, false, List, [], ◌∷◌, Option, Some, None, if◌then◌else◌, refl, ap, subst, inl, inr}
 use Rattle.std.proofs.lemmas.Bool.{leb-true}
+use Rattle.nv_streams.specs.Sink.{Written}
 use Rattle.nvm_flash.specs.nv_base.Decimal.{is_numeral, decimal_number_of}
 use Rattle.nvm_flash.specs.nv_base.Geometry.{size_of}
 use Rattle.nvm_flash.specs.block_config.Config.{Configuration}
@@ -77,7 +78,7 @@ step_stops (Some bytes) c (y ∷ ys) x at has = inr (c, y, ys, has, ap (λ (s : 
     same_step a b is = cc
 
 -- a run's promise is the call's
-pub soaked : (left : Option (List ℕ)) (reads reads' : ℕ) (x : Status) (c : Configuration) (made : List Step) (steps : Configuration → List Step) (entry exit : Told) (w w' : Option (List ℕ)) → IfSome left (λ bytes. HasPlayable bytes c []) → made ≡ steps c
+pub soaked : (left : Option (List ℕ)) (reads reads' : ℕ) (x : Status) (c : Configuration) (made : List Step) (steps : Configuration → List Step) (entry exit : Told) (w w' : Written) → IfSome left (λ bytes. HasPlayable bytes c []) → made ≡ steps c
     → HasRun c made (EndsIn Summary (played_call left x entry exit w w')) entry exit ⊎ HasNoRun (IsSizeStop (size_of c.geometry) entry.bytes) w w' x entry exit
     → HasSoaked left steps (played_call left x entry exit w w') ⊎ HasNoRun (SoakStopsBy left reads reads' entry.bytes) w w' x entry exit
 soaked left reads reads' x c made steps entry exit w w' has drawn (inl run) = inl (c, has, subst (λ (xs : List Step). HasRun c xs (EndsIn Summary (played_call left x entry exit w w')) entry exit) drawn run)

@@ -1,5 +1,6 @@
 -- What a call of each command keeps; a call of the program keeps what the command keeps that its words name.
 use Rattle.std.specs.Prelude.{◌≡◌, ◌⊎◌, ℕ, Bool, true, false, List, Option, Some, None}
+use Rattle.nv_streams.specs.Sink.{Written}
 use Rattle.nvm_flash.specs.block_config.Config.{Configuration}
 use Rattle.nvm_flash.specs.fls_model.Told.{Told, ToldBytes}
 use Rattle.nvm_flash.specs.promise_run.Call.{Call}
@@ -27,14 +28,14 @@ pub record Ended : Type 0 where
   pub left_after : Option (List ℕ)
   pub read_faults : ℕ
   pub read_faults_after : ℕ
-  pub written : Option (List ℕ)
-  pub written_after : Option (List ℕ)
+  pub written : Written
+  pub written_after : Written
   pub write_faults : ℕ
   pub write_faults_after : ℕ
   pub entry : Told
   pub exit : Told
 
-abbrev pub ended : Status → (left left' : Option (List ℕ)) (reads reads' : ℕ) (written written' : Option (List ℕ)) (writes writes' : ℕ) (entry exit : Told) → Ended
+abbrev pub ended : Status → (left left' : Option (List ℕ)) (reads reads' : ℕ) (written written' : Written) (writes writes' : ℕ) (entry exit : Told) → Ended
 ended x left left' reads reads' written written' writes writes' entry exit =
     record { status = x; left = left; left_after = left'; read_faults = reads; read_faults_after = reads'; written = written; written_after = written'; write_faults = writes; write_faults_after = writes'; entry = entry; exit = exit }
 
@@ -45,13 +46,13 @@ call_of e = played_call e.left e.status e.entry e.exit e.written e.written_after
 abbrev pub IsCaused : Ended → Type 0
 IsCaused e = HasCauses e.status e.read_faults e.read_faults_after e.write_faults e.write_faults_after e.left_after
 
-abbrev pub WritesBy : (Status → List ℕ → Type 0) → Ended → Type 0
+abbrev pub WritesBy : (Status → List (List ℕ) → Type 0) → Ended → Type 0
 WritesBy IsEnd e = Writes IsEnd e.written e.written_after e.status
 
 -- EACH COMMAND
 
 -- where no run is begun, for one of these reasons, by what was read and by the flash
-abbrev pub StopsFor : (Option (List ℕ) → ℕ → ℕ → Option ToldBytes → Status → List ℕ → Type 0) → Ended → Type 0
+abbrev pub StopsFor : (Option (List ℕ) → ℕ → ℕ → Option ToldBytes → Status → List (List ℕ) → Type 0) → Ended → Type 0
 StopsFor IsEnd e = HasNoRun (IsEnd e.left e.read_faults e.read_faults_after e.entry.bytes) e.written e.written_after e.status e.entry e.exit
 
 pub record KeepsPlay (e : Ended) : Type 0 where

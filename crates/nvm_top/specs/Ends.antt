@@ -1,6 +1,6 @@
 -- How a command ends, as its input decides. No two cases of a command hold of one input, but those of the faults and
 -- of the want of memory, which may come in place of any other.
-use Rattle.std.specs.Prelude.{◌≡◌, ◌≤◌, ℕ, List, [], length, Option, IfSome, Ok, Err}
+use Rattle.std.specs.Prelude.{◌≡◌, ◌≤◌, ℕ, List, [], ◌∷◌, length, Option, IfSome, Ok, Err}
 use Rattle.nvm_flash.specs.nv_base.Count.{Rose}
 use Rattle.nvm_flash.specs.block_config.Config.{Configuration}
 use Rattle.nvm_flash.specs.block_config.Reading.{meaning_of}
@@ -38,22 +38,15 @@ pub record HasPlayable (bytes : List ℕ) (c : Configuration) (steps : List Step
 abbrev pub HasWrongLine : List ℕ → ℕ → Type 0
 HasWrongLine bytes number = (c : Configuration) × HasConfig bytes c × IsFirstWrong c Play 2 [] (later_lines bytes) number
 
--- the line names the first broken rule of the input, where that is told, with its first block
-abbrev pub NamesRule : Option (List ℕ) → List ℕ → Type 0
-NamesRule left line = (rule : ℕ) × (block : ℕ) × IfSome left (λ bytes. BreaksRule bytes rule block) × (line ≡ line_of (stop.BadConfig rule block))
-
--- a read of the input failed, and the line says so
-abbrev pub TellsReadFault : ℕ → ℕ → List ℕ → Type 0
-TellsReadFault reads reads' line = Rose reads reads' × (line ≡ line_of stop.ReadFault)
-
--- why the input isn't read, with its bytes, where they are told, with its faults before and after, and with the line of it
-abbrev pub ReadsBy : Option (List ℕ) → (reads reads' : ℕ) → Status → List ℕ → Type 0
-ReadsBy left reads reads' status.BadConfig line = NamesRule left line
-ReadsBy left reads reads' status.ReadFault line = TellsReadFault reads reads' line
-ReadsBy left reads reads' status.TooLong line = IsLonger left input_limit × (line ≡ line_of stop.TooLong)
-ReadsBy left reads reads' _ line = ⊥
+-- why the input isn't read, with its bytes, where they are told, with its faults before and after, and with the line of it: the
+-- first broken rule with its first block, a read that failed, or too many bytes
+abbrev pub ReadsBy : Option (List ℕ) → (reads reads' : ℕ) → Status → List (List ℕ) → Type 0
+ReadsBy left reads reads' status.BadConfig lines = (rule : ℕ) × (block : ℕ) × IfSome left (λ bytes. BreaksRule bytes rule block) × (lines ≡ line_of (stop.BadConfig rule block) ∷ [])
+ReadsBy left reads reads' status.ReadFault lines = Rose reads reads' × (lines ≡ line_of stop.ReadFault ∷ [])
+ReadsBy left reads reads' status.TooLong lines = IsLonger left input_limit × (lines ≡ line_of stop.TooLong ∷ [])
+ReadsBy left reads reads' _ lines = ⊥
 
 -- how `check` ends, with the line that it writes
-abbrev pub ChecksBy : Option (List ℕ) → (reads reads' : ℕ) → Status → List ℕ → Type 0
-ChecksBy left reads reads' status.Ok line = (c : Configuration) × IfSome left (λ bytes. HasConfig bytes c) × (line ≡ measures_line c)
-ChecksBy left reads reads' x line = ReadsBy left reads reads' x line
+abbrev pub ChecksBy : Option (List ℕ) → (reads reads' : ℕ) → Status → List (List ℕ) → Type 0
+ChecksBy left reads reads' status.Ok lines = (c : Configuration) × IfSome left (λ bytes. HasConfig bytes c) × (lines ≡ measures_line c ∷ [])
+ChecksBy left reads reads' x lines = ReadsBy left reads reads' x lines

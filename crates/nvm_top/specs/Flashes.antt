@@ -24,13 +24,13 @@ one_flash t = record { flash = t; beside = None }
 
 -- STEPS ON A STACK OVER IT
 -- How steps were made on the stack of a configuration, from behind its first start-up on, and how they ended, by what its device
--- tells; and where what it is made over tells its bytes, and these are sound, all is kept and paid.
-pub record WereMade {D : Type 0} (device : D → DeviceTold) (clock : D → Clock) (before : Part → PartTold) (IsWell : Type 0) (c : Configuration) (cuts : ℕ) (steps : List Step) (end : Result (Unit {0}) StepFault) (s : StackState D (List PlainBlock)) : Type 0 where
+-- tells; and all is kept and paid, as far as the device tells what it holds.
+pub record WereMade {D : Type 0} (device : D → DeviceTold) (clock : D → Clock) (before : Part → PartTold) (c : Configuration) (cuts : ℕ) (steps : List Step) (end : Result (Unit {0}) StepFault) (s : StackState D (List PlainBlock)) : Type 0 where
   pub first : StackState D (List PlainBlock)
   pub started : IsStarted c cuts (before First) (told_by device first)
   pub all : OnOk end (HasWalked (payer_by device clock first) (payer_by device clock s) steps (told_by device first) (told_by device s))
   pub some : IfErr end (λ why. WasBroken (payer_by device clock first) (payer_by device clock s) why steps (told_by device first) (told_by device s))
   pub configuration : (told_by device s).configuration ≡ (told_by device first).configuration
   pub most : (told_by device s).cap ≡ (told_by device first).cap
-  pub keeps : IsWell → IsKept s.ready before s.desk s.hand (device s.device) (clock s.device)
-  pub owes : IsWell → (payer_by device clock first).owes (told_by device first).faults
+  pub keeps : IsKept s.ready before s.desk s.hand (device s.device) (clock s.device)
+  pub owes : (payer_by device clock first).owes (told_by device first).faults

@@ -16,3 +16,4 @@ pub mod Promised
 pub mod Soak
 pub mod Stack
 pub mod Worked
+pub use Rattle.nvm_flash.specs as nvm_flash

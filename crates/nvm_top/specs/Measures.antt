@@ -1,5 +1,5 @@
 -- The measures of a configuration.
-use Rattle.std.specs.Prelude.{◌≡◌, ℕ, List, ◌++◌, length, codes}
+use Rattle.std.specs.Prelude.{◌≡◌, ℕ, List, [], ◌∷◌, ◌++◌, length, codes}
 use Rattle.std.specs.Fmt.{decimal}
 use Rattle.nvm_flash.specs.block_config.Banks.{bank_pages_of}
 use Rattle.nvm_flash.specs.block_config.Config.{Configuration}
@@ -18,5 +18,5 @@ abbrev pub measures_line : Configuration → List ℕ
 measures_line c = numbers_line (length c.blocks) (measures_of c.geometry.page c.blocks).instances (need_pages_of c) (bank_pages_of c.geometry)
 
 -- a command ends well, and writes the measures last
-abbrev pub IsMeasured : Configuration → Status → List ℕ → Type 0
-IsMeasured c x line = (x ≡ status.Ok) × (line ≡ measures_line c)
+abbrev pub IsMeasured : Configuration → Status → List (List ℕ) → Type 0
+IsMeasured c x lines = (x ≡ status.Ok) × (lines ≡ measures_line c ∷ [])

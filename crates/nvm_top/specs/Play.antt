@@ -1,5 +1,5 @@
 -- How a run of `play` or `soak` stops before its start-up, each stop with its cause.
-use Rattle.std.specs.Prelude.{◌≡◌, ◌≢◌, ◌⊎◌, ℕ, List, [], length, Option, IfSome}
+use Rattle.std.specs.Prelude.{◌≡◌, ◌≢◌, ◌⊎◌, ℕ, List, [], ◌∷◌, length, Option, IfSome}
 use Rattle.nvm_flash.specs.nv_base.Count.{Rose}
 use Rattle.nvm_flash.specs.nv_base.Geometry.{size_of}
 use Rattle.nvm_flash.specs.block_config.Config.{Configuration}
@@ -59,23 +59,23 @@ IsStepsEnd need s t _ = ⊥
 
 -- HOW IT IS PRINTED
 -- the flash has a wrong size, and the line tells how many bytes it has, where they are told, and how many are needed
-abbrev pub NamesSize : ℕ → Option ToldBytes → List ℕ → Type 0
-NamesSize need bytes line =
-    IsWrongSize need bytes × ((found : ℕ) × IfSome bytes (λ b. length b.now ≡ found) × (line ≡ line_of (stop.WrongSize found need)))
+abbrev pub NamesSize : ℕ → Option ToldBytes → List (List ℕ) → Type 0
+NamesSize need bytes lines =
+    IsWrongSize need bytes × ((found : ℕ) × IfSome bytes (λ b. length b.now ≡ found) × (lines ≡ line_of (stop.WrongSize found need) ∷ []))
 
 -- no other stop than that
-abbrev pub IsSizeStop : ℕ → Option ToldBytes → Status → List ℕ → Type 0
-IsSizeStop need bytes status.WrongSize line = NamesSize need bytes line
-IsSizeStop need bytes _ line = ⊥
+abbrev pub IsSizeStop : ℕ → Option ToldBytes → Status → List (List ℕ) → Type 0
+IsSizeStop need bytes status.WrongSize lines = NamesSize need bytes lines
+IsSizeStop need bytes _ lines = ⊥
 
 -- Why no run is begun, by what makes a later line of the input a wrong one, and by which inputs have a configuration: the
 -- input isn't read, a line is wrong, or the flash has a wrong size. It takes the bytes of the input and of the flash, where
 -- they are told, the input's faults before and after, and the line that is written.
-abbrev pub StopsBy : (List ℕ → ℕ → Type 0) → (Configuration → List ℕ → Type 0) → (left : Option (List ℕ)) (reads reads' : ℕ) → Option ToldBytes → Status → List ℕ → Type 0
-StopsBy IsWrong Has left reads reads' bytes status.BadScript line = (number : ℕ) × IfSome left (λ input. IsWrong input number) × (line ≡ line_of (stop.BadScript number))
-StopsBy IsWrong Has left reads reads' bytes status.WrongSize line = (c : Configuration) × IfSome left (Has c) × NamesSize (size_of c.geometry) bytes line
-StopsBy IsWrong Has left reads reads' bytes x line = ReadsBy left reads reads' x line
+abbrev pub StopsBy : (List ℕ → ℕ → Type 0) → (Configuration → List ℕ → Type 0) → (left : Option (List ℕ)) (reads reads' : ℕ) → Option ToldBytes → Status → List (List ℕ) → Type 0
+StopsBy IsWrong Has left reads reads' bytes status.BadScript lines = (number : ℕ) × IfSome left (λ input. IsWrong input number) × (lines ≡ line_of (stop.BadScript number) ∷ [])
+StopsBy IsWrong Has left reads reads' bytes status.WrongSize lines = (c : Configuration) × IfSome left (Has c) × NamesSize (size_of c.geometry) bytes lines
+StopsBy IsWrong Has left reads reads' bytes x lines = ReadsBy left reads reads' x lines
 
 -- of `play`
-abbrev pub PlayStopsBy : (left : Option (List ℕ)) (reads reads' : ℕ) → Option ToldBytes → Status → List ℕ → Type 0
+abbrev pub PlayStopsBy : (left : Option (List ℕ)) (reads reads' : ℕ) → Option ToldBytes → Status → List (List ℕ) → Type 0
 PlayStopsBy = StopsBy HasWrongLine HasStepsOf

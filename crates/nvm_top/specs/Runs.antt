@@ -1,6 +1,7 @@
 -- How a run of steps ends, and its summary.
-use Rattle.std.specs.Prelude.{ℕ, List, length, Result, Ok, Err}
+use Rattle.std.specs.Prelude.{ℕ, List, [], ◌∷◌, length, Result, Ok, Err}
 use Rattle.nvm_flash.specs.nv_base.declared.entry.Entry.{Entry}
+use Rattle.nvm_script.specs.Cut.{cut_lines}
 use Rattle.nvm_script.specs.Lines.{end_line}
 use Rattle.nvm_script.specs.Summary.{summary}
 use Rattle.nvm_flash.specs.promise_run.Run.{End, FlashFault, HistoryFull, Memory}
@@ -35,9 +36,9 @@ abbrev pub status_of_run : Result (Unit {0}) Stop → Status
 status_of_run (Ok done) = status.Ok
 status_of_run (Err why) = status_of why
 
--- what is written last of a run in one of these texts: how many entries it has, or the summary of its history; of one that
--- stops its line
-abbrev pub line_written : RunText → Result (Unit {0}) Stop → List Entry → List ℕ
-line_written History (Ok done) entries = end_line (length entries)
-line_written Summary (Ok done) entries = summary entries
-line_written text (Err why) entries = line_of why
+-- the lines that are written last of a run in one of these texts: how many entries it has, or the summary of its history; of
+-- one that stops its line
+abbrev pub lines_written : RunText → Result (Unit {0}) Stop → List Entry → List (List ℕ)
+lines_written History (Ok done) entries = end_line (length entries) ∷ []
+lines_written Summary (Ok done) entries = cut_lines (summary entries)
+lines_written text (Err why) entries = line_of why ∷ []

@@ -30,5 +30,5 @@ IsSoakStop = IsReadStop HasStepAt
 -- THE OUTPUT
 
 -- why it begins no run
-abbrev pub SoakStopsBy : (left : Option (List ℕ)) (reads reads' : ℕ) → Option ToldBytes → Status → List ℕ → Type 0
+abbrev pub SoakStopsBy : (left : Option (List ℕ)) (reads reads' : ℕ) → Option ToldBytes → Status → List (List ℕ) → Type 0
 SoakStopsBy = StopsBy HasStepAt (λ c bytes. HasPlayable bytes c [])

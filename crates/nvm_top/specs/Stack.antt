@@ -1,18 +1,18 @@
 -- The stack that a command runs over a flash.
-use Rattle.std.specs.Prelude.{◌≡◌, ◌<◌, ◌≤◌, ℕ, true, List, [], length, min, Some, None}
+use Rattle.std.specs.Prelude.{◌≡◌, ◌<◌, ◌≤◌, ℕ, true, false, List, [], length, min, Some, None}
 use Rattle.nvm_flash.specs.nv_base.Count.{last_count, Rose, WereCounted}
 use Rattle.nvm_flash.specs.nv_base.Geometry.{size_of}
 use Rattle.nvm_flash.specs.block_config.Config.{Configuration}
 use Rattle.nvm_flash.specs.memif.Told.{Part, First, Second, PartTold, no_part}
-use Rattle.nvm_flash.specs.fls_model.Told.{Told, Change, bytes_now}
-use Rattle.nvm_flash.specs.promise_device.Image.{IsSoundFlash}
+use Rattle.nvm_flash.specs.fls_model.Told.{Told, Change}
 use Rattle.script_walks.specs.Words.{Step}
 use Rattle.script_walks.specs.Texts.{AreValues}
 use Rattle.nvm_flash.specs.block_machine.Words.{Entry}
-use Rattle.nvm_flash.specs.promise_run.Run.{Run, Course, Played, End, cap, HasOrder, LeavesFlash, RefusalsExplain, offs_of_flash}
-use Rattle.nvm_flash.specs.promise_run.Promise.{Promise, making_of}
+use Rattle.nvm_flash.specs.promise_run.Run.{Run, Course, Played, End, cap, HasOrder, LeavesFlash, CutsExplain}
+use Rattle.nvm_flash.specs.promise_run.Refusals.{RefusesAsAsked}
+use Rattle.nvm_flash.specs.promise_run.Promise.{Promise, BeginsWell, making_of}
 use Rattle.nvm_flash.specs.promise_device.Bridge.{IsWornOut}
-use Rattle.nvm_flash.specs.promise_device.FlashRun.{HasFailed}
+use Rattle.nvm_flash.specs.promise_device.FlashRun.{HasFailed, CountsAll, TellsBytes, StartsSound}
 use Rattle.script_player.specs.Told.{StackTold}
 use Rattle.script_player.specs.Paying.{Payer}
 use Rattle.script_player.specs.Made.{IsFresh}
@@ -25,9 +25,9 @@ use Rattle.nvm_top.specs.Play.{IsAttachStop, IsStepsEnd}
 use Rattle.nvm_top.specs.Stop.{status_of}
 
 -- a run over one flash that followed this course and came to this end
-abbrev pub run_of : Configuration → List Entry → Told → Told → List Change → Course → End → Run
-run_of c h entry exit operations course end =
-    record { configuration = c; course = course; end = end; history = h; flash = record { entry = entry; exit = exit; operations = operations }; beside = None }
+abbrev pub run_of : Configuration → List Entry → Told → Told → List Change → List ℕ → Course → End → Run
+run_of c h entry exit operations cuts course end =
+    record { configuration = c; course = course; end = end; history = h; flash = record { entry = entry; exit = exit; operations = operations }; cuts = cuts; beside = None }
 
 -- a device of one part
 abbrev pub one_part : PartTold → Part → PartTold
@@ -46,6 +46,8 @@ pub record IsStarted (c : Configuration) (cuts : ℕ) (before : PartTold) (t : S
   pub none : before.faults ≡ 0
   pub faults : before.faults ≤ t.faults
   pub unplanned : before.planning.unplanned ≤ t.causes.unplanned
+  pub came : t.causes.came ≡ []
+  pub on : t.causes.off ≡ false
 
 -- why it isn't made, where the flash is to have so many bytes
 abbrev pub stop_of_make : MakeFault → ℕ → Stop
@@ -61,24 +63,22 @@ pub record StopsAtStart (c : Configuration) (entry exit : Told) (stop : Stop) : 
   pub faults : entry.faults ≤ exit.faults
   pub cuts : entry.cuts ≤ exit.cuts
 
--- its flash tells its bytes at first, and their image is sound
-pub record StartsWell (c : Configuration) (entry : Told) : Type 0 where
-  pub first : List ℕ
-  pub bytes : bytes_now entry ≡ Some first
-  pub sound : IsSoundFlash (making_of c) first
-
 -- all is kept, and nothing is owed for any fault yet
 abbrev pub IsKeptFrom : Type 0 → Payer → StackTold → Type 0
 IsKeptFrom Kept p t = Kept × p.owes t.faults
 
 -- The flash is given back: the operations, the faults and the cuts that the stack was told are its own, what failed of them
--- the stack was told of, and where it says that it is worn out the flash is; the numbers and bytes of its history are those of
--- a program; and where this was kept, a run that followed a script keeps the promise, where its steps explain its refused
--- copies and its power cuts.
+-- the stack was told of, and where it says that it is worn out the flash is; the flash is off only where the device was, and plans no
+-- cut while it is on; the numbers and bytes of its history are those of
+-- a program; and where this was kept, a run that followed a script keeps the promise, where its flash tells sound bytes at first and
+-- its steps explain its refused copies and its power cuts; until its first operation it does over any bytes.
 pub record Vouches (Kept : Type 0) (p : Payer) (before : PartTold) (t : StackTold) (entry exit : Told) : Type 0 where
   pub operations : List Change
   pub ops : t.ops ≡ min (length operations) last_count
+  pub counts : CountsAll (record { entry = entry; exit = exit; operations = operations }) t.causes.came
   pub geometry : exit.geometry ≡ t.configuration.geometry
+  pub off : exit.off ≡ true → t.causes.off ≡ true
+  pub plan : exit.off ≡ false → exit.planning.plan ≡ None
   pub failed : (k : ℕ) → k < t.ops → HasFailed (record { entry = entry; exit = exit; operations = operations }) k → p.failed k
   pub more : entry.faults ≤ exit.faults
   pub faults : Rose before.faults t.faults → Rose entry.faults exit.faults
@@ -86,8 +86,13 @@ pub record Vouches (Kept : Type 0) (p : Payer) (before : PartTold) (t : StackTol
   pub cuts : (n : ℕ) → WereCounted n before.planning.unplanned t.causes.unplanned → WereCounted n entry.cuts exit.cuts
   pub worn : (k n : ℕ) → p.worn k n → IsWornOut (making_of t.configuration) (record { entry = entry; exit = exit; operations = operations }) k n
   pub values : AreValues t.entries
-  pub promise : Kept → (made left : List Step) (pieces : List (List Entry)) (end : End)
-      → HasOrder (run_of t.configuration t.entries entry exit operations (Played made pieces left) end) t.entries
-      → ((id : ℕ) → RefusalsExplain t.configuration (Played made pieces left) t.entries id)
-      → WereCounted (offs_of_flash (Played made pieces left) t.entries) before.planning.unplanned t.causes.unplanned
-      → Promise (run_of t.configuration t.entries entry exit operations (Played made pieces left) end)
+  -- its device tells to the end what it holds, where the flash tells its bytes and these were sound
+  pub tells : TellsBytes (record { entry = entry; exit = exit; operations = operations }) → StartsSound (making_of t.configuration) (record { entry = entry; exit = exit; operations = operations }) → p.tells
+  pub early : Kept → TellsBytes (record { entry = entry; exit = exit; operations = operations }) → (made left : List Step) (pieces : List (List Entry)) (end : End)
+      → BeginsWell (run_of t.configuration t.entries entry exit operations t.causes.came (Played made pieces left) end)
+  pub promise : Kept → TellsBytes (record { entry = entry; exit = exit; operations = operations }) → StartsSound (making_of t.configuration) (record { entry = entry; exit = exit; operations = operations })
+      → (made left : List Step) (pieces : List (List Entry)) (end : End)
+      → HasOrder (run_of t.configuration t.entries entry exit operations t.causes.came (Played made pieces left) end) t.entries
+      → ((id : ℕ) → RefusesAsAsked t.configuration (Played made pieces left) t.entries id)
+      → CutsExplain (Played made pieces left) t.entries t.causes.came before.planning.unplanned t.causes.unplanned
+      → Promise (run_of t.configuration t.entries entry exit operations t.causes.came (Played made pieces left) end)

@@ -1,5 +1,5 @@
 -- The statuses of commands that stop, and the lines that say so.
-use Rattle.std.specs.Prelude.{◌≡◌, ◌≢◌, ℕ, List, [], ◌++◌, codes}
+use Rattle.std.specs.Prelude.{◌≡◌, ◌≢◌, ℕ, List, [], ◌∷◌, ◌++◌, codes}
 use Rattle.std.specs.Fmt.{decimal}
 use Rattle.nvm_top.specs.declared.status.Status.{Status}
 use Rattle.nvm_top.specs.declared.status.Status.TheVariants as status
@@ -32,5 +32,5 @@ line_of HistoryFull = codes "history full\n"
 line_of Memory = []
 
 -- a command that stops has this status, and writes this line last; at want of memory it writes none
-abbrev pub IsStop : Stop → Status → List ℕ → Type 0
-IsStop stop x line = (stop ≢ Memory) × (x ≡ status_of stop) × (line ≡ line_of stop)
+abbrev pub IsStop : Stop → Status → List (List ℕ) → Type 0
+IsStop stop x lines = (stop ≢ Memory) × (x ≡ status_of stop) × (lines ≡ line_of stop ∷ [])

@@ -1,5 +1,6 @@
 -- A call of `play` over a blank flash in memory.
 use Rattle.std.specs.Prelude.{◌≤◌, ℕ, List, [], length, Option}
+use Rattle.nv_streams.specs.Sink.{Written}
 use Rattle.nvm_flash.specs.fls_model.Told.{Told}
 use Rattle.nvm_flash.specs.fls_model.Memory.{in_memory}
 use Rattle.nvm_flash.specs.promise_run.Call.{Call, IsRunOf}
@@ -10,7 +11,7 @@ use Rattle.nvm_top.specs.declared.status.Status.TheVariants as status
 use Rattle.nvm_top.specs.Promised.{played_call}
 
 -- one that has room to tell so many operations
-abbrev pub memory_call : ℕ → Option (List ℕ) → Status → Told → Option (List ℕ) → Option (List ℕ) → Call
+abbrev pub memory_call : ℕ → Option (List ℕ) → Status → Told → Written → Written → Call
 memory_call operations input x exit written written' = played_call input x (in_memory [] operations).told exit written written'
 
 -- There is a run that is this call's. If it made no more of them, as where its steps don't drain and have no more turns, each

@@ -34,9 +34,6 @@ pub trait Flashes {
     /// Its device is made for this configuration, over what told this, with so many power cuts that can be planned.
     ghost is_origin: { Configuration → FlashesTold → ℕ → Type 0 };
 
-    /// It tells its bytes at first, and they are sound.
-    ghost starts_well: { Configuration → FlashesTold → Type 0 };
-
     /// It comes back without a start-up, for this reason.
     ghost stops: { Configuration → FlashesTold → FlashesTold → Why → Type 0 };
 
@@ -53,7 +50,7 @@ pub trait Flashes {
         requires { is_origin config (told self) cuts }
         ensures started { IfOk result (λ s. IsStarted config cuts (before First) (told_by Self.Device.told s)) }
         ensures copies { IfOk result (λ s. s.copies ≡ plain_blocks_of config) }
-        ensures kept { IfOk result (λ s. starts_well config (told self) → IsKeptFrom (IsKept s.ready before s.desk s.hand (Self.Device.told s.device) (Self.Device.clock s.device)) (payer_by Self.Device.told Self.Device.clock s) (told_by Self.Device.told s)) }
+        ensures kept { IfOk result (λ s. IsKeptFrom (IsKept s.ready before s.desk s.hand (Self.Device.told s.device) (Self.Device.clock s.device)) (payer_by Self.Device.told Self.Device.clock s) (told_by Self.Device.told s)) }
         ensures size { IfOk result (λ _. IsRightSize (size_of config.geometry) (told self).flash.bytes) }
         ensures stopped { IfErr result (λ e. stops config (told self) (told e.1) e.0) };
 

@@ -27,5 +27,6 @@ mod values;
 mod worked;
 
 pub use commands::{check_command, command, dump_command, play_command, soak_command};
+pub use nvm_flash;
 pub use status::Status;
 pub use worked::play_with_room;

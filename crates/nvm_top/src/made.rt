@@ -28,7 +28,7 @@ pub fn make_run<P: Flashes>(
 ) -> Result<Made<P::Device>, (Stop, P)>
     requires origin { P.is_origin playable.config (P.told handed) (cuts_of playable.steps) }
     requires played { ArePlayed playable.config playable.steps }
-    ensures made { IfOk result (λ m. WereMade P.Device.told P.Device.clock P.before (P.starts_well playable.config (P.told handed)) playable.config (cuts_of playable.steps) playable.steps m.end m.stack) }
+    ensures made { IfOk result (λ m. WereMade P.Device.told P.Device.clock P.before playable.config (cuts_of playable.steps) playable.steps m.end m.stack) }
     ensures size { IfOk result (λ _. IsRightSize (size_of playable.config.geometry) (P.told handed).flash.bytes) }
     ensures stopped { IfErr result (λ e. P.stops playable.config (P.told handed) (P.told e.1) e.0) }
 {

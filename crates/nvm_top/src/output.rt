@@ -1,9 +1,9 @@
 // Writing the lines of the output.
-ghost use Rattle.std.specs.Prelude.{◌≡◌, IfErr, OnOk};
-ghost use Rattle.std.specs.Io.KnownBytes.{Appends};
+ghost use Rattle.std.specs.Prelude.{◌≡◌, [], ◌∷◌, IfErr, OnOk};
 ghost use Rattle.nvm_flash.specs.nv_base.Count.{Rose};
-ghost use Rattle.nv_streams.specs.Sink.{AppendsPrefix};
-ghost use Rattle.nvm_script.specs.Printed.{history_text};
+ghost use Rattle.nv_streams.specs.Sink.{Puts, PutsPart};
+ghost use Rattle.nvm_script.specs.Cut.{cut_lines};
+ghost use Rattle.nvm_script.specs.Printed.{history_lines};
 ghost use Rattle.nvm_top.specs.Output.{fault_status, IsReport, Writes, BreaksOff, IsEndOf};
 ghost use Rattle.nvm_top.specs.Stop.{status_of, IsStop};
 
@@ -43,12 +43,12 @@ impl OutputFault {
     }
 }
 
-/// Writes one line.
+/// Writes one line, by one put.
 pub fn put_line<K: Sink>(output: &mut K, line: &[u8]) -> Result<(), OutputFault>
     ensures ok { OnOk result (K.faults output.new ≡ K.faults output.old) }
-    ensures line { OnOk result (Appends (K.written output.old) (K.written output.new) line.now) }
+    ensures line { OnOk result (Puts (K.written output.old) (K.written output.new) (line.now ∷ [])) }
     ensures failed { IfErr result (λ fault. (fault ≡ OutputFault.Failed) × Rose (K.faults output.old) (K.faults output.new)) }
-    ensures prefix { IfErr result (λ _. AppendsPrefix (K.written output.old) (K.written output.new) line.now) }
+    ensures part { IfErr result (λ _. PutsPart (K.written output.old) (K.written output.new) (line.now ∷ [])) }
 {
     match output.put(line) {
         SinkAnswer::Done => Ok(()),
@@ -56,12 +56,12 @@ pub fn put_line<K: Sink>(output: &mut K, line: &[u8]) -> Result<(), OutputFault>
     }
 }
 
-/// Writes a text, line by line.
+/// Writes a text, each line by one put.
 pub fn put_lines<K: Sink>(output: &mut K, text: &[u8]) -> Result<(), OutputFault>
     ensures ok { OnOk result (K.faults output.new ≡ K.faults output.old) }
-    ensures text { OnOk result (Appends (K.written output.old) (K.written output.new) text.now) }
+    ensures lines { OnOk result (Puts (K.written output.old) (K.written output.new) (cut_lines text.now)) }
     ensures failed { IfErr result (λ fault. (fault ≡ OutputFault.Failed) × Rose (K.faults output.old) (K.faults output.new)) }
-    ensures prefix { IfErr result (λ _. AppendsPrefix (K.written output.old) (K.written output.new) text.now) }
+    ensures part { IfErr result (λ _. PutsPart (K.written output.old) (K.written output.new) (cut_lines text.now)) }
 {
     let mut at = 0;
     while at < text.len() {
@@ -81,7 +81,7 @@ pub fn write_history<K: Sink>(
     output: &mut K,
 ) -> Result<(), OutputFault>
     ensures ok { OnOk result (K.faults output.new ≡ K.faults output.old) }
-    ensures lines { OnOk result (Appends (K.written output.old) (K.written output.new) (history_text history.now.entries)) }
+    ensures lines { OnOk result (Puts (K.written output.old) (K.written output.new) (history_lines history.now.entries)) }
     ensures failed { IfErr result (λ fault. fault ≡ OutputFault.Failed → Rose (K.faults output.old) (K.faults output.new)) }
     ensures part { IfErr result (λ fault. BreaksOff fault history.now.entries (K.written output.old) (K.written output.new)) }
 {

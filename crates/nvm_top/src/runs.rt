@@ -2,7 +2,7 @@
 ghost use Rattle.std.specs.Prelude.{◌≡◌, []};
 ghost use Rattle.nvm_flash.specs.nv_base.Count.{Rose};
 ghost use Rattle.nvm_top.specs.Promised.{WritesText, entries_in};
-ghost use Rattle.nvm_top.specs.Runs.{run_of, status_of_run, line_written};
+ghost use Rattle.nvm_top.specs.Runs.{run_of, status_of_run, lines_written};
 
 use crate::Status;
 use crate::output::{put_lines, report, write_end, write_history};
@@ -39,7 +39,7 @@ fn write_run<K: Sink>(
     history: &History,
     output: &mut K,
 ) -> Status
-    ensures text { WritesText (status_of_run run) history.now.entries (line_written RunText.History run history.now.entries) (K.written output.old) (K.written output.new) result }
+    ensures text { WritesText (status_of_run run) history.now.entries (lines_written RunText.History run history.now.entries) (K.written output.old) (K.written output.new) result }
     ensures write_fault { result ≡ Status.WriteFault → Rose (K.faults output.old) (K.faults output.new) }
 {
     if run == Err(Stop::Memory) {
@@ -61,7 +61,7 @@ fn write_summary<K: Sink>(
     history: &History,
     output: &mut K,
 ) -> Status
-    ensures text { WritesText (status_of_run run) [] (line_written RunText.Summary run history.now.entries) (K.written output.old) (K.written output.new) result }
+    ensures text { WritesText (status_of_run run) [] (lines_written RunText.Summary run history.now.entries) (K.written output.old) (K.written output.new) result }
     ensures write_fault { result ≡ Status.WriteFault → Rose (K.faults output.old) (K.faults output.new) }
 {
     if let Err(stop) = run {
@@ -84,7 +84,7 @@ pub fn write_text<K: Sink>(
     history: &History,
     output: &mut K,
 ) -> Status
-    ensures text { WritesText (status_of_run run) (entries_in text history.now.entries) (line_written text run history.now.entries) (K.written output.old) (K.written output.new) result }
+    ensures text { WritesText (status_of_run run) (entries_in text history.now.entries) (lines_written text run history.now.entries) (K.written output.old) (K.written output.new) result }
     ensures write_fault { result ≡ Status.WriteFault → Rose (K.faults output.old) (K.faults output.new) }
 {
     match text {

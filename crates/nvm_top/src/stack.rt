@@ -1,5 +1,5 @@
 // The stack that a command runs: over the banks of a flash whose power may be cut, with the application's copies in memory.
-ghost use Rattle.std.specs.Prelude.{◌≡◌, ℕ, IfErr, IfOk, IsSome, None};
+ghost use Rattle.std.specs.Prelude.{◌≡◌, ℕ, IfErr, IfOk, None};
 ghost use Rattle.nvm_flash.specs.block_config.Config.{Configuration};
 ghost use Rattle.nvm_flash.specs.fee_told.Device.{told_of};
 ghost use Rattle.nvm_flash.specs.fee_core.Tells.{told_clock};
@@ -7,7 +7,7 @@ ghost use Rattle.nvm_flash.specs.fee_laws.Made.{part_at};
 ghost use Rattle.nvm_flash.specs.block_config.Rules.{IsLegalConfig};
 ghost use Rattle.nvm_flash.specs.Made.{ComesBack, IsMadeStack, IsOrigin};
 ghost use Rattle.nvm_flash.specs.nvm_core.StartUps.{StartsUp};
-ghost use Rattle.nvm_flash.specs.nvm_laws.Keeps.{StackKeeps};
+ghost use Rattle.nvm_flash.specs.nvm_laws.Keeps.{StackKeepsAsTold};
 ghost use Rattle.nvm_flash.specs.fls_model.Told.{Told};
 ghost use Rattle.nvm_flash.specs.nv_base.Geometry.{IsLegal, size_of};
 ghost use Rattle.nvm_top.specs.Stack.{one_part, stop_of_make};
@@ -36,7 +36,7 @@ impl<F: Flash, O: Origin> Flashes for OneFlash<F, O> {
     ghost use Rattle.nvm_flash.specs.fee_laws.Made.{part_at};
     ghost use Rattle.nvm_flash.specs.Made.{IsBack, IsOrigin};
     ghost use Rattle.nvm_top.specs.Flashes.{one_flash};
-    ghost use Rattle.nvm_top.specs.Stack.{StartsWell, StopsAtStart, one_part};
+    ghost use Rattle.nvm_top.specs.Stack.{StopsAtStart, one_part};
 
     type Device = Fee<Cutter<F>, O>;
 
@@ -45,8 +45,6 @@ impl<F: Flash, O: Origin> Flashes for OneFlash<F, O> {
     ghost before = { one_part (part_at O.entry) };
 
     ghost is_origin = { λ c entry cuts. IsOrigin c entry.flash cuts O.making O.entry };
-
-    ghost starts_well = { λ c entry. StartsWell c entry.flash };
 
     ghost stops = { λ c entry exit why. StopsAtStart c entry.flash exit.flash why };
 
@@ -83,8 +81,8 @@ impl<F: Flash, O: Origin> Flashes for OneFlash<F, O> {
 fn begin<F: Flash, O: Origin>(stack: FlashStack<F, O>) -> Result<FlashStack<F, O>, (MakeFault, F)>
     requires { IsMadeStack stack.desk.config O.making O.entry stack }
     ensures started { IfOk result (λ s. StartsUp told_of stack s) }
-    ensures kept { IfOk result (λ s. (c : Configuration) (inner : Told) (cuts : ℕ) → stack.desk.config ≡ c → IsLegalConfig c → IsOrigin c inner cuts O.making O.entry → IsSome (told_of stack.device).slots
-        → StackKeeps (one_part (part_at O.entry)) s.desk None (told_of s.device) (told_clock s.device)) }
+    ensures kept { IfOk result (λ s. (c : Configuration) (inner : Told) (cuts : ℕ) → stack.desk.config ≡ c → IsLegalConfig c → IsOrigin c inner cuts O.making O.entry
+        → StackKeepsAsTold (one_part (part_at O.entry)) s.desk None (told_of s.device) (told_clock s.device)) }
     ensures stopped { IfErr result (λ e. (inner : Told) (cuts : ℕ) → IsOrigin stack.desk.config inner cuts O.making O.entry → ComesBack stack.desk.config e.0 inner (F.told e.1)) }
 {
     stack.device().status();

@@ -24,7 +24,7 @@ returns-in-Ok-clause-made g c =
       some = c.make_steps-end.ensures.some;
       configuration = c.make_steps-end.ensures.configuration;
       most = c.make_steps-end.ensures.most;
-      keeps = λ well. c.make_steps-end.ensures.keeps before
-          (subst (λ (s : StackState g.row.P-Device.Denot (List PlainBlock)). IsKept s.ready before s.desk s.hand (told s.device) (clock s.device)) (sym same) (c.in-Ok.ensures.kept well).0);
-      owes = λ well. subst (λ (s : StackState g.row.P-Device.Denot (List PlainBlock)). (payer_by told clock s).owes (told_by told s).faults) (sym same) (c.in-Ok.ensures.kept well).1;
+      keeps = c.make_steps-end.ensures.keeps before
+          (subst (λ (s : StackState g.row.P-Device.Denot (List PlainBlock)). IsKept s.ready before s.desk s.hand (told s.device) (clock s.device)) (sym same) c.in-Ok.ensures.kept.0);
+      owes = subst (λ (s : StackState g.row.P-Device.Denot (List PlainBlock)). (payer_by told clock s).owes (told_by told s).faults) (sym same) c.in-Ok.ensures.kept.1;
     }

@@ -10,7 +10,7 @@ use Rattle.script_player.specs.PlainPaying.{payer_by}
 use Rattle.script_player.specs.PlainTold.{told_by}
 use Rattle.nvm_top.specs.Flashes.{one_flash}
 use Rattle.nvm_top.specs.Promised.{entries_in}
-use Rattle.nvm_top.specs.Runs.{line_written}
+use Rattle.nvm_top.specs.Runs.{lines_written}
 use Rattle.nvm_top.specs.Stack.{one_part}
 use Rattle.nvm_top.proofs.Driven.{vouched}
 use Rattle.nvm_top.proofs.Promised.{early_in, ran_in, ran_late, stopped_late}
@@ -34,7 +34,7 @@ returns-in-Err-clause-promise g c input =
 
 pub returns-in-Ok-clause-late : goal.returns-in-Ok-clause-late
 returns-in-Ok-clause-late g c early =
-    ran_late c.in-Ok.field-0.end c.stop_of.result c.write_text-status.result (entries_in c.args.text c.history-history.result.now.entries) (line_written c.args.text c.stop_of.result c.history-history.result.now.entries) (g.K.Sink.written c.args.output.now) (g.K.Sink.written c.write_text-status.new.output) c.stop_of.ensures c.write_text-status.ensures.text early
+    ran_late c.in-Ok.field-0.end c.stop_of.result c.write_text-status.result (entries_in c.args.text c.history-history.result.now.entries) (lines_written c.args.text c.stop_of.result c.history-history.result.now.entries) (g.K.Sink.written c.args.output.now) (g.K.Sink.written c.write_text-status.new.output) c.stop_of.ensures c.write_text-status.ensures.text early
 
 pub returns-in-Err-clause-late : goal.returns-in-Err-clause-late
 returns-in-Err-clause-late g c early = stopped_late _ _ c.in-Err.stop c.report.result c.in-Err.ensures.stopped.why c.report.ensures.status early

@@ -9,5 +9,5 @@ use Rattle.nvm_top.proofs.stack.begin.Goals as goal
 pub returns-clause-kept : goal.returns-clause-kept
 returns-clause-kept g c =
     let order = subst (λ (d : Device). InOrder (told_of d) (told_clock d)) c.device.ensures.device c.status.ensures.order in
-    if_ok c.start_stack.result c.start_stack.ensures.started c.start_stack.ensures.keeps (λ s starts keeps. λ x inner cuts same legal origin slots.
-    begins_up x g.O.Origin.making g.O.Origin.entry c.args.stack s c.requires (begins_kept (told_of c.args.stack.device) (told_clock c.args.stack.device)) order starts keeps inner cuts same legal origin slots)
+    if_ok c.start_stack.result c.start_stack.ensures.started c.start_stack.ensures.keeps (λ s starts keeps. λ x inner cuts same legal origin.
+    begins_up x g.O.Origin.making g.O.Origin.entry c.args.stack s c.requires (begins_kept (told_of c.args.stack.device) (told_clock c.args.stack.device)) order starts keeps inner cuts same legal origin)

@@ -2,9 +2,8 @@ use Rattle.std.proofs.Common.{refl, sym, ap, ◌∙◌, subst}
 use Rattle.nvm_flash.specs.block_config.Config.{Configuration}
 use Rattle.nvm_flash.specs.fee_laws.Made.{part_at}
 use Rattle.nvm_flash.specs.Made.{IsOrigin}
-use Rattle.nvm_flash.proofs.fee_image.Soundness.{sound_images_compute}
 use Rattle.nvm_top.specs.Stack.{one_part}
-use Rattle.nvm_top.proofs.Driven.{right_size, started, kept_up, tells_slots, stops_by}
+use Rattle.nvm_top.proofs.Driven.{right_size, started, kept_up, stops_by}
 use Rattle.nvm_top.proofs.stack.OneFlashFlashes.start.Goals as goal
 
 pub returns-in-Ok-begin-clause-started : goal.returns-in-Ok-begin-clause-started
@@ -18,10 +17,9 @@ pub returns-in-Ok-begin-clause-size : goal.returns-in-Ok-begin-clause-size
 returns-in-Ok-begin-clause-size g c = right_size c.args.config (g.F.Flash.told c.args.self.flash) c.args.cuts g.O.Origin.making g.O.Origin.entry c.in-Ok.stack c.requires c.in-Ok.ensures.made
 
 pub returns-in-Ok-begin-clause-kept : goal.returns-in-Ok-begin-clause-kept
-returns-in-Ok-begin-clause-kept g c = λ well.
+returns-in-Ok-begin-clause-kept g c =
     kept_up (one_part (part_at g.O.Origin.entry)) c.in-Ok.stack c.in-Ok-begin.stack c.in-Ok-begin.stack refl c.in-Ok-begin.ensures.started
-    (c.in-Ok-begin.ensures.kept c.args.config (g.F.Flash.told c.args.self.flash) c.args.cuts (ap (λ s. s.desk.config) c.in-Ok.ensures.made.only) c.geometry-geometry.ensures.legal c.requires
-    (tells_slots sound_images_compute c.args.config (g.F.Flash.told c.args.self.flash) c.args.cuts g.O.Origin.making g.O.Origin.entry c.in-Ok.stack.device c.requires c.in-Ok.ensures.made.device well))
+    (c.in-Ok-begin.ensures.kept c.args.config (g.F.Flash.told c.args.self.flash) c.args.cuts (ap (λ s. s.desk.config) c.in-Ok.ensures.made.only) c.geometry-geometry.ensures.legal c.requires)
 
 pub returns-in-Err-begin-clause-stopped : goal.returns-in-Err-begin-clause-stopped
 returns-in-Err-begin-clause-stopped g c =
