@@ -5,9 +5,10 @@ use script_soak::Draws;
 use std::alloc::{AllocError, Global};
 
 /// One call of the program: its name, its words, its input, the flash at the start, and what fails. Then what else is shown:
-/// whether the bytes of the flash at the end aren't; whether the call is made twice; whether the script is also run with a cut and a fault everywhere, and
-/// with a fault at each call of its last drain; the steps that are tried at each turn of that drain; and, where it is also
-/// played over a device in memory, the numbers of turns there.
+/// whether the bytes of the flash at the end aren't; whether the call is made twice; whether the steps of its `soak` are
+/// made on a stack; whether the script is also run with a cut and a fault everywhere, and with a fault at each call of its
+/// last drain; the steps that are tried at each turn of that drain; and, where it is also played over a device in memory,
+/// the numbers of turns there.
 #[derive(Drop)]
 pub struct Case {
     pub name: String,
@@ -17,6 +18,7 @@ pub struct Case {
     pub faults: Faults,
     pub quiet: bool,
     pub again: bool,
+    pub stack: bool,
     pub everywhere: bool,
     pub each_fault: bool,
     pub between: Vec<String>,
@@ -34,6 +36,7 @@ impl Case {
             faults: Faults::none(alloc),
             quiet: false,
             again: false,
+            stack: false,
             everywhere: false,
             each_fault: false,
             between: Vec::new(alloc),
@@ -47,6 +50,7 @@ impl Case {
         match key {
             "quiet" => self.quiet = true,
             "again" => self.again = true,
+            "stack" => self.stack = true,
             "everywhere" => self.everywhere = true,
             "faults" => self.each_fault = true,
             "plain" => self.plain = Some(numbers(alloc, rest)?),

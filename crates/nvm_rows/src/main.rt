@@ -19,6 +19,7 @@ mod plain;
 mod ranges;
 mod show;
 mod spots;
+mod stack;
 mod trials;
 
 use anyhow::Context;
@@ -28,6 +29,7 @@ use case::Case;
 use everywhere::try_everywhere;
 use plain::show_plain;
 use show::{show_flash, show_text};
+use stack::show_stack;
 use std::io::{BufRead, BufReader};
 use std::sync::Wait;
 use std::thread::Threads;
@@ -38,6 +40,9 @@ fn run<R: Print + AllocGlobal + Threads + Wait + Sync>(rt: &R, case: &Case) -> a
     show_call(rt, case, &called)?;
     if case.again {
         show_again(rt, case, &called)?;
+    }
+    if case.stack {
+        show_stack(rt, case, &called)?;
     }
     if let Some(turns) = &case.plain {
         show_plain(rt, case, turns, &called)?;

@@ -1,5 +1,5 @@
 // A shared stack over a device in memory and mirrors: two callers with a side each, and the driver.
-ghost use Rattle.std.specs.Prelude.{◌≡◌, ◌≢◌, ◌≤◌, ◌<◌, ◌+◌, ◌^◌, length, map, None, IfOk, IfSome};
+ghost use Rattle.std.specs.Prelude.{◌≡◌, ◌≢◌, ◌≤◌, ◌<◌, ◌+◌, ◌^◌, false, length, map, None, IfOk, IfSome};
 ghost use Rattle.nvm_laws.specs.block_config.Lengths.{lengths_of};
 ghost use Rattle.turn_gate.specs.Pass.{knows};
 ghost use Rattle.nvm_laws.specs.nv_desk_copies.Front.{AreSynchronized};
@@ -37,6 +37,7 @@ fn rest<W: Wait, D: MemDevice, C: SyncCalls + Drop>(
     driver: &mut Driver<D, C>,
 ) -> bool
     requires driver { IsDriverOf D.told D.clock C.told shared.now pass.old driver.old }
+    requires quiet { shared.now.terms.tells ≡ false }
     ensures driver { IsDriverOf D.told D.clock C.told shared.now pass.new driver.new }
     ensures parts { (knows pass.new).parts ≡ (knows pass.old).parts }
     ensures over { (first : C) → C.over first driver.old.copies → C.over first driver.new.copies }
@@ -111,6 +112,7 @@ fn are_served<W: Wait, D: MemDevice, C: SyncCalls + Drop>(
 ) -> bool
     requires own { IsUserOf shared.now one.old × IsUserOf shared.now two.old }
     requires driver { IsDriverOf D.told D.clock C.told shared.now pass.old driver.old }
+    requires quiet { shared.now.terms.tells ≡ false }
     ensures own { IsUserOf shared.now pass.new × IsUserOf shared.now one.new × IsUserOf shared.now two.new }
     ensures parts { ((knows pass.new).parts ≡ (knows pass.old).parts) × ((knows one.new).parts ≡ (knows one.old).parts) × ((knows two.new).parts ≡ (knows two.old).parts) }
     ensures over { (first : C) → C.over first driver.old.copies → C.over first driver.new.copies }
@@ -145,6 +147,7 @@ fn serves<W: Wait, D: MemDevice + Drop, C: SyncCalls + Drop>(
     mut driver: Driver<D, C>,
 ) -> (bool, C)
     requires driver { IsDriverOf D.told D.clock C.told shared pass driver }
+    requires quiet { shared.terms.tells ≡ false }
     requires parts { (knows pass).parts ≡ 2 ^ 64 }
     ensures over { (first : C) → C.over first driver.copies → C.over first result.1 }
 {

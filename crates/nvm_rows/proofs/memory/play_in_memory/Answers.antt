@@ -2,9 +2,6 @@ use Rattle.std.proofs.Common.{length, ap, subst, sym, ◌∙◌}
 use Rattle.nvm_script.specs.Played.{ArePlayed}
 use Rattle.nvm_rows.proofs.memory.play_in_memory.Goals as goal
 
-pub over-stack-requires : goal.over-stack-requires
-over-stack-requires c = (c.in_ok-config.config, c.in_ok-stack.ensures.copies)
-
 pub make_steps-requires-clause-blocks : goal.make_steps-requires-clause-blocks
 make_steps-requires-clause-blocks c = c.blocks-blocks.ensures.count ∙ ap (λ x. length x.blocks) (sym (ap (λ x. x.desk.config) c.over-stack.ensures ∙ c.in_ok-stack.ensures.configuration))
 

@@ -13,3 +13,7 @@ returns-in-Ok-clause-ends g c =
     let same : c.serves-served.result.1.mirrors ≡ c.args.mirrors.now =
     c.serves-served.ensures.over c.of-copies.result (ap (λ (v : SyncValue). v.mirrors) given) ∙ ap (λ (v : SyncValue). v.mirrors) c.of-copies.ensures in
     subst (λ (ps : Pairs). AreEndsOf ps c.into_ends.result) same c.into_ends.ensures.own
+
+-- it wasn't picked that the device tells what it holds
+pub serves-served-requires-clause-quiet : goal.serves-served-requires-clause-quiet
+serves-served-requires-clause-quiet g c = ap (λ t. t.tells) c.in-Ok.ensures.made.terms
