@@ -1,0 +1,19 @@
+//! A UDS gateway to the NVRAM Manager: ReadDataByIdentifier and WriteDataByIdentifier of ISO 14229-1 over a stack.
+//!
+//! It promises that each answer is the one of its table, over the entries that the request's job added. What reads the
+//! requests, and what becomes of the answers, is left to the crates above.
+#![tactic(auto)]
+
+mod answer;
+mod asked;
+mod cases;
+mod code;
+mod serving;
+mod stop;
+mod turning;
+
+pub use asked::{AskedFault, asked_by, length_of};
+pub use cases::{answers_by_the_table, answers_wait_for_the_post, requests_ask_for_jobs};
+pub use code::NegativeCode;
+pub use serving::serve;
+pub use stop::ServeStop;

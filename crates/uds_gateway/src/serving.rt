@@ -1,0 +1,175 @@
+// The answer of a request, over a stack.
+ghost use Rattle.std.specs.Prelude.{◌≡◌, ◌≢◌, ◌≤◌, ◌<◌, ◌+◌, ◌++◌, ◌∷◌, ℕ, [], List, Option, length, true, Ok, IfOk, IfErr, OnOk, OnErr, vec_capacity, unwrap_or};
+ghost use Rattle.nvm_core.specs.block_machine.Words.{Entry as Line, Post, ReqResult as Posted, Request as Asked};
+ghost use Rattle.nvm_core.specs.block_machine.Blocks.{desc_of, asked_block as block_of_request};
+ghost use Rattle.nvm_core.specs.nv_desk.Desk.{state_of};
+ghost use Rattle.uds_gateway.specs.Answers.{posted_answer as answer_of, negative as negative_of};
+ghost use Rattle.uds_gateway.specs.Jobs.{HasNone, HasOne, IsOwn};
+ghost use Rattle.uds_gateway.specs.Turning.{HasJob};
+ghost use Rattle.uds_gateway.specs.Serving.{Serves, ServesBy, Finishes};
+
+use crate::answer::{answer_room, negative, posted_answer};
+use crate::turning::turns_to_post;
+use crate::{AskedFault, NegativeCode, ServeStop, asked_by, length_of};
+use nvm_core::Stack;
+use nvm_core::block_config::Config;
+use nvm_core::memif::MemDevice;
+use nvm_core::nv_base::{Bytes, Entry, Reply, Request};
+use nvm_core::nv_desk::AskFault;
+use nvm_core::nvm_laws::Turned;
+use nvm_core::ram_blocks::SyncCalls;
+use std::alloc::{AllocError, Global};
+
+/// The answer of a request, which isn't empty, over a stack of this configuration that is up and has no job pending. A request that
+/// asks for nothing doesn't touch the stack. Else `serve` asks as caller 0, and makes turns to the Post; behind an answer no job is
+/// pending. The memory of the answer is taken before the Ask. At `Off` the job stays pending until the next start-up; at `NoRoom`
+/// and `Memory` nothing was added.
+pub fn serve<D: MemDevice, C: SyncCalls + Drop>(
+    alloc: Global,
+    config: &Config,
+    stack: &mut Stack<D, C>,
+    request: &[u8],
+) -> Result<Bytes, ServeStop>
+    requires some { 0 < length request.now }
+    requires ready { stack.old.ready ≡ true }
+    requires configuration { stack.old.desk.config ≡ config.now }
+    requires none { HasNone (state_of stack.old.desk) }
+    ensures serves { Serves config.now request.now result stack.old.desk stack.new.desk }
+    ensures ready { stack.new.ready ≡ true }
+    ensures none { OnOk result (HasNone (state_of stack.new.desk)) }
+{
+    match asked_by(alloc, config, request) {
+        Ok(asked) => ask(alloc, config, stack, request, asked),
+        Err(AskedFault::Refused(code)) => refuse(alloc, request, code),
+        Err(AskedFault::Memory) => Err(ServeStop::Memory),
+    }
+}
+
+// Nothing is asked.
+fn refuse(alloc: Global, request: &[u8], code: NegativeCode) -> Result<Bytes, ServeStop>
+    requires some { 0 < length request.now }
+    ensures ok { IfOk result (λ answer. answer ≡ negative_of request.now code) }
+    ensures err { IfErr result (λ stop. stop ≡ ServeStop.Memory) }
+{
+    let room = answer_room(alloc, 0)?;
+    Ok(negative(room, request, code))
+}
+
+// Asks, and goes on to the Post.
+fn ask<D: MemDevice, C: SyncCalls + Drop>(
+    alloc: Global,
+    config: &Config,
+    stack: &mut Stack<D, C>,
+    request: &[u8],
+    asked: Request,
+) -> Result<Bytes, ServeStop>
+    requires long { 3 ≤ length request.now }
+    requires own { IsOwn asked }
+    requires ready { stack.old.ready ≡ true }
+    requires configuration { stack.old.desk.config ≡ config.now }
+    requires none { HasNone (state_of stack.old.desk) }
+    ensures serves { ServesBy config.now request.now (Ok asked) result stack.old.desk stack.new.desk }
+    ensures ready { stack.new.ready ≡ true }
+    ensures none { OnOk result (HasNone (state_of stack.new.desk)) }
+{
+    let room = answer_room(alloc, length_of(config, asked_block(&asked)))?;
+    match stack.ask(alloc, 0, asked) {
+        Ok(reply) => answer_to(stack, room, request, reply),
+        Err(AskFault::NoRoom) => Err(ServeStop::NoRoom),
+        Err(AskFault::Memory) => Err(ServeStop::Memory),
+    }
+}
+
+// The block of a read or a write.
+fn asked_block(asked: &Request) -> u16
+    ensures { IsOwn asked.now → result ≡ block_of_request asked.now }
+{
+    match asked {
+        Request::Read { block, .. } | Request::Write { block, .. } => *block,
+        _ => 0,
+    }
+}
+
+// Goes on where the Ask was accepted.
+fn answer_to<D: MemDevice, C: SyncCalls + Drop>(
+    stack: &mut Stack<D, C>,
+    room: Vec<u8>,
+    request: &[u8],
+    reply: Reply,
+) -> Result<Bytes, ServeStop>
+    requires long { 3 ≤ length request.now }
+    requires empty { room.items ≡ [] }
+    requires room { 3 ≤ vec_capacity room }
+    requires ready { stack.old.ready ≡ true }
+    requires job { reply ≡ Reply.Accepted → HasJob (state_of stack.old.desk) }
+    ensures accepted { reply ≡ Reply.Accepted → (asked : Asked) → HasOne asked (state_of stack.old.desk) → Finishes asked request.now (vec_capacity room) result stack.old.desk stack.new.desk }
+    ensures refused { reply ≢ Reply.Accepted → (result ≡ Ok (negative_of request.now NegativeCode.ConditionsNotCorrect)) × (stack.new.desk ≡ stack.old.desk) }
+    ensures ready { stack.new.ready ≡ true }
+{
+    match reply {
+        Reply::Accepted => finish(stack, room, request),
+        _ => Ok(negative(room, request, NegativeCode::ConditionsNotCorrect)),
+    }
+}
+
+// Makes turns to the Post of the job that is pending, and answers by it.
+fn finish<D: MemDevice, C: SyncCalls + Drop>(
+    stack: &mut Stack<D, C>,
+    room: Vec<u8>,
+    request: &[u8],
+) -> Result<Bytes, ServeStop>
+    requires long { 3 ≤ length request.now }
+    requires empty { room.items ≡ [] }
+    requires room { 3 ≤ vec_capacity room }
+    requires ready { stack.old.ready ≡ true }
+    requires job { HasJob (state_of stack.old.desk) }
+    ensures finishes { (asked : Asked) → HasOne asked (state_of stack.old.desk) → Finishes asked request.now (vec_capacity room) result stack.old.desk stack.new.desk }
+    ensures ready { stack.new.ready ≡ true }
+{
+    match turns_to_post(stack) {
+        Turned::Posted => last_answer(stack, room, request),
+        _ => Err(ServeStop::Off),
+    }
+}
+
+// The answer by the last entry, a Post.
+fn last_answer<D: MemDevice, C: SyncCalls + Drop>(
+    stack: &Stack<D, C>,
+    room: Vec<u8>,
+    request: &[u8],
+) -> Result<Bytes, ServeStop>
+    requires long { 3 ≤ length request.now }
+    requires empty { room.items ≡ [] }
+    requires room { 3 ≤ vec_capacity room }
+    ensures ok { IfOk result (λ answer. (h : List Line) (block : ℕ) (posted : Posted) (given : Option (List ℕ)) (refused ops : ℕ)
+        → stack.now.desk.entries ≡ h ++ Post block posted given refused ops ∷ [] → answer ≡ answer_of request.now posted given) }
+    ensures err { IfErr result (λ stop. (stop ≡ ServeStop.Memory) × ((h : List Line) (block : ℕ) (posted : Posted) (given : Option (List ℕ)) (refused ops : ℕ)
+        → stack.now.desk.entries ≡ h ++ Post block posted given refused ops ∷ [] → vec_capacity room < length (unwrap_or given []) + 3)) }
+{
+    let answer = last_posted(stack, room, request)?;
+    Ok(answer)
+}
+
+// That answer, or no memory.
+fn last_posted<D: MemDevice, C: SyncCalls + Drop>(
+    stack: &Stack<D, C>,
+    room: Vec<u8>,
+    request: &[u8],
+) -> Result<Bytes, AllocError>
+    requires long { 3 ≤ length request.now }
+    requires empty { room.items ≡ [] }
+    requires room { 3 ≤ vec_capacity room }
+    ensures ok { IfOk result (λ answer. (h : List Line) (block : ℕ) (posted : Posted) (given : Option (List ℕ)) (refused ops : ℕ)
+        → stack.now.desk.entries ≡ h ++ Post block posted given refused ops ∷ [] → answer ≡ answer_of request.now posted given) }
+    ensures err { OnErr result ((h : List Line) (block : ℕ) (posted : Posted) (given : Option (List ℕ)) (refused ops : ℕ)
+        → stack.now.desk.entries ≡ h ++ Post block posted given refused ops ∷ [] → vec_capacity room < length (unwrap_or given []) + 3) }
+{
+    let history = stack.history();
+    match history.entry(history.len().saturating_sub(1)) {
+        Some(Entry::Post { result, given, .. }) => match given {
+            Some(given) => posted_answer(room, request, *result, Some(given.as_slice())),
+            None => posted_answer(room, request, *result, None),
+        },
+        _ => Ok(negative(room, request, NegativeCode::ConditionsNotCorrect)),
+    }
+}
