@@ -19,7 +19,9 @@ use Rattle.fee_laws.specs.Record.{IsInWork, head_of}
 use Rattle.fee_laws.specs.Turn.{Drives}
 use Rattle.fee_laws.specs.Appends.{IsAppending, work_body, after_page}
 use Rattle.fee_laws.specs.Follows.{Follows}
+use Rattle.fee_laws.specs.Wears.{Wears}
 use Rattle.fee_laws.proofs.FollowTurned.{pages_follow}
+use Rattle.fee_laws.proofs.WornErases.{pages_wear}
 use Rattle.fee_core.specs.Operations.{IsProgrammed}
 use Rattle.fee_core.specs.Whole.{Whole}
 use Rattle.fee_core.proofs.Standing.{Stands}
@@ -40,6 +42,7 @@ pub record IsPaged (m : Making) (entry : Told) (w : Whole) (answer : FlashAnswer
   pub step : IsAppending m entry w.parts w.numbers w.reserve w.ops answer f
   pub same : (faults : ℕ) → faults ≡ (after_page answer f w.parts).faults → record w.parts { fls = f; banks = b; operations = operations; faults = faults } ≡ after_page answer f w.parts
   pub follows : Follows (after_page answer f w.parts)
+  pub wears : Wears m entry (after_page answer f w.parts).operations
 
 module _ {m : Making} {entry : Told} {w v : Whole} (at : Stands m entry w v) {j : FeeJob} (job : v.parts.job ≡ Some j) (work : IsSome (work_in v.parts.banks.log.tail)) {answer : FlashAnswer} {f : FlsState} {b : BanksState} {operations : List Change}
     (driver : IsDriverState f) (is : IsProgrammed w.parts.fls w.parts.banks w.parts.operations (take j.length w.parts.content) answer f b operations) where
@@ -84,4 +87,5 @@ module _ {m : Making} {entry : Told} {w v : Whole} (at : Stands m entry w v) {j 
         step = appending;
         same = λ faults count. (λ i. record s { fls = f; banks = is.after i; operations = listed i; faults = count i });
         follows = pages_follow m entry s w.numbers w.reserve w.ops answer f appending at.up.sound.follows;
+        wears = pages_wear m entry s w.numbers w.reserve w.ops answer f appending at.up.sound.wears;
       }

@@ -189,12 +189,12 @@ module _ {m : Making} {entry : Told} {w v : Whole} (at : Stands m entry w v) {j 
         let worn' = subst (λ (x : Whole). IsSome x.parts.worn ⊎ (is_worn_out x.parts.banks.active ≡ true)) (sym at.shown) worn in
         let knows = room_is_known m entry s w.numbers w.reserve w.ops at.on waits_here.idle shut_here at.up.sound.follows in
         let now : IsWornNow m entry s j = record { job = waits_here.job; writes = waits.writes; idle = waits_here.idle; shut = shut_here; full = full_here; worn = worn'; bytes = knows } in
-        turned_from at (ap (λ (n : ℕ). record (ended_as JobFailed s) { worn = Some n }) is) refl at.up.on (wears_out m entry s w.numbers w.reserve w.ops j at.on now) at.up.sound.follows
+        turned_from at (ap (λ (n : ℕ). record (ended_as JobFailed s) { worn = Some n }) is) refl at.up.on (wears_out m entry s w.numbers w.reserve w.ops j at.on now) at.up.sound.follows at.up.sound.wears
 
 module _ {m : Making} {entry : Told} {w v : Whole} (at : Stands m entry w v) {b : BanksState} (is : IsBegun m entry w b) where
   pub begun_up : IsUp m entry (record w { parts = record w.parts { banks = b } })
   begun_up = record {
-    sound = record { parts = subst (λ (x : Bool). IsSound m entry (record w.parts { banks = b }) w.numbers w.reserve w.ops x) (sym at.up.on) is.begun.sound; follows = is.follows };
+    sound = record { parts = subst (λ (x : Bool). IsSound m entry (record w.parts { banks = b }) w.numbers w.reserve w.ops x) (sym at.up.on) is.begun.sound; follows = is.follows; wears = at.up.sound.wears };
     started = at.up.started;
     on = at.up.on;
   }

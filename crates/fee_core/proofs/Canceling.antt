@@ -44,6 +44,6 @@ module _ {m : Making} {entry : Told} {w v : Whole} (shown : w ≡ v) (sound : So
       let calm' = subst (λ (x : Whole). is_urgent (told_in m entry x).stand ≡ false) (sym shown) calm in
       let ended = jobs_cancel m entry s w.numbers w.reserve w.ops w.off open_job.0 safe.parts (record { banks = state; job = open_job.1; calm = calm_at s.content s.job s.last s.given open_job.0 open_job.1 calm' }) in
       subst (λ (x : BanksState). Sound m entry (record w { parts = canceled x s }) × Cancels (told_in m entry v) (clock_in m entry v) (told_at m entry (canceled x s)) (clock_at m entry (canceled x s))) (sym is) (
-        record { parts = ended.0; follows = follows },
+        record { parts = ended.0; follows = follows; wears = safe.wears },
         subst (λ (x : Whole). Cancels (told_in m entry x) (clock_in m entry x) (told_at m entry (canceled (without_work s.banks) s)) (clock_at m entry (canceled (without_work s.banks) s))) shown ended.1,
       )

@@ -23,8 +23,10 @@ use Rattle.fee_laws.specs.Inside.{Parts}
 use Rattle.fee_laws.specs.Turn.{Turned}
 use Rattle.fee_laws.specs.Switches.{IsBehind, IsStepping, failed_with}
 use Rattle.fee_laws.specs.Follows.{Follows}
+use Rattle.fee_laws.specs.Wears.{Wears}
 use Rattle.fee_laws.proofs.FollowCalled.{failed_follow}
 use Rattle.fee_laws.proofs.FollowTurned.{copies_follow}
+use Rattle.fee_laws.proofs.WornErases.{failed_wears}
 use Rattle.fee_laws.proofs.SwitchContent.{copies_are_not_read, copies_are_read}
 use Rattle.fee_core.specs.Whole.{Whole}
 use Rattle.fee_core.proofs.Standing.{Stands}
@@ -131,3 +133,7 @@ module _ {m : Making} {entry : Told} {w : Whole} {answer : FlashAnswer} {f : Fls
 
   pub failed_copy_follows : answer ≡ Failed → Follows s → Follows (failed_with s.job (record s { fls = f; banks = b; faults = next_count s.faults }))
   failed_copy_follows failed was = failed_follow (record s { fls = f; banks = b; faults = next_count s.faults }) s.job (copy_follows Failed failed was)
+
+  -- and it made no operation
+  pub failed_copy_wears : Wears m entry s.operations → Wears m entry (failed_with s.job (record s { fls = f; banks = b; faults = next_count s.faults })).operations
+  failed_copy_wears wears = failed_wears m entry s.job (record s { fls = f; banks = b; faults = next_count s.faults }) wears

@@ -8,6 +8,7 @@ mod Opening
 mod Planning
 mod Reading
 mod RoomTold
+mod WearTold
 mod Settled
 mod Standing
 mod Started

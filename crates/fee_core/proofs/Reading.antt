@@ -75,11 +75,11 @@ module _ {m : Making} {entry : Told} {w v : Whole} (at : Stands m entry w v) {j 
     pub content_read : IsAsked s j q writes content answer f → answer ≡ Done → TurnedTo m entry turn.Worked v (record w { parts = record s { fls = f; content = content; job = None; last = JobOk; given = j.length } })
     content_read asked e =
         let done = subst (λ (a : FlashAnswer). IsAsked s j q writes content a f) e asked in
-        turned_from at refl refl at.up.on (contents_are_read m entry s w.numbers w.reserve w.ops j q writes content f reading done) (reads_follow m entry s w.numbers w.reserve w.ops j q writes content Done f reading done at.up.sound.follows)
+        turned_from at refl refl at.up.on (contents_are_read m entry s w.numbers w.reserve w.ops j q writes content f reading done) (reads_follow m entry s w.numbers w.reserve w.ops j q writes content Done f reading done at.up.sound.follows) at.up.sound.wears
 
     pub read_fails : IsAsked s j q writes content answer f → (answer ≡ Done → ⊥) → (faults : ℕ) → faults ≡ next_count s.faults → TurnedTo m entry turn.Worked v (record w { parts = ended_as JobFailed (record s { fls = f; content = content; faults = faults }) })
     read_fails asked never faults counted =
         let off = sym (at.on.sound.off at.on.started) in
         let failed = subst (λ (a : FlashAnswer). IsAsked s j q writes content a f) (read_failed _ s.fls.flash (take j.length s.content) answer (take j.length content) f.flash off never asked.read) asked in
         turned_from at (ap (λ (n : ℕ). ended_as JobFailed (record s { fls = f; content = content; faults = n })) counted) refl at.up.on
-        (reads_fail m entry s w.numbers w.reserve w.ops j q writes content f reading failed) (reads_follow m entry s w.numbers w.reserve w.ops j q writes content Failed f reading failed at.up.sound.follows)
+        (reads_fail m entry s w.numbers w.reserve w.ops j q writes content f reading failed) (reads_follow m entry s w.numbers w.reserve w.ops j q writes content Failed f reading failed at.up.sound.follows) at.up.sound.wears

@@ -24,6 +24,7 @@ use Rattle.fee_laws.specs.Inside.{Parts, device_of, IsSound, IsActiveOf}
 use Rattle.fee_switch.specs.Start.{IsLoadedAs}
 use Rattle.fee_switch_laws.specs.Shown.{layout_in}
 use Rattle.fee_laws.specs.Follows.{Follows}
+use Rattle.fee_laws.specs.Wears.{Wears}
 use Rattle.fee_laws.specs.FollowLaws.{ClosesActive}
 use Rattle.fee_laws.specs.CallLaws.{AreOf, AreReady}
 use Rattle.fee_laws.proofs.FollowCalled.{starts_follow, unstarted_follows}
@@ -85,8 +86,11 @@ module _ {m : Making} {entry : Told} {w v : Whole} (shown : w ≡ v) (sound : So
   abbrev s : Parts
   s = w.parts
 
+  safe : Sound m entry w
+  safe = subst (Sound m entry) (sym shown) sound
+
   parts : IsSound m entry s w.numbers w.reserve w.ops w.off
-  parts = (subst (Sound m entry) (sym shown) sound).parts
+  parts = safe.parts
 
   are : AreOf m b
   are = record {
@@ -100,8 +104,8 @@ module _ {m : Making} {entry : Told} {w v : Whole} (shown : w ≡ v) (sound : So
   abbrev pub Starts : Result (Unit {0}) StartFault → Parts → Type 0
   Starts answer t = Sound m entry (record w { parts = t; off = false }) × StartsUp answer (told_in m entry v) (clock_in m entry v) (told_at m entry t) (clock_at m entry t)
 
-  starts : (answer : Result (Unit {0}) StartFault) (t : Parts) → IsSound m entry t w.numbers w.reserve w.ops false × StartsUp answer (told_at m entry s) (clock_at m entry s) (told_at m entry t) (clock_at m entry t) → Follows t → Starts answer t
-  starts answer t is follows = (record { parts = is.0; follows = follows }, subst (λ (x : Whole). StartsUp answer (told_in m entry x) (clock_in m entry x) (told_at m entry t) (clock_at m entry t)) shown is.1)
+  starts : (answer : Result (Unit {0}) StartFault) (t : Parts) → IsSound m entry t w.numbers w.reserve w.ops false × StartsUp answer (told_at m entry s) (clock_at m entry s) (told_at m entry t) (clock_at m entry t) → Follows t → Wears m entry t.operations → Starts answer t
+  starts answer t is follows wears = (record { parts = is.0; follows = follows; wears = wears }, subst (λ (x : Whole). StartsUp answer (told_in m entry x) (clock_in m entry x) (told_at m entry t) (clock_at m entry t)) shown is.1)
 
   -- they are as the bytes show them
   ready_follows : f.flash ≡ p.flash → IfSome p.flash.bytes (λ x. FindsActive x.now b) → IfSome p.flash.bytes (λ x. LoadsActive x.now b) → Follows (resting s f b (s.starts + 1) true s.faults)
@@ -121,7 +125,7 @@ module _ {m : Making} {entry : Told} {w v : Whole} (shown : w ≡ v) (sound : So
       subst (λ (k : ℕ). Starts (Ok tt) (resting s f b k true s.faults)) (sym more)
       (starts (Ok tt) (resting s f b (s.starts + 1) true s.faults)
       (subst (λ (x : FlsState). (let t = resting s x b (s.starts + 1) true s.faults in IsSound m entry t w.numbers w.reserve w.ops false × StartsUp (Ok tt) (told_at m entry s) (clock_at m entry s) (told_at m entry t) (clock_at m entry t))) driver ready)
-      (ready_follows flash finds loads))
+      (ready_follows flash finds loads) safe.wears)
 
   pub failed_ends : f.flash ≡ record p.flash { faults = f.flash.faults } → Rose p.flash.faults f.flash.faults → {faults : ℕ} → faults ≡ next_count s.faults → {n : ℕ} → n ≡ s.starts + 1
       → Starts (Err Fault) (resting s f b n false faults)
@@ -134,4 +138,4 @@ module _ {m : Making} {entry : Told} {w v : Whole} (shown : w ≡ v) (sound : So
       (subst (λ (k : ℕ). Starts (Err Fault) (resting s f b (s.starts + 1) false k)) (sym counted)
       (starts (Err Fault) t
       (subst (λ (x : FlsState). (let t = resting s x b (s.starts + 1) false (next_count s.faults) in IsSound m entry t w.numbers w.reserve w.ops false × StartsUp (Err Fault) (told_at m entry s) (clock_at m entry s) (told_at m entry t) (clock_at m entry t))) driver failed)
-      (unstarted_follows t refl)))
+      (unstarted_follows t refl) safe.wears))

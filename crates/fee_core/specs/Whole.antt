@@ -13,6 +13,7 @@ use Rattle.promise_device.specs.Making.{Making}
 use Rattle.fee_told.specs.Device.{told_of, clock_of}
 use Rattle.fee_laws.specs.Inside.{Parts, device_of, IsSound}
 use Rattle.fee_laws.specs.Follows.{Follows}
+use Rattle.fee_laws.specs.Wears.{Wears}
 
 -- its parts, and beside them what it keeps of its making and of what is told of these
 pub record Whole : Type 0 where
@@ -23,10 +24,11 @@ pub record Whole : Type 0 where
   pub ops : ℕ
   pub off : Bool
 
--- its parts are sound, and its banks follow the bytes of its flash
+-- its parts are sound, its banks follow the bytes of its flash, and each of its erases was due
 pub record Sound (m : Making) (entry : Told) (w : Whole) : Type 0 where
   pub parts : IsSound m entry w.parts w.numbers w.reserve w.ops w.off
   pub follows : Follows w.parts
+  pub wears : Wears m entry w.parts.operations
 
 abbrev pub told_in : Making → Told → Whole → DeviceTold
 told_in m entry w = told_of (device_of m entry w.parts)

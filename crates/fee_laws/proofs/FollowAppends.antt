@@ -1,6 +1,6 @@
 -- The next page of a record in work in the active log.
 use Rattle.std.specs.Prelude.{IfSome, IsSome}
-use Rattle.std.proofs.Common.{◌≡◌, inl, inr, ◌<◌, ◌≤◌, ◌++◌, ◌∷◌, ℕ, true, false, List, [], Option, Some, None, refl, sym, ◌∙◌, subst, arith}
+use Rattle.std.proofs.Common.{◌≡◌, inl, inr, ◌<◌, ◌≤◌, ◌++◌, ◌∷◌, ℕ, true, List, [], Option, Some, None, refl, sym, ◌∙◌, subst, arith}
 use Rattle.std.proofs.lemmas.Bool.{cases_eq}
 use Rattle.nv_base.specs.Geometry.{pages_of_bank, address_of_page}
 use Rattle.nv_base.specs.declared.geometry.Geometry.{Geometry}
@@ -27,7 +27,7 @@ use Rattle.fee_laws.specs.Follows.{anything, IsClosedFor, FollowsLog, FollowsByt
 use Rattle.fee_image.proofs.Frames.{SameOthers, others_stay, page_stays}
 use Rattle.fee_laws.proofs.FollowStates.{any_content, any_marks}
 use Rattle.fee_laws.proofs.FollowSteps.{work_after, done_open}
-use Rattle.fee_laws.proofs.FollowBanks.{failed_last, SameFronts, legal, fronts_of, banks_stay, with_log}
+use Rattle.fee_laws.proofs.FollowBanks.{failed_beside, SameFronts, legal, fronts_of, banks_stay, with_log}
 
 -- the page that is due lies behind the gate of its bank
 pub due_inside : (log : LogState) (t : Tail) → 2 ≤ log.end → IsTail log.geometry.page (pages_in log) log.end t → IsSome (work_in t)
@@ -73,8 +73,8 @@ state_after s content old new answer state holds work page on leaves left =
 
 -- why it is closed
 closed_after : (c : Option Course) (s : LogState) (xs : List Change) (x : Change) (new : List ℕ) (answer : FlashAnswer) → IsSome (work_in s.tail) → (answer ≡ Off → ⊥) → is_program x.op ≡ true → x.answer ≡ answer → IsClosedFor c (after_step s answer) (xs ++ x ∷ []) new
-closed_after c s xs x new Done work on program is = λ none shut. (let wide = done_open s s.tail work in cc (shut, wide))
-closed_after c s xs x new Failed work on program is = λ none shut. inr (failed_last false xs x program is)
+closed_after c s xs x new Done work on program is = λ shut. (let wide = done_open s s.tail work in cc (shut, wide))
+closed_after c s xs x new Failed work on program is = λ shut. inr (failed_beside c xs x program is)
 closed_after c s xs x new Off work on program is = absurd (on refl)
 
 module _ (s : BanksState) (is : IsBanksState s) (state : IsLogState s.log) (content old new : List ℕ) (xs : List Change) (x : Change) (a : ActiveBank) (active : s.active ≡ Some a) (work : IsSome (work_in s.log.tail)) (follows : FollowsBytes s content xs old) where

@@ -1,6 +1,6 @@
 -- Banks whose pages stay.
 use Rattle.std.specs.Prelude.{IfSome, IsTrue, ◌||◌, ◌&&◌}
-use Rattle.std.proofs.Common.{◌≡◌, ◌<◌, ◌≤◌, ◌++◌, ◌∷◌, ℕ, Bool, true, false, List, [], length, Option, Some, None, refl, sym, ap, ◌∙◌, subst, arith}
+use Rattle.std.proofs.Common.{◌≡◌, ◌⊎◌, inl, inr, ◌<◌, ◌≤◌, ◌++◌, ◌∷◌, ℕ, Bool, true, false, List, [], length, Option, Some, None, refl, sym, ap, ◌∙◌, subst, arith}
 use Rattle.std.proofs.lemmas.Bool.{cond_both}
 use Rattle.nv_base.specs.Geometry.{pages_of_bank}
 use Rattle.nv_base.specs.declared.geometry.Geometry.{Geometry}
@@ -11,7 +11,6 @@ use Rattle.fee_image.specs.Image.{Layout, layout_of, bank_in, image_page, BankSt
 use Rattle.fee_image.proofs.Banks.{active_stays}
 use Rattle.fee_image.proofs.Sectors.{layouts_are_legal}
 use Rattle.fee_image.proofs.Frames.{stands_same}
-use Rattle.fee_log.specs.Laws.{HoldsState}
 use Rattle.fee_log.specs.Log.{LogState, bank_of, work_in}
 use Rattle.fee_switch.specs.declared.active.ActiveBank.{ActiveBank}
 use Rattle.fee_course.specs.declared.course.Course.{Course}
@@ -19,24 +18,43 @@ use Rattle.fee_course.specs.declared.course.Course.TheVariants.{Erase, Copy, Hea
 use Rattle.fee_switch.specs.Banks.{BanksState, IsBanksState, IsLogOf, appended_at}
 use Rattle.fee_switch_laws.specs.Shown.{layout_in}
 use Rattle.promise_device.specs.Bridge.{is_failed, is_program, failed_from}
+use Rattle.promise_device.specs.Wear.{is_failed_program, has_failed_program}
+use Rattle.promise_device.proofs.Wears.{failures_stay, closings_failed_once}
 use Rattle.fee_laws.specs.Inside.{body_of}
-use Rattle.fee_laws.specs.Follows.{anything, FollowsLog, StandsFirst, FollowsCopies, FollowsTarget, FollowsBanks}
+use Rattle.fee_laws.specs.Follows.{anything, may_be_closed_beside, FollowsLog, StandsFirst, FollowsCopies, FollowsTarget, FollowsBanks}
 use Rattle.fee_image.proofs.Frames.{SamePages}
-use Rattle.fee_laws.proofs.FollowStates.{SameBody, state_moves}
+use Rattle.fee_laws.proofs.FollowStates.{SameBody, state_moves, closed_stays}
 
 -- OPERATIONS
 or_right : (a b : Bool) → IsTrue b → IsTrue (a || b)
 or_right true b is = refl
 or_right false b is = is
 
--- a program that failed last may have closed the bank
 and_both : (a b : Bool) → a ≡ true → b ≡ true → a && b ≡ true
 and_both true b is holds = holds
 and_both false b is holds = cc is
 
-pub failed_last : (before : Bool) (xs : List Change) (x : Change) → is_program x.op ≡ true → x.answer ≡ Failed → IsTrue (failed_from before (xs ++ x ∷ []))
+-- a program that failed last may have closed the bank
+failed_last : (before : Bool) (xs : List Change) (x : Change) → is_program x.op ≡ true → x.answer ≡ Failed → IsTrue (failed_from before (xs ++ x ∷ []))
 failed_last before [] x program is = and_both (is_program x.op) (before || is_failed x.answer) program (or_right before (is_failed x.answer) (ap is_failed is))
 failed_last before (y ∷ ys) x program is = failed_last (is_program y.op && (before || is_failed y.answer)) ys x program is
+
+once_last : (before : Bool) (xs : List Change) (x : Change) → is_program x.op ≡ true → x.answer ≡ Failed → IsTrue (has_failed_program before (xs ++ x ∷ []))
+once_last before [] x program is = or_right before (is_failed_program x) (and_both (is_program x.op) (is_failed x.answer) program (ap is_failed is))
+once_last before (y ∷ ys) x program is = once_last (before || is_failed_program y) ys x program is
+
+pub failed_beside : (c : Option Course) (xs : List Change) (x : Change) → is_program x.op ≡ true → x.answer ≡ Failed → IsTrue (may_be_closed_beside c (xs ++ x ∷ []))
+failed_beside None xs x program is = failed_last false xs x program is
+failed_beside (Some c) xs x program is = once_last false xs x program is
+
+-- and so it may while a switch is open, whatever comes behind it
+once_beside : (c : Option Course) (xs : List Change) → IsTrue (may_be_closed_beside c xs) → IsTrue (has_failed_program false xs)
+once_beside None xs is = closings_failed_once xs is
+once_beside (Some c) xs is = is
+
+pub closed_while : (c : Option Course) (then : Course) (xs : List Change) (A : Type 0) → A ⊎ IsTrue (may_be_closed_beside c xs) → A ⊎ IsTrue (may_be_closed_beside (Some then) xs)
+closed_while c then xs A (inl is) = inl is
+closed_while c then xs A (inr failed) = inr (once_beside c xs failed)
 
 -- THE PAGES OF A LOG'S BANK
 module _ (g : Geometry) (banks : ℕ) (log : LogState) (of : IsLogOf g banks log) (old new : List ℕ) where
@@ -48,10 +66,11 @@ module _ (g : Geometry) (banks : ℕ) (log : LogState) (of : IsLogOf g banks log
 
 -- THE ACTIVE LOG
 -- while a switch is open
-pub log_stays : (then : Course) (s : LogState) (body old new : List ℕ) (xs : List Change) → 16 ≤ s.geometry.page → length new ≡ length old → SameBody s old new → HoldsState s body old anything → FollowsLog (Some then) s body xs new
-log_stays then s body old new xs low long same holds = record {
-  holds = state_moves s body old new anything low long same holds;
-  closed = λ none. cc none;
+pub log_stays : (c : Option Course) (then : Course) (s : LogState) (body old new : List ℕ) (xs more : List Change) → 16 ≤ s.geometry.page → length new ≡ length old → SameBody s old new → FollowsLog c s body xs old
+    → FollowsLog (Some then) s body (xs ++ more) new
+log_stays c then s body old new xs more low long same follows = record {
+  holds = state_moves s body old new anything low long same follows.holds;
+  closed = λ shut. elim (follows.closed shut) [ inl is ↦ inl (closed_stays s old new same is) | inr failed ↦ inr (failures_stay false xs more (once_beside c xs failed)) ];
 }
 
 -- THE BANKS

@@ -24,7 +24,7 @@ use Rattle.fee_laws.specs.Inside.{body_of}
 use Rattle.fee_laws.specs.Follows.{anything, ComesBehind, StandsFirst, FollowsBanks, FollowsLog, FollowsBytes}
 use Rattle.fee_laws.proofs.FollowStates.{any_flags}
 use Rattle.fee_laws.proofs.FollowSteps.{begun_open, given_closed}
-use Rattle.fee_laws.proofs.FollowBanks.{with_log, appended}
+use Rattle.fee_laws.proofs.FollowBanks.{closed_while, with_log, appended}
 
 -- THE ACTIVE BANK
 -- each of one
@@ -45,7 +45,7 @@ pub log_begins : (c : Option Course) (s : LogState) (head : RecHead) (content by
 log_begins c s head content bytes xs state idle configured room size follows then = record {
   holds = subst (λ (o : Option RecHead). HoldsState (begun s head) (body_of o content) bytes anything) (sym (work_begun s.tail head))
       (begins_hold s head (body_of (work_in s.tail) content) (body_of (Some head) content) bytes anything state follows.holds idle configured room size (λ number length fit. tt));
-  closed = λ none shut. (let wide = begun_open s.tail head in cc (shut, wide));
+  closed = λ shut. (let wide = begun_open s.tail head in cc (shut, wide));
 }
 
 pub record_begins : (s : BanksState) (head : RecHead) (content bytes : List ℕ) (xs : List Change) → IsLogState s.log → MayBeginIn s head content → FollowsBytes s content xs bytes → FollowsBytes (append_begun s head) content xs bytes
@@ -65,7 +65,7 @@ record_begins s head content bytes xs state may follows =
 log_given : (c : Option Course) (s : LogState) (content bytes : List ℕ) (xs : List Change) → IsLogState s → FollowsLog c s (body_of (work_in s.tail) content) xs bytes → FollowsLog c (given_up s) (body_of (work_in (given_up s).tail) content) xs bytes
 log_given c s content bytes xs state follows = record {
   holds = given_up_holds s (body_of (work_in s.tail) content) (body_of (work_in (given_up s).tail) content) bytes anything state follows.holds;
-  closed = λ none shut. follows.closed none (given_closed s s.tail shut);
+  closed = λ shut. follows.closed (given_closed s s.tail shut);
 }
 
 pub record_given : (s : BanksState) (content bytes : List ℕ) (xs : List Change) → IsLogState s.log → FollowsBytes s content xs bytes → FollowsBytes (record s { log = given_up s.log }) content xs bytes
@@ -75,9 +75,9 @@ record_given s content bytes xs state follows = record {
 }
 
 -- FLAGS
--- they are none of what a log's bank holds, and while a switch is open it may be closed for any reason
+-- they are none of what a log's bank holds
 pub log_flagged : (c : Option Course) (then : Course) (s : LogState) (flags : List Bool) (body bytes : List ℕ) (xs : List Change) → FollowsLog c s body xs bytes → FollowsLog (Some then) (record s { flags = flags }) body xs bytes
-log_flagged c then s flags body bytes xs follows = record { holds = any_flags s flags body bytes anything follows.holds; closed = λ none. cc none }
+log_flagged c then s flags body bytes xs follows = record { holds = any_flags s flags body bytes anything follows.holds; closed = λ shut. closed_while c then xs _ (follows.closed shut) }
 
 pub active_flagged : (c : Option Course) (then : Course) (s : BanksState) (flags : List Bool) (body bytes : List ℕ) (xs : List Change) → IfSome s.active (λ a. FollowsLog c s.log body xs bytes) → IfSome s.active (λ a. FollowsLog (Some then) (record s.log { flags = flags }) body xs bytes)
 active_flagged c then s flags body bytes xs follows = each s.active (λ a. FollowsLog c s.log body xs bytes) (λ a. FollowsLog (Some then) (record s.log { flags = flags }) body xs bytes) (λ a at. log_flagged c then s.log flags body bytes xs) follows

@@ -105,7 +105,7 @@ module _ (s : BanksState) (is : IsBanksState s) (content old new : List ℕ) (xs
         record {
           log = record {
             holds = any_content s.copies (body_of (work_in s.copies.tail) s.buffer) (body_of (work_in s.copies.tail) content) new anything idle copies_on;
-            closed = λ none shut. cc;
+            closed = λ shut. cc;
           };
           banks = sym ((active_computes l new s.target (target_head s)).0 is_active);
         }

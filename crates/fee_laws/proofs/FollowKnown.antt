@@ -26,7 +26,7 @@ use Rattle.promise_device.specs.Image.{HasNoRoomFor}
 use Rattle.fee_laws.specs.Inside.{Parts, body_of, IsActiveOf}
 use Rattle.fee_laws.specs.Turn.{IsOn}
 use Rattle.fee_laws.specs.Worn.{KnowsRoom}
-use Rattle.fee_laws.specs.Follows.{anything, FollowsLog, FollowsBanks, FollowsBytes}
+use Rattle.fee_laws.specs.Follows.{anything, may_be_closed_beside, FollowsLog, FollowsBanks, FollowsBytes}
 
 -- THE PAGES
 pub no_header : (p : ℕ) (rest : List ℕ) → 1 ≤ p → (82 ∷ rest) ≡ replicate p 255 → ⊥
@@ -87,20 +87,27 @@ module _ (m : Making) (entry : Told) (s : Parts) (listed : List (DeviceNumber ×
     pub bank_is : bank_of s.banks.log ≡ bank_in (banks_of m) a.head.format a.bank
     bank_is = λ i. bank_in (layout_of ((on.banks.log.shape ∙ on.sound.made_for.banks_geometry) i) ((on.banks.log.shared ∙ on.sound.made_for.shared) i)) (formats i) (bank i)
 
+    closed_beside : is_closed s.banks.log.tail ≡ true → (let b = bank_in (banks_of m) a.head.format a.bank in IsClosed b bytes (end_of b bytes)) ⊎ IsTrue (may_be_closed_beside s.banks.course s.operations)
+    closed_beside shut = elim (follows_log.closed shut) [ inl is ↦ inl (subst (λ (b : Bank). IsClosed b bytes (end_of b bytes)) bank_is is) | inr failed ↦ inr failed ]
+
     pub closed_at : s.banks.course ≡ None → is_closed s.banks.log.tail ≡ true → (let b = bank_in (banks_of m) a.head.format a.bank in IsClosed b bytes (end_of b bytes)) ⊎ IsTrue (may_be_closed s.operations)
-    closed_at none shut = elim (follows_log.closed none shut) [ inl is ↦ inl (subst (λ (b : Bank). IsClosed b bytes (end_of b bytes)) bank_is is) | inr failed ↦ inr failed ]
+    closed_at none shut = subst (λ (c : Option Course). (let b = bank_in (banks_of m) a.head.format a.bank in IsClosed b bytes (end_of b bytes)) ⊎ IsTrue (may_be_closed_beside c s.operations)) none (closed_beside shut)
 
     pub free_is : free_pages s.banks ≡ free_in s.banks.log
     free_is = ap (λ (o : Option ActiveBank). if is_some o then free_in s.banks.log else 0) active
 
-    room_at : s.banks.course ≡ None → work_in s.banks.log.tail ≡ None → (let b = bank_in (banks_of m) a.head.format a.bank in HasNoMore b bytes (free_pages s.banks)) ⊎ IsTrue (may_be_closed s.operations)
-    room_at none idle = elim (test (is_closed s.banks.log.tail)) [
-      | inl shut ↦ (elim (closed_at none shut) [ inl is ↦ inl (inl is) | inr failed ↦ inr failed ])
+    -- also while a switch is open
+    pub room_beside : work_in s.banks.log.tail ≡ None → (let b = bank_in (banks_of m) a.head.format a.bank in HasNoMore b bytes (free_pages s.banks)) ⊎ IsTrue (may_be_closed_beside s.banks.course s.operations)
+    room_beside idle = elim (test (is_closed s.banks.log.tail)) [
+      | inl shut ↦ (elim (closed_beside shut) [ inl is ↦ inl (inl is) | inr failed ↦ inr failed ])
       | inr wide ↦ inl (
           let held = follows_log.holds.holds in
           let none = no_more (bank_of s.banks.log) bytes anything (subst (λ (g : Geometry). 16 ≤ g.page) (sym on.banks.log.shape) on.banks.legal.page_low) s.banks.log.end body' s.banks.log.tail held.tail held.high idle wide in
           subst (λ (n : ℕ). HasNoMore (bank_in (banks_of m) a.head.format a.bank) bytes n) (sym free_is) (subst (λ (b : Bank). HasNoMore b bytes (free_in s.banks.log)) bank_is none))
     ]
+
+    room_at : s.banks.course ≡ None → work_in s.banks.log.tail ≡ None → (let b = bank_in (banks_of m) a.head.format a.bank in HasNoMore b bytes (free_pages s.banks)) ⊎ IsTrue (may_be_closed s.operations)
+    room_at none idle = subst (λ (c : Option Course). (let b = bank_in (banks_of m) a.head.format a.bank in HasNoMore b bytes (free_pages s.banks)) ⊎ IsTrue (may_be_closed_beside c s.operations)) none (room_beside idle)
 
   pub shows_active : s.banks.course ≡ None → active_shown s.banks.active ≡ active_of (banks_of m) bytes
   shows_active shut = subst (λ (l : Layout). active_shown s.banks.active ≡ active_of l bytes) layout_is (subst (λ (c : Option Course). FollowsBanks s.banks c bytes) shut follows.banks)

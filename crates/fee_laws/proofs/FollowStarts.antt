@@ -71,7 +71,7 @@ module _ (s : BanksState) (is : IsBanksState s) (bytes : List ℕ) (are : AreByt
         holds = subst (λ (b : Bank). HoldsLog b s.log.numbers bytes anything (log_of s.log body)) bank_is held;
         follows = loaded_follows (bank_in l a.head.format a.bank) bytes body s.log.tail (loaded.tail body);
       };
-      closed = λ none shut. inl (subst (λ (b : Bank). IsClosed b bytes (end_of b bytes)) bank_is (loaded.closed shut));
+      closed = λ shut. inl (subst (λ (b : Bank). IsClosed b bytes (end_of b bytes)) bank_is (loaded.closed shut));
     }
 
   found_by : (o : Option ActiveBank) → IfSome o (λ a. (a.bank ≡ s.target → ⊥) × (s.log.bank ≡ a.bank)) → IfSome o (λ a. IsLoadedAs l bytes a.bank a.head s.log) → IfSome o (λ a. FollowsLog s.course s.log body xs bytes)

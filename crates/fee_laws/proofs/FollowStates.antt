@@ -1,13 +1,16 @@
 -- Logs whose banks' pages stay, and logs of which nothing but the content of a record in work changes.
-use Rattle.std.proofs.Common.{◌≡◌, ◌<◌, ◌≤◌, ℕ, ◌*◌, Bool, List, length, Some, None, refl, subst, arith}
+use Rattle.std.proofs.Common.{◌≡◌, inl, inr, ◌<◌, ◌≤◌, ℕ, ◌*◌, Bool, List, length, Some, None, refl, sym, ap, ◌∙◌, subst, arith}
 use Rattle.fee_image.specs.Bank.{page_of}
+use Rattle.fee_image.specs.RecordList.{IsClosed, IsTailBlank, records_of, end_of, end_after}
 use Rattle.fee_image.specs.Log.{HoldsLog, Tail as LogTail}
 use Rattle.fee_image.specs.May.{May, IsWider}
 use Rattle.fee_image.proofs.Logs.{logs_stay, logs_widen}
+use Rattle.fee_image.proofs.Reading.{records_stay}
 use Rattle.fee_log.specs.declared.tail.Tail.{Tail}
 use Rattle.fee_log.specs.declared.tail.Tail.TheVariants.{Open, Writes, Owes, Closed}
 use Rattle.fee_log.specs.Laws.{HoldsState, MayFollow}
 use Rattle.fee_log.specs.Log.{LogState, bank_of, pages_in, log_of, tail_with, work_in}
+use Rattle.fee_log.proofs.Loads.{end_low}
 use Rattle.fee_laws.specs.Follows.{anything}
 
 -- THE PAGES
@@ -21,6 +24,20 @@ state_moves s body old new may low long same holds = record {
   holds = logs_stay (bank_of s) s.numbers old new (s.bank * pages_in s) may (log_of s body) low same holds.holds;
   follows = holds.follows;
 }
+
+-- and a bank that is closed stays so
+module _ (s : LogState) (old new : List ℕ) (same : SameBody s old new) where
+  same_end : end_of (bank_of s) new ≡ end_of (bank_of s) old
+  same_end = ap (end_after (bank_of s).page 2) (records_stay (bank_of s) old new (bank_of s).at same)
+
+  blank_before : IsTailBlank (bank_of s) new (end_of (bank_of s) new) → IsTailBlank (bank_of s) old (end_of (bank_of s) old)
+  blank_before blank q low inside =
+      let two = end_low (bank_of s).page 2 (records_of (bank_of s) old) in
+      sym (same q (omega (arith, low, two)) inside) ∙ blank q (omega (arith, low, same_end)) inside
+
+  pub closed_stays : IsClosed (bank_of s) old (end_of (bank_of s) old) → IsClosed (bank_of s) new (end_of (bank_of s) new)
+  closed_stays (inl format) = inl format
+  closed_stays (inr used) = inr (λ blank. used (blank_before blank))
 
 -- THE CONTENT
 -- with no record in work there is none

@@ -36,7 +36,7 @@ module _ (s : BanksState) (is : IsBanksState s) (content old new : List ℕ) (xs
 
   log_by : (o : Option ActiveBank) → IfSome o (λ a. (a.bank ≡ s.target → ⊥) × (s.log.bank ≡ a.bank)) → IfSome o (λ a. FollowsLog s.course s.log body xs old) → IfSome o (λ a. FollowsLog (Some c) s.log body (xs ++ more) new)
   log_by None other log = tt
-  log_by (Some a) other log = log_stays c s.log body old new (xs ++ more) low long (same_body s.geometry s.banks s.log is.log old new (apart s.log.bank (λ same. other.0 (sym other.1 ∙ same)))) log.holds
+  log_by (Some a) other log = log_stays s.course c s.log body old new xs more low long (same_body s.geometry s.banks s.log is.log old new (apart s.log.bank (λ same. other.0 (sym other.1 ∙ same)))) log
 
   log : IfSome s.active (λ a. FollowsLog (Some c) s.log body (xs ++ more) new)
   log = log_by s.active is.active follows.log

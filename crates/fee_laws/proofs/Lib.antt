@@ -73,6 +73,7 @@ pub mod WornFull
 mod WornShown
 mod WornKnown
 pub mod WornTurn
+pub mod WornErases
 mod FollowStates
 mod FollowSteps
 mod FollowBytes

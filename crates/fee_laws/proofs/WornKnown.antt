@@ -6,7 +6,7 @@ use Rattle.nv_base.specs.declared.geometry.Geometry.{Geometry}
 use Rattle.nv_base.specs.declared.instance.DeviceNumber.{DeviceNumber}
 use Rattle.fls_model.specs.Told.{Told, bytes_now}
 use Rattle.fee_image.specs.Image.{Layout, bank_in, active_of}
-use Rattle.fee_image.specs.Banks.{Idle, Banks}
+use Rattle.fee_image.specs.Banks.{Idle, Banks, StandsBehind}
 use Rattle.fee_switch.specs.declared.active.ActiveBank.{ActiveBank}
 use Rattle.fee_switch.specs.Active.{active_shown}
 use Rattle.fee_log.specs.Log.{work_in, is_closed, free_behind, free_in, pages_in, log_of}
@@ -22,7 +22,7 @@ use Rattle.fee_laws.specs.Inside.{Parts, body_of, device_of, memory_of}
 use Rattle.fee_laws.specs.Turn.{IsOn}
 use Rattle.fee_laws.specs.Worn.{ShowsRoom, ShowsClosed}
 use Rattle.fee_laws.proofs.Before.{shape, copied, held_at, log_geometry, log_banks}
-use Rattle.fee_laws.proofs.WornShown.{active_is, none_is, own_bank}
+use Rattle.fee_laws.proofs.WornShown.{behind_by, active_is, none_is, own_bank}
 use Rattle.fee_laws.proofs.SwitchBegun.{idle_phase}
 use Rattle.fee_laws.proofs.FollowKnown.{HasNoMore, no_more, test}
 
@@ -42,9 +42,12 @@ module _ (m : Making) (entry : Told) (s : Parts) (listed : List (DeviceNumber ×
   abbrev banks : Banks
   banks = banks_with (memory_of s) (may_told l m.numbers bytes (memory_of s)) (copied m entry s listed kept count on)
 
+  behind : StandsBehind l bytes banks.old banks.target
+  behind = behind_by l m.numbers bytes banks held.banks Idle no_phase
+
   active_by : (o : Option ActiveBank) → s.banks.active ≡ o → active_shown o ≡ active_of l bytes
-  active_by None none = sym (none_is l m.numbers bytes banks held.banks no_phase (ap (λ (o : Option ActiveBank). old_shown o s.banks.log body) none))
-  active_by (Some a) some = sym (active_is l m.numbers bytes banks held.banks no_phase a.bank a.head (log_of s.banks.log body) (ap (λ (o : Option ActiveBank). old_shown o s.banks.log body) some))
+  active_by None none = sym (none_is l m.numbers bytes banks held.banks behind (ap (λ (o : Option ActiveBank). old_shown o s.banks.log body) none))
+  active_by (Some a) some = sym (active_is l m.numbers bytes banks held.banks behind a.bank a.head (log_of s.banks.log body) (ap (λ (o : Option ActiveBank). old_shown o s.banks.log body) some))
 
   -- in the shape of its log
   page_is : s.banks.log.geometry.page ≡ m.geometry.page
@@ -58,7 +61,7 @@ module _ (m : Making) (entry : Told) (s : Parts) (listed : List (DeviceNumber ×
 
   open_room : (a : ActiveBank) → s.banks.active ≡ Some a → is_closed s.banks.log.tail ≡ false → HasNoMore (bank_in l a.head.format a.bank) bytes (free_behind m.geometry.page (pages_of_bank m.geometry m.banks) s.banks.log.end s.banks.log.tail)
   open_room a some wide =
-      let bank = own_bank l m.numbers bytes banks held.banks no_phase a.bank a.head (log_of s.banks.log body) (ap (λ (o : Option ActiveBank). old_shown o s.banks.log body) some) in
+      let bank = own_bank l m.numbers bytes banks held.banks behind a.bank a.head (log_of s.banks.log body) (ap (λ (o : Option ActiveBank). old_shown o s.banks.log body) some) in
       let log = bank.1.holds in
       let low = (shape m entry s listed kept count on).page_low in
       no_more (bank_in l a.head.format a.bank) bytes (may_told l m.numbers bytes (memory_of s)) low s.banks.log.end body s.banks.log.tail log.tail log.high idle wide

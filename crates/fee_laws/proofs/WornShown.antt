@@ -5,14 +5,15 @@ use Rattle.nv_base.specs.declared.instance.DeviceNumber.{DeviceNumber}
 use Rattle.fee_format.specs.declared.bank_head.BankHead.{BankHead}
 use Rattle.fee_image.specs.Image.{Layout, active_of}
 use Rattle.fee_image.specs.Log.{Log}
-use Rattle.fee_image.specs.Banks.{Old, NoBank, OldBank, Phase, Idle, Banks, Holds, HoldsOld, HoldsPhase, IsBehind, StandsBehind}
+use Rattle.fee_image.specs.Banks.{Old, NoBank, OldBank, Phase, Banks, Holds, HoldsOld, HoldsPhase, IsBehind, StandsBehind}
 use Rattle.fee_image.proofs.Banks.{active_computes, no_active_computes}
 
 -- THE ACTIVE BANK
-module _ (l : Layout) (numbers : List (DeviceNumber × ℕ)) (bytes : List ℕ) (x : Banks) (holds : Holds l numbers bytes x) (shut : x.phase ≡ Idle) where
-  behind_target : StandsBehind l bytes x.old x.target
-  behind_target = subst (λ (p : Phase). HoldsPhase l numbers bytes x p) shut holds.phase
+-- where the target is behind too: with no switch open, and while one erases
+pub behind_by : (l : Layout) (numbers : List (DeviceNumber × ℕ)) (bytes : List ℕ) (x : Banks) → Holds l numbers bytes x → (p : Phase) → x.phase ≡ p → HoldsPhase l numbers bytes x p
+behind_by l numbers bytes x holds p at = subst (λ (y : Phase). HoldsPhase l numbers bytes x y) at holds.phase
 
+module _ (l : Layout) (numbers : List (DeviceNumber × ℕ)) (bytes : List ℕ) (x : Banks) (holds : Holds l numbers bytes x) (behind_target : StandsBehind l bytes x.old x.target) where
   behind_each : (j : ℕ) → j < l.banks → StandsBehind l bytes x.old j
   behind_each j less = elim (eqb_tells j x.target) [
     | inl is ↦ subst (λ (n : ℕ). StandsBehind l bytes x.old n) (sym is.1) behind_target

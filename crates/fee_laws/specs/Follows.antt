@@ -1,5 +1,5 @@
 -- What the banks in memory keep of the bytes of their flash, whatever these were when the device was made.
-use Rattle.std.specs.Prelude.{◌≡◌, ◌⊎◌, ◌<◌, ◌*◌, ℕ, true, false, IsTrue, List, Option, Some, None, IfSome}
+use Rattle.std.specs.Prelude.{◌≡◌, ◌⊎◌, ◌<◌, ◌*◌, ℕ, Bool, true, false, IsTrue, List, Option, Some, None, IfSome}
 use Rattle.nv_base.specs.Geometry.{pages_of_sector}
 use Rattle.fls_model.specs.Told.{Change}
 use Rattle.fee_format.specs.Formats.{new_format}
@@ -18,6 +18,7 @@ use Rattle.fee_course.specs.declared.course.Course.TheVariants.{Erase, Copy, Hea
 use Rattle.fee_switch.specs.Banks.{BanksState, next_generation}
 use Rattle.fee_switch_laws.specs.Shown.{layout_in}
 use Rattle.promise_device.specs.Bridge.{may_be_closed}
+use Rattle.promise_device.specs.Wear.{has_failed_program}
 use Rattle.fee_laws.specs.Inside.{Parts, body_of}
 
 -- any mark may be found
@@ -25,9 +26,14 @@ abbrev pub anything : May
 anything number length = None
 
 -- THE ACTIVE LOG
--- where it is closed in memory, and no switch is open, its bank is closed in the bytes, or a program failed since the last erase
+-- a program failed that may have closed it: since the last erase, or at any time where a switch is open, which erases
+abbrev pub may_be_closed_beside : Option Course → List Change → Bool
+may_be_closed_beside None operations = may_be_closed operations
+may_be_closed_beside (Some c) operations = has_failed_program false operations
+
+-- where it is closed in memory its bank is closed in the bytes, or such a program failed
 abbrev pub IsClosedFor : Option Course → LogState → List Change → List ℕ → Type 0
-IsClosedFor course log operations bytes = course ≡ None → is_closed log.tail ≡ true → (let b = bank_of log in IsClosed b bytes (end_of b bytes)) ⊎ IsTrue (may_be_closed operations)
+IsClosedFor course log operations bytes = is_closed log.tail ≡ true → (let b = bank_of log in IsClosed b bytes (end_of b bytes)) ⊎ IsTrue (may_be_closed_beside course operations)
 
 -- its bank holds it, whatever marks that shows
 pub record FollowsLog (course : Option Course) (log : LogState) (body : List ℕ) (operations : List Change) (bytes : List ℕ) : Type 0 where

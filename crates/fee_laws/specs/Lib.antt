@@ -14,3 +14,4 @@ pub mod Switches
 pub mod Worn
 pub mod Follows
 pub mod FollowLaws
+pub mod Wears

@@ -2,3 +2,4 @@ pub mod FlashRun
 mod Parts
 pub mod Readings
 pub mod Closings
+pub mod Wears

@@ -92,7 +92,7 @@ closed_banks_compute b bytes end =
 abbrev Lacks : ℕ → List ℕ → Bank → Type 0
 Lacks pages image b = IsClosed b image (end_of b image) ⊎ (b.pages < end_of b image + pages)
 
-lacks_is : (pages : ℕ) (image : List ℕ) (b : Bank) → IsTrue (lacks_pages pages b image) ↔ Lacks pages image b
+pub lacks_is : (pages : ℕ) (image : List ℕ) (b : Bank) → IsTrue (lacks_pages pages b image) ↔ Lacks pages image b
 lacks_is pages image b =
     either (is_closed_bank b image (end_of b image)) (nat_lt b.pages (end_of b image + pages)) (IsClosed b image (end_of b image)) (b.pages < end_of b image + pages)
     (closed_banks_compute b image (end_of b image)) (lt_is b.pages (end_of b image + pages))

@@ -10,10 +10,13 @@ use Rattle.fls_model.specs.declared.flash.FlashAnswer.TheVariants.{Done, Failed,
 use Rattle.fls_model.specs.Op.{Program, Erase}
 use Rattle.fls_model.specs.Told.{Told, Change}
 use Rattle.fee_format.specs.Pages.{gate_page}
-use Rattle.fee_format.specs.BankHead.{bank_head_page}
+use Rattle.fee_format.specs.BankHead.{bank_head_page, last_generation}
+use Rattle.fee_format.specs.RecHead.{rec_head_page}
+use Rattle.fee_format.specs.declared.rec_head.RecordKind.TheVariants as kind
 use Rattle.promise_device.specs.Making.{Making}
 use Rattle.promise_device.specs.FlashRun.{FlashRun}
 use Rattle.promise_device.specs.Room.{TellsWork}
+use Rattle.promise_device.specs.Wear.{erases_are_due}
 
 abbrev pub blank : List ℕ
 blank = 255 ∷ 255 ∷ 255 ∷ 255 ∷ []
@@ -75,9 +78,12 @@ counted ops operations = record { entry = told_ops 0; exit = told_ops ops; opera
 abbrev pub two_banks : Making
 two_banks = record { geometry = record { page = 16; sector = 160; sectors = 2 }; banks = 2; numbers = (record { 0 = 128 }, 4) ∷ []; reserve = 4 }
 
--- bank 0 stands, and this is behind its gate
+-- bank 0 stands with a generation, and this is behind its gate
+abbrev pub standing_as : ℕ → List ℕ → List ℕ
+standing_as generation pages = bank_head_page 16 (record { format = 2; generation = generation }) ++ gate_page 16 ++ pages ++ replicate 160 255
+
 abbrev pub standing : List ℕ → List ℕ
-standing pages = bank_head_page 16 (record { format = 2; generation = 1 }) ++ gate_page 16 ++ pages ++ replicate 160 255
+standing pages = standing_as 1 pages
 
 abbrev pub roomy : List ℕ
 roomy = standing (replicate 128 255)
@@ -98,3 +104,29 @@ standard_write = Open (record { number = 128; mark = Some (Content (1 ∷ 2 ∷ 
 -- a device tells of this room and these turns
 abbrev pub Tells : Bool → List ℕ → Stand → (ready left : ℕ) → Type 0
 Tells failed image stand ready left = TellsWork two_banks failed image (record (plain_store []) { stand = stand; ready = ready; left = left })
+
+-- WEAR
+-- a record of the number, and as many blank pages behind it
+abbrev pub written : List ℕ
+written = rec_head_page 2 16 (record { number = record { 0 = 128 }; kind = kind.Content; length = 4; count = 1 }) ++ gate_page 16 ++ (1 ∷ 2 ∷ 3 ∷ 4 ∷ replicate 12 255) ++ gate_page 16 ++ replicate 64 255
+
+-- a flash on which no bank stands; one whose active bank has four free pages, of the eight that a record may ask for; and one whose
+-- active bank has the last generation
+abbrev pub no_bank : List ℕ
+no_bank = replicate 320 255
+
+abbrev pub full : List ℕ
+full = standing written
+
+abbrev pub last : List ℕ
+last = standing_as last_generation written
+
+-- an erase of the other bank over these bytes, and a program of its first page
+abbrev pub erased : List ℕ → Change
+erased image = record { op = Erase 160 160; before = image; answer = Done }
+
+abbrev pub programmed : FlashAnswer → List ℕ → Change
+programmed answer image = record { op = Program 160 (replicate 16 0); before = image; answer = answer }
+
+abbrev pub are_due : List Change → Bool
+are_due operations = erases_are_due two_banks false operations

@@ -4,5 +4,6 @@ pub mod FlashRun
 pub mod Reading
 pub mod Bridge
 pub mod Room
+pub mod Wear
 pub mod Laws
 pub mod Cases

@@ -3,7 +3,7 @@ ghost use Rattle.std.specs.Prelude.{◌≡◌, ℕ, [], ◌∷◌, true, false};
 ghost use Rattle.fls_model.specs.declared.flash.FlashAnswer.TheVariants.{Done, Failed};
 ghost use Rattle.promise_device.specs.FlashRun.{AreSeen, IsChain, CountsAll};
 ghost use Rattle.promise_device.specs.Bridge.{may_be_closed};
-ghost use Rattle.promise_device.specs.Cases.{blank, other, erase, answered, broken_off, first_byte, program, two_programs, seen_there, never, second, any, counted, Tells, roomy, torn, no_job, urgent_write, standard_write, failed_erase};
+ghost use Rattle.promise_device.specs.Cases.{blank, other, erase, answered, broken_off, first_byte, program, two_programs, seen_there, never, second, any, counted, Tells, roomy, torn, no_job, urgent_write, standard_write, failed_erase, are_due, erased, programmed, no_bank, full, last};
 
 /// An erase that the flash saw, and a program of which a planned cut let nothing be done, so that its bytes stay, or one byte, or
 /// all; two such cuts take their bytes in order. A program that failed, with its answer.
@@ -80,4 +80,25 @@ pub fn banks_that_may_be_closed()
     ensures done { may_be_closed (erase (answered Done)) ≡ false }
     ensures erased { may_be_closed (answered Failed ∷ erase (answered Done)) ≡ false }
     ensures erase_failed { may_be_closed (failed_erase ∷ []) ≡ false }
+{}
+
+/// A bank is erased where none is active, or where the active one has fewer free pages than a record may ask for, or is closed; and
+/// behind a program that failed, which may have closed it.
+pub fn erases_of_a_flash()
+    ensures none_active { are_due (erased no_bank ∷ []) ≡ true }
+    ensures full { are_due (erased full ∷ erased full ∷ []) ≡ true }
+    ensures torn { are_due (erased torn ∷ []) ≡ true }
+    ensures failed { are_due (programmed Failed roomy ∷ erased roomy ∷ []) ≡ true }
+    ensures no_erase { are_due (programmed Done roomy ∷ programmed Done last ∷ []) ≡ true }
+{}
+
+/// A flash that is erased while its active bank has room, at whatever erase, is another device's; and so is one that is erased
+/// beside a bank of the last generation, also where that is full or a program failed.
+pub fn erases_of_another_flash()
+    ensures with_room { are_due (erased roomy ∷ []) ≡ false }
+    ensures later { are_due (erased full ∷ programmed Done full ∷ erased roomy ∷ []) ≡ false }
+    ensures erase_failed { are_due (failed_erase ∷ erased roomy ∷ []) ≡ false }
+    ensures failed_behind { are_due (erased roomy ∷ programmed Failed roomy ∷ []) ≡ false }
+    ensures last { are_due (erased last ∷ []) ≡ false }
+    ensures last_failed { are_due (programmed Failed last ∷ erased last ∷ []) ≡ false }
 {}

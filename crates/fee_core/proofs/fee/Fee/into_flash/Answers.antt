@@ -6,6 +6,7 @@ use Rattle.fee_course.specs.Course.{most_turns}
 use Rattle.fls_model.specs.Told.{Told, changes_in}
 use Rattle.promise_device.specs.Bridge.{Bridges, reading_of}
 use Rattle.promise_device.specs.Room.{TellsWorkOver}
+use Rattle.promise_device.specs.Wear.{ErasesAreDue}
 use Rattle.fee_log.specs.Log.{IsLogState}
 use Rattle.fee_switch.specs.Banks.{IsBanksState}
 use Rattle.fls_told.proofs.Runs.{runs_bridge}
@@ -15,6 +16,7 @@ use Rattle.fee_laws.specs.Made.{part_at}
 use Rattle.fee_core.specs.Whole.{Whole}
 use Rattle.fee_core.proofs.RoomTold.{work_told}
 use Rattle.fee_core.proofs.Telling.{all_first}
+use Rattle.fee_core.proofs.WearTold.{wear_told}
 use Rattle.fee_core.proofs.fee.Fee.into_flash.Goals as goal
 
 pub returns-clause-bridge : goal.returns-clause-bridge
@@ -79,3 +81,12 @@ returns-clause-room g c =
     let here = work_told m entry p c.self.invariant banks log in
     let out = subst (λ (x : Told). TellsWorkOver m p.parts.operations x (told_of (device_of m entry p.parts))) (sym same) here in
     subst (λ (x : Device). TellsWorkOver m x.operations (g.F.Flash.told c.into_flash.result) (told_of x)) c.self.view_is out
+
+pub returns-clause-wear : goal.returns-clause-wear
+returns-clause-wear g c =
+    let m = g.O.Origin.making in
+    let entry = g.O.Origin.entry in
+    let p = c.self.inside.parts in
+    let told = g.F.Flash.told c.into_flash.result in
+    let here = wear_told m entry told p.parts.operations c.self.invariant.wears in
+    subst (λ (x : Device). ErasesAreDue m (record { entry = entry; exit = told; operations = x.operations })) c.self.view_is here
