@@ -10,14 +10,14 @@ fn shares<T: Sync>(x: &T) -> &T {
     x
 }
 
-pub fn owner_crosses(x: Owner) -> Owner {
+pub fn owner_crosses<N: Send>(x: Owner<N>) -> Owner<N> {
     sends(x)
 }
 
-pub fn taker_crosses(x: Taker) -> Taker {
+pub fn taker_crosses<N: Send>(x: Taker<N>) -> Taker<N> {
     sends(x)
 }
 
-pub fn mirror_is_shared(x: &Mirror) -> &Mirror {
+pub fn mirror_is_shared<N: Send>(x: &Mirror<N>) -> &Mirror<N> {
     shares(x)
 }

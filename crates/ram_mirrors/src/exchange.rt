@@ -1,14 +1,16 @@
 //! The rule of the table, and what each kind of step tells.
+use crate::buffer::Buffer;
 use crate::view::View;
 use atomic_table::{Join, Play, Split, TableRule};
 
 /// One word and three slots, of which one is at home. PROTOCOL.md shows them.
 pub struct ThreeBuffers;
 
-impl TableRule<Vec<u8>, View, usize> for ThreeBuffers {
+impl<N> TableRule<Buffer<N>, View<N>, usize> for ThreeBuffers {
+    ghost use Rattle.ram_mirrors.specs.Stores.{stored_in};
     ghost use Rattle.ram_mirrors.specs.Exchange.{Mirrored, maker};
 
-    ghost holds = { λ size s. Mirrored (λ b. b.items) size s };
+    ghost holds = { λ size s. Mirrored stored_in size s };
 
     ghost first = { maker };
 }
@@ -16,16 +18,17 @@ impl TableRule<Vec<u8>, View, usize> for ThreeBuffers {
 /// The owner's content becomes the newest store.
 pub struct StoreSwap;
 
-impl Play<Vec<u8>, View> for StoreSwap {
+impl<N> Play<Buffer<N>, View<N>> for StoreSwap {
+    ghost use Rattle.ram_mirrors.specs.Stores.{stored_in};
     ghost use Rattle.ram_mirrors.specs.Exchange.{Stores};
 
-    ghost then = { Stores (λ b. b.items) };
+    ghost then = { Stores stored_in };
 }
 
 /// The taker reads whether there was a store since its last take.
 pub struct Look;
 
-impl Play<Vec<u8>, View> for Look {
+impl<N> Play<Buffer<N>, View<N>> for Look {
     ghost use Rattle.ram_mirrors.specs.Exchange.{Looks};
 
     ghost then = { Looks };
@@ -34,16 +37,17 @@ impl Play<Vec<u8>, View> for Look {
 /// The taker gets the newest store.
 pub struct TakeSwap;
 
-impl Play<Vec<u8>, View> for TakeSwap {
+impl<N> Play<Buffer<N>, View<N>> for TakeSwap {
+    ghost use Rattle.ram_mirrors.specs.Stores.{stored_in};
     ghost use Rattle.ram_mirrors.specs.Exchange.{Takes};
 
-    ghost then = { Takes (λ b. b.items) };
+    ghost then = { Takes stored_in };
 }
 
 /// The owner takes its first slot.
 pub struct OwnerBegins;
 
-impl<S> Play<S, View> for OwnerBegins {
+impl<S, N> Play<S, View<N>> for OwnerBegins {
     ghost use Rattle.ram_mirrors.specs.Exchange.{BeginsOwner};
 
     ghost then = { BeginsOwner };
@@ -52,7 +56,7 @@ impl<S> Play<S, View> for OwnerBegins {
 /// The taker takes its first slot.
 pub struct TakerBegins;
 
-impl<S> Play<S, View> for TakerBegins {
+impl<S, N> Play<S, View<N>> for TakerBegins {
     ghost use Rattle.ram_mirrors.specs.Exchange.{BeginsTaker};
 
     ghost then = { BeginsTaker };
@@ -61,7 +65,7 @@ impl<S> Play<S, View> for TakerBegins {
 /// The taker puts its slot back, before the end.
 pub struct TakerEnds;
 
-impl<S> Play<S, View> for TakerEnds {
+impl<S, N> Play<S, View<N>> for TakerEnds {
     ghost use Rattle.ram_mirrors.specs.Exchange.{EndsTaker};
 
     ghost then = { EndsTaker };
@@ -70,7 +74,7 @@ impl<S> Play<S, View> for TakerEnds {
 /// The maker's seat is cut into the owner's and the taker's, and at the end they are one again.
 pub struct Halves;
 
-impl Split<View> for Halves {
+impl<N> Split<View<N>> for Halves {
     ghost use Rattle.ram_mirrors.specs.Exchange.{owner_half, taker_half};
 
     ghost left = { owner_half };
@@ -78,7 +82,7 @@ impl Split<View> for Halves {
     ghost right = { taker_half };
 }
 
-impl Join<View> for Halves {
+impl<N> Join<View<N>> for Halves {
     ghost use Rattle.ram_mirrors.specs.Exchange.{whole_of, nobody};
 
     ghost both = { whole_of };

@@ -2,11 +2,12 @@
 use Rattle.std.proofs.Common.{◌≡◌, ℕ, zero, suc, ◌+◌, ◌≤◌, List, [], ◌∷◌, ◌++◌, length, map, get_or, slice_set, Option, Some, None, option_map, IfSome, refl, sym, ap, ◌∙◌, subst, arith, length-append}
 use Rattle.ram_blocks.specs.Told.{Synchronized, IsSynchronized, refusals_by, refusals_of, to_refuse_by, told_at, handed_by}
 use Rattle.ram_blocks.specs.Copies.{NoneIsRefused, changed, handed_over, next_number}
-use Rattle.ram_mirrors.specs.Stores.{Contents, store_number}
+use Rattle.ram_mirrors.specs.declared.view.Store.{Store}
+use Rattle.ram_mirrors.specs.Stores.{Contents, store_number, store_of}
 use mathlib.Core.Option.{some}
 use lib.ListN.{get_elem?}
 use Rattle.atomic_table.proofs.Lists.{at_last, at_longer}
-use Rattle.ram_mirrors_sync.specs.Ends.{EndValue, IsTaken, HasShown, LooksAscend, CopiesEndOut, CopiesEndIn, last_of, told_of}
+use Rattle.ram_mirrors_sync.specs.Ends.{Note, EndValue, IsTaken, HasShown, LooksAscend, CopiesEndOut, CopiesEndIn, last_of, told_of}
 use Rattle.ram_mirrors_sync.specs.Blocks.{IsStore, HasLooked, EndList, end_at, told_by}
 
 -- an end whose end tells the same takes the place of one
@@ -113,19 +114,19 @@ keeps xs now i end new same is stay on = subst (λ (l : EndList). Keeps l (slice
 }
 
 -- the last of contents with one more
-last_more : (xs : Contents) (x last : List ℕ) → last_of (xs ++ x ∷ []) last ≡ x
+last_more : (xs : Contents Note) (x : Store Note) (last : List ℕ) → last_of (xs ++ x ∷ []) last ≡ x.content
 last_more [] x last = refl
-last_more (y ∷ ys) x last = last_more ys x y
+last_more (y ∷ ys) x last = last_more ys x y.content
 
 next_store : (n : ℕ) → store_number (n + 1) ≡ next_number (store_number n)
 next_store n = omega arith
 
-handed_now : (e : EndValue) (x : List ℕ) → store_number (length (e.down.stores ++ x ∷ [])) ≡ next_number (store_number (length e.down.stores))
+handed_now : (e : EndValue) (x : Store Note) → store_number (length (e.down.stores ++ x ∷ [])) ≡ next_number (store_number (length e.down.stores))
 handed_now e x = ap store_number (length-append e.down.stores (x ∷ [])) ∙ next_store (length e.down.stores)
 
 told_handed : (e new : EndValue) (n : ℕ) (x : List ℕ) → CopiesEndIn e n x new → told_of new ≡ handed_over x (told_of e)
-told_handed e new n x is = ap told_of is.stored ∙ ap (λ (k : ℕ). record (told_of e) { handed = k; last = last_of (e.down.stores ++ x ∷ []) [] }) (handed_now e x)
-    ∙ ap (λ (l : List ℕ). record (told_of e) { handed = next_number (store_number (length e.down.stores)); last = l }) (last_more e.down.stores x [])
+told_handed e new n x is = ap told_of is.stored ∙ ap (λ (k : ℕ). record (told_of e) { handed = k; last = last_of (e.down.stores ++ store_of x None ∷ []) [] }) (handed_now e (store_of x None))
+    ∙ ap (λ (l : List ℕ). record (told_of e) { handed = next_number (store_number (length e.down.stores)); last = l }) (last_more e.down.stores (store_of x None) [])
 
 told_one : (xs : EndList) (i : ℕ) (end : EndValue) → end_at xs i ≡ Some end → told_at (map told_by xs) i ≡ Some (told_of end)
 told_one [] i end is = cc
@@ -141,7 +142,7 @@ pub told_in : (xs : EndList) (i : ℕ) (end new : EndValue) (n : ℕ) (x : List 
     → (n ≡ next_number (handed_by (told_at (map told_by xs) i))) × (map told_by (slice_set xs i (Some new)) ≡ changed i (handed_over x) (map told_by xs))
 told_in xs i end new n x is copied =
     let told = told_one xs i end is in (
-      copied.number ∙ ap (λ (e : EndValue). store_number (length e.down.stores)) copied.stored ∙ handed_now end x ∙ ap (λ (t : Option Synchronized). next_number (handed_by t)) (sym told),
+      copied.number ∙ ap (λ (e : EndValue). store_number (length e.down.stores)) copied.stored ∙ handed_now end (store_of x None) ∙ ap (λ (t : Option Synchronized). next_number (handed_by t)) (sym told),
       told_set xs i new ∙ ap (λ (s : Synchronized). slice_set (map told_by xs) i (Some s)) (told_handed end new n x copied)
           ∙ ap (λ (t : Option Synchronized). slice_set (map told_by xs) i (option_map (handed_over x) t)) (sym told),
     )

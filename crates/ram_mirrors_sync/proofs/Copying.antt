@@ -3,40 +3,41 @@ use Rattle.std.proofs.Common.{◌≡◌, inl, inr, ℕ, ◌+◌, ◌≤◌, List
 use Rattle.std.proofs.lemmas.List.{append-nil}
 use lib.ListN.{get_elem?}
 use Rattle.atomic_table.proofs.Lists.{at_last, at_longer}
-use Rattle.ram_mirrors.specs.Stores.{store_number}
+use Rattle.ram_mirrors.specs.declared.view.Store.{Store}
+use Rattle.ram_mirrors.specs.Stores.{store_number, store_of}
 use Rattle.ram_mirrors.specs.Ends.{MirrorValue, TakerValue, IsTakerOf, NothingNewer, TakesNewest, ShowsNewest}
-use Rattle.ram_mirrors_sync.specs.Ends.{EndValue, IsShown, IsTaken, CopiesEndOut, told_of}
+use Rattle.ram_mirrors_sync.specs.Ends.{Note, EndValue, IsShown, IsTaken, CopiesEndOut, told_of}
 
 -- what a look did to the taker
-pub record Looks (m : MirrorValue) (old new : TakerValue) : Type 0 where
+pub record Looks (m : MirrorValue) (old new : TakerValue Note) : Type 0 where
   pub own_old : IsTakerOf m old
   pub own : IsTakerOf m new
   pub looks : new.looks ≡ old.looks + 1
-  pub got : (more : List (ℕ × List ℕ)) × (new.got ≡ old.got ++ more)
+  pub got : (more : List (ℕ × Store Note)) × (new.got ≡ old.got ++ more)
   pub shows : ShowsNewest old new
   pub later : old.shown ≤ new.shown
 
-pub looks_by : (m : MirrorValue) (old new : TakerValue) (r : Option ℕ) → IsTakerOf m old → IsTakerOf m new → IfNone r (NothingNewer old new) → IfSome r (λ n. TakesNewest old n new) → ShowsNewest old new → Looks m old new
+pub looks_by : (m : MirrorValue) (old new : TakerValue Note) (r : Option ℕ) → IsTakerOf m old → IsTakerOf m new → IfNone r (NothingNewer old new) → IfSome r (λ n. TakesNewest old n new) → ShowsNewest old new → Looks m old new
 looks_by m old new None before own nothing one shows = record { own_old = before; own = own; looks = nothing.2; got = ([], nothing.0 ∙ sym (append-nil old.got)); shows = shows; later = omega (arith, nothing.1) }
-looks_by m old new (Some n) before own nothing one shows = record { own_old = before; own = own; looks = one.4; got = ((n, new.content) ∷ [], one.2); shows = shows; later = omega (arith, one.0) }
+looks_by m old new (Some n) before own nothing one shows = record { own_old = before; own = own; looks = one.4; got = ((n, store_of new.content new.note) ∷ [], one.2); shows = shows; later = omega (arith, one.0) }
 
 -- an end after it
-abbrev after : EndValue → TakerValue → EndValue
+abbrev after : EndValue → TakerValue Note → EndValue
 after e t = record e { up = t }
 
-taken_on : (e : EndValue) (t : TakerValue) (more : List (ℕ × List ℕ)) → t.got ≡ e.up.got ++ more → (n : ℕ) (x : List ℕ) → IsTaken e n x → IsTaken (after e t) n x
+taken_on : (e : EndValue) (t : TakerValue Note) (more : List (ℕ × Store Note)) → t.got ≡ e.up.got ++ more → (n : ℕ) (x : List ℕ) → IsTaken e n x → IsTaken (after e t) n x
 taken_on e t more is n x (inl first) = inl first
-taken_on e t more is n x (inr (i, at)) = inr (i, ap (λ (l : List (ℕ × List ℕ)). get_elem? l i) is ∙ at_longer e.up.got more i (n, x) at)
+taken_on e t more is n x (inr (i, note, at)) = inr (i, note, ap (λ (l : List (ℕ × Store Note)). get_elem? l i) is ∙ at_longer e.up.got more i (n, store_of x note) at)
 
 shown_zero : (n : ℕ) → store_number n ≡ 0 → n ≡ 0
 shown_zero n is = omega (arith, is)
 
 -- the last pair is the one that is shown
-last_taken : (e : EndValue) (t : TakerValue) → IsShown t → (store_number t.shown ≡ 0 → ⊥) → IsTaken (after e t) (store_number t.shown) t.content
+last_taken : (e : EndValue) (t : TakerValue Note) → IsShown t → (store_number t.shown ≡ 0 → ⊥) → IsTaken (after e t) (store_number t.shown) t.content
 last_taken e t (inl none) not = absurd (not (ap store_number none.1))
-last_taken e t (inr (front, is)) not = inr (length front, ap (λ (l : List (ℕ × List ℕ)). get_elem? l (length front)) is ∙ at_last front (store_number t.shown, t.content) (length front) refl)
+last_taken e t (inr (front, note, is)) not = inr (length front, note, ap (λ (l : List (ℕ × Store Note)). get_elem? l (length front)) is ∙ at_last front (store_number t.shown, store_of t.content note) (length front) refl)
 
-pub copies_first : (m : MirrorValue) (e : EndValue) (t : TakerValue) (n : ℕ) (content : List ℕ) → Looks m e.up t → n ≡ store_number t.shown → n ≡ 0 → content ≡ e.first → CopiesEndOut e n content (after e t)
+pub copies_first : (m : MirrorValue) (e : EndValue) (t : TakerValue Note) (n : ℕ) (content : List ℕ) → Looks m e.up t → n ≡ store_number t.shown → n ≡ 0 → content ≡ e.first → CopiesEndOut e n content (after e t)
 copies_first m e t n content looks shown zero same = record {
   looks = looks.looks;
   shown = shown;
@@ -47,7 +48,7 @@ copies_first m e t n content looks shown zero same = record {
   rest = ap (λ (size : ℕ). record (told_of e) { bytes = size }) (looks.own.1 ∙ sym looks.own_old.1);
 }
 
-pub copies_last : (m : MirrorValue) (e : EndValue) (t : TakerValue) (n : ℕ) (content : List ℕ) → Looks m e.up t → IsShown t → n ≡ store_number t.shown → (n ≡ 0 → ⊥) → content ≡ t.content → CopiesEndOut e n content (after e t)
+pub copies_last : (m : MirrorValue) (e : EndValue) (t : TakerValue Note) (n : ℕ) (content : List ℕ) → Looks m e.up t → IsShown t → n ≡ store_number t.shown → (n ≡ 0 → ⊥) → content ≡ t.content → CopiesEndOut e n content (after e t)
 copies_last m e t n content looks is shown not same = record {
   looks = looks.looks;
   shown = shown;
@@ -59,7 +60,12 @@ copies_last m e t n content looks is shown not same = record {
 }
 
 -- the last pair stays the one that is shown
-pub shown_on : (old new : TakerValue) (r : Option ℕ) → IsShown old → IfNone r (NothingNewer old new) → IfSome r (λ n. TakesNewest old n new) → IsShown new
+pub shown_on : (old new : TakerValue Note) (r : Option ℕ) → IsShown old → IfNone r (NothingNewer old new) → IfSome r (λ n. TakesNewest old n new) → IsShown new
 shown_on old new None (inl none_yet) nothing one = inl (nothing.0 ∙ none_yet.0, nothing.1 ∙ none_yet.1)
-shown_on old new None (inr (front, is)) nothing one = inr (front, nothing.0 ∙ is ∙ ap (λ (k : ℕ). front ++ (k, old.content) ∷ []) (ap store_number (sym nothing.1)) ∙ ap (λ (x : List ℕ). front ++ (store_number new.shown, x) ∷ []) (sym nothing.3))
-shown_on old new (Some n) shown nothing one = inr (old.got, one.2 ∙ ap (λ (k : ℕ). old.got ++ (k, new.content) ∷ []) one.1)
+shown_on old new None (inr (front, note, is)) nothing one = inr (front, note, nothing.0 ∙ is ∙ ap (λ (k : ℕ). front ++ (k, store_of old.content note) ∷ []) (ap store_number (sym nothing.1)) ∙ ap (λ (x : List ℕ). front ++ (store_number new.shown, store_of x note) ∷ []) (sym nothing.3))
+shown_on old new (Some n) shown nothing one = inr (old.got, new.note, one.2 ∙ ap (λ (k : ℕ). old.got ++ (k, store_of new.content new.note) ∷ []) one.1)
+
+-- what was taken last has the length of the mirror
+pub content_on : (old new : TakerValue Note) (r : Option ℕ) → length old.content ≡ old.size → old.size ≡ new.size → IfNone r (NothingNewer old new) → IfSome r (λ n. TakesNewest old n new) → length new.content ≡ new.size
+content_on old new None was same nothing one = ap (λ (x : List ℕ). length x) nothing.3 ∙ (was ∙ same)
+content_on old new (Some n) was same nothing one = one.3

@@ -5,15 +5,15 @@ use Rattle.block_machine.specs.block_config.declared.block.BlockDesc.{BlockDesc}
 use Rattle.block_machine.specs.block_config.Config.{Configuration, block_of}
 use Rattle.block_machine.specs.Blocks.{is_synchronized}
 use Rattle.ram_blocks.specs.Told.{Told}
-use Rattle.ram_mirrors.specs.Stores.{AllStored}
+use Rattle.ram_mirrors.specs.Stores.{AllStored, store_of}
 use Rattle.ram_mirrors.specs.Ends.{OwnerValue, TakerValue, IsOwnerOf, IsTakerOf, NothingNewer, TakesNewest}
-use Rattle.ram_mirrors_sync.specs.Ends.{PairValue, EndValue, IsEndOf, IsTaken, HasShown, told_of}
+use Rattle.ram_mirrors_sync.specs.Ends.{Note, PairValue, EndValue, IsEndOf, IsTaken, HasShown, told_of}
 
 -- the application's side of a block: what it stored, and what it took
 pub record SideValue : Type 0 where
   pub block : ℕ
-  pub up : OwnerValue
-  pub down : TakerValue
+  pub up : OwnerValue Note
+  pub down : TakerValue Note
 
 abbrev pub Pairs : Type 0
 Pairs = List (Option PairValue)
@@ -68,7 +68,7 @@ AreIn ps ss = (id : ℕ) → is_some (side_at ss id) ≡ is_some (pair_at ps id)
 -- CALLS OF A SIDE
 -- one store more, of this content
 abbrev pub IsNextStore : List ℕ → SideValue → SideValue → Type 0
-IsNextStore content s t = t ≡ record s { up = record s.up { stores = s.up.stores ++ content ∷ [] } }
+IsNextStore content s t = t ≡ record s { up = record s.up { stores = s.up.stores ++ store_of content None ∷ [] } }
 
 -- it looked once, and took the newest content that was read since, or there was none
 pub record IsNextRead (number : Option ℕ) (s t : SideValue) : Type 0 where

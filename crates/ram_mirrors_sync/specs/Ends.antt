@@ -1,10 +1,15 @@
 -- The two mirrors of a synchronized block, and the driver's ends of them.
-use Rattle.std.specs.Prelude.{Some, ◌≡◌, ◌⊎◌, ◌+◌, ◌≤◌, ℕ, List, [], ◌∷◌, ◌++◌, length}
+use Rattle.std.specs.Prelude.{Option, Some, None, ◌≡◌, ◌⊎◌, ◌+◌, ◌≤◌, ℕ, List, [], ◌∷◌, ◌++◌, length}
 use mathlib.Core.Option.{some}
 use lib.ListN.{get_elem?}
-use Rattle.ram_mirrors.specs.Stores.{Contents, store_number}
+use Rattle.ram_mirrors.specs.declared.view.Store.{Store}
+use Rattle.ram_mirrors.specs.Stores.{Contents, store_number, store_of}
 use Rattle.ram_mirrors.specs.Ends.{MirrorValue, OwnerValue, TakerValue, IsOwnerOf, IsTakerOf, ShowsNewest}
 use Rattle.ram_blocks.specs.Told.{Synchronized}
+
+-- nothing is handed along with a store
+abbrev pub Note : Type 0
+Note = Unit {0}
 
 -- from the application to the driver, and back
 pub record PairValue : Type 0 where
@@ -13,18 +18,18 @@ pub record PairValue : Type 0 where
 
 -- the driver's ends, and what the application has before its first store
 pub record EndValue : Type 0 where
-  pub up : TakerValue
-  pub down : OwnerValue
+  pub up : TakerValue Note
+  pub down : OwnerValue Note
   pub first : List ℕ
 
 -- the last of some contents, none before the first
-abbrev pub last_of : Contents → List ℕ → List ℕ
+abbrev pub last_of : Contents Note → List ℕ → List ℕ
 last_of [] last = last
-last_of (x ∷ xs) last = last_of xs x
+last_of (x ∷ xs) last = last_of xs x.content
 
 -- nothing was taken yet, or the last pair is the one that is shown, with its content
-abbrev pub IsShown : TakerValue → Type 0
-IsShown t = ((t.got ≡ []) × (t.shown ≡ 0)) ⊎ ((front : List (ℕ × List ℕ)) × (t.got ≡ front ++ (store_number t.shown, t.content) ∷ []))
+abbrev pub IsShown : TakerValue Note → Type 0
+IsShown t = ((t.got ≡ []) × (t.shown ≡ 0)) ⊎ ((front : List (ℕ × Store Note)) × (note : Option Note) × (t.got ≡ front ++ (store_number t.shown, store_of t.content note) ∷ []))
 
 -- the ends are those of these mirrors, and all have the same length
 pub record IsEndOf (p : PairValue) (e : EndValue) : Type 0 where
@@ -41,7 +46,7 @@ told_of e = record { bytes = e.up.size; refusals = 0; to_refuse = Some 0; handed
 
 -- a pair that was taken; number 0 is what the application has before its first store
 abbrev pub IsTaken : EndValue → ℕ → List ℕ → Type 0
-IsTaken e n content = ((n ≡ 0) × (content ≡ e.first)) ⊎ ((i : ℕ) × (get_elem? e.up.got i ≡ some (n, content)))
+IsTaken e n content = ((n ≡ 0) × (content ≡ e.first)) ⊎ ((i : ℕ) × (note : Option Note) × (get_elem? e.up.got i ≡ some (n, store_of content note)))
 
 -- a look between these two showed the store with this number as the newest: none that is older than was shown before it, or newer
 -- than is shown behind it
@@ -66,5 +71,5 @@ pub record CopiesEndOut (old : EndValue) (n : ℕ) (content : List ℕ) (new : E
 
 -- a copy in stores a content
 pub record CopiesEndIn (old : EndValue) (n : ℕ) (content : List ℕ) (new : EndValue) : Type 0 where
-  pub stored : new ≡ record old { down = record old.down { stores = old.down.stores ++ content ∷ [] } }
+  pub stored : new ≡ record old { down = record old.down { stores = old.down.stores ++ store_of content None ∷ [] } }
   pub number : n ≡ store_number (length new.down.stores)

@@ -9,8 +9,8 @@ use std::marker::Model;
 /// The driver's ends of a block's mirrors, with what the application has before its first store.
 #[derive(Drop)]
 pub struct End {
-    pub(crate) up: Taker,
-    pub(crate) down: Owner,
+    pub(crate) up: Taker<()>,
+    pub(crate) down: Owner<()>,
     pub(crate) first: Vec<u8>,
 }
 
@@ -47,7 +47,7 @@ impl End {
         ensures end { IsEndOf pair.now self.new }
         ensures copied { CopiesEndIn self.old result from.now self.new }
     {
-        pair.down.store(&mut self.down, from)
+        pair.down.store(&mut self.down, from, None)
     }
 }
 

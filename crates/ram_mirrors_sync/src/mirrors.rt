@@ -8,8 +8,8 @@ use std::marker::Model;
 /// The mirrors of a block: from the application to the driver, and back.
 #[derive(Drop)]
 pub struct Pair {
-    pub(crate) up: Mirror,
-    pub(crate) down: Mirror,
+    pub(crate) up: Mirror<()>,
+    pub(crate) down: Mirror<()>,
 }
 
 impl Model for Pair {

@@ -16,8 +16,8 @@ use std::marker::Model;
 #[derive(Drop)]
 pub struct Side {
     pub(crate) block: u16,
-    pub(crate) up: Owner,
-    pub(crate) down: Taker,
+    pub(crate) up: Owner<()>,
+    pub(crate) down: Taker<()>,
 }
 
 impl Model for Side {
@@ -54,7 +54,10 @@ impl Side {
         ensures stored { IsNextStore content.now self.old self.new }
         ensures number { result ≡ store_number (length self.new.up.stores) }
     {
-        mirrors.pair(self.block).up.store(&mut self.up, content)
+        mirrors
+            .pair(self.block)
+            .up
+            .store(&mut self.up, content, None)
     }
 
     /// Looks once for a content that was read since the last one was taken. None comes exactly where there is none; else the

@@ -16,7 +16,7 @@ use Rattle.turn_gate.specs.declared.pass.Place.{Place}
 use Rattle.turn_gate.specs.declared.pass.Place.TheVariants.{Here}
 use Rattle.turn_gate.specs.Entries.{Note, note, StartsWith, Gave, AllAgree, AllHeard, Tells, OpenFrom}
 use Rattle.turn_gate.specs.Pass.{all_parts, Has, IsKin, noted}
-use Rattle.turn_gate.specs.Turns.{Posted, Knows, Rests, Gated, HasEntered, Enters, Arrives, looked, Looks, queued, entered, Draws, Polls}
+use Rattle.turn_gate.specs.Turns.{Posted, Knows, Rests, Gated, HasEntered, Enters, Arrives, looked, Looks, queued, entered, Draws, Polls, Compares}
 use Rattle.turn_gate.proofs.Histories.{not_true, inside_length, same_at, total_set, total_two, given_later, starts_longer}
 
 module _ {V E R : Type 0} (entries : V → List E) (gives : E → ℕ → Option ℕ) (is_open : E → Bool) (root : V → R) (n : ℕ) (base : R) where
@@ -99,6 +99,12 @@ module _ {V E R : Type 0} (entries : V → List E) (gives : E → ℕ → Option
   still : (i id : ℕ) (v : View E R) (cs : List (ℕ × Place V)) (s : St) → Rule s → get_elem? s.views id ≡ maybe.some v → (told : Me (Place V) (View E R) → Type 0) → told (v, cs)
       → (w : View E R) × (a : Act (Place V)) × table.Valid s.homes cs a × Rule (stepped s i (get_or s.words i 0) id cs w a) × told (w, table.carried_after cs a)
   still i id v cs s r at told is = (v, keeps, tt, noticed s r i id cs v v at (r.each id v at) refl refl refl refl refl refl, is)
+
+  pub compares : (slots id w : ℕ) (v : View E R) (cs : List (ℕ × Place V)) → Allows Rule slots id (v, cs) w (λ x. x) (Compares gives (step slots w 0 0 maybe.none) (v, cs))
+  compares slots id w v cs s r wide at _ =
+      let f = r.each id v at in
+      still w id v cs s r at (λ m. Compares gives (step slots w 0 0 maybe.none) (v, cs) (get_or s.words w 0) m)
+      (refl, λ inside. let now = sym (f.inside inside).2 in (subst (λ (l : List E). AllHeard l v.heard) now f.heard, subst (λ (l : List E). AllAgree gives l v.notes) now f.agree))
 
   pub polls : (slots id w : ℕ) (v : View E R) (cs : List (ℕ × Place V)) → 2 ≤ w → w < n + 2 → Allows Rule slots id (v, cs) w (λ x. x) (Polls gives (step slots w 0 0 maybe.none) (v, cs))
   polls slots id w v cs low high s r wide at _ =

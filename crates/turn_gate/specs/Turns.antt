@@ -93,6 +93,10 @@ HasDrawn v t m' = (m'.0 ≡ queued v t) × (m'.1 ≡ [])
 abbrev pub Draws : {S E R : Type 0} → Step S → Me S (View E R) → ℕ → Me S (View E R) → Type 0
 Draws st m r m' = (m'.1 ≡ m.1) × (r ≡ st.first → m'.0 ≡ queued m.0 r) × (r ≢ st.first → m'.0 ≡ m.0)
 
+-- in the lock, all that the pass heard and was told stands in the list that it has seen
+abbrev pub Compares : {S E R : Type 0} → (E → ℕ → Option ℕ) → Step S → Me S (View E R) → ℕ → Me S (View E R) → Type 0
+Compares gives st m r m' = (m' ≡ m) × (m.0.inside ≡ true → AllHeard m.0.seen m.0.heard × AllAgree gives m.0.seen m.0.notes)
+
 module _ {V E : Type 0} (entries : V → List E) where
   -- the list of the value that lies in the slot taken last, or that was told there
   abbrev pub list_of : Place V → List E

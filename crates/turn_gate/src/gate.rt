@@ -1,19 +1,23 @@
 //! The gate.
 ghost use Rattle.std.specs.Prelude.{◌≡◌, ◌≢◌, ℕ, ◌+◌, ◌-◌, ◌*◌, ◌<◌, ◌≤◌, ◌^◌, ◌⊎◌, [], ◌∷◌, ◌++◌, length, true, false, Some};
 ghost use Rattle.turn_gate.specs.Entries.{StartsWith, AllAgree, AllHeard, OpenFrom, NotBelow, OnlyGives, GivesNone};
-ghost use Rattle.turn_gate.specs.Pass.{IsPassOf, knows, IsKin, IsInside, IsOutside, IsAway, AddsOne, noted, grown, went_out, left_part, right_part, both, OwnsAll};
+ghost use Rattle.turn_gate.specs.declared.pass.View.{View as PassView};
+ghost use Rattle.turn_gate.specs.Pass.{IsPassOf, IsKnownOf, IsWithin, knows, IsKin, IsInside, IsOutside, IsAway, AddsOne, noted, grown, went_out, left_part, right_part, both, copied, informed, OwnsAll};
 ghost use Rattle.turn_gate.specs.Turns.{HasEntered, HasDrawn, looked};
 
 use crate::kept::Kept;
-use crate::pass::{Pass, Place, View, discard};
+use crate::pass::{Known, Pass, Place, View, discard};
 use crate::status::{Polled, polled_of, word_of};
-use crate::turns::{About, Arrive, Draw, Enter, Halves, HasWords, Leave, Look, Poll, Set, Turns};
-use atomic_table::{Table, TableRule};
+use crate::turns::{
+    About, Arrive, Compare, Copies, Draw, Enter, Halves, HasWords, Informs, Leave, Look, Poll, Set,
+    Turns,
+};
+use atomic_table::{Badge, Table, TableRule};
 use std::alloc::Global;
 use std::marker::Model;
 use std::snapshot::Snapshot;
 use std::sync::Wait;
-use std::thread;
+use std::{mem, thread};
 
 /// What all threads share. Contracts see which gate it is, and how many status words it has.
 #[derive(Drop)]
@@ -199,6 +203,36 @@ impl<V: Kept> Gate<V> {
         ensures fresh { NotBelow V.gives (knows pass.old).seen (knows pass.old).notes word result.entry }
     {
         polled_of(self.table.shared.load::<Poll>(pass, word as usize + 2))
+    }
+
+    /// Copies what the pass has seen and was told, to be handed to another thread. The pass stays as it is. It waits for nobody.
+    pub fn known(&self, pass: &mut Pass<V>) -> Known<V>
+        requires own { IsPassOf self.now pass.old }
+        ensures own { IsPassOf self.now pass.new }
+        ensures same { pass.new.me ≡ pass.old.me }
+        ensures known { IsKnownOf self.now result (copied (knows pass.old)) }
+    {
+        self.table.shared.split_seat::<Copies>(pass).into_badge()
+    }
+
+    /// In the lock, holds what was copied beside the value's list as the pass has seen it: the list begins with all that was seen
+    /// then, and agrees with all that was told. It waits for nobody.
+    pub fn compare(&self, pass: &mut Pass<V>, known: &mut Known<V>)
+        ghost view: { PassView V.Entry V.Root }
+        requires own { IsPassOf self.now pass.old }
+        requires inside { IsInside pass.old }
+        requires known { IsKnownOf self.now known.old view }
+        ensures own { IsPassOf self.now pass.new }
+        ensures inside { IsInside pass.new }
+        ensures informed { knows pass.new ≡ informed (knows pass.old) view }
+        ensures within { IsWithin V.gives (knows pass.old).seen view }
+        ensures known { IsKnownOf self.now known.new view }
+    {
+        let mut seat = mem::replace(known, Badge::blank()).into_seat::<Place<V>>();
+        let copy = self.table.shared.split_seat::<Copies>(&mut seat);
+        *known = seat.into_badge();
+        self.table.shared.join_seat::<Informs>(pass, copy);
+        self.table.shared.load::<Compare>(pass, 0);
     }
 
     /// A pass with all that this one has seen, without the mark, and with no own entries.

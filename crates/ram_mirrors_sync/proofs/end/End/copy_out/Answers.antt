@@ -1,7 +1,7 @@
 use Rattle.std.proofs.Common.{sym, ◌∙◌, subst}
 use Rattle.ram_mirrors.specs.Ends.{IsTakerOf}
-use Rattle.ram_mirrors_sync.specs.Ends.{EndValue, PairValue, CopiesEndOut, IsShown}
-use Rattle.ram_mirrors_sync.proofs.Copying.{Looks, looks_by, copies_first, copies_last, shown_on}
+use Rattle.ram_mirrors_sync.specs.Ends.{EndValue, PairValue, CopiesEndOut, IsEndOf, IsShown}
+use Rattle.ram_mirrors_sync.proofs.Copying.{Looks, looks_by, copies_first, copies_last, content_on, shown_on}
 use Rattle.ram_mirrors_sync.proofs.end.End.copy_out.Goals.{then-number-eq0, else-number-eq0}
 use Rattle.ram_mirrors_sync.proofs.end.End.copy_out.Goals as goal
 
@@ -18,3 +18,19 @@ returns-clause-copied c =
       | then-number-eq0 w ↦ copies_first c.pair.inside.up old t c.shown-number.result c.if-number-eq0.into looks c.shown-number.ensures w.if-number-eq0.true (w.into-is ∙ w.copy_from_slice.ensures.after ∙ w.as_slice.ensures.value)
       | else-number-eq0 w ↦ copies_last c.pair.inside.up old t c.shown-number.result c.if-number-eq0.into looks shown c.shown-number.ensures w.if-number-eq0.false (w.into-is ∙ w.copy_from_slice-else-number-eq0.ensures.after ∙ w.content.ensures)
     ])
+
+pub returns-clause-end : goal.returns-clause-end
+returns-clause-end c =
+    let t = c.refresh.new.taker in
+    let was : IsEndOf c.args.pair.now (record { up = c.self.inside.up; down = c.self.inside.down; first = c.self.inside.first.items }) =
+    subst (λ (e : EndValue). IsEndOf c.args.pair.now e) (sym c.self.view_is) c.requires.end in
+    let own : IsTakerOf c.args.pair.now.up t = subst (λ (p : PairValue). IsTakerOf p.up t) c.pair.view_is c.refresh.ensures.own in
+    let size = was.up.1 ∙ sym own.1 in
+    record {
+      up = own;
+      down = was.down;
+      same = was.same ∙ size;
+      first = was.first ∙ size;
+      content = content_on c.self.inside.up t c.refresh.result was.content size c.refresh.ensures.none c.refresh.ensures.some;
+      shown = shown_on c.self.inside.up t c.refresh.result was.shown c.refresh.ensures.none c.refresh.ensures.some;
+    }
