@@ -1,9 +1,10 @@
 -- What a whole turn of the driver tells, from its halves.
-use Rattle.std.proofs.Common.{◌≡◌, ◌⊎◌, inl, inr, ℕ, false, List, [], ◌∷◌, ◌++◌, sym, ap, ◌∙◌, subst, append_assoc}
+use Rattle.std.proofs.Common.{◌≡◌, ◌⊎◌, inl, inr, ℕ, List, [], ◌∷◌, ◌++◌, sym, ap, ◌∙◌, subst, append_assoc}
 use lib.ListN.{get_elem?}
 use Rattle.atomic_table.proofs.Lists.{at_longer, at_snoc}
 use Rattle.turn_gate.specs.declared.pass.View.{View}
 use Rattle.turn_gate.specs.Entries.{StartsWith}
+use Rattle.turn_gate.specs.Pass.{Has}
 use Rattle.nvm_core.specs.memif.Told.{DeviceTold}
 use Rattle.nvm_core.specs.block_machine.Words.{Entry}
 use Rattle.nvm_core.specs.nv_desk.Desk.{DeskState}
@@ -11,9 +12,8 @@ use Rattle.nvm_core.specs.nvm_laws.declared.turned.Turned.{Turned}
 use Rattle.nvm_core.specs.nvm_laws.declared.turned.Turned.TheVariants as turned
 use Rattle.nvm_core.specs.Stack.{StackState}
 use Rattle.nvm_core.specs.Work.{TakesTurns}
-use Rattle.nvm_shared.specs.StatusWords.{is_ask}
 use Rattle.nvm_shared.specs.declared.terms.Terms.{Terms}
-use Rattle.nvm_shared.specs.Passes.{HaveNoAsks, IsEntry, LearnsHalf, LearnsTurn}
+use Rattle.nvm_shared.specs.Passes.{IsDriven, IsEntry, LearnsHalf, LearnsTurn}
 use Rattle.nvm_shared.specs.Driving.{DriverState, stack_of}
 
 abbrev V : Type 0
@@ -26,29 +26,33 @@ starts_through a b c (x, first) (y, second) = (x ++ y, second ∙ ap (λ (l : Li
 entry_on : (old new : List Entry) (k : ℕ) (e : Entry) → StartsWith new old → IsEntry old k e → IsEntry new k e
 entry_on old new k e (rest, is) at = ap (λ (l : List Entry). get_elem? l k) is ∙ at_longer old rest k e at
 
-no_asks_on : (old new : List Entry) (ks : List ℕ) → StartsWith new old → HaveNoAsks old ks → HaveNoAsks new ks
-no_asks_on old new ks starts none k has = let at = none k has in (at.0, entry_on old new k at.0 starts at.1, at.2)
+driven_on : (old new : List Entry) (k : ℕ) → StartsWith new old → IsDriven old k → IsDriven new k
+driven_on old new k starts driven = (driven.0, entry_on old new k driven.0 starts driven.1, driven.2, driven.3)
 
-no_asks_more : (seen : List Entry) (own : List ℕ) (n : ℕ) (e : Entry) → IsEntry seen n e → is_ask e ≡ false → HaveNoAsks seen own → HaveNoAsks seen (own ++ n ∷ [])
-no_asks_more seen own n e at not none k (i, has) = elim (at_snoc own n k i has) [
-  | inl before ↦ none k (i, before)
-  | inr last ↦ (e, subst (λ (m : ℕ). IsEntry seen m e) last at, not)
-]
-
-none_in : (v w : V) → StartsWith w.seen v.seen → (w.own ≡ v.own) ⊎ ((k : ℕ) × (e : Entry) × (w.own ≡ v.own ++ k ∷ []) × IsEntry w.seen k e × (is_ask e ≡ false))
-    → HaveNoAsks v.seen v.own → HaveNoAsks w.seen w.own
-none_in v w starts (inl same) none = subst (HaveNoAsks w.seen) (sym same) (no_asks_on v.seen w.seen v.own starts none)
-none_in v w starts (inr (n, e, own, at, not)) none = subst (HaveNoAsks w.seen) (sym own) (no_asks_more w.seen v.own n e at not (no_asks_on v.seen w.seen v.own starts none))
+-- a number is an old one, or of an entry of the driver
+own_in : (v w : V) → (w.own ≡ v.own) ⊎ ((k : ℕ) × (w.own ≡ v.own ++ k ∷ []) × IsDriven w.seen k) → (k : ℕ) → Has w.own k → Has v.own k ⊎ IsDriven w.seen k
+own_in v w (inl same) k has = inl (subst (λ (ks : List ℕ). Has ks k) same has)
+own_in v w (inr (n, own, driven)) k has =
+    let (i, at) = subst (λ (ks : List ℕ). Has ks k) own has in elim (at_snoc v.own n k i at) [
+      | inl before ↦ inl (i, before)
+      | inr last ↦ inr (subst (λ (m : ℕ). IsDriven w.seen m) last driven)
+    ]
 
 pub half_learns : (v w : V) → LearnsHalf v w → LearnsTurn v w
-half_learns v w half = record { starts = half.starts; notes = half.notes; heard = half.heard; none = none_in v w half.starts half.own }
+half_learns v w half = record { starts = half.starts; notes = half.notes; heard = half.heard; own = own_in v w half.own }
 
 pub both_learn : (v u w : V) → LearnsHalf v u → LearnsHalf u w → LearnsTurn v w
 both_learn v u w first second = record {
   starts = starts_through v.seen u.seen w.seen first.starts second.starts;
   notes = second.notes ∙ first.notes;
   heard = second.heard ∙ first.heard;
-  none = λ none. none_in u w second.starts second.own (none_in v u first.starts first.own none);
+  own = λ k has. elim (own_in u w second.own k has) [
+    | inl between ↦ elim (own_in v u first.own k between) [
+      | inl before ↦ inl before
+      | inr driven ↦ inr (driven_on u.seen w.seen k second.starts driven)
+    ]
+    | inr driven ↦ inr driven
+  ];
 }
 
 -- THE TURNS THAT ARE LEFT

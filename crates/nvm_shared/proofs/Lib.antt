@@ -3,10 +3,12 @@ mod Leaving
 mod Asking
 mod Turning
 mod Halves
-mod Making
+pub mod Making
 mod Learning
 mod Serving
 mod Stale
+mod Resting
+mod Counting
 pub mod WritingLegal
 pub mod Standing
 pub mod Opened
@@ -16,3 +18,4 @@ pub mod Words
 pub mod Numbering
 mod Power
 pub mod Posting
+pub mod Unplanned

@@ -1,5 +1,5 @@
 -- The halves of a turn, behind requests of others.
-use Rattle.std.proofs.Common.{◌≡◌, inl, inr, ℕ, Bool, true, false, List, [], ◌∷◌, ◌++◌, length, Option, Some, sym, ap, ◌∙◌, subst}
+use Rattle.std.proofs.Common.{◌≡◌, inl, inr, ℕ, ◌^◌, Bool, true, false, List, [], ◌∷◌, ◌++◌, length, Option, Some, sym, ap, ◌∙◌, subst}
 use Rattle.nvm_core.specs.memif.Told.{DeviceTold, Part, PartTold}
 use Rattle.nvm_core.specs.memif.Clock.{Clock}
 use Rattle.nvm_core.specs.block_machine.Words.{Entry, Ask, Configuration}
@@ -38,6 +38,7 @@ pub record Enters (t : Terms) (v u : V) (x : LockedState) : Type 0 where
   pub mark : v.mark ≡ true
   pub open_now : v.mark ≡ true → OpenFrom is_ask x.desk.entries (length v.seen)
   pub kin : IsKin v u
+  pub alone : v.parts ≡ 2 ^ 64 → x.desk.entries ≡ v.seen
   pub written : AreWritten x.tells x.desk.config x.desk.cap at_first x.desk.entries
 
 -- requests stand behind what it knew
@@ -55,7 +56,7 @@ replied_by tells c cap s [] are written = tt
 replied_by tells c cap s (Ask caller r reply ∷ es) are written = (written.0.replies, replied_by tells c cap (step c s (Ask caller r reply)) es are.1 written.1)
 replied_by tells c cap s (e ∷ es) are written = let off : false ≡ true = are.0 in cc
 
-same_terms : (o : Option Terms) (s t : Terms) → o ≡ Some s → o ≡ Some t → s ≡ t
+pub same_terms : (o : Option Terms) (s t : Terms) → o ≡ Some s → o ≡ Some t → s ≡ t
 same_terms o s t one other = cc
 
 pub behind : (t : Terms) (v u : V) (x : LockedState) (hand : Option HandState) (d : DeviceTold) (clock : Clock) → Enters t v u x → HandIsPending (state_of (desk_with t v.seen)) → IsTied (desk_with t v.seen) hand d → Behind t v.seen x hand d clock
@@ -117,6 +118,7 @@ module _ (t : Terms) (v u w : V) (x y : LockedState) (tells : Bool) (enters : En
           starts = subst (λ (l : List Entry). StartsWith l v.seen) log enters.starts;
           agree = subst (λ (l : List Entry). AllAgree gives l v.notes) log enters.agree;
           own = inl (ap (λ (z : V). z.own) is ∙ enters.kin.1);
+          alone = λ all. inl (sym log ∙ enters.alone all);
           notes = ap (λ (z : V). z.notes) is ∙ enters.kin.2;
           heard = ap (λ (z : V). z.heard) is ∙ enters.kin.5;
           mark = ap (λ (z : V). z.mark) is ∙ enters.kin.3;
@@ -134,11 +136,10 @@ module _ (t : Terms) (v u w : V) (x y : LockedState) (tells : Bool) (enters : En
           agree = subst (λ (l : List Entry). AllAgree gives l v.notes) log (agree_on x.desk.entries e v.notes enters.agree);
           own = inr (
             length u.seen,
-            e,
             ap (λ (z : V). z.own) is ∙ ap (λ (l : List ℕ). l ++ length u.seen ∷ []) enters.kin.1,
-            subst (λ (l : List Entry). IsEntry l (length u.seen) e) log (at_last x.desk.entries e (length u.seen) (ap length (sym enters.seen))),
-            driven.0,
+            (e, subst (λ (l : List Entry). IsEntry l (length u.seen) e) log (at_last x.desk.entries e (length u.seen) (ap length (sym enters.seen))), driven.0, driven.1),
           );
+          alone = λ all. inr (e, sym log ∙ ap (λ (l : List Entry). l ++ e ∷ []) (enters.alone all), driven.0);
           notes = ap (λ (z : V). z.notes) is ∙ enters.kin.2;
           heard = ap (λ (z : V). z.heard) is ∙ enters.kin.5;
           mark = ap (λ (z : V). z.mark) is ∙ enters.kin.3;

@@ -1,5 +1,5 @@
 -- The driver between its turns, and in them.
-use Rattle.std.specs.Prelude.{◌≡◌, ◌⊎◌, ℕ, Bool, true, false, List, Option, IfSome}
+use Rattle.std.specs.Prelude.{◌≡◌, ◌⊎◌, ℕ, Bool, true, false, List, Option, None, IfSome}
 use Rattle.nvm_core.specs.nv_base.Count.{Rose}
 use Rattle.nvm_core.specs.memif.Told.{DeviceTold, Part, PartTold, nothing_open, ops_of}
 use Rattle.nvm_core.specs.memif.Clock.{Clock}
@@ -119,3 +119,10 @@ abbrev pub ServesDue : {D C : Type 0} → (told : D → DeviceTold) → (desk de
 ServesDue told desk desk_new old new =
     (number turns : ℕ) → IsCalmTurn (now_of told (stack_of desk old)) (now_of told (stack_of desk_new new)) → IsDue number turns (now_of told (stack_of desk old))
     → ((asks : List Entry) × AreAsks asks × PostsDue number (with_more desk asks) desk_new) ⊎ IsNearer number turns (now_of told (stack_of desk_new new))
+
+-- No turn need follow it: it had nothing to do, the power is off, or it worked with no job in hand.
+abbrev pub NeedsNoMore : Turned → Option HandState → Type 0
+NeedsNoMore turned.Idle hand = Unit {0}
+NeedsNoMore turned.Off hand = Unit {0}
+NeedsNoMore turned.Worked hand = hand ≡ None
+NeedsNoMore answer hand = ⊥

@@ -8,3 +8,5 @@ pub mod StatusWords
 pub mod Statuses
 pub mod Written
 pub mod Behind
+pub mod Unplanned
+pub mod Known

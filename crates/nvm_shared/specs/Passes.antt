@@ -1,5 +1,5 @@
 -- The passes of a shared stack.
-use Rattle.std.specs.Prelude.{◌≡◌, ◌⊎◌, ℕ, true, false, List, [], ◌∷◌, ◌++◌, length, Some}
+use Rattle.std.specs.Prelude.{◌≡◌, ◌⊎◌, ℕ, ◌^◌, true, false, List, [], ◌∷◌, ◌++◌, length, Some}
 use mathlib.Core.Option.{some}
 use lib.ListN.{get_elem?}
 use Rattle.atomic_table.specs.declared.shared.Seat.{Seat}
@@ -9,6 +9,7 @@ use Rattle.turn_gate.specs.Entries.{StartsWith, AllAgree}
 use Rattle.turn_gate.specs.Pass.{Has, GateValue, IsPassOf, IsOutside, knows}
 use Rattle.nvm_core.specs.block_machine.Words.{Entry}
 use Rattle.nvm_shared.specs.StatusWords.{gives, is_ask, is_found}
+use Rattle.nvm_shared.specs.Behind.{AreAsks}
 use Rattle.nvm_shared.specs.declared.terms.Terms.{Terms}
 use Rattle.nvm_shared.specs.Locked.{LockedState}
 
@@ -34,26 +35,42 @@ IsEntry seen n e = get_elem? seen n ≡ some e
 abbrev pub IsExtended : View Entry Terms → List Entry → Type 0
 IsExtended v log = (log ≡ v.seen) ⊎ ((e : Entry) × (log ≡ v.seen ++ e ∷ []) × (v.mark ≡ false → is_ask e ≡ true) × (is_found e ≡ false))
 
--- what a half of a turn tells its pass: the list goes on, and an entry that it added is none of a request
-pub record LearnsHalf (v w : View Entry Terms) : Type 0 where
+-- What a pass learns that adds nothing: the list goes on, by requests alone where the pass has the mark.
+pub record LearnsMore (v w : View Entry Terms) : Type 0 where
   pub starts : StartsWith w.seen v.seen
-  pub agree : AllAgree gives w.seen v.notes
-  pub own : (w.own ≡ v.own) ⊎ ((k : ℕ) × (e : Entry) × (w.own ≡ v.own ++ k ∷ []) × IsEntry w.seen k e × (is_ask e ≡ false))
+  pub open_since : v.mark ≡ true → (more : List Entry) × AreAsks more × (w.seen ≡ v.seen ++ more)
+  pub own : w.own ≡ v.own
   pub notes : w.notes ≡ v.notes
   pub heard : w.heard ≡ v.heard
   pub mark : w.mark ≡ v.mark
   pub parts : w.parts ≡ v.parts
 
--- each of these is an entry, and none is a request
-abbrev pub HaveNoAsks : List Entry → List ℕ → Type 0
-HaveNoAsks seen ks = (k : ℕ) → Has ks k → (e : Entry) × IsEntry seen k e × (is_ask e ≡ false)
+-- the entry of this number is the driver's: no request, and no start-up
+abbrev pub IsDriven : List Entry → ℕ → Type 0
+IsDriven seen k = (e : Entry) × IsEntry seen k e × (is_ask e ≡ false) × (is_found e ≡ false)
 
--- what a whole turn tells its pass: the list goes on, and what it added is no request
+-- the list is the one before, or has an entry of the driver more
+abbrev pub IsDrivenOn : (seen seen_new : List Entry) → Type 0
+IsDrivenOn seen seen_new = (seen_new ≡ seen) ⊎ ((e : Entry) × (seen_new ≡ seen ++ e ∷ []) × (is_ask e ≡ false))
+
+-- What a half of a turn tells its pass: the list goes on, and an entry that it added is the driver's. Where the pass has all parts,
+-- nothing of others comes between.
+pub record LearnsHalf (v w : View Entry Terms) : Type 0 where
+  pub starts : StartsWith w.seen v.seen
+  pub agree : AllAgree gives w.seen v.notes
+  pub own : (w.own ≡ v.own) ⊎ ((k : ℕ) × (w.own ≡ v.own ++ k ∷ []) × IsDriven w.seen k)
+  pub alone : v.parts ≡ 2 ^ 64 → IsDrivenOn v.seen w.seen
+  pub notes : w.notes ≡ v.notes
+  pub heard : w.heard ≡ v.heard
+  pub mark : w.mark ≡ v.mark
+  pub parts : w.parts ≡ v.parts
+
+-- what a whole turn tells its pass: the list goes on, and what it added is the driver's
 pub record LearnsTurn (v w : View Entry Terms) : Type 0 where
   pub starts : StartsWith w.seen v.seen
   pub notes : w.notes ≡ v.notes
   pub heard : w.heard ≡ v.heard
-  pub none : HaveNoAsks v.seen v.own → HaveNoAsks w.seen w.own
+  pub own : (k : ℕ) → Has w.own k → Has v.own k ⊎ IsDriven w.seen k
 
 -- A request was made: its entry stands behind a list that begins with all that was seen, and that agrees with all that polls
 -- told; its number is the pass's own.

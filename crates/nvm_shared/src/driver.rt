@@ -1,5 +1,5 @@
 // The driver of a shared stack.
-ghost use Rattle.std.specs.Prelude.{◌≡◌, ◌≤◌, ◌++◌, ◌∷◌, ◌⊎◌, [], ℕ, List, length, true, false, Some, IfSome};
+ghost use Rattle.std.specs.Prelude.{◌≡◌, ◌≤◌, ◌++◌, ◌∷◌, ◌⊎◌, ◌^◌, [], ℕ, List, length, true, false, Some, is_some, IfSome, IsTrue};
 ghost use Rattle.nvm_core.specs.memif.Told.{DeviceTold, faults_of};
 ghost use Rattle.nvm_core.specs.memif.Clock.{SameClock};
 ghost use Rattle.nvm_core.specs.memif.Calls.{Turns};
@@ -19,7 +19,8 @@ ghost use Rattle.nvm_shared.specs.Locked.{desk_with};
 ghost use Rattle.nvm_shared.specs.Passes.{IsUserOf, LearnsHalf, LearnsTurn};
 ghost use Rattle.nvm_shared.specs.Stale.{StaleIsShown};
 ghost use Rattle.nvm_core.specs.nvm_device_laws.Turn.{TellsSlots};
-ghost use Rattle.nvm_shared.specs.Driving.{DriverState, IsDriverOf, BeginsTurn, IsTurned, EndsTurn, MayEnd, ServesDue, TurnsBehind, stack_of};
+ghost use Rattle.script_walks.specs.Runs.{has_ended};
+ghost use Rattle.nvm_shared.specs.Driving.{DriverState, IsDriverOf, BeginsTurn, IsTurned, EndsTurn, MayEnd, NeedsNoMore, ServesDue, TurnsBehind, stack_of};
 
 use crate::shared::{Shared, StackPass};
 use nvm_core::job_progress::Hand;
@@ -58,6 +59,32 @@ impl<D: MemDevice, C: SyncCalls + Drop> Driver<D, C> {
             hand,
         } = self;
         (device, copies, hand)
+    }
+
+    /// Whether a job is in hand.
+    pub fn is_busy(&self) -> bool
+        ensures { result ≡ is_some self.now.hand }
+    {
+        self.hand.is_some()
+    }
+
+    /// How many faults the device counted; the count stands still at its end.
+    pub fn faults(&self) -> u64
+        ensures { result ≡ faults_of (D.told self.now.device) }
+    {
+        self.device.faults()
+    }
+
+    /// Sees the whole list, and tells how many entries it has: nothing but requests of others came since.
+    pub fn count<W: Wait>(&self, rt: &W, shared: &Shared, pass: &mut StackPass) -> u32
+        requires driver { IsDriverOf D.told D.clock C.told shared.now pass.old self.now }
+        ensures driver { IsDriverOf D.told D.clock C.told shared.now pass.new self.now }
+        ensures count { result ≡ length (knows pass.new).seen }
+        ensures parts { (knows pass.new).parts ≡ (knows pass.old).parts }
+        ensures keeps { StaysKept (desk_with shared.now.terms (knows pass.old).seen) self.now.hand (D.told self.now.device) (D.clock self.now.device) (desk_with shared.now.terms (knows pass.new).seen) self.now.hand (D.told self.now.device) (D.clock self.now.device) }
+        ensures learns { LearnsTurn (knows pass.old) (knows pass.new) }
+    {
+        shared.count(rt, pass)
     }
 
     /// The first half of a turn, under the lock: all but the device's own turn.
@@ -126,6 +153,7 @@ impl<D: MemDevice, C: SyncCalls + Drop> Driver<D, C> {
         ensures counted { faults_of (D.told self.old.device) ≤ faults_of (D.told self.new.device) }
         ensures lasts { Lasts (D.told self.old.device) (D.clock self.old.device) (D.told self.new.device) (D.clock self.new.device) }
         ensures lowers { Lowers D.told result (stack_of (desk_with shared.now.terms (knows pass.old).seen) self.old) (stack_of (desk_with shared.now.terms (knows pass.new).seen) self.new) }
+        ensures rests { (knows pass.old).parts ≡ 2 ^ 64 → NeedsNoMore result self.old.hand → IsTrue (has_ended shared.now.terms.config (knows pass.new).seen) }
         ensures due { ServesDue D.told (desk_with shared.now.terms (knows pass.old).seen) (desk_with shared.now.terms (knows pass.new).seen) self.old self.new }
         ensures left { TakesTurns D.told result (stack_of (desk_with shared.now.terms (knows pass.old).seen) self.old) (stack_of (desk_with shared.now.terms (knows pass.new).seen) self.new) }
         ensures stores_stay { (b n : ℕ) (x : List ℕ) → C.is_store self.old.copies b n x → C.is_store self.new.copies b n x }

@@ -8,6 +8,7 @@
 
 mod crossing;
 mod driver;
+mod known;
 mod locked;
 mod opening;
 mod shared;
@@ -16,8 +17,9 @@ mod telling;
 mod terms;
 
 pub use driver::Driver;
+pub use known::{Known, Naming};
 pub use locked::{Locked, LockedOf};
-pub use opening::{NotShared, ShareFault, make};
+pub use opening::{NotShared, ShareFault, make, share};
 pub use shared::{Shared, SharedOf, StackPass, TellsGate, TellsTerms};
 pub use status_words::{OFF_WORD, WORD_COUNT, told_by};
 pub use telling::{Telling, Tells};

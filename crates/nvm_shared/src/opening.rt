@@ -91,9 +91,10 @@ pub fn make<D: MemDevice, C: SyncCalls + Drop>(
     }
 }
 
-// A stack behind its first start-up.
+/// Shares a stack behind its first start-up: what all threads use, the marked pass, and the driver, whose device and copies are the
+/// stack's. At want of memory its device is handed back. `tells` is picked in proofs, as in `make`.
 #[tactic(auto, using(crate::proofs::WritingLegal::legal_are_written))]
-fn share<D: MemDevice, C: SyncCalls + Drop>(
+pub fn share<D: MemDevice, C: SyncCalls + Drop>(
     alloc: Global,
     stack: Stack<D, C>,
 ) -> Result<(Shared, StackPass, Driver<D, C>), NotShared<D>>

@@ -12,7 +12,8 @@ ghost use Rattle.turn_gate.specs.Pass.{IsPassOf, IsInside, IsOutside, OwnsAll, b
 ghost use Rattle.nvm_shared.specs.StatusWords.{gives, off_word};
 ghost use Rattle.nvm_shared.specs.Written.{AreWritten};
 ghost use Rattle.nvm_shared.specs.Locked.{terms_of, desk_with};
-ghost use Rattle.nvm_shared.specs.Passes.{Asked, IsUserOf, IsExtended};
+ghost use Rattle.nvm_core.specs.nvm_laws.DueLaws.{NextIsPending};
+ghost use Rattle.nvm_shared.specs.Passes.{Asked, IsUserOf, IsExtended, LearnsMore};
 
 use crate::OFF_WORD;
 use crate::locked::Locked;
@@ -103,6 +104,21 @@ impl Shared {
         let _len = value.len();
         self.leave(pass, value, number);
         Ok((answer?, number))
+    }
+
+    /// Sees the whole list, and tells how many entries it has.
+    pub fn count<W: Wait>(&self, rt: &W, pass: &mut StackPass) -> u32
+        requires own { IsUserOf self.now pass.old }
+        ensures own { IsUserOf self.now pass.new }
+        ensures count { result ≡ length (knows pass.new).seen }
+        ensures learns { LearnsMore (knows pass.old) (knows pass.new) }
+        ensures written { AreWritten self.now.terms.tells self.now.terms.config self.now.terms.cap at_first (knows pass.new).seen }
+        ensures next { NextIsPending self.now.terms.config (state_of (desk_with self.now.terms (knows pass.new).seen)) }
+    {
+        let value = self.gate.enter(rt, pass);
+        let number = value.len();
+        self.leave(pass, value, number);
+        number
     }
 
     /// Reads the status of a block, and the number of the entry that gave it.

@@ -29,14 +29,14 @@ pub first_half-act-requires-clause-tied : goal.first_half-act-requires-clause-ti
 first_half-act-requires-clause-tied g c =
     let e = c.enter-value.ensures in
     (stands g.D.MemDevice.told g.D.MemDevice.clock g.C.SyncCalls.told c.args.shared.now.terms (knows c.args.pass.now) (knows c.enter-value.new.pass) c.enter-value.result
-    (record { own = c.requires.driver.own.root; root = e.root; seen = e.seen; starts = e.starts; agree = e.agree; mark = c.requires.driver.mark; open_now = e.open; kin = e.same; written = c.len-number.ensures.written })
+    (record { own = c.requires.driver.own.root; root = e.root; seen = e.seen; starts = e.starts; agree = e.agree; mark = c.requires.driver.mark; open_now = e.open; kin = e.same; alone = e.alone; written = c.len-number.ensures.written })
     c.args.self.now (driver_of c.self.inside.device c.self.inside.copies c.self.inside.hand) c.self.view_is c.requires.driver.drives).stands.tied
 
 pub first_half-act-requires-clause-fits : goal.first_half-act-requires-clause-fits
 first_half-act-requires-clause-fits g c =
     let e = c.enter-value.ensures in
     fits g.D.MemDevice.told g.D.MemDevice.clock g.C.SyncCalls.told c.args.shared.now.terms (knows c.args.pass.now) (knows c.enter-value.new.pass) c.enter-value.result
-    (record { own = c.requires.driver.own.root; root = e.root; seen = e.seen; starts = e.starts; agree = e.agree; mark = c.requires.driver.mark; open_now = e.open; kin = e.same; written = c.len-number.ensures.written })
+    (record { own = c.requires.driver.own.root; root = e.root; seen = e.seen; starts = e.starts; agree = e.agree; mark = c.requires.driver.mark; open_now = e.open; kin = e.same; alone = e.alone; written = c.len-number.ensures.written })
     c.args.self.now (driver_of c.self.inside.device c.self.inside.copies c.self.inside.hand) c.self.view_is c.requires.driver.drives c.requires.telling
 
 pub leave-requires-clause-adds : goal.leave-requires-clause-adds
@@ -47,7 +47,7 @@ leave-requires-clause-adds g c =
     let u = knows c.enter-value.new.pass in
     let x = c.enter-value.result in
     let e = c.enter-value.ensures in
-    let enters : Enters t v u x = record { own = c.requires.driver.own.root; root = e.root; seen = e.seen; starts = e.starts; agree = e.agree; mark = c.requires.driver.mark; open_now = e.open; kin = e.same; written = c.len-number.ensures.written } in
+    let enters : Enters t v u x = record { own = c.requires.driver.own.root; root = e.root; seen = e.seen; starts = e.starts; agree = e.agree; mark = c.requires.driver.mark; open_now = e.open; kin = e.same; alone = e.alone; written = c.len-number.ensures.written } in
     let new = c.first_half-act.new.self in
     extended t v u x new x.tells enters (half_writes x.tells c.first_half-act.result _ _ x.desk new.desk _ _ _ c.first_half-act.ensures.half.half
     (fits g.D.MemDevice.told g.D.MemDevice.clock g.C.SyncCalls.told t v u x enters c.args.self.now (driver_of inside.device inside.copies inside.hand) c.self.view_is c.requires.driver.drives c.requires.telling))
@@ -68,7 +68,7 @@ returns g c =
     let clock = clocks inside.device in
     let half = c.first_half-act.ensures in
     let new = c.first_half-act.new in
-    let enters : Enters t v u x = record { own = c.requires.driver.own.root; root = e.root; seen = e.seen; starts = e.starts; agree = e.agree; mark = c.requires.driver.mark; open_now = e.open; kin = e.same; written = c.len-number.ensures.written } in
+    let enters : Enters t v u x = record { own = c.requires.driver.own.root; root = e.root; seen = e.seen; starts = e.starts; agree = e.agree; mark = c.requires.driver.mark; open_now = e.open; kin = e.same; alone = e.alone; written = c.len-number.ensures.written } in
     let drive = drives told clocks copies t v u x enters c.args.self.now now c.self.view_is c.requires.driver.drives in
     let b = stands told clocks copies t v u x enters c.args.self.now now c.self.view_is c.requires.driver.drives in
     let writes = half_writes x.tells c.first_half-act.result _ _ x.desk new.self.desk _ _ _ half.half.half (fits told clocks copies t v u x enters c.args.self.now now c.self.view_is c.requires.driver.drives c.requires.telling) in

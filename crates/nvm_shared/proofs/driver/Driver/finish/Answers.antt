@@ -12,7 +12,7 @@ second_half-answer-requires g c =
     let e = c.enter-value.ensures in (
       g.D.MemDevice.told s.device,
       is_behind g.D.MemDevice.told g.D.MemDevice.clock g.C.SyncCalls.told c.args.shared.now.terms (knows c.args.pass.now) (knows c.enter-value.new.pass) c.enter-value.result
-          (record { own = c.requires.own.root; root = e.root; seen = e.seen; starts = e.starts; agree = e.agree; mark = c.requires.mark; open_now = e.open; kin = e.same; written = c.len-number.ensures.written })
+          (record { own = c.requires.own.root; root = e.root; seen = e.seen; starts = e.starts; agree = e.agree; mark = c.requires.mark; open_now = e.open; kin = e.same; alone = e.alone; written = c.len-number.ensures.written })
           c.args.self.now (driver_of c.self.inside.device c.self.inside.copies c.self.inside.hand) c.self.view_is c.args.turned s may,
     )
 
@@ -25,7 +25,7 @@ leave-requires-clause-adds g c =
     let x = c.enter-value.result in
     let y = c.second_half-answer.new.self in
     let enters : Enters c.args.shared.now.terms (knows c.args.pass.now) (knows c.enter-value.new.pass) x =
-    record { own = c.requires.own.root; root = e.root; seen = e.seen; starts = e.starts; agree = e.agree; mark = c.requires.mark; open_now = e.open; kin = e.same; written = c.len-number.ensures.written } in
+    record { own = c.requires.own.root; root = e.root; seen = e.seen; starts = e.starts; agree = e.agree; mark = c.requires.mark; open_now = e.open; kin = e.same; alone = e.alone; written = c.len-number.ensures.written } in
     extended c.args.shared.now.terms (knows c.args.pass.now) (knows c.enter-value.new.pass) x y x.tells enters
     (turn_writes x.tells c.args.turned c.second_half-answer.result x.desk y.desk inside.hand c.second_half-answer.new.hand (told s.device) (told inside.device) c.second_half-answer.ensures.takes
     (is_behind told g.D.MemDevice.clock g.C.SyncCalls.told c.args.shared.now.terms (knows c.args.pass.now) (knows c.enter-value.new.pass) x enters c.args.self.now
@@ -49,7 +49,7 @@ returns g c =
     let e = c.enter-value.ensures in
     let half = c.second_half-answer.ensures in
     let (s, may) = c.requires.turned in
-    let enters : Enters t v u x = record { own = c.requires.own.root; root = e.root; seen = e.seen; starts = e.starts; agree = e.agree; mark = c.requires.mark; open_now = e.open; kin = e.same; written = c.len-number.ensures.written } in
+    let enters : Enters t v u x = record { own = c.requires.own.root; root = e.root; seen = e.seen; starts = e.starts; agree = e.agree; mark = c.requires.mark; open_now = e.open; kin = e.same; alone = e.alone; written = c.len-number.ensures.written } in
     let writes = turn_writes x.tells c.args.turned c.second_half-answer.result x.desk y.desk inside.hand hand (told s.device) (told inside.device) half.takes
     (is_behind told clock copies t v u x enters self now c.self.view_is c.args.turned s may) in
     let l = left t v u w x y x.tells enters (record { same = c.leave.ensures.same; more = c.leave.ensures.more }) writes in

@@ -15,6 +15,7 @@ use Rattle.nvm_core.proofs.Working.{device_counts}
 use Rattle.nvm_shared.specs.Driving.{stack_of}
 use Rattle.nvm_shared.proofs.Halves.{may_end}
 use Rattle.nvm_shared.proofs.Learning.{both_learn, half_learns, takes_with}
+use Rattle.nvm_shared.proofs.Resting.{device_rests, ended_rests}
 use Rattle.nvm_shared.proofs.Serving.{ended_serves, less_before, lowers_ended, none_before, off_before}
 use Rattle.nvm_core.specs.nvm_laws.declared.turned.Turned.TheVariants as turned
 use Rattle.nvm_shared.proofs.driver.Driver.turn.Goals as goal
@@ -50,6 +51,7 @@ returns-in-Ended g c =
           ended_serves answer number turns desk is.begins.asks desk_new old.hand new.hand (told old.device) (told new.device) _ _ _ _ _ is.begins.are
           (off_before answer _ _ _ _ _ _ _ half.half is.off) half.half calm (is.begins.served number turns due);
       left = takes_with told answer desk asked old (stack_of desk_new new) (ended_takes told (stack_of asked old) (stack_of desk_new new) answer _ _ _ _ half.half half.at_device is.left);
+      rests = λ alone. ended_rests told clocks g.C.SyncCalls.told g.C.SyncCalls.is_store g.C.SyncCalls.looked answer desk old desk_new new is.begins is.off;
       stores_stay = half.stores_stay;
       stays_over = is.stays_over;
       learns = half_learns (knows c.args.pass.now) (knows c.begin.new.pass) is.learns;
@@ -97,6 +99,9 @@ returns-in-Device g c =
       due = λ number turns calm due.
           inr (ends.nearer number turns (half.started refl) half.half.1 (subst (λ (n : ℕ). ¬ Rose n (told new.device).first.faults) (sym faults) calm.faultless) calm.on (is.begins.served number turns due));
       left = turn_takes told (stack_of desk old) (stack_of desk_new new) (stack_of desk_between between) (clocks between.device) (clocks new.device) half.at_device is.left same ends.hand answer ends.turns;
+      rests = λ alone.
+          device_rests told clocks g.C.SyncCalls.told g.C.SyncCalls.is_store g.C.SyncCalls.looked answer desk old desk_between desk_new between new is.begins ends c.requires.driver.drives.tied.paired
+          (is.learns.alone alone) (behind.learns.alone (is.learns.parts ∙ alone));
       stores_stay = λ b n x held. subst (λ (s : g.row.C.Denot). g.C.SyncCalls.is_store s b n x) (sym ends.copies) (half.stores_stay b n x held);
       stays_over = λ first over. subst (λ (s : g.row.C.Denot). g.C.SyncCalls.over first s) (sym ends.copies) (is.stays_over first over);
       learns = both_learn (knows c.args.pass.now) (knows c.begin.new.pass) (knows c.finish-answer.new.pass) is.learns behind.learns;

@@ -1,0 +1,5 @@
+pub mod Waiting
+pub mod Doing
+pub mod Ordering
+pub mod Sharing
+pub mod Joining

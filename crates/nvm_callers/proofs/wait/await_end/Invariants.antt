@@ -1,0 +1,7 @@
+use Rattle.turn_gate.specs.Pass.{knows}
+use Rattle.nvm_shared.specs.Passes.{IsUserOf}
+use Rattle.nvm_callers.specs.Calls.{HasPolled}
+use Rattle.nvm_callers.proofs.wait.await_end.Given as goal
+
+abbrev pub invariant-loop : goal.invariant-loop
+invariant-loop g l = IsUserOf l.shared l.pass × HasPolled (knows l.initial.pass) (knows l.pass)

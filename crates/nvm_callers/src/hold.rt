@@ -1,0 +1,18 @@
+// What stands round each request of a caller.
+
+/// What each caller calls just before a request, and just behind its answer, both without the lock.
+pub trait Hold {
+    fn before(&self, caller: u8, line: u32);
+
+    fn answered(&self, caller: u8, line: u32);
+}
+
+/// Nothing stands there.
+#[derive(Clone, Copy, Drop)]
+pub struct NoHold;
+
+impl Hold for NoHold {
+    fn before(&self, _caller: u8, _line: u32) {}
+
+    fn answered(&self, _caller: u8, _line: u32) {}
+}

@@ -1,0 +1,5 @@
+pub mod Growing
+pub mod Counting
+pub mod Owning
+pub mod RunScripts
+pub mod Apart

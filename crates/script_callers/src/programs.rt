@@ -1,0 +1,153 @@
+// The programs of a script's callers.
+ghost use Rattle.std.specs.Prelude.{◌≡◌, ◌<◌, ◌≤◌, ◌+◌, ◌^◌, ℕ, List, length, get_or, IfOk, OnOk, if◌then◌else◌};
+ghost use Rattle.block_machine.specs.Blocks.{desc_of, is_synchronized};
+ghost use Rattle.script_walks.specs.Words.{Step as Made};
+ghost use Rattle.script_walks.specs.Walk.{request_after};
+ghost use Rattle.script_walks.specs.Callers.{program_of};
+ghost use Rattle.script_callers.specs.Deeds.{deeds_of};
+ghost use Rattle.script_callers.specs.Programs.{programs_of};
+ghost use Rattle.script_callers.specs.RunScripts.{CanBeRun, AreRun};
+ghost use Rattle.script_callers.specs.Counting.{ram_write, AreOf, AreCounted, AddsDeed};
+
+use crate::store_counts::StoreCounts;
+use crate::{Deed, DeedList, Program};
+use block_config::{Config, RamKind};
+use nv_base::{Bytes, Request, bytes_of};
+use nvm_script::{Step, StepKind, StepList};
+use std::alloc::{AllocError, Global};
+
+/// How many callers there are.
+const CALLERS: u8 = 16;
+
+/// The programs of the callers that do something, by number: what each one's steps of the script have it do.
+pub fn callers(alloc: Global, config: &Config, steps: &StepList) -> Result<Vec<Program>, AllocError>
+    requires { AreRun config.now steps.now }
+    ensures { IfOk result (λ programs. programs.items ≡ programs_of config.now steps.now) }
+{
+    let mut programs = Vec::new(alloc);
+    for caller in 0..CALLERS {
+        let deeds = deeds_of_caller(alloc, config, steps, caller)?;
+        if deeds.len() > 0 {
+            programs.push(Program { caller, deeds })?;
+        }
+    }
+    Ok(programs)
+}
+
+// What the steps of a caller have it do.
+fn deeds_of_caller(
+    alloc: Global,
+    config: &Config,
+    steps: &StepList,
+    caller: u8,
+) -> Result<DeedList, AllocError>
+    requires { AreRun config.now steps.now }
+    ensures { IfOk result (λ deeds. deeds ≡ deeds_of config.now (program_of caller steps.now)) }
+{
+    let mut counts = StoreCounts::make(alloc, config.blocks())?;
+    let mut deeds = DeedList::new(alloc);
+    for place in 0..steps.len() {
+        match steps.get(place) {
+            Some(step) => {
+                if step.caller == caller {
+                    add_deed(alloc, config, step, &mut counts, &mut deeds)?;
+                }
+            }
+            None => {}
+        }
+    }
+    Ok(deeds)
+}
+
+// Adds what a step has its caller do.
+fn add_deed(
+    alloc: Global,
+    config: &Config,
+    step: &Step,
+    counts: &mut StoreCounts,
+    deeds: &mut DeedList,
+) -> Result<(), AllocError>
+    requires room { length deeds.old < u32.MAX }
+    requires run { CanBeRun config.now step.now.kind }
+    requires few { (block : ℕ) → get_or counts.old block 0 < 2 ^ 32 }
+    requires size { length counts.old ≡ length config.now.blocks + 1 }
+    ensures added { OnOk result ((before : List Made) → AreOf step.now.caller before → AreCounted before counts.old → AddsDeed config.now before step.now counts.new deeds.old deeds.new) }
+    ensures size { length counts.new ≡ length counts.old }
+    ensures count { OnOk result (length deeds.new ≤ length deeds.old + 1) }
+{
+    let line = step.line;
+    match &step.kind {
+        StepKind::Ask(request) => {
+            let request = numbered(config, request, counts)?;
+            deeds.add(Deed::Ask { line, request })
+        }
+        StepKind::Store { block, content } => {
+            let block = *block;
+            let number = counts.of(block) + 1;
+            let content = same_bytes(alloc, content)?;
+            counts.note(block);
+            deeds.add(Deed::Store {
+                line,
+                block,
+                number,
+                content,
+            })
+        }
+        StepKind::Await { block } => deeds.add(Deed::Await {
+            line,
+            block: *block,
+        }),
+        _ => Ok(()),
+    }
+}
+
+fn same_bytes(alloc: Global, content: &Bytes) -> Result<Bytes, AllocError>
+    ensures { IfOk result (λ bytes. bytes ≡ content.now) }
+{
+    bytes_of(alloc, content.as_slice())
+}
+
+// The request as it is asked: a write of synchronized RAM has the number of its caller's last store.
+fn numbered(config: &Config, request: &Request, counts: &StoreCounts) -> Result<Request, AllocError>
+    requires { length counts.now ≡ length config.now.blocks + 1 }
+    ensures { IfOk result (λ r. (before : List Made) (caller : ℕ) → AreOf caller before → AreCounted before counts.now → r ≡ request_after config.now before caller request.now) }
+{
+    match ram_write(request) {
+        Some(block) => Ok(Request::Write {
+            block,
+            content: None,
+            store: last_store(config, block, counts),
+        }),
+        None => copy_of(request),
+    }
+}
+
+// The block whose RAM the request writes.
+fn ram_write(request: &Request) -> Option<u16>
+    ensures { result ≡ ram_write request.now }
+{
+    match request {
+        Request::Write {
+            block,
+            content: None,
+            ..
+        } => Some(*block),
+        _ => None,
+    }
+}
+
+fn copy_of(request: &Request) -> Result<Request, AllocError>
+    ensures { IfOk result (λ r. r ≡ request.now) }
+{
+    request.clone()
+}
+
+// The number of the last store of a block, and 0 where its RAM isn't synchronized.
+fn last_store(config: &Config, block: u16, counts: &StoreCounts) -> u64
+    ensures { result ≡ (if is_synchronized (desc_of config.now block).ram then get_or counts.now block 0 else 0) }
+{
+    match config.block(block) {
+        Some(described) if matches!(described.ram, RamKind::Sync) => counts.of(block),
+        _ => 0,
+    }
+}
