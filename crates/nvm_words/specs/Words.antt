@@ -5,7 +5,7 @@ use Rattle.std.specs.Str.{bytes_eq}
 use Rattle.nv_base.specs.Decimal.{decimal_number_of}
 use Rattle.nvm_words.specs.Fields.{Places, places_of}
 use Rattle.nvm_words.specs.declared.words.CommandKind.{CommandKind}
-use Rattle.nvm_words.specs.declared.words.CommandKind.TheVariants.{Play, Run, Dump, Check, Soak}
+use Rattle.nvm_words.specs.declared.words.CommandKind.TheVariants.{Play, Run, Dump, Check, Soak, Uds}
 
 -- a word isn't empty and doesn't begin with `-` (45)
 abbrev pub is_word : List ℕ → Bool
@@ -18,7 +18,7 @@ are_words words = list_all is_word words
 -- THE COMMANDS
 -- those of one word
 abbrev pub command_named : List ℕ → Option CommandKind
-command_named word = if bytes_eq word (codes "play") then Some Play else (if bytes_eq word (codes "run") then Some Run else (if bytes_eq word (codes "dump") then Some Dump else (if bytes_eq word (codes "check") then Some Check else None)))
+command_named word = if bytes_eq word (codes "play") then Some Play else (if bytes_eq word (codes "run") then Some Run else (if bytes_eq word (codes "dump") then Some Dump else (if bytes_eq word (codes "check") then Some Check else (if bytes_eq word (codes "uds") then Some Uds else None))))
 
 -- `soak`, a seed and a count of rounds
 abbrev pub soak_of : Option ℕ → Option ℕ → Option CommandKind
@@ -54,6 +54,10 @@ is_check _ = false
 abbrev pub is_dump : Option CommandKind → Bool
 is_dump (Some Dump) = true
 is_dump _ = false
+
+abbrev pub is_uds : Option CommandKind → Bool
+is_uds (Some Uds) = true
+is_uds _ = false
 
 -- THE IMAGE
 -- `mem` stands for a flash in memory, any other word for the path of an image file

@@ -15,6 +15,7 @@ pub enum CommandKind {
     Dump,
     Check,
     Soak { seed: u32, count: u32 },
+    Uds,
 }
 
 fn is_word(word: &[u8]) -> bool
@@ -42,6 +43,7 @@ fn command_named(word: &str) -> Option<CommandKind>
         "run" => Some(CommandKind::Run),
         "dump" => Some(CommandKind::Dump),
         "check" => Some(CommandKind::Check),
+        "uds" => Some(CommandKind::Uds),
         _ => None,
     }
 }
@@ -67,7 +69,7 @@ fn command_in(fields: &Fields<'_>) -> Option<CommandKind>
     }
 }
 
-/// The command that the words ask for: `IMAGE play`, `IMAGE run`, `IMAGE dump`, `IMAGE check`, or
+/// The command that the words ask for: `IMAGE play`, `IMAGE run`, `IMAGE dump`, `IMAGE check`, `IMAGE uds`, or
 /// `IMAGE soak SEED COUNT`. None exactly where they ask for none.
 pub fn command_of(alloc: Global, words: &[String]) -> Result<Option<CommandKind>, AllocError>
     ensures { IfOk result (λ c. c ≡ command_by (map string_bytes words.now)) }

@@ -27,7 +27,7 @@ use Rattle.uds_gateway.proofs.Jobs.{accepted_one, refused_none, IsYesOrNo, own_r
 use Rattle.uds_gateway.proofs.JobTurns.{behind, adds_more}
 
 -- the entry behind those on the way decides
-answered : (request : List ℕ) (way : List Entry) (e : Entry) (answer : List ℕ) → IsTrue (list_all is_under_way way) → answer_at request e ≡ Some answer → answer_in request (way ++ e ∷ []) ≡ Some answer
+pub answered : (request : List ℕ) (way : List Entry) (e : Entry) (answer : List ℕ) → IsTrue (list_all is_under_way way) → answer_at request e ≡ Some answer → answer_in request (way ++ e ∷ []) ≡ Some answer
 answered request [] e answer under is = ap (λ (a : Option (List ℕ)). or_else a None) is
 answered request (Pick block kind t ops ∷ es) e answer under is = answered request es e answer (and_parts true (list_all is_under_way es) under).1 is
 answered request (Wrote i mark ops ∷ es) e answer under is = answered request es e answer (and_parts true (list_all is_under_way es) under).1 is

@@ -3,4 +3,7 @@ pub mod Answers
 pub mod Jobs
 pub mod Turning
 pub mod Serving
+pub mod Served
+pub mod Codes
+pub mod Causes
 pub mod Cases
