@@ -10,9 +10,11 @@ use Rattle.fee_core.specs.fls_model.Told.{Told, ToldBytes, Change, TellsFor, IfB
 use Rattle.fls_devices.specs.Cutter.{Cutting, cutting, planning_of, told_cutting, OnlyCuts}
 use Rattle.fls_devices.specs.Journal.{Journaled, HaveParts, merged, bytes_over, empty_journal}
 use Rattle.fls_devices.specs.Overlay.{ops_over}
+use Rattle.fee_core.specs.promise_device.Making.{Making}
+use Rattle.fee_core.specs.promise_device.Image.{IsSoundFlash}
 use Rattle.fee_core.specs.promise_device.Reading.{Reading, BeginsSound}
 use Rattle.fee_core.specs.promise_device.Bridge.{IsWornBy, cuts_of}
-use Rattle.fee_core.specs.promise_device.FlashRun.{TellsBytes, TellsOperations, HasRoom, AreSeen, bytes_after, is_none_done}
+use Rattle.fee_core.specs.promise_device.FlashRun.{TellsBytes, TellsOperations, StartsSound, HasRoom, AreSeen, bytes_after, is_none_done}
 use Rattle.fee_core.specs.fls_told.Device.{FlashDevice, flash_told}
 use Rattle.fee_core.specs.fls_told.Clock.{flash_clock}
 use Rattle.nvm_flash.specs.CutterLaws.{run_over, run_within, HandsBack, DevicesBridge}
@@ -41,8 +43,12 @@ alike j i g h (Some a) (Some b) both = tt
 as_same : (P : List ℕ → Type 0) (o q : Option (List ℕ)) → o ≡ q → IfSome o P → IfSome q P
 as_same P o q same has = subst (λ (x : Option (List ℕ)). IfSome x P) same has
 
-abbrev tells_over : (inner : Told) (cuts : ℕ) (c : Cutting) (operations : List Change) → TellsBytes (run_within inner c operations) → TellsBytes (run_over inner cuts c operations)
+abbrev pub tells_over : (inner : Told) (cuts : ℕ) (c : Cutting) (operations : List Change) → TellsBytes (run_within inner c operations) → TellsBytes (run_over inner cuts c operations)
 tells_over inner cuts c operations t = record { first = t.first; entry = same_entry inner cuts ∙ t.entry; last = t.last; exit = same_exit c ∙ t.exit }
+
+-- the image at the entry is the inner flash's
+pub starts_over : (m : Making) (inner : Told) (cuts : ℕ) (c : Cutting) (operations : List Change) → StartsSound m (run_within inner c operations) → StartsSound m (run_over inner cuts c operations)
+starts_over m inner cuts c operations sound = subst (λ (o : Option (List ℕ)). IfSome o (IsSoundFlash m)) (sym (same_entry inner cuts)) sound
 
 sound_over : (r : Reading) (inner : Told) (cuts : ℕ) (c : Cutting) (operations : List Change) → BeginsSound r (run_within inner c operations) → BeginsSound r (run_over inner cuts c operations)
 sound_over r inner cuts c operations sound = subst (λ (o : Option (List ℕ)). IfSome o (λ image. IsTrue (r.is_sound image))) (sym (same_entry inner cuts)) sound

@@ -13,13 +13,12 @@ use Rattle.fee_core.specs.fls_model.Told.{Told, ToldBytes, Change, IfBothTold, c
 use Rattle.fls_devices.specs.Cutter.{Cutting, OnlyCuts, cutting, told_cutting}
 use Rattle.fee_core.specs.promise_device.Making.{Making}
 use Rattle.fee_core.specs.promise_device.Bridge.{Bridges, reading_of}
+use Rattle.fee_core.specs.promise_device.Wear.{ErasesAreDue}
 use Rattle.fee_core.specs.promise_device.FlashRun.{FlashRun, IsChain}
 use Rattle.fee_core.specs.promise_device.Image.{attached}
 use Rattle.fee_core.specs.fee_told.Device.{Device, flash_device, told_of, clock_of}
 use Rattle.fee_core.specs.fee_laws.Made.{IsMadeOf, part_at}
 use Rattle.promise_run.specs.Run.{cap}
-use Rattle.nvm_core.specs.ram_blocks.declared.plain_block.PlainBlock.{PlainBlock}
-use Rattle.nvm_core.specs.ram_blocks.Plain.{plain_blocks_of}
 use Rattle.nvm_core.specs.Stack.{StackState, first_stack}
 use Rattle.nvm_core.specs.StartUps.{Starts, FailsToStart}
 use Rattle.nvm_core.specs.nvm_laws.declared.turned.FoundAnswer.{FoundAnswer}
@@ -28,8 +27,9 @@ use Rattle.promise_run.specs.Promise.{making_of}
 use Rattle.nvm_flash.specs.declared.device.MakeFault.{MakeFault}
 use Rattle.nvm_flash.specs.declared.device.MakeFault.TheVariants.{Flash, Memory}
 use Rattle.nvm_flash.specs.Turns.{fixed_by}
-use Rattle.nvm_flash.specs.Made.{IsOrigin, IsCause, ComesBack, IsBack, AreOfFirst, IsMadeStack}
-use Rattle.nvm_flash.proofs.CutterRuns.{devices_bridge}
+use Rattle.nvm_flash.specs.CutterLaws.{run_over}
+use Rattle.nvm_flash.specs.Made.{IsOrigin, IsCause, ComesBack, IsBack, AreOfFirst, IsMadeWith}
+use Rattle.nvm_flash.proofs.CutterRuns.{devices_bridge, tells_over, starts_over}
 use Rattle.nvm_flash.proofs.CutterUnmade.{counts_stay_within, tells_within}
 
 none_made : (n : ℕ) (xs : List Change) → n ≡ length xs → min n last_count ≡ 0 → xs ≡ []
@@ -39,14 +39,19 @@ none_made n (x ∷ xs) is none = absurd (omega (arith, is, none))
 pub back : (c : Configuration) (inner : Told) (cuts : ℕ) (making : Making) (entry exit : Told) (k : Cutting) (d : Device) → IsOrigin c inner cuts making entry → OnlyCuts k → exit ≡ k.flash.inner
     → told_cutting k ≡ d.flash → IfSome (changes_in (told_cutting k).bytes) (λ changes. changes ≡ d.operations) → (d.operations ≡ [] → ((told_cutting k).ops ≡ entry.ops) × ((told_cutting k).cuts ≡ entry.cuts)) → entry.faults ≤ (told_cutting k).faults
     → (told_cutting k).geometry ≡ making.geometry → AreOfFirst d → Bridges (reading_of making) false (record { entry = entry; exit = told_cutting k; operations = d.operations }) (part_at entry) (told_of d) (clock_of d)
+    → ErasesAreDue making (record { entry = entry; exit = told_cutting k; operations = d.operations })
     → IsBack c inner exit (part_at entry) (told_of d) (clock_of d)
-back c inner cuts making entry exit k d origin only is_exit told changes none more shape parts bridge =
+back c inner cuts making entry exit k d origin only is_exit told changes none more shape parts bridge wear =
     subst (λ (e : Told). IsBack c inner exit (part_at e) (told_of d) (clock_of d)) (sym origin.over)
     (subst (λ (x : Told). IsBack c inner x (part_at (told_cutting (cutting inner cuts))) (told_of d) (clock_of d)) (sym is_exit) (record {
       operations = d.operations;
       bridges = devices_bridge (reading_of (making_of c)) inner cuts k (flash_device d) (part_at (told_cutting (cutting inner cuts))) only (record { told = told; changes = changes }) refl refl
           (subst (λ (m : Making). Bridges (reading_of m) false (record { entry = told_cutting (cutting inner cuts); exit = told_cutting k; operations = d.operations }) (part_at (told_cutting (cutting inner cuts))) (told_of d) (clock_of d)) origin.made_for
           (subst (λ (e : Told). Bridges (reading_of making) false (record { entry = e; exit = told_cutting k; operations = d.operations }) (part_at e) (told_of d) (clock_of d)) origin.over bridge));
+      wear = λ tells starts.
+          subst (λ (m : Making). ErasesAreDue m (run_over inner cuts k d.operations)) origin.made_for
+          (subst (λ (e : Told). ErasesAreDue making (record { entry = e; exit = told_cutting k; operations = d.operations })) origin.over wear)
+          (tells_over inner cuts k d.operations tells) (starts_over (making_of c) inner cuts k d.operations starts);
       parts = parts;
       geometry = shape ∙ ap (λ (m : Making). m.geometry) origin.made_for;
       no_plan = only.no_plan;
@@ -132,28 +137,29 @@ failed_back c inner cuts making entry exit d e origin made fails back =
     rose = rose_with (told_of d).first.faults (told_of e).first.faults (told_of d).first.flash_faults (told_of e).first.flash_faults (in_first fails.faults) up.faults.tied (ap (λ p. p.faults) part) grown
 
 -- a stack that was made of such a device
-pub made_stack : (c : Configuration) (making : Making) (entry : Told) (s : StackState Device (List PlainBlock)) (d : Device) (copies : List PlainBlock)
-    → s ≡ first_stack c cap d copies → IsMadeOf making entry d → AreOfFirst d → (told_of d).fixed ≡ fixed_by c → copies ≡ plain_blocks_of c
-    → IsMadeStack c making entry s
-made_stack c making entry s d copies same made parts fixed is = record {
+pub made_stack : {C : Type 0} (c : Configuration) (making : Making) (entry : Told) (s : StackState Device C) (d : Device) (copies : C)
+    → s ≡ first_stack c cap d copies → IsMadeOf making entry d → AreOfFirst d → (told_of d).fixed ≡ fixed_by c → IsMadeWith c making entry copies s
+made_stack {C} c making entry s d copies same made parts fixed = record {
   device = subst (λ (x : Device). IsMadeOf making entry x) own made;
   parts = subst AreOfFirst own parts;
   fixed = subst (λ (x : Device). (told_of x).fixed ≡ fixed_by c) own fixed;
-  only =
-      subst (λ (x : Device). s ≡ first_stack c cap x (plain_blocks_of c)) own
-      (subst (λ (xs : List PlainBlock). s ≡ first_stack c cap d xs) is same);
+  only = subst (λ (x : Device). s ≡ first_stack c cap x copies) own same;
 }
   where
     own : d ≡ s.device
     own = sym (ap (λ t. t.device) same)
 
+-- its copies are those that it was made with
+pub own_copies : {C : Type 0} (c : Configuration) (making : Making) (entry : Told) (copies : C) (s : StackState Device C) → IsMadeWith c making entry copies s → IsMadeWith c making entry s.copies s
+own_copies {C} c making entry copies s made = subst (λ (x : C). IsMadeWith c making entry x s) (sym (ap (λ t. t.copies) made.only)) made
+
 -- the first start-up has room and memory
-pub fails_alone : (c : Configuration) (making : Making) (entry : Told) (old new : StackState Device (List PlainBlock)) (a : FoundAnswer) → IsMadeStack c making entry old → (a ≡ found.Failed) ⊎ ((a ≡ found.NoRoom) ⊎ (a ≡ found.Memory))
+pub fails_alone : {C : Type 0} (c : Configuration) (making : Making) (entry : Told) (copies : C) (old new : StackState Device C) (a : FoundAnswer) → IsMadeWith c making entry copies old → (a ≡ found.Failed) ⊎ ((a ≡ found.NoRoom) ⊎ (a ≡ found.Memory))
     → Starts told_of a old new → FailsToStart told_of old new
-fails_alone c making entry old new found.Failed made is starts = starts
-fails_alone c making entry old new found.NoRoom made is starts =
+fails_alone c making entry copies old new found.Failed made is starts = starts
+fails_alone c making entry copies old new found.NoRoom made is starts =
     absurd (let full = starts.1 in let most = ap (λ s. s.desk.cap) made.only in let none = ap (λ s. length s.desk.entries) made.only in omega (arith, full, most, none))
-fails_alone c making entry old new found.Memory made is starts = let no_ : true ≡ false = sym (ap (λ s. s.has_room) made.only) ∙ starts.1 in absurd (cc no_)
-fails_alone c making entry old new found.Ready made (inl is) starts = absurd (cc is)
-fails_alone c making entry old new found.Ready made (inr (inl is)) starts = absurd (cc is)
-fails_alone c making entry old new found.Ready made (inr (inr is)) starts = absurd (cc is)
+fails_alone c making entry copies old new found.Memory made is starts = let no_ : true ≡ false = sym (ap (λ s. s.has_room) made.only) ∙ starts.1 in absurd (cc no_)
+fails_alone c making entry copies old new found.Ready made (inl is) starts = absurd (cc is)
+fails_alone c making entry copies old new found.Ready made (inr (inl is)) starts = absurd (cc is)
+fails_alone c making entry copies old new found.Ready made (inr (inr is)) starts = absurd (cc is)

@@ -11,6 +11,7 @@ use Rattle.fee_core.specs.fls_model.declared.flash.AttachFault.TheVariants as at
 use Rattle.fls_devices.specs.Cutter.{cutting, told_cutting}
 use Rattle.fee_core.specs.promise_device.Making.{Making}
 use Rattle.fee_core.specs.promise_device.Bridge.{Bridges, reading_of}
+use Rattle.fee_core.specs.promise_device.Wear.{ErasesAreDue}
 use Rattle.fee_core.specs.fee_told.Device.{Device, told_of}
 use Rattle.fee_core.specs.fee_laws.Made.{IsMadeOf}
 use Rattle.nvm_core.specs.ram_blocks.declared.plain_block.PlainBlock.{PlainBlock}
@@ -43,10 +44,11 @@ pub record ComesBack (c : Configuration) (fault : MakeFault) (s t : Told) : Type
   pub cuts : s.cuts ≤ t.cuts
 
 -- THE DEVICE IS TAKEN APART
--- What its part told of the flash is so. Where it asked for no operation, the flash counted none.
+-- What its part told of the flash is so, and its erases were due. Where it asked for no operation, the flash counted none.
 pub record IsBack (c : Configuration) (inner exit : Told) (before : PartTold) (now : DeviceTold) (clock : Clock) : Type 0 where
   pub operations : List Change
   pub bridges : Bridges (reading_of (making_of c)) true (record { entry = inner; exit = exit; operations = operations }) before now clock
+  pub wear : ErasesAreDue (making_of c) (record { entry = inner; exit = exit; operations = operations })
   -- all numbers are of its one part
   pub parts : (n : ℕ) → (figures_at now.fixed n).part ≡ First
   pub geometry : exit.geometry ≡ c.geometry
@@ -61,12 +63,16 @@ pub record IsBack (c : Configuration) (inner exit : Told) (before : PartTold) (n
 abbrev pub AreOfFirst : Device → Type 0
 AreOfFirst d = (n : ℕ) → (figures_at (told_of d).fixed n).part ≡ First
 
--- it is made, and has made no start-up
-pub record IsMadeStack (c : Configuration) (making : Making) (entry : Told) (s : StackState Device (List PlainBlock)) : Type 0 where
+-- it is made with these copies of the application's RAM, and has made no start-up
+pub record IsMadeWith {C : Type 0} (c : Configuration) (making : Making) (entry : Told) (copies : C) (s : StackState Device C) : Type 0 where
   pub device : IsMadeOf making entry s.device
   pub parts : AreOfFirst s.device
   pub fixed : (told_of s.device).fixed ≡ fixed_by c
-  pub only : s ≡ first_stack c cap s.device (plain_blocks_of c)
+  pub only : s ≡ first_stack c cap s.device copies
+
+-- with the copies that a player has at first
+abbrev pub IsMadeStack : Configuration → Making → Told → StackState Device (List PlainBlock) → Type 0
+IsMadeStack c making entry s = IsMadeWith c making entry (plain_blocks_of c) s
 
 -- why the flash isn't attached
 abbrev pub fault_of : AttachFault → MakeFault

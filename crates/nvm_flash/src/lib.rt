@@ -23,4 +23,4 @@ pub use nvm_core::{
     promise_blocks, ram_blocks,
 };
 pub use promise_run;
-pub use stack::{FlashStack, make_stack, start_stack};
+pub use stack::{FlashStack, make_stack, make_stack_with, start_stack, start_stack_with};

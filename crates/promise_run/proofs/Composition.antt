@@ -16,6 +16,7 @@ use Rattle.promise_device.specs.Image.{held_in, IsSoundFlash}
 use Rattle.promise_device.specs.Reading.{BeginsSound}
 use Rattle.promise_device.specs.FlashRun.{TellsBytes, StartsSound, IsCutImage, AreOperations, bytes_after}
 use Rattle.promise_device.specs.Bridge.{IsWornOut, reading_of, cuts_of}
+use Rattle.promise_device.specs.Wear.{ErasesAreDue}
 use Rattle.promise_device.proofs.FlashRun.{seen_more}
 use Rattle.promise_device.proofs.Readings.{sound_flashes_compute, sound_starts_compute, worn_banks_compute}
 use Rattle.promise_run.specs.Run.{Run, alone, cap, has_cutter}
@@ -122,8 +123,8 @@ cuts_count r before now clock block device tells sound cuts k ops image small cu
     (device.after tells ops (inl (sound_starts_compute (making_of c) r.flash sound)) (omega (arith, soon, within)) (omega (arith, soon, small)))
 
 -- over one flash
-of_one : (clock : Clock) (r : Run) (before : Part → PartTold) (now : DeviceTold) → BlockHalf (alone r) before now clock → DeviceHalf r (before First) now (beyond_end clock) → Promise (alone r)
-of_one clock r before now block device = record {
+of_one : (clock : Clock) (r : Run) (before : Part → PartTold) (now : DeviceTold) → BlockHalf (alone r) before now clock → DeviceHalf r (before First) now (beyond_end clock) → ErasesAreDue (making_of r.configuration) r.flash → Promise (alone r)
+of_one clock r before now block device wear = record {
   order = block.order;
   power_cut = λ tells sound k image small cut. record {
     marks = block.over.cut k (held_in (making_of r.configuration) image) small
@@ -137,6 +138,7 @@ of_one clock r before now block device = record {
   at_exit = exits r before now clock block device;
   block_machine = block.over.legal;
   faults = pays (is_of First now.fixed) block.one r.configuration clock.worn (IsWornOut (making_of r.configuration) r.flash) (before First).faults now.first.faults r.flash.entry.faults r.flash.exit.faults r.history (λ k n worn. worn_banks_compute (making_of r.configuration) r.flash k n (device.worn k n worn)) device.faults (block.over.paid First);
+  wear = wear;
   refusals = block.refusals;
   off = (block.off.0, block.off.1, device.cuts block.off.0 block.off.2);
   operations = λ started. subst (AreOperations r.configuration.geometry r.flash (MayBeKept r)) block.came (record {
@@ -158,8 +160,8 @@ of_one clock r before now block device = record {
     told k (inr off) = inr (block.over.off k off)
 
 pub halves_make_the_promise : (clock : Clock) → HalvesMakeIt clock
-halves_make_the_promise clock r before now block device =
-    subst Promise (sym same) (of_one clock r before now (subst (λ (x : Run). BlockHalf x before now clock) same block) device)
+halves_make_the_promise clock r before now block device wear =
+    subst Promise (sym same) (of_one clock r before now (subst (λ (x : Run). BlockHalf x before now clock) same block) device wear)
   where
     same : r ≡ alone r
     same = λ i. record r { beside = block.alone i }

@@ -217,6 +217,7 @@ write_keeps computes makes stays bits sound erased = record {
   at_exit = λ told from started few. exit_keeps sound erased;
   block_machine = is_legal;
   faults = record { faults = 0; counted = inl (omega arith); pay = inl (omega arith, inl (omega arith, inl (omega arith, inl (omega arith, inl (omega arith, tt))))) };
+  wear = λ told from. refl;
   refusals = no_refusals;
   off = (0, inl (_, [], refl, inl (omega arith), refl, (refl, refl)), inl (omega arith));
   operations = λ started. record {

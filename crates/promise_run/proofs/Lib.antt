@@ -13,6 +13,7 @@ mod Spells
 mod WrongOrders
 mod WrongMarks
 mod WrongCauses
+mod WrongErases
 mod KeptRuns
 mod TwoFlashes
 mod LostWrite
@@ -20,3 +21,4 @@ mod WrongCalls
 mod OneByOne
 mod Failing
 pub mod Callers
+pub mod RunHalves

@@ -70,6 +70,7 @@ both_keep sound erased = record {
   at_exit = λ told from too begins started few. exit_keeps sound erased;
   block_machine = (record { room = omega arith; grows = omega arith; lists = refl; lengths = refl; stands = tt }, tt);
   faults = (record { faults = 0; counted = inl (omega arith); pay = inl (omega arith, tt) }, record { faults = 0; counted = inl (omega arith); pay = inl (omega arith, tt) });
+  wear = λ told from. refl;
   refusals = none_refused;
   off = (0, (refl, refl), inl (omega arith));
   operations = λ started. (

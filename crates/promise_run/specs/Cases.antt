@@ -193,6 +193,24 @@ worn_long_ago = failed_behind before_the_erase 2 (image_of 4294967295 (replicate
 abbrev pub worn_and_full : Run
 worn_and_full = failed_on (image_of 4294967295 (record_of 77 one ++ record_of 77 one))
 
+-- a write begins with an erase of the blank bank 1, on this image
+abbrev pub erases_other : List ℕ → List Change
+erases_other image = record { op = Erase 160 160; before = image; answer = Done } ∷ []
+
+abbrev pub erased_beside : List ℕ → Run
+erased_beside image =
+    plays (asks_one ∷ (Turn 1, picks_one ∷ []) ∷ (Turn 1, []) ∷ []) (record { entry = tells image (Some []); exit = tells image (Some (erases_other image)); operations = erases_other image })
+
+-- whose active bank has room for the record, has none for it, or none and the last generation
+abbrev pub erased_with_room : Run
+erased_with_room = erased_beside (image_of 1 (replicate 128 255))
+
+abbrev pub erased_when_full : Run
+erased_when_full = erased_beside (image_of 1 (record_of 77 one ++ record_of 77 two))
+
+abbrev pub erased_beside_last : Run
+erased_beside_last = erased_beside (image_of 4294967295 (record_of 77 one ++ record_of 77 two))
+
 -- on a flash of no bytes a write begins with the erase of bank 0, which a planned cut keeps from the flash; then a restart
 abbrev pub kept_write : Run
 kept_write =

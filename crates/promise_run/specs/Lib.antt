@@ -7,6 +7,7 @@ pub mod Halves
 pub mod Life
 pub mod Call
 pub mod Completeness
+pub mod RunHalves
 pub mod Turns
 pub mod JobTurns
 pub mod InRoom

@@ -6,6 +6,7 @@ pub mod Turned
 pub mod Canceled
 pub mod Causes
 pub mod Walking
+pub mod Served
 pub mod Grown
 pub mod Paying
 pub mod Moves

@@ -260,24 +260,28 @@ takes_enough made left x old mid all are =
     let both = sum_by-append (λ (y : Step). cuts_in y.kind) made (x ∷ left) in
     let first = sum_by-cons (λ (y : Step). cuts_in y.kind) x left in omega (arith, both, first, all, are)
 
--- one step more of those that are to be made
+-- one step more
+pub walk_on : (p q r : Payer) (made : List Step) (x : Step) (table table' : List ℕ) (old mid new : StackTold) → AreUnderWay p q made table old mid → IsMade q r made x mid new → HasLastStores mid.configuration (made ++ x ∷ []) table' → cuts_in x.kind ≤ mid.causes.takes
+    → AreUnderWay p r (made ++ x ∷ []) table' old new
+walk_on p q r made x table table' old mid new way step has planned = record {
+  configuration = step.configuration ∙ way.configuration;
+  cap = step.cap ∙ way.cap;
+  most = step.most ∙ way.most;
+  one = step.one ∙ way.one;
+  counted = let a = way.counted in let b = step.counted in omega (arith, a, b);
+  kept = step.kept;
+  table_kept = subst (λ (c : Configuration). HasLastStores c (made ++ x ∷ []) table') (sym step.configuration) has;
+  walking = walks_on p q r made x old mid new way.configuration way.cap way.most way.counted way.walking step planned way.one;
+}
+
+-- of those that are to be made
 pub go_on : (p q r : Payer) (steps made left : List Step) (x : Step) (table table' : List ℕ) (old mid new : StackTold) → steps ≡ made ++ x ∷ left → length steps < 2 ^ 32 → cuts_of steps ≤ old.causes.takes → AreUnderWay p q made table old mid
     → Makes q r x table table' mid new → AreUnderWay p r (made ++ x ∷ []) table' old new
 go_on p q r steps made left x table table' old mid new order few planned way makes =
     let many = ap length order ∙ length-append made (x ∷ left) in
     let (step, has) = makes made (omega (arith, many, few)) way.kept way.table_kept in
-    record {
-      configuration = step.configuration ∙ way.configuration;
-      cap = step.cap ∙ way.cap;
-      most = step.most ∙ way.most;
-      one = step.one ∙ way.one;
-      counted = let a = way.counted in let b = step.counted in omega (arith, a, b);
-      kept = step.kept;
-      table_kept = subst (λ (c : Configuration). HasLastStores c (made ++ x ∷ []) table') (sym step.configuration) has;
-      walking =
-          walks_on p q r made x old mid new way.configuration way.cap way.most way.counted way.walking step
-          (takes_enough made left x old mid (subst (λ (xs : List Step). cuts_of xs ≤ old.causes.takes) order planned) way.walking.takes) way.one;
-    }
+    walk_on p q r made x table table' old mid new way step has
+    (takes_enough made left x old mid (subst (λ (xs : List Step). cuts_of xs ≤ old.causes.takes) order planned) way.walking.takes)
 
 -- all of them
 pub all_made : (p q : Payer) (steps made : List Step) (table : List ℕ) (old now : StackTold) → made ≡ steps → AreUnderWay p q made table old now → HasWalked p q steps old now

@@ -6,8 +6,10 @@ pub mod Table
 pub mod Kept
 pub mod Made
 pub mod Walking
+pub mod Requests
 pub mod Paying
 pub mod PlainTold
 pub mod PlainKept
 pub mod PlainPaying
 pub use Rattle.nvm_core.specs.ram_blocks as ram_blocks
+pub use Rattle.uds_gateway.specs as uds_gateway

@@ -5,6 +5,7 @@ use Rattle.nvm_core.specs.nv_base.Entry.{ops_behind}
 use Rattle.nvm_core.specs.block_machine.Words.{Entry, Off, Configuration}
 use Rattle.nvm_core.specs.block_machine.State.{State, Job}
 use Rattle.nvm_core.specs.block_machine.Steps.{after}
+use Rattle.nvm_core.specs.nv_desk.Desk.{DeskState}
 use Rattle.promise_run.specs.Run.{DueCut, Event, Made, Added, plan_after, CutsAre}
 use Rattle.promise_run.specs.Turns.{Moment}
 
@@ -53,6 +54,10 @@ pub record StackTold : Type 0 where
 -- the state after its entries
 abbrev pub state_of : StackTold → State
 state_of t = after t.configuration t.entries
+
+-- its desk, as far as it is told
+abbrev pub desk_of : StackTold → DeskState
+desk_of t = record { config = t.configuration; cap = t.cap; entries = t.entries; prepared = 0 }
 
 -- what is told of the device at this moment
 abbrev pub moment_of : StackTold → Moment

@@ -10,6 +10,7 @@ mod cuts;
 mod last_stores;
 mod plain_stack;
 mod played_stack;
+mod requests;
 mod steps;
 mod turns;
 
@@ -20,5 +21,7 @@ pub use nvm_core::{block_config, memif, nvm_laws, ram_blocks};
 pub use plain_stack::PlainStack;
 pub use played_stack::PlayedStack;
 pub use promise_run;
+pub use requests::serve_requests;
 pub use steps::{StepFault, make_step, make_steps};
 pub use turns::{drain, make_turns};
+pub use uds_gateway;

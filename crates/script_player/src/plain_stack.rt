@@ -99,6 +99,10 @@ impl<D: MemDevice> PlayedStack for PlainStack<D> {
         self.stack.in_hand()
     }
 
+    fn len(&self) -> u32 {
+        self.stack.history().len()
+    }
+
     fn faults(&self) -> u64 {
         self.stack.faults()
     }

@@ -1,9 +1,13 @@
 // A stack, as its player sees it.
-ghost use Rattle.std.specs.Prelude.{◌≡◌, ◌≤◌, true, Some, IsSome, length, is_some};
+ghost use Rattle.std.specs.Prelude.{◌≡◌, ◌≤◌, true, Some, IsSome, IfOk, length, is_some};
+ghost use Rattle.nvm_core.specs.block_machine.Words.{Request as Asked};
 ghost use Rattle.nvm_core.specs.block_machine.Legal.{HasStore};
+ghost use Rattle.nvm_core.specs.block_machine.Reply.{reply_of};
 ghost use Rattle.nvm_core.specs.memif.Told.{Part, PartTold};
 ghost use Rattle.nvm_script.specs.Rules.{sync_length_of};
-ghost use Rattle.script_player.specs.Told.{StackTold, state_of};
+ghost use Rattle.uds_gateway.specs.Jobs.{HasOne};
+ghost use Rattle.uds_gateway.specs.Turning.{Goes};
+ghost use Rattle.script_player.specs.Told.{StackTold, state_of, desk_of};
 ghost use Rattle.script_player.specs.Calls.{Asks, Turns, Restarts, Arms, Stores, Refuses};
 ghost use Rattle.script_player.specs.Paying.{Payer, PaysTurn, PaysNothing};
 
@@ -29,6 +33,7 @@ pub trait PlayedStack {
         requires caller { caller ≤ 15 }
         requires store { HasStore (told self.old).configuration request }
         ensures asks { Asks caller request result (told self.old) (told self.new) }
+        ensures replies { IfOk result (λ reply. reply ≡ reply_of (told self.old).configuration (told self.old).cap (state_of (told self.old)) request) }
         ensures pays { PaysNothing (payer self.old) (payer self.new) (told self.new) }
         ensures keeps { (before : Part → PartTold) → kept self.old before → kept self.new before };
 
@@ -36,6 +41,7 @@ pub trait PlayedStack {
     fn turn(&mut self) -> Turned
         requires { (told self.old).ready ≡ true }
         ensures turns { Turns result (told self.old) (told self.new) }
+        ensures goes { (asked : Asked) → HasOne asked (state_of (told self.old)) → Goes asked result (desk_of (told self.old)) (desk_of (told self.new)) }
         ensures pays { PaysTurn (payer self.old) (payer self.new) (told self.old) (told self.new) }
         ensures keeps { (before : Part → PartTold) → kept self.old before → kept self.new before };
 
@@ -70,6 +76,10 @@ pub trait PlayedStack {
     fn in_hand(&self) -> bool
         requires { (told self.now).ready ≡ true }
         ensures { result ≡ is_some (state_of (told self.now)).hand };
+
+    /// How many entries the history has.
+    fn len(&self) -> u32
+        ensures { result ≡ length (told self.now).entries };
 
     /// The device's faults so far.
     fn faults(&self) -> u64

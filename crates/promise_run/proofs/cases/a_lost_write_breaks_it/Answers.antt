@@ -1,3 +1,4 @@
+use Rattle.std.proofs.Common.{refl}
 use Rattle.fee_image.proofs.Soundness.{sound_images_compute}
 use Rattle.promise_run.proofs.LostWrite as law
 use Rattle.promise_run.proofs.WrongMarks.{lost_count_breaks, lost_write_breaks}
@@ -35,3 +36,6 @@ returns-clause-operations c = law.are_operations
 
 pub returns-clause-counted : goal.returns-clause-counted
 returns-clause-counted c = law.tells_few
+
+pub returns-clause-wear : goal.returns-clause-wear
+returns-clause-wear c = λ told starts. refl

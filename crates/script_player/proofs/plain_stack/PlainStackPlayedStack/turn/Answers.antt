@@ -1,10 +1,16 @@
 use Rattle.std.proofs.Common.{◌≡◌, List, subst, ap, ◌∙◌, inl, inr}
+use Rattle.nvm_core.specs.block_machine.Words.{Request}
 use Rattle.nvm_core.specs.ram_blocks.declared.plain_block.PlainBlock.{PlainBlock}
 use Rattle.nvm_core.specs.memif.Told.{Part, PartTold}
 use Rattle.nvm_core.specs.Stack.{StackState}
 use Rattle.script_player.specs.PlainKept.{IsKept}
 use Rattle.script_player.specs.Calls.{Turns}
 use Rattle.script_player.specs.Paying.{PaysTurn}
+use Rattle.script_player.specs.Told.{state_of, desk_of}
+use Rattle.uds_gateway.specs.Jobs.{HasOne}
+use Rattle.uds_gateway.specs.Turning.{Goes}
+use Rattle.uds_gateway.proofs.JobTurns.{turn_goes}
+use Rattle.script_player.proofs.Served.{goes_told}
 use Rattle.script_player.specs.PlainPaying.{payer_by}
 use Rattle.script_player.proofs.PlainPaying.{keeps_by, turn_paid, turned_ready}
 use Rattle.script_player.specs.PlainTold.{told_by}
@@ -56,3 +62,13 @@ returns-clause-keeps g c =
     let ready = ap (λ (t : StackState g.row.D.Denot (List PlainBlock)). t.ready) c.self.view_is ∙ c.requires in
     subst (λ (t : StackState g.row.D.Denot (List PlainBlock)). (before : Part → PartTold) → IsKept t.ready before t.desk t.hand (told t.device) (clock t.device) → IsKept new.ready before new.desk new.hand (told new.device) (clock new.device)) c.self.view_is
     (keeps_by s.ready new.ready s.desk new.desk s.hand new.hand (told s.device) (told new.device) (clock s.device) (clock new.device) ready (turned_ready told clock s new c.turn-turned.result c.turn-turned.ensures.turns) c.turn-turned.ensures.keeps)
+
+pub returns-clause-goes : goal.returns-clause-goes
+returns-clause-goes g c =
+    let s = c.self.inside.stack in
+    let new = c.turn-turned.new.self in
+    let told = g.D.MemDevice.told in
+    let ready = ap (λ (t : StackState g.row.D.Denot (List PlainBlock)). t.ready) c.self.view_is ∙ c.requires in
+    subst (λ (t : StackState g.row.D.Denot (List PlainBlock)). (asked : Request) → HasOne asked (state_of (told_by told t)) → Goes asked c.turn-turned.result (desk_of (told_by told t)) (desk_of (told_by told new))) c.self.view_is
+    (λ asked one. goes_told asked c.turn-turned.result s.desk new.desk
+    (turn_goes told g.D.MemDevice.clock _ _ _ s new asked one c.turn-turned.result (c.device-behind.ensures.power (turned_ready told g.D.MemDevice.clock s new c.turn-turned.result c.turn-turned.ensures.turns ∙ ready)) c.turn-turned.ensures.turns))

@@ -1,0 +1,44 @@
+use Rattle.std.proofs.Common.{sym, ◌∙◌}
+use Rattle.uds_gateway.specs.Turning.{is_on_way}
+use Rattle.uds_gateway.proofs.JobTurns.{goes_more, on_way, turns_fall}
+use Rattle.script_player.specs.Told.{desk_of}
+use Rattle.script_player.proofs.Grown.{ready_grown}
+use Rattle.script_player.proofs.Served.{first_turn, more_turns, turn_nears}
+use Rattle.script_player.proofs.requests.turns_to_post.Goals as goal
+
+pub loop-turned-init : goal.loop-turned-init
+loop-turned-init g c =
+    let old = g.S.PlayedStack.told c.args.stack.now in
+    let new = g.S.PlayedStack.told c.turn-turned.new.self in
+    record {
+      ready = ready_grown old new c.turn-turned.ensures.turns.made.entries c.turn-turned.ensures.turns.made.grows c.requires.ready;
+      turns = λ before kept. first_turn (g.S.PlayedStack.payer c.args.stack.now) (g.S.PlayedStack.payer c.turn-turned.new.self) c.turn-turned.result before old new c.turn-turned.ensures.turns c.turn-turned.ensures.pays kept;
+      goes = c.turn-turned.ensures.goes;
+      keeps = c.turn-turned.ensures.keeps;
+    }
+
+pub loop-turned-smaller : goal.loop-turned-smaller
+loop-turned-smaller g c =
+    let old = g.S.PlayedStack.told c.loop-turned.stack in
+    let new = g.S.PlayedStack.told c.turn-turned-in-loop-turned.new.self in
+    let way = sym c.is_on_way.ensures ∙ c.loop-turned-test.true in
+    let on = on_way c.requires.job.0 c.loop-turned.turned (desk_of (g.S.PlayedStack.told c.args.stack.now)) (desk_of old) way (c.loop-turned.invariant.goes c.requires.job.0 c.requires.job.1) in
+    turns_fall (is_on_way c.loop-turned.turned) (is_on_way c.turn-turned-in-loop-turned.result) old.work new.work way
+    (turn_nears c.requires.job.0 c.turn-turned-in-loop-turned.result old new on.one c.turn-turned-in-loop-turned.ensures.turns (c.turn-turned-in-loop-turned.ensures.goes c.requires.job.0 on.one))
+
+pub loop-turned-preserved : goal.loop-turned-preserved
+loop-turned-preserved g c =
+    let first = g.S.PlayedStack.told c.args.stack.now in
+    let old = g.S.PlayedStack.told c.loop-turned.stack in
+    let new = g.S.PlayedStack.told c.turn-turned-in-loop-turned.new.self in
+    let turns = c.turn-turned-in-loop-turned.ensures.turns in
+    record {
+      ready = ready_grown old new turns.made.entries turns.made.grows c.loop-turned.invariant.ready;
+      turns = λ before kept.
+          more_turns (g.S.PlayedStack.payer c.args.stack.now) (g.S.PlayedStack.payer c.loop-turned.stack) (g.S.PlayedStack.payer c.turn-turned-in-loop-turned.new.self) c.turn-turned-in-loop-turned.result before first old new
+          (c.loop-turned.invariant.turns before kept) turns c.turn-turned-in-loop-turned.ensures.pays;
+      goes = λ asked one.
+          let on = on_way asked c.loop-turned.turned (desk_of first) (desk_of old) (sym c.is_on_way.ensures ∙ c.loop-turned-test.true) (c.loop-turned.invariant.goes asked one) in
+          goes_more asked c.turn-turned-in-loop-turned.result (desk_of first) (desk_of old) (desk_of new) on (c.turn-turned-in-loop-turned.ensures.goes asked on.one);
+      keeps = λ before kept. c.turn-turned-in-loop-turned.ensures.keeps before (c.loop-turned.invariant.keeps before kept);
+    }
