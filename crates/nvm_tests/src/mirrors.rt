@@ -10,18 +10,18 @@ use std::thread::{Threads, join_mut};
 
 const STORES: u64 = 1_000_000;
 
-fn store_all(mirror: &Mirror, owner: &mut Owner)
+fn store_all(mirror: &Mirror<u64>, owner: &mut Owner<u64>)
     requires own { IsOwnerOf mirror.now owner.old }
     requires size { mirror.now.size ≡ 8 }
     ensures own { IsOwnerOf mirror.now owner.new }
 {
     for i in 0..STORES {
-        mirror.store(owner, &(i + 1).to_le_bytes());
+        mirror.store(owner, &(i + 1).to_le_bytes(), Some(i + 1));
     }
 }
 
 // Takes until the last store was taken.
-fn take_all(mirror: &Mirror, taker: &mut Taker, found: &mut Found)
+fn take_all(mirror: &Mirror<u64>, taker: &mut Taker<u64>, found: &mut Found)
     requires own { IsTakerOf mirror.now taker.old }
     ensures own { IsTakerOf mirror.now taker.new }
 {
@@ -42,7 +42,12 @@ fn is_whole(found: &Found) -> bool {
 }
 
 // Whether the stores were taken whole, and the taker shows the last one.
-fn are_whole<R: Threads>(rt: &R, mirror: &Mirror, owner: &mut Owner, taker: &mut Taker) -> bool
+fn are_whole<R: Threads>(
+    rt: &R,
+    mirror: &Mirror<u64>,
+    owner: &mut Owner<u64>,
+    taker: &mut Taker<u64>,
+) -> bool
     requires owner { IsOwnerOf mirror.now owner.old }
     requires taker { IsTakerOf mirror.now taker.old }
     requires size { mirror.now.size ≡ 8 }
@@ -59,6 +64,7 @@ fn are_whole<R: Threads>(rt: &R, mirror: &Mirror, owner: &mut Owner, taker: &mut
         && found.count <= taker.looks()
         && taker.shown() == STORES
         && taker.content() == STORES.to_le_bytes().as_slice()
+        && taker.take_note() == Some(STORES)
 }
 
 fn are_exchanged<R: Threads>(rt: &R, alloc: Global) -> bool {

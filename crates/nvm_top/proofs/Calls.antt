@@ -1,12 +1,12 @@
--- A call of the program that calls no command.
-use Rattle.std.proofs.Common.{ℕ, Bool, List, Option, Some, None, inr, refl}
+-- A call of the program that calls no command, or one that has a run.
+use Rattle.std.proofs.Common.{◌≡◌, ℕ, Bool, List, Option, Some, None, inr, refl, sym, subst}
 use Rattle.nv_streams.specs.Sink.{Written}
 use Rattle.nvm_flash.specs.fls_model.Told.{Told}
 use Rattle.nvm_words.specs.declared.words.CommandKind.{CommandKind}
-use Rattle.nvm_words.specs.declared.words.CommandKind.TheVariants.{Play, Run, Dump, Check, Soak}
+use Rattle.nvm_words.specs.declared.words.CommandKind.TheVariants.{Play, Run, Dump, Check, Soak, Uds}
 use Rattle.nvm_top.specs.declared.status.Status.TheVariants as status
 use Rattle.nvm_top.specs.Causes.{HasCauses}
-use Rattle.nvm_top.specs.Commands.{ended, KeepsCommand, KeepsOnly}
+use Rattle.nvm_top.specs.Commands.{Ended, ended, KeepsCommand, KeepsOnly, KeepsPlay, KeepsUds}
 use Rattle.nvm_top.proofs.Images.{kept-same}
 use Rattle.nvm_top.proofs.Promised.{alone}
 
@@ -23,6 +23,15 @@ wanting (Some Check) left reads written writes told = record { by_input = refl; 
 wanting (Some Dump) left reads written writes told = record { by_input = refl; kept = kept-same told; untouched = λ is. refl; causes = no_cause reads writes left }
 wanting (Some Play) left reads written writes told = record { promise = inr (record { line = refl; alone = alone told }); untouched = λ is. refl; causes = no_cause reads writes left }
 wanting (Some (Soak seed count)) left reads written writes told = record { promise = inr (record { line = refl; alone = alone told }); untouched = λ is. refl; causes = no_cause reads writes left }
+wanting (Some Uds) left reads written writes told = record { promise = inr (record { line = refl; alone = alone told }); untouched = λ is. refl; causes = no_cause reads writes left }
 
 pub wanting_only : (is_served : Option CommandKind → Bool) (k : Option CommandKind) (left : Option (List ℕ)) (reads : ℕ) (written : Written) (writes : ℕ) (told : Told) → KeepsOnly is_served k (ended status.Memory left left reads reads written written writes writes told told)
 wanting_only is_served k left reads written writes told = record { served = λ _. wanting k left reads written writes told; refused = λ _. wanting None left reads written writes told }
+
+-- A RUN
+
+pub keeps_as_play : (k : Option CommandKind) (e : Ended) → k ≡ Some Play → KeepsPlay e → KeepsCommand k e
+keeps_as_play k e is keeps = subst (λ (x : Option CommandKind). KeepsCommand x e) (sym is) keeps
+
+pub keeps_as_uds : (k : Option CommandKind) (e : Ended) → k ≡ Some Uds → KeepsUds e → KeepsCommand k e
+keeps_as_uds k e is keeps = subst (λ (x : Option CommandKind). KeepsCommand x e) (sym is) keeps

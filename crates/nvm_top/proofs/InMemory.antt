@@ -3,7 +3,7 @@ use Rattle.std.specs.Prelude.{IfSome}
 use Rattle.std.proofs.Common.{◌≡◌, ◌⊎◌, inl, inr, ◌<◌, ◌≤◌, ℕ, true, List, [], length, Option, Some, None, refl, sym, ap, ◌∙◌, subst}
 use Rattle.nvm_flash.specs.nv_base.Count.{last_count}
 use Rattle.nvm_words.specs.declared.words.CommandKind.{CommandKind}
-use Rattle.nvm_words.specs.declared.words.CommandKind.TheVariants.{Play, Run as RunWord, Dump, Check, Soak}
+use Rattle.nvm_words.specs.declared.words.CommandKind.TheVariants.{Play, Run as RunWord, Dump, Check, Soak, Uds}
 use Rattle.nvm_words.specs.Words.{is_play}
 use Rattle.nvm_flash.specs.fls_model.Told.{Told, ToldBytes, TellsFor, bytes_now}
 use Rattle.nvm_flash.specs.fls_model.Memory.{in_memory}
@@ -26,6 +26,7 @@ play_kept (Some Play) e is keeps = keeps
 play_kept (Some (Soak seed count)) e is keeps = cc is
 play_kept (Some Check) e is keeps = cc is
 play_kept (Some Dump) e is keeps = cc is
+play_kept (Some Uds) e is keeps = cc is
 play_kept (Some RunWord) e is keeps = cc is
 play_kept None e is keeps = cc is
 

@@ -1,3 +1,4 @@
+pub mod AnswerLines
 pub mod Calls
 pub mod Complete
 pub mod Driven
@@ -9,5 +10,7 @@ pub mod PlayLemmas
 pub mod Printing
 pub mod Promised
 pub mod RunLines
+pub mod ServedCuts
+pub mod Serving
 pub mod Soaks
 pub mod Texts

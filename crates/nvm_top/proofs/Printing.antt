@@ -1,6 +1,6 @@
 -- Lines that are put one behind the other.
-use Rattle.std.proofs.Common.{◌≡◌, ◌-◌, ℕ, ◌+◌, List, [], ◌∷◌, ◌++◌, take, drop, Some, Result, Ok, Err, IfErr, slice_get, ap, sym, subst, ◌∙◌, append_assoc, arith}
-use Rattle.std.proofs.lemmas.List.{take_more, take-append-drop, drop-drop, map-append}
+use Rattle.std.proofs.Common.{◌≡◌, ◌≤◌, ◌<◌, ◌-◌, ℕ, zero, suc, refl, min, length, ◌+◌, List, [], ◌∷◌, ◌++◌, take, drop, Some, Result, Ok, Err, IfErr, slice_get, ap, sym, subst, ◌∙◌, append_assoc, arith}
+use Rattle.std.proofs.lemmas.List.{take_all, length-drop, length-take, take_more, take-append-drop, drop-drop, map-append}
 use Rattle.std.proofs.lemmas.Option.{slice_get_within, get_or_from_slice_get}
 use Rattle.std.specs.List.{slice_range}
 use Rattle.std.specs.Result.{IsErrAnd}
@@ -37,6 +37,43 @@ entries-part w w1 w2 entries i e line at before same part =
 pub entries-wanting : (w w' : Written) (entries : List Entry) (i : ℕ) (r : Result (Unit {0}) OutputFault) → IsErrAnd r (λ fault. fault ≡ Memory) → Puts w w' (history_lines (take i entries)) → IfErr r (λ fault. BreaksOff fault entries w w')
 entries-wanting w w' entries i (Ok done) is put = tt
 entries-wanting w w' entries i (Err fault) is put = subst (λ (f : OutputFault). BreaksOff f entries w w') (sym is) (i, put)
+
+-- PIECES
+taken-at : {X : Type 0} (n : ℕ) (xs : List X) (k : ℕ) → k < n → slice_get (take n xs) k ≡ slice_get xs k
+taken-at zero xs k less = absurd (omega (arith, less))
+taken-at (suc n) [] k less = refl
+taken-at (suc n) (x ∷ xs) zero less = refl
+taken-at (suc n) (x ∷ xs) (suc k) less = taken-at n xs k (omega (arith, less))
+
+dropped-at : {X : Type 0} (n : ℕ) (xs : List X) (k : ℕ) → slice_get (drop n xs) k ≡ slice_get xs (n + k)
+dropped-at zero xs k = let none : k ≡ 0 + k = omega arith in ap (λ (n : ℕ). slice_get xs n) none
+dropped-at (suc n) [] k = refl
+dropped-at (suc n) (x ∷ xs) k = let one : suc (n + k) ≡ suc n + k = omega arith in dropped-at n xs k ∙ ap (λ (m : ℕ). slice_get (x ∷ xs) m) one
+
+-- an entry of a history, within a piece of it
+pub piece-at : (entries : List Entry) (from i to : ℕ) (e : Entry) → from ≤ i → i < to → slice_get entries i ≡ Some e → slice_get (take (to - from) (drop from entries)) (i - from) ≡ Some e
+piece-at entries from i to e behind before at =
+    let k : i - from < to - from = omega (arith, behind, before) in
+    taken-at (to - from) (drop from entries) (i - from) k ∙ dropped-at from entries (i - from) ∙ ap (λ (n : ℕ). slice_get entries n) (same from i behind) ∙ at
+  where
+    same : (a b : ℕ) → a ≤ b → a + (b - a) ≡ b
+    same a b less = omega (arith, less)
+
+pub piece-whole : (entries : List Entry) (n : ℕ) → n ≡ length entries → take (n - 0) (drop 0 entries) ≡ entries
+piece-whole entries n is = take_all (n - 0) entries (omega (arith, is))
+
+-- behind the last entry of a history nothing stands in a piece
+pub piece-past : (entries : List Entry) (from i to : ℕ) → from ≤ i → length entries ≤ i → take (i - from) (take (to - from) (drop from entries)) ≡ take (i + 1 - from) (take (to - from) (drop from entries))
+piece-past entries from i to behind past =
+    let few = length-take (to - from) (drop from entries) in
+    let left = length-drop from entries in
+    take_all (i - from) (take (to - from) (drop from entries)) (omega (arith, few, left, behind, past)) ∙ sym (take_all (i + 1 - from) (take (to - from) (drop from entries)) (omega (arith, few, left, behind, past)))
+
+-- all of a piece
+pub piece-all : (entries : List Entry) (from i to : ℕ) → to ≤ i → take (i - from) (take (to - from) (drop from entries)) ≡ take (to - from) (drop from entries)
+piece-all entries from i to past =
+    let few : length (take (to - from) (drop from entries)) ≡ min (to - from) (length (drop from entries)) = length-take (to - from) (drop from entries) in
+    take_all (i - from) (take (to - from) (drop from entries)) (omega (arith, few, past))
 
 -- LINES OF A TEXT
 -- these are put of a text, whose rest stands from this place on

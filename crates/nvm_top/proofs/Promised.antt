@@ -1,18 +1,17 @@
 -- A run keeps the promise, by the course of its steps and by what its stack vouches for.
-use Rattle.std.specs.Prelude.{OnOk, IfErr, IfSome, sum_by, take}
+use Rattle.std.specs.Prelude.{OnOk, IfErr, IfSome, take}
 use Rattle.std.specs.List.{Contains}
-use Rattle.std.proofs.Common.{◌≡◌, ◌≢◌, ◌≤◌, ◌+◌, ◌⊎◌, ℕ, false, zero, suc, List, [], ◌∷◌, ◌++◌, length, Option, Some, None, Result, Ok, Err, refl, sym, ap, ◌∙◌, subst, inl, inr, arith, append-nil}
+use Rattle.std.proofs.Common.{◌≡◌, ◌≢◌, ◌≤◌, ◌+◌, ◌⊎◌, ℕ, false, List, [], ◌∷◌, ◌++◌, length, Option, Some, None, Result, Ok, Err, refl, sym, ap, ◌∙◌, subst, inl, inr, arith, append-nil}
 use Rattle.nv_streams.specs.Sink.{Written}
 use Rattle.nvm_flash.specs.nv_base.Count.{Rose, WereCounted}
 use Rattle.nvm_flash.specs.nv_base.Geometry.{size_of}
 use Rattle.nvm_flash.specs.block_config.Config.{Configuration}
 use Rattle.nvm_flash.specs.memif.Told.{PartTold}
 use Rattle.nvm_flash.specs.fls_model.Told.{Told, ToldBytes, Change}
-use Rattle.nvm_flash.specs.promise_device.Image.{IsSoundFlash}
 use Rattle.nvm_flash.specs.promise_device.FlashRun.{FlashRun, TellsBytes, StartsSound, HasFailed}
 use Rattle.nvm_script.specs.Printed.{history_lines}
 use Rattle.script_walks.specs.Words.{Step}
-use Rattle.script_walks.specs.Walk.{IsWalkOf, joined}
+use Rattle.script_walks.specs.Walk.{IsWalkOf}
 use Rattle.nvm_flash.specs.block_machine.Words.{Entry, Found}
 use Rattle.nvm_flash.specs.block_machine.State.{State, Job}
 use Rattle.nvm_flash.specs.block_machine.Steps.{after}
@@ -71,6 +70,7 @@ early_promise c steps entry exit stop end stops ends = record {
   at_exit = λ tells sound started few. absurd started;
   block_machine = tt;
   faults = record { faults = 0; counted = inl (let more = stops.faults in omega (arith, more)); pay = tt };
+  wear = λ tells sound. refl;
   refusals = λ id. (0, refl);
   off = (0, (refl, refl), inl (let more = stops.cuts in omega (arith, more)));
   operations = λ started. absurd started;
@@ -134,7 +134,7 @@ end_at status.Memory end = Memory
 end_at x end = end
 
 -- a call ends as its output was written
-ends_told : (input : Option (List ℕ)) (entry exit : Told) (w w' : Written) (entries : List Entry) (lines : End → List (List ℕ)) (end : End) (x : Status) → WritesText (status_at end) entries (lines end) w w' x
+pub ends_told : (input : Option (List ℕ)) (entry exit : Told) (w w' : Written) (entries : List Entry) (lines : End → List (List ℕ)) (end : End) (x : Status) → WritesText (status_at end) entries (lines end) w w' x
     → EndsWith entries (history_lines entries ++ lines (end_at x end)) (played_call input x entry exit w w') (end_at x end)
 ends_told input entry exit w w' entries lines end status.Memory is = (refl, is)
 ends_told input entry exit w w' entries lines Memory status.WriteFault is = absurd (is.0 refl)
@@ -163,15 +163,18 @@ early_line : (why : Stop) (meant : Status) (lines : List (List ℕ)) (text : Run
 early_line why meant lines History w w' x one two is = stop_alone why meant lines w w' x one two is
 early_line why meant lines Summary w w' x one two is = stop_alone why meant lines w w' x one two is
 
--- the flash isn't attached for its size, or there is a run without a start-up
+-- the flash isn't attached for its size
+pub wrong_size : (c : Configuration) (entry exit : Told) (found needed : ℕ) (x : Status) (w w' : Written) → StopsAtStart c entry exit (stop.WrongSize found needed) → Writes (IsStop (stop.WrongSize found needed)) w w' x → HasNoRun (IsSizeStop (size_of c.geometry) entry.bytes) w w' x entry exit
+wrong_size c entry exit found needed x w w' stops is = record {
+  line = Writes-as (IsStop (stop.WrongSize found needed)) (IsSizeStop (size_of c.geometry) entry.bytes) w w' x
+      (λ y lines at. by_stop (IsSizeStop (size_of c.geometry) entry.bytes) (stop.WrongSize found needed) y lines (λ other. (stops.end.0, (found, stops.why.0, ap (λ n. line_of (stop.WrongSize found n) ∷ []) stops.why.1))) at) is;
+  alone = stops.end.1;
+}
+
+-- or there is a run without a start-up
 pub early_in : (text : RunText) (c : Configuration) (steps : List Step) (entry exit : Told) (why : Stop) (x : Status) (w w' : Written) (input : Option (List ℕ)) → StopsAtStart c entry exit why → Writes (IsStop why) w w' x
     → HasRun c steps (EndsIn text (played_call input x entry exit w w')) entry exit ⊎ HasNoRun (IsSizeStop (size_of c.geometry) entry.bytes) w w' x entry exit
-early_in text c steps entry exit (stop.WrongSize found needed) x w w' input stops is =
-    inr (record {
-      line = Writes-as (IsStop (stop.WrongSize found needed)) (IsSizeStop (size_of c.geometry) entry.bytes) w w' x
-          (λ y lines at. by_stop (IsSizeStop (size_of c.geometry) entry.bytes) (stop.WrongSize found needed) y lines (λ other. (stops.end.0, (found, stops.why.0, ap (λ n. line_of (stop.WrongSize found n) ∷ []) stops.why.1))) at) is;
-      alone = stops.end.1;
-    })
+early_in text c steps entry exit (stop.WrongSize found needed) x w w' input stops is = inr (wrong_size c entry exit found needed x w w' stops is)
 early_in text c steps entry exit stop.FlashFault x w w' input stops is =
     inl (early_end text c steps entry exit stop.FlashFault FlashFault x w w' input stops stops.end (early_line stop.FlashFault status.FlashFault (lines_in text FlashFault []) text w w' x refl (fault_line text) is))
   where
@@ -246,7 +249,7 @@ counted_from n a b d less (inl is) = inl (omega (arith, less, is))
 counted_from n a b d less (inr full) = inr full
 
 -- a run keeps the promise where its flash begins sound
-has_run : (Kept : Type 0) (p q : Payer) (c : Configuration) (cuts : ℕ) (all made left : List Step) (end : End) (before : PartTold) (old t : StackTold) (entry exit : Told) (Tells : Run → Type 0) (started : IsStarted c cuts before old) (walked : HasWalked p q made old t)
+pub has_run : (Kept : Type 0) (p q : Payer) (c : Configuration) (cuts : ℕ) (all made left : List Step) (end : End) (before : PartTold) (old t : StackTold) (entry exit : Told) (Tells : Run → Type 0) (started : IsStarted c cuts before old) (walked : HasWalked p q made old t)
     → t.configuration ≡ old.configuration → Kept → p.owes old.faults → (v : Vouches Kept q before t entry exit) → made ++ left ≡ all
     → LeavesFor (run_of t.configuration t.entries entry exit v.operations t.causes.came (Played made walked.pieces left) end) (after t.configuration t.entries) end left
     → EndsBy walked.last (record { entry = entry; exit = exit; operations = v.operations }) end

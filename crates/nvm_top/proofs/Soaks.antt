@@ -11,7 +11,7 @@ use Rattle.nvm_flash.specs.fls_model.Told.{Told}
 use Rattle.nvm_words.specs.Words.{are_words, command_named, soak_of, command_with, command_in, command_of}
 use Rattle.nvm_words.specs.Fields.{Places, places_of}
 use Rattle.nvm_words.specs.declared.words.CommandKind.{CommandKind}
-use Rattle.nvm_words.specs.declared.words.CommandKind.TheVariants.{Play, Run, Dump, Check, Soak}
+use Rattle.nvm_words.specs.declared.words.CommandKind.TheVariants.{Play, Run, Dump, Check, Soak, Uds}
 use Rattle.nvm_script.specs.declared.step.Step.{Step}
 use Rattle.nvm_top.specs.declared.runs.RunText.TheVariants.{Summary}
 use Rattle.nvm_top.specs.declared.status.Status.{Status}
@@ -50,7 +50,7 @@ no_soak_if true k o s n one other is = one is
 no_soak_if false k o s n one other is = other is
 
 not_soak : (word : List ℕ) (s n : ℕ) → command_named word ≡ Some (Soak s n) → ⊥
-not_soak word s n = no_soak_if _ Play _ s n (λ e. cc) (no_soak_if _ Run _ s n (λ e. cc) (no_soak_if _ Dump _ s n (λ e. cc) (no_soak_if _ Check None s n (λ e. cc) (λ e. cc))))
+not_soak word s n = no_soak_if _ Play _ s n (λ e. cc) (no_soak_if _ Run _ s n (λ e. cc) (no_soak_if _ Dump _ s n (λ e. cc) (no_soak_if _ Check _ s n (λ e. cc) (no_soak_if _ Uds None s n (λ e. cc) (λ e. cc)))))
 
 with_few : (word : List ℕ) (seed count : Option (List ℕ)) (s n : ℕ) → command_with word seed count ≡ Some (Soak s n) → n ≤ 10000
 with_few word None None s n is = absurd (not_soak word s n is)

@@ -6,7 +6,7 @@ use Rattle.nvm_flash.specs.fls_model.Told.{Told, ToldBytes}
 use Rattle.nvm_flash.specs.promise_run.Call.{Call}
 use Rattle.nvm_script.specs.declared.step.Step.{Step}
 use Rattle.nvm_words.specs.declared.words.CommandKind.{CommandKind}
-use Rattle.nvm_words.specs.declared.words.CommandKind.TheVariants.{Play, Run, Dump, Check, Soak}
+use Rattle.nvm_words.specs.declared.words.CommandKind.TheVariants.{Play, Run, Dump, Check, Soak, Uds}
 use Rattle.script_soak.specs.Soak.{soak}
 use Rattle.nvm_top.specs.declared.status.Status.{Status}
 use Rattle.nvm_top.specs.declared.stop.Stop.{Stop}
@@ -19,6 +19,7 @@ use Rattle.nvm_top.specs.Play.{IsBeforeAttach, IsBeforeStart, PlayStopsBy}
 use Rattle.nvm_top.specs.Promised.{HasNoRun, HasPromise, HasSoaked, played_call}
 use Rattle.nvm_top.specs.Soak.{SoakStopsBy}
 use Rattle.nvm_top.specs.Stop.{IsStop}
+use Rattle.nvm_top.specs.Uds.{HasAnswered, UdsStopsBy}
 
 -- A call that is over: its status, and before it and behind it what was left of its input and how often that had failed, what
 -- was written to its output and how often that had failed, and its flash.
@@ -66,6 +67,12 @@ pub record KeepsSoak (steps : Configuration → List Step) (e : Ended) : Type 0 
   pub untouched : IsBeforeAttach e.status → e.exit ≡ e.entry
   pub causes : IsCaused e
 
+-- with an answer to each request
+pub record KeepsUds (e : Ended) : Type 0 where
+  pub promise : HasAnswered e.left e.status (call_of e) ⊎ StopsFor UdsStopsBy e
+  pub untouched : IsBeforeAttach e.status → e.exit ≡ e.entry
+  pub causes : IsCaused e
+
 pub record KeepsCheck (e : Ended) : Type 0 where
   pub by_input : WritesBy (ChecksBy e.left e.read_faults e.read_faults_after) e
   pub untouched : e.exit ≡ e.entry
@@ -90,6 +97,7 @@ abbrev pub KeepsCommand : Option CommandKind → Ended → Type 0
 KeepsCommand None e = IsRefused stop.BadWords e
 KeepsCommand (Some Play) e = KeepsPlay e
 KeepsCommand (Some (Soak seed count)) e = KeepsSoak (λ c. soak c seed count) e
+KeepsCommand (Some Uds) e = KeepsUds e
 KeepsCommand (Some Check) e = KeepsCheck e
 KeepsCommand (Some Dump) e = KeepsDump e
 KeepsCommand (Some Run) e = IsRefused (stop.Unbuilt 0) e

@@ -11,6 +11,8 @@ use Rattle.script_player.specs.PlainKept.{IsKept}
 use Rattle.script_player.specs.PlainPaying.{payer_by}
 use Rattle.script_player.specs.Made.{HasWalked, WasBroken}
 use Rattle.script_player.specs.declared.steps.StepFault.{StepFault}
+use Rattle.script_player.specs.Requests.{HasServed}
+use Rattle.script_player.specs.uds_gateway.declared.stop.ServeStop.{ServeStop}
 use Rattle.script_walks.specs.Words.{Step}
 use Rattle.nvm_top.specs.Stack.{IsStarted}
 
@@ -30,6 +32,17 @@ pub record WereMade {D : Type 0} (device : D → DeviceTold) (clock : D → Cloc
   pub started : IsStarted c cuts (before First) (told_by device first)
   pub all : OnOk end (HasWalked (payer_by device clock first) (payer_by device clock s) steps (told_by device first) (told_by device s))
   pub some : IfErr end (λ why. WasBroken (payer_by device clock first) (payer_by device clock s) why steps (told_by device first) (told_by device s))
+  pub configuration : (told_by device s).configuration ≡ (told_by device first).configuration
+  pub most : (told_by device s).cap ≡ (told_by device first).cap
+  pub keeps : IsKept s.ready before s.desk s.hand (device s.device) (clock s.device)
+  pub owes : (payer_by device clock first).owes (told_by device first).faults
+
+-- REQUESTS ON A STACK OVER IT
+-- how they were served, so
+pub record WereServed {D : Type 0} (device : D → DeviceTold) (clock : D → Clock) (before : Part → PartTold) (c : Configuration) (requests : List (List ℕ)) (counts : List ℕ) (end : Result (Unit {0}) ServeStop) (s : StackState D (List PlainBlock)) : Type 0 where
+  pub first : StackState D (List PlainBlock)
+  pub started : IsStarted c 0 (before First) (told_by device first)
+  pub served : HasServed (payer_by device clock first) (payer_by device clock s) requests counts end (told_by device first) (told_by device s)
   pub configuration : (told_by device s).configuration ≡ (told_by device first).configuration
   pub most : (told_by device s).cap ≡ (told_by device first).cap
   pub keeps : IsKept s.ready before s.desk s.hand (device s.device) (clock s.device)

@@ -15,5 +15,6 @@ pub mod Runs
 pub mod Promised
 pub mod Soak
 pub mod Stack
+pub mod Uds
 pub mod Worked
 pub use Rattle.nvm_flash.specs as nvm_flash

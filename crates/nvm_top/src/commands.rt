@@ -2,7 +2,7 @@
 ghost use Rattle.std.specs.Prelude.{map, string_bytes};
 ghost use Rattle.nvm_top.specs.Commands.{ended, KeepsCommand, KeepsOnly};
 ghost use Rattle.nvm_top.specs.Soak.{is_soak};
-ghost use Rattle.nvm_words.specs.Words.{command_of, is_check, is_dump, is_play};
+ghost use Rattle.nvm_words.specs.Words.{command_of, is_check, is_dump, is_play, is_uds};
 
 use crate::Status;
 use crate::check::check;
@@ -11,6 +11,7 @@ use crate::output::report;
 use crate::play::play;
 use crate::soak::soak;
 use crate::stop::Stop;
+use crate::uds::uds;
 use nv_streams::{Sink, Source};
 use nvm_flash::fls_model::Flash;
 use nvm_words::{CommandKind, command_of};
@@ -19,7 +20,7 @@ use std::sync::Wait;
 use std::thread::Threads;
 
 /// Runs the command that the words name over the input, the output and the flash, and gives the flash back. It serves `play`,
-/// `soak`, `check` and `dump`; of `run` the answer is `Unbuilt`, and no input is read.
+/// `soak`, `check`, `dump` and `uds`; of `run` the answer is `Unbuilt`, and no input is read.
 pub fn command<R: Threads + Wait + Sync, S: Source, K: Sink, F: Flash>(
     _rt: &R,
     alloc: Global,
@@ -38,6 +39,7 @@ pub fn command<R: Threads + Wait + Sync, S: Source, K: Sink, F: Flash>(
         }
         Ok(Some(CommandKind::Check)) => (check(alloc, input, output), flash),
         Ok(Some(CommandKind::Dump)) => dump(alloc, input, output, flash),
+        Ok(Some(CommandKind::Uds)) => uds(alloc, input, output, flash),
         Ok(Some(_)) => (report(alloc, Stop::Unbuilt { line: 0 }, output), flash),
         Err(AllocError) => (Status::Memory, flash),
     }
@@ -112,6 +114,24 @@ pub fn dump_command<S: Source, K: Sink, F: Flash>(
 {
     match command_of(alloc, words) {
         Ok(Some(CommandKind::Dump)) => dump(alloc, input, output, flash),
+        Ok(_) => (report(alloc, Stop::BadWords, output), flash),
+        Err(AllocError) => (Status::Memory, flash),
+    }
+}
+
+/// Serves the requests of the input, a line each, on a stack over the flash, and writes their history with an answer behind
+/// the entries of each.
+pub fn uds_command<S: Source, K: Sink, F: Flash>(
+    alloc: Global,
+    words: &[String],
+    input: &mut S,
+    output: &mut K,
+    flash: F,
+) -> (Status, F)
+    ensures { KeepsOnly is_uds (command_of (map string_bytes words.now)) (ended result.0 (S.left input.old) (S.left input.new) (S.faults input.old) (S.faults input.new) (K.written output.old) (K.written output.new) (K.faults output.old) (K.faults output.new) (F.told flash) (F.told result.1)) }
+{
+    match command_of(alloc, words) {
+        Ok(Some(CommandKind::Uds)) => uds(alloc, input, output, flash),
         Ok(_) => (report(alloc, Stop::BadWords, output), flash),
         Err(AllocError) => (Status::Memory, flash),
     }

@@ -5,12 +5,14 @@
 //! left to the other crates; the program only makes the real input, output and flash.
 #![tactic(auto)]
 
+mod answers;
 mod attach;
 mod check;
 mod commands;
 mod configuration;
 mod dump;
 mod flashes;
+mod gateway;
 mod image;
 mod input;
 mod made;
@@ -19,14 +21,16 @@ mod output;
 mod play;
 mod playable;
 mod runs;
+mod served;
 mod soak;
 mod stack;
 mod status;
 mod stop;
+mod uds;
 mod values;
 mod worked;
 
-pub use commands::{check_command, command, dump_command, play_command, soak_command};
+pub use commands::{check_command, command, dump_command, play_command, soak_command, uds_command};
 pub use nvm_flash;
 pub use status::Status;
 pub use worked::play_with_room;

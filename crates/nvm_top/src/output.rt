@@ -1,5 +1,5 @@
 // Writing the lines of the output.
-ghost use Rattle.std.specs.Prelude.{◌≡◌, [], ◌∷◌, IfErr, OnOk};
+ghost use Rattle.std.specs.Prelude.{◌≡◌, [], ◌∷◌, ◌-◌, drop, take, IfErr, OnOk};
 ghost use Rattle.nvm_flash.specs.nv_base.Count.{Rose};
 ghost use Rattle.nv_streams.specs.Sink.{Puts, PutsPart};
 ghost use Rattle.nvm_script.specs.Cut.{cut_lines};
@@ -74,7 +74,32 @@ pub fn put_lines<K: Sink>(output: &mut K, text: &[u8]) -> Result<(), OutputFault
     Ok(())
 }
 
-/// Writes the entries of a history, one line each, all in the memory of the longest.
+/// Writes the entries of a history from one place to another, one line each, all in the memory of the longest.
+pub fn write_entries<K: Sink>(
+    alloc: Global,
+    history: &History,
+    from: u32,
+    to: u32,
+    output: &mut K,
+) -> Result<(), OutputFault>
+    ensures ok { OnOk result (K.faults output.new ≡ K.faults output.old) }
+    ensures lines { OnOk result (Puts (K.written output.old) (K.written output.new) (history_lines (take (to - from) (drop from history.now.entries)))) }
+    ensures failed { IfErr result (λ fault. fault ≡ OutputFault.Failed → Rose (K.faults output.old) (K.faults output.new)) }
+    ensures part { IfErr result (λ fault. BreaksOff fault (take (to - from) (drop from history.now.entries)) (K.written output.old) (K.written output.new)) }
+{
+    let mut line = Vec::new(alloc);
+    for i in from..to {
+        if let Some(entry) = history.entry(i) {
+            line = entry_text_in(line, entry)?;
+            let Ok(()) = put_line(output, line.as_slice()) else {
+                return Err(OutputFault::Failed);
+            };
+        }
+    }
+    Ok(())
+}
+
+/// Writes the entries of a history, one line each.
 pub fn write_history<K: Sink>(
     alloc: Global,
     history: &History,
@@ -85,16 +110,7 @@ pub fn write_history<K: Sink>(
     ensures failed { IfErr result (λ fault. fault ≡ OutputFault.Failed → Rose (K.faults output.old) (K.faults output.new)) }
     ensures part { IfErr result (λ fault. BreaksOff fault history.now.entries (K.written output.old) (K.written output.new)) }
 {
-    let mut line = Vec::new(alloc);
-    for i in 0..history.len() {
-        if let Some(entry) = history.entry(i) {
-            line = entry_text_in(line, entry)?;
-            let Ok(()) = put_line(output, line.as_slice()) else {
-                return Err(OutputFault::Failed);
-            };
-        }
-    }
-    Ok(())
+    write_entries(alloc, history, 0, history.len(), output)
 }
 
 /// Writes the last line of a whole history, how many entries it has, and gives Ok or the status of the fault in its

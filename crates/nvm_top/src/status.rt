@@ -17,15 +17,17 @@ pub enum Status {
     TooLong,
     HistoryFull,
     Unbuilt,
+    PowerOff,
 }
 
 impl Status {
-    /// The exit status of the program: 0 for Ok, and 2 to 12 for the others.
+    /// The exit status of the program: 0 for Ok, 15 for PowerOff, and 2 to 12 for the others.
     pub fn code(self) -> u8
         ensures { result ≡ code_of_status self }
     {
         match self {
             Status::Ok => 0,
+            Status::PowerOff => 15,
             other => other as u8 + 1,
         }
     }

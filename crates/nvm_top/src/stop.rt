@@ -6,7 +6,8 @@ use crate::Status;
 use std::alloc::{AllocError, Global};
 
 /// Why a command stops: its words are of no command, its first line breaks a rule, a line is no step, its input failed
-/// or is too long or isn't served, the flash failed or has a wrong size, the history has no room, or want of memory.
+/// or is too long or isn't served, the flash failed or has a wrong size, the history has no room, want of memory, or the
+/// power went off.
 #[derive(Clone, Copy, PartialEq, Eq)]
 pub enum Stop {
     BadWords,
@@ -19,6 +20,7 @@ pub enum Stop {
     FlashFault,
     HistoryFull,
     Memory,
+    PowerOff,
 }
 
 impl From<AllocError> for Stop {
@@ -47,6 +49,7 @@ impl Stop {
             Stop::FlashFault => Status::FlashFault,
             Stop::HistoryFull => Status::HistoryFull,
             Stop::Memory => Status::Memory,
+            Stop::PowerOff => Status::PowerOff,
         }
     }
 
@@ -67,6 +70,7 @@ impl Stop {
             Stop::FlashFault => String::from_str(alloc, "flash fault\n"),
             Stop::HistoryFull => String::from_str(alloc, "history full\n"),
             Stop::Memory => Ok(String::new(alloc)),
+            Stop::PowerOff => String::from_str(alloc, "power off\n"),
         }
     }
 }

@@ -1,9 +1,0 @@
-use Rattle.std.proofs.Common.{◌≡◌, take}
-use Rattle.nv_streams.specs.Sink.{Puts}
-use Rattle.nvm_script.specs.Printed.{history_lines}
-use Rattle.nvm_top.proofs.output.write_history.Given as goal
-
--- no fault came so far, and the lines of the entries before i were put
-abbrev pub invariant-loop-i : goal.invariant-loop-i
-invariant-loop-i g l =
-    (g.K.Sink.faults l.output ≡ g.K.Sink.faults l.initial.output) × Puts (g.K.Sink.written l.initial.output) (g.K.Sink.written l.output) (history_lines (take l.i l.history.entries))
