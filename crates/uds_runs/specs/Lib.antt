@@ -1,2 +1,3 @@
 pub mod Causes
 pub mod Given
+pub use Rattle.uds_gateway.specs as uds_gateway

@@ -8,3 +8,4 @@
 mod laws;
 
 pub use laws::{answers_have_causes, posts_give_lengths};
+pub use uds_gateway;
