@@ -21,7 +21,7 @@ use Rattle.fee_laws.specs.Appends.{IsAppending, work_body, after_page}
 use Rattle.fee_laws.specs.Follows.{Follows}
 use Rattle.fee_laws.specs.Wears.{Wears}
 use Rattle.fee_laws.proofs.FollowTurned.{pages_follow}
-use Rattle.fee_laws.proofs.WornErases.{pages_wear}
+use Rattle.fee_laws.proofs.WornSteps.{pages_wear}
 use Rattle.fee_core.specs.Operations.{IsProgrammed}
 use Rattle.fee_core.specs.Whole.{Whole}
 use Rattle.fee_core.proofs.Standing.{Stands}
@@ -87,5 +87,5 @@ module _ {m : Making} {entry : Told} {w v : Whole} (at : Stands m entry w v) {j 
         step = appending;
         same = λ faults count. (λ i. record s { fls = f; banks = is.after i; operations = listed i; faults = count i });
         follows = pages_follow m entry s w.numbers w.reserve w.ops answer f appending at.up.sound.follows;
-        wears = pages_wear m entry s w.numbers w.reserve w.ops answer f appending at.up.sound.wears;
+        wears = pages_wear m entry s w.numbers w.reserve w.ops answer f appending at.up.sound.follows at.up.sound.wears;
       }

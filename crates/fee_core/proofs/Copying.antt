@@ -26,7 +26,7 @@ use Rattle.fee_laws.specs.Follows.{Follows}
 use Rattle.fee_laws.specs.Wears.{Wears}
 use Rattle.fee_laws.proofs.FollowCalled.{failed_follow}
 use Rattle.fee_laws.proofs.FollowTurned.{copies_follow}
-use Rattle.fee_laws.proofs.WornErases.{failed_wears}
+use Rattle.fee_laws.proofs.WornSteps.{failed_wears}
 use Rattle.fee_laws.proofs.SwitchContent.{copies_are_not_read, copies_are_read}
 use Rattle.fee_core.specs.Whole.{Whole}
 use Rattle.fee_core.proofs.Standing.{Stands}

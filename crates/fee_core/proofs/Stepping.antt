@@ -36,7 +36,7 @@ use Rattle.fee_laws.specs.Wears.{Wears}
 use Rattle.fee_laws.proofs.FollowCalled.{failed_follow}
 use Rattle.fee_laws.proofs.FollowTurned.{steps_follow}
 use Rattle.fee_laws.proofs.SwitchMark.{marks_are_cut, marks_fail, marks_go_on}
-use Rattle.fee_laws.proofs.WornErases.{steps_wear, failed_wears}
+use Rattle.fee_laws.proofs.WornSteps.{steps_wear, failed_wears}
 use Rattle.fee_laws.proofs.SwitchTurns.{switches_are_cut, switches_fail, switches_go_on}
 use Rattle.fee_core.specs.Asked.{switch_op_of}
 use Rattle.fee_core.specs.Operations.{ChangesTarget}
@@ -182,7 +182,7 @@ module _ {m : Making} {entry : Told} {w : Whole} {answer : FlashAnswer} {f : Fls
   pub failed_follows : answer ≡ Failed → Follows s → Follows (failed_with s.job (next Failed))
   failed_follows e was = failed_follow (next Failed) s.job (follows_on Failed e was)
 
-  -- and each of its erases was due
+  -- and each of its operations was due
   pub wears_on : Follows s → Wears m entry s.operations → Wears m entry operations
   wears_on follows wears = subst (Wears m entry) (sym is.listed) (steps_wear m entry s w.numbers w.reserve w.ops is.course is.made.made answer f is.steps is.reads follows wears)
 

@@ -24,7 +24,7 @@ pub record Whole : Type 0 where
   pub ops : ℕ
   pub off : Bool
 
--- its parts are sound, its banks follow the bytes of its flash, and each of its erases was due
+-- its parts are sound, its banks follow the bytes of its flash, and each of its operations was due
 pub record Sound (m : Making) (entry : Told) (w : Whole) : Type 0 where
   pub parts : IsSound m entry w.parts w.numbers w.reserve w.ops w.off
   pub follows : Follows w.parts

@@ -1,8 +1,8 @@
 -- The next page of a record in work in the active log.
 use Rattle.std.specs.Prelude.{IfSome, IsSome}
-use Rattle.std.proofs.Common.{◌≡◌, inl, inr, ◌<◌, ◌≤◌, ◌++◌, ◌∷◌, ℕ, true, List, [], Option, Some, None, refl, sym, ◌∙◌, subst, arith}
+use Rattle.std.proofs.Common.{◌≡◌, inl, inr, ◌<◌, ◌≤◌, ◌++◌, ◌∷◌, ℕ, true, List, [], Option, Some, None, refl, sym, ap, ◌∙◌, subst, arith}
 use Rattle.std.proofs.lemmas.Bool.{cases_eq}
-use Rattle.nv_base.specs.Geometry.{pages_of_bank, address_of_page}
+use Rattle.nv_base.specs.Geometry.{IsLegal, pages_of_bank, sectors_of_bank, address_of_page}
 use Rattle.nv_base.specs.declared.geometry.Geometry.{Geometry}
 use Rattle.fls_model.specs.declared.flash.FlashAnswer.{FlashAnswer}
 use Rattle.fls_model.specs.declared.flash.FlashAnswer.TheVariants.{Done, Failed, Off}
@@ -21,13 +21,16 @@ use Rattle.fee_log.proofs.Steps.{answers_hold}
 use Rattle.fee_switch.specs.declared.active.ActiveBank.{ActiveBank}
 use Rattle.fee_switch.specs.Banks.{BanksState, IsBanksState, IsLogOf}
 use Rattle.fee_course.specs.declared.course.Course.{Course}
+use Rattle.fee_course.specs.Course.{IsShort}
 use Rattle.promise_device.specs.Bridge.{is_program}
+use Rattle.promise_device.specs.Wear.{bank_of_op}
 use Rattle.fee_laws.specs.Inside.{body_of}
-use Rattle.fee_laws.specs.Follows.{anything, IsClosedFor, FollowsLog, FollowsBytes}
+use Rattle.fee_laws.specs.Follows.{anything, IsClosedFor, FollowsLog, FollowsNext, FollowsBytes}
 use Rattle.fee_image.proofs.Frames.{SameOthers, others_stay, page_stays}
 use Rattle.fee_laws.proofs.FollowStates.{any_content, any_marks}
 use Rattle.fee_laws.proofs.FollowSteps.{work_after, done_open}
-use Rattle.fee_laws.proofs.FollowBanks.{failed_beside, SameFronts, legal, fronts_of, banks_stay, with_log}
+use Rattle.fee_laws.proofs.FollowOperations.{bank_of_program}
+use Rattle.fee_laws.proofs.FollowBanks.{failed_beside, some_page, SameFronts, legal, fronts_of, banks_stay, next_stays, with_log, next_with_log}
 
 -- the page that is due lies behind the gate of its bank
 pub due_inside : (log : LogState) (t : Tail) → 2 ≤ log.end → IsTail log.geometry.page (pages_in log) log.end t → IsSome (work_in t)
@@ -37,6 +40,13 @@ due_inside log (Writes h done) low is work = let less = is.1 in let within = is.
 due_inside log (Owes owed None) low is work = cc
 due_inside log (Owes owed (Some h)) low is work = let within = is.0 in (omega arith, omega arith)
 due_inside log Closed low is work = cc
+
+-- so the program changes that bank
+pub bank_of_log : (k : LogState) → IsLogState k → IsSome (work_in k.tail) → (body : List ℕ) → bank_of_op k.geometry k.banks (op_of k body) ≡ k.bank
+bank_of_log k state work body = bank_of_program k.geometry k.banks k.bank (due_page k) (due_bytes k body) (some_page k.geometry state.geometry) (due_inside k k.tail state.end_low state.tail work).1
+
+pub bank_is : (g : Geometry) (banks : ℕ) (k : LogState) → IsLogOf g banks k → IsLegal g → IsLogState k → IsSome (work_in k.tail) → (body : List ℕ) → bank_of_op g banks (op_of k body) ≡ k.bank
+bank_is g banks k of shape state work body = (λ i. bank_of_op (sym of.shape i) (sym of.shared i) (op_of k body)) ∙ bank_of_log k state work body
 
 -- so it leaves all other banks, and the head and the gate
 module _ (g : Geometry) (banks : ℕ) (k : LogState) (of : IsLogOf g banks k) (state : IsLogState k) (work : IsSome (work_in k.tail)) (body old new : List ℕ) (page : IsPageOf g.page (due_bytes k body)) (leaves : MayLeave (op_of k body) old new) where
@@ -72,10 +82,11 @@ state_after s content old new answer state holds work page on leaves left =
     ]
 
 -- why it is closed
-closed_after : (c : Option Course) (s : LogState) (xs : List Change) (x : Change) (new : List ℕ) (answer : FlashAnswer) → IsSome (work_in s.tail) → (answer ≡ Off → ⊥) → is_program x.op ≡ true → x.answer ≡ answer → IsClosedFor c (after_step s answer) (xs ++ x ∷ []) new
-closed_after c s xs x new Done work on program is = λ shut. (let wide = done_open s s.tail work in cc (shut, wide))
-closed_after c s xs x new Failed work on program is = λ shut. inr (failed_beside c xs x program is)
-closed_after c s xs x new Off work on program is = absurd (on refl)
+closed_after : (c : Option Course) (s : LogState) (xs : List Change) (x : Change) (new : List ℕ) (answer : FlashAnswer) → IsSome (work_in s.tail) → (answer ≡ Off → ⊥) → bank_of_op s.geometry s.banks x.op ≡ s.bank → is_program x.op ≡ true → x.answer ≡ answer
+    → IsClosedFor c (after_step s answer) (xs ++ x ∷ []) new
+closed_after c s xs x new Done work on of program is = λ shut. (let wide = done_open s s.tail work in cc (shut, wide))
+closed_after c s xs x new Failed work on of program is = λ shut. inr (failed_beside c (after_step s Failed) xs x of program is)
+closed_after c s xs x new Off work on of program is = absurd (on refl)
 
 module _ (s : BanksState) (is : IsBanksState s) (state : IsLogState s.log) (content old new : List ℕ) (xs : List Change) (x : Change) (a : ActiveBank) (active : s.active ≡ Some a) (work : IsSome (work_in s.log.tail)) (follows : FollowsBytes s content xs old) where
   abbrev body : List ℕ
@@ -99,15 +110,23 @@ module _ (s : BanksState) (is : IsBanksState s) (state : IsLogState s.log) (cont
           | inr differs ↦ fronts_of s is old new j (others s.geometry s.banks s.log is.log state work body old new page leaves j differs)
         ]
 
-    pub goes_on : (answer : FlashAnswer) → (answer ≡ Off → ⊥) → Leaves (op_of s.log body) answer old new → is_program x.op ≡ true → x.answer ≡ answer → FollowsBytes (record s { log = after_step s.log answer }) content (xs ++ x ∷ []) new
-    goes_on answer on left program same =
+    next_by : (c : Option Course) → bank_of_op s.geometry s.banks x.op ≡ s.log.bank → IfSome c (IsShort (sectors_of_bank s.geometry s.banks)) → IfSome c (λ y. FollowsNext s y xs old) → IfSome c (λ y. FollowsNext s y (xs ++ x ∷ []) new)
+    next_by None of short next = tt
+    next_by (Some c) of short next =
+        next_stays s is old new c xs (x ∷ []) s.log.bank short (λ e. other (sym e)) (of, tt) (others s.geometry s.banks s.log is.log state work body old new page leaves s.target other) next
+
+    pub goes_on : (answer : FlashAnswer) → (answer ≡ Off → ⊥) → Leaves (op_of s.log body) answer old new → x.op ≡ op_of s.log body → x.answer ≡ answer → FollowsBytes (record s { log = after_step s.log answer }) content (xs ++ x ∷ []) new
+    goes_on answer on left op same =
         let page' = subst (λ (g : Geometry). IsPageOf g.page (due_bytes s.log body)) (sym is.log.shape) page in
         let then = after_step s.log answer in
         let apart = others s.geometry s.banks s.log is.log state work body old new page leaves s.target other in
+        let of = ap (bank_of_op s.geometry s.banks) op ∙ bank_is s.geometry s.banks s.log is.log is.legal state work body in
+        let of_log = ap (bank_of_op s.log.geometry s.log.banks) op ∙ bank_of_log s.log state work body in
         record {
           log = subst (λ (o : Option ActiveBank). IfSome o (λ y. FollowsLog s.course then (body_of (work_in then.tail) content) (xs ++ x ∷ []) new)) (sym active) (record {
             holds = state_after s.log content old new answer state log.holds work page' on leaves left;
-            closed = closed_after s.course s.log xs x new answer work on program same;
+            closed = closed_after s.course s.log xs x new answer work on of_log (ap is_program op) same;
           });
           banks = with_log s then s.course s.course new (banks_stay s is old new s.course leaves.0.size fronts apart follows.banks);
+          next = next_with_log s then s.course s.course (xs ++ x ∷ []) new (next_by s.course of is.course follows.next);
         }

@@ -1,11 +1,12 @@
 -- Banks whose pages stay.
-use Rattle.std.specs.Prelude.{IfSome, IsTrue, ◌||◌, ◌&&◌}
-use Rattle.std.proofs.Common.{◌≡◌, ◌⊎◌, inl, inr, ◌<◌, ◌≤◌, ◌++◌, ◌∷◌, ℕ, Bool, true, false, List, [], length, Option, Some, None, refl, sym, ap, ◌∙◌, subst, arith}
+use Rattle.std.specs.Prelude.{IfSome, IsTrue, ◌&&◌}
+use Rattle.std.proofs.Common.{◌≡◌, ◌⊎◌, inl, inr, ◌<◌, ◌≤◌, ◌++◌, ◌∷◌, ℕ, zero, suc, Bool, true, false, List, [], length, Option, Some, None, sym, ◌∙◌, subst, arith}
 use Rattle.std.proofs.lemmas.Bool.{cond_both}
-use Rattle.nv_base.specs.Geometry.{pages_of_bank}
+use Rattle.nv_base.specs.Geometry.{IsLegal, pages_of_bank, sectors_of_bank}
 use Rattle.nv_base.specs.declared.geometry.Geometry.{Geometry}
 use Rattle.fls_model.specs.declared.flash.FlashAnswer.TheVariants.{Failed}
 use Rattle.fls_model.specs.Told.{Change}
+use Rattle.fee_format.specs.Pages.{gate_page}
 use Rattle.fee_image.specs.Bank.{page_of}
 use Rattle.fee_image.specs.Image.{Layout, layout_of, bank_in, image_page, BankStands, IsLegalLayout}
 use Rattle.fee_image.proofs.Banks.{active_stays}
@@ -15,46 +16,38 @@ use Rattle.fee_log.specs.Log.{LogState, bank_of, work_in}
 use Rattle.fee_switch.specs.declared.active.ActiveBank.{ActiveBank}
 use Rattle.fee_course.specs.declared.course.Course.{Course}
 use Rattle.fee_course.specs.declared.course.Course.TheVariants.{Erase, Copy, Head, Gate}
+use Rattle.fee_course.specs.Course.{IsShort}
+use Rattle.fee_switch.specs.declared.target.Stage.TheVariants as stage
 use Rattle.fee_switch.specs.Banks.{BanksState, IsBanksState, IsLogOf, appended_at}
 use Rattle.fee_switch_laws.specs.Shown.{layout_in}
-use Rattle.promise_device.specs.Bridge.{is_failed, is_program, failed_from}
-use Rattle.promise_device.specs.Wear.{is_failed_program, has_failed_program}
-use Rattle.promise_device.proofs.Wears.{failures_stay, closings_failed_once}
+use Rattle.promise_device.specs.Bridge.{is_program, may_be_closed}
+use Rattle.promise_device.specs.Wear.{bank_of_op}
+use Rattle.promise_device.proofs.Wears.{all_two}
 use Rattle.fee_laws.specs.Inside.{body_of}
-use Rattle.fee_laws.specs.Follows.{anything, may_be_closed_beside, FollowsLog, StandsFirst, FollowsCopies, FollowsTarget, FollowsBanks}
+use Rattle.fee_laws.specs.Switches.{op_in}
+use Rattle.fee_laws.specs.Follows.{anything, failed_of, may_be_closed_beside, FollowsLog, StandsFirst, FollowsCopies, FollowsTarget, FollowsBanks, FollowsNext}
 use Rattle.fee_image.proofs.Frames.{SamePages}
+use Rattle.fee_laws.proofs.FollowOperations.{AreOf, bank_of_program, bank_of_erase, failed_behind, repeated_behind, order_behind, failed_last, failed_here}
 use Rattle.fee_laws.proofs.FollowStates.{SameBody, state_moves, closed_stays}
 
--- OPERATIONS
-or_right : (a b : Bool) → IsTrue b → IsTrue (a || b)
-or_right true b is = refl
-or_right false b is = is
+-- A LOG THAT IS CLOSED
+-- a program of its bank that failed last may have closed it
+pub failed_beside : (c : Option Course) (log : LogState) (xs : List Change) (x : Change) → bank_of_op log.geometry log.banks x.op ≡ log.bank → is_program x.op ≡ true → x.answer ≡ Failed → IsTrue (may_be_closed_beside c log (xs ++ x ∷ []))
+failed_beside None log xs x of program is = all_two _ _ (failed_last false xs x program is) (failed_here log.geometry log.banks log.bank xs x of program is)
+failed_beside (Some c) log xs x of program is = failed_here log.geometry log.banks log.bank xs x of program is
 
-and_both : (a b : Bool) → a ≡ true → b ≡ true → a && b ≡ true
-and_both true b is holds = holds
-and_both false b is holds = cc is
+second_of : (a b : Bool) → IsTrue (a && b) → IsTrue b
+second_of true b is = is
+second_of false b is = cc is
 
--- a program that failed last may have closed the bank
-failed_last : (before : Bool) (xs : List Change) (x : Change) → is_program x.op ≡ true → x.answer ≡ Failed → IsTrue (failed_from before (xs ++ x ∷ []))
-failed_last before [] x program is = and_both (is_program x.op) (before || is_failed x.answer) program (or_right before (is_failed x.answer) (ap is_failed is))
-failed_last before (y ∷ ys) x program is = failed_last (is_program y.op && (before || is_failed y.answer)) ys x program is
+-- and so it may while a switch is open, whatever comes behind it in other banks
+once_beside : (c : Option Course) (log : LogState) (xs : List Change) → IsTrue (may_be_closed_beside c log xs) → IsTrue (failed_of log xs)
+once_beside None log xs is = second_of (may_be_closed xs) (failed_of log xs) is
+once_beside (Some c) log xs is = is
 
-once_last : (before : Bool) (xs : List Change) (x : Change) → is_program x.op ≡ true → x.answer ≡ Failed → IsTrue (has_failed_program before (xs ++ x ∷ []))
-once_last before [] x program is = or_right before (is_failed_program x) (and_both (is_program x.op) (is_failed x.answer) program (ap is_failed is))
-once_last before (y ∷ ys) x program is = once_last (before || is_failed_program y) ys x program is
-
-pub failed_beside : (c : Option Course) (xs : List Change) (x : Change) → is_program x.op ≡ true → x.answer ≡ Failed → IsTrue (may_be_closed_beside c (xs ++ x ∷ []))
-failed_beside None xs x program is = failed_last false xs x program is
-failed_beside (Some c) xs x program is = once_last false xs x program is
-
--- and so it may while a switch is open, whatever comes behind it
-once_beside : (c : Option Course) (xs : List Change) → IsTrue (may_be_closed_beside c xs) → IsTrue (has_failed_program false xs)
-once_beside None xs is = closings_failed_once xs is
-once_beside (Some c) xs is = is
-
-pub closed_while : (c : Option Course) (then : Course) (xs : List Change) (A : Type 0) → A ⊎ IsTrue (may_be_closed_beside c xs) → A ⊎ IsTrue (may_be_closed_beside (Some then) xs)
-closed_while c then xs A (inl is) = inl is
-closed_while c then xs A (inr failed) = inr (once_beside c xs failed)
+pub closed_while : (c : Option Course) (next : Course) (log : LogState) (xs : List Change) (A : Type 0) → A ⊎ IsTrue (may_be_closed_beside c log xs) → A ⊎ IsTrue (may_be_closed_beside (Some next) log xs)
+closed_while c next log xs A (inl is) = inl is
+closed_while c next log xs A (inr failed) = inr (once_beside c log xs failed)
 
 -- THE PAGES OF A LOG'S BANK
 module _ (g : Geometry) (banks : ℕ) (log : LogState) (of : IsLogOf g banks log) (old new : List ℕ) where
@@ -65,13 +58,23 @@ module _ (g : Geometry) (banks : ℕ) (log : LogState) (of : IsLogOf g banks log
   same_body same q low inside = page_is new q ∙ same q (subst (λ (n : ℕ). q < n) (λ i. pages_of_bank (of.shape i) (of.shared i)) inside) ∙ sym (page_is old q)
 
 -- THE ACTIVE LOG
--- while a switch is open
-pub log_stays : (c : Option Course) (then : Course) (s : LogState) (body old new : List ℕ) (xs more : List Change) → 16 ≤ s.geometry.page → length new ≡ length old → SameBody s old new → FollowsLog c s body xs old
-    → FollowsLog (Some then) s body (xs ++ more) new
-log_stays c then s body old new xs more low long same follows = record {
+-- while a switch is open, whose operations are of another bank
+pub log_stays : (c : Option Course) (next : Course) (s : LogState) (body old new : List ℕ) (xs more : List Change) (t : ℕ) → 16 ≤ s.geometry.page → length new ≡ length old → SameBody s old new → (t ≡ s.bank → ⊥) → AreOf s.geometry s.banks t more → FollowsLog c s body xs old
+    → FollowsLog (Some next) s body (xs ++ more) new
+log_stays c next s body old new xs more t low long same differs of follows = record {
   holds = state_moves s body old new anything low long same follows.holds;
-  closed = λ shut. elim (follows.closed shut) [ inl is ↦ inl (closed_stays s old new same is) | inr failed ↦ inr (failures_stay false xs more (once_beside c xs failed)) ];
+  closed = λ shut. elim (follows.closed shut) [
+    | inl is ↦ inl (closed_stays s old new same is)
+    | inr failed ↦ inr (subst (λ (b : Bool). IsTrue b) (sym (failed_behind s.geometry s.banks s.bank t differs false xs more of)) (once_beside c s xs failed))
+  ];
 }
+
+-- SHAPES
+pub some_page : (g : Geometry) → IsLegal g → 0 < g.page
+some_page g legal = let low = legal.page_low in omega (arith, low)
+
+pub some_sector : (g : Geometry) → IsLegal g → 0 < g.sector
+some_sector g legal = let low = legal.page_low in let four = legal.sector_low in omega (arith, low, four)
 
 -- THE BANKS
 module _ (s : BanksState) (is : IsBanksState s) (old new : List ℕ) where
@@ -118,16 +121,48 @@ module _ (s : BanksState) (is : IsBanksState s) (old new : List ℕ) where
   banks_stay None long fronts same shown = shown ∙ sym (active_stays l old new (λ j inside. fronts j))
   banks_stay (Some c) long fronts same (first, target) = (first_stays (λ j other. fronts j) first, target_stays c long same target)
 
+  -- THE NEXT OPERATION
+  -- operations of another bank leave it
+  pub next_stays : (c : Course) (xs more : List Change) (t : ℕ) → IsShort (sectors_of_bank s.geometry s.banks) c → (t ≡ s.target → ⊥) → AreOf s.geometry s.banks t more → SamePages l old new s.target → FollowsNext s c xs old → FollowsNext s c (xs ++ more) new
+  next_stays (Erase zero) xs more t short differs of same next = tt
+  next_stays (Erase (suc n)) xs more t short differs of same next =
+      order_behind s.geometry s.banks t s.target (suc n) xs more (λ e. differs (e ∙ bank_of_erase s.geometry s.banks s.target (suc n) (some_sector s.geometry is.legal) short)) of next
+  next_stays (Copy work) xs more t short differs of same next = tt
+  next_stays Head xs more t short differs of same next = tt
+  next_stays (Gate false) xs more t short differs of same next = same 1 (let two = legal.pages in omega (arith, two)) ∙ next
+  next_stays (Gate true) xs more t short differs of same next =
+      repeated_behind s.geometry s.banks t (op_in s stage.Gate) xs more (λ e. differs (e ∙ bank_of_program s.geometry s.banks s.target 1 (gate_page s.geometry.page) (some_page s.geometry is.legal) (let two = legal.pages in omega (arith, two)))) of next
+
 -- WHAT THEY DON'T READ
 -- another log of the active bank, and another course, leave them
-pub with_log : (s : BanksState) (log : LogState) (then c : Option Course) (bytes : List ℕ) → FollowsBanks s c bytes → FollowsBanks (record s { log = log; course = then }) c bytes
-with_log s log then None bytes shown = shown
-with_log s log then (Some (Erase done)) bytes (first, target) = (record { stands = first.stands; behind = first.behind }, target)
-with_log s log then (Some (Copy work)) bytes (first, target) = (record { stands = first.stands; behind = first.behind }, target)
-with_log s log then (Some Head) bytes (first, target) = (record { stands = first.stands; behind = first.behind }, target)
-with_log s log then (Some (Gate failed)) bytes (first, target) = (record { stands = first.stands; behind = first.behind }, target)
+pub with_log : (s : BanksState) (log : LogState) (after c : Option Course) (bytes : List ℕ) → FollowsBanks s c bytes → FollowsBanks (record s { log = log; course = after }) c bytes
+with_log s log after None bytes shown = shown
+with_log s log after (Some (Erase done)) bytes (first, target) = (record { stands = first.stands; behind = first.behind }, target)
+with_log s log after (Some (Copy work)) bytes (first, target) = (record { stands = first.stands; behind = first.behind }, target)
+with_log s log after (Some Head) bytes (first, target) = (record { stands = first.stands; behind = first.behind }, target)
+with_log s log after (Some (Gate failed)) bytes (first, target) = (record { stands = first.stands; behind = first.behind }, target)
+
+pub next_with_log : (s : BanksState) (log : LogState) (after c : Option Course) (xs : List Change) (bytes : List ℕ) → IfSome c (λ x. FollowsNext s x xs bytes) → IfSome c (λ x. FollowsNext (record s { log = log; course = after }) x xs bytes)
+next_with_log s log after None xs bytes next = next
+next_with_log s log after (Some (Erase zero)) xs bytes next = next
+next_with_log s log after (Some (Erase (suc done))) xs bytes next = next
+next_with_log s log after (Some (Copy work)) xs bytes next = next
+next_with_log s log after (Some Head) xs bytes next = next
+next_with_log s log after (Some (Gate false)) xs bytes next = next
+next_with_log s log after (Some (Gate true)) xs bytes next = next
 
 -- and so does an append to a number
+pub next_appended : (s : BanksState) (o : Option ℕ) (c : Option Course) (xs : List Change) (bytes : List ℕ) → IfSome c (λ x. FollowsNext s x xs bytes) → IfSome (appended_at o c) (λ x. FollowsNext s x xs bytes)
+next_appended s None None xs bytes next = next
+next_appended s None (Some c) xs bytes next = next
+next_appended s (Some i) None xs bytes next = next
+next_appended s (Some i) (Some (Erase done)) xs bytes next = next
+next_appended s (Some i) (Some (Copy None)) xs bytes next = next
+next_appended s (Some i) (Some (Copy (Some w))) xs bytes next =
+    cond_both _ (Copy (Some (record w { sets = false }))) (Copy (Some w)) (λ (c : Course). FollowsNext s c xs bytes) (λ e. tt) (λ e. tt)
+next_appended s (Some i) (Some Head) xs bytes next = next
+next_appended s (Some i) (Some (Gate failed)) xs bytes next = next
+
 pub appended : (s : BanksState) (o : Option ℕ) (c : Option Course) (bytes : List ℕ) → FollowsBanks s c bytes → FollowsBanks s (appended_at o c) bytes
 appended s None None bytes holds = holds
 appended s None (Some c) bytes holds = holds

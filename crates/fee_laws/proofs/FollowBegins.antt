@@ -1,6 +1,6 @@
 -- A record or a switch begins, and a record is given up: in memory alone.
-use Rattle.std.specs.Prelude.{IfSome}
-use Rattle.std.proofs.Common.{◌≡◌, ◌<◌, ◌≤◌, ℕ, Bool, List, length, Option, Some, None, refl, sym, subst, arith}
+use Rattle.std.specs.Prelude.{IfSome, IsTrue}
+use Rattle.std.proofs.Common.{◌≡◌, inl, inr, ◌<◌, ◌≤◌, ℕ, Bool, List, length, Option, Some, None, refl, sym, subst, arith}
 use Rattle.nv_base.specs.Lengths.{place_of}
 use Rattle.nv_base.specs.Pages.{record_pages_of}
 use Rattle.fls_model.specs.Told.{Change}
@@ -21,10 +21,10 @@ use Rattle.fee_switch.specs.Banks.{BanksState, append_begun, begun_again}
 use Rattle.fee_switch_laws.specs.Shown.{layout_in}
 use Rattle.fee_switch_laws.proofs.RoomAppends.{work_begun}
 use Rattle.fee_laws.specs.Inside.{body_of}
-use Rattle.fee_laws.specs.Follows.{anything, ComesBehind, StandsFirst, FollowsBanks, FollowsLog, FollowsBytes}
+use Rattle.fee_laws.specs.Follows.{anything, may_be_closed_beside, ComesBehind, StandsFirst, FollowsBanks, FollowsLog, FollowsBytes}
 use Rattle.fee_laws.proofs.FollowStates.{any_flags}
 use Rattle.fee_laws.proofs.FollowSteps.{begun_open, given_closed}
-use Rattle.fee_laws.proofs.FollowBanks.{closed_while, with_log, appended}
+use Rattle.fee_laws.proofs.FollowBanks.{closed_while, with_log, appended, next_with_log, next_appended}
 
 -- THE ACTIVE BANK
 -- each of one
@@ -54,6 +54,7 @@ record_begins s head content bytes xs state may follows =
     record {
       log = by_active s.active may.room follows.log;
       banks = with_log s then.log then.course then.course bytes (appended s (place_of s.log.numbers head.number.0) s.course bytes follows.banks);
+      next = next_with_log s then.log then.course then.course xs bytes (next_appended s (place_of s.log.numbers head.number.0) s.course xs bytes follows.next);
     }
   where
     by_active : (o : Option ActiveBank) → IfSome o (λ a. record_pages_of head.length s.log.geometry.page ≤ free_in s.log)
@@ -62,22 +63,27 @@ record_begins s head content bytes xs state may follows =
     by_active (Some a) room follows' = log_begins s.course s.log head content bytes xs state may.idle may.configured room may.size follows' (append_begun s head).course
 
 -- A RECORD IS GIVEN UP
+given_may : (c : Option Course) (s : LogState) (xs : List Change) → may_be_closed_beside c s xs ≡ may_be_closed_beside c (given_up s) xs
+given_may None s xs = refl
+given_may (Some c) s xs = refl
+
 log_given : (c : Option Course) (s : LogState) (content bytes : List ℕ) (xs : List Change) → IsLogState s → FollowsLog c s (body_of (work_in s.tail) content) xs bytes → FollowsLog c (given_up s) (body_of (work_in (given_up s).tail) content) xs bytes
 log_given c s content bytes xs state follows = record {
   holds = given_up_holds s (body_of (work_in s.tail) content) (body_of (work_in (given_up s).tail) content) bytes anything state follows.holds;
-  closed = λ shut. follows.closed (given_closed s s.tail shut);
+  closed = λ shut. elim (follows.closed (given_closed s s.tail shut)) [ inl is ↦ inl is | inr failed ↦ inr (subst (λ (b : Bool). IsTrue b) (given_may c s xs) failed) ];
 }
 
 pub record_given : (s : BanksState) (content bytes : List ℕ) (xs : List Change) → IsLogState s.log → FollowsBytes s content xs bytes → FollowsBytes (record s { log = given_up s.log }) content xs bytes
 record_given s content bytes xs state follows = record {
   log = each s.active (λ a. FollowsLog s.course s.log (body_of (work_in s.log.tail) content) xs bytes) (λ a. FollowsLog s.course (given_up s.log) (body_of (work_in (given_up s.log).tail) content) xs bytes) (λ a at. log_given s.course s.log content bytes xs state) follows.log;
   banks = with_log s (given_up s.log) s.course s.course bytes follows.banks;
+  next = next_with_log s (given_up s.log) s.course s.course xs bytes follows.next;
 }
 
 -- FLAGS
 -- they are none of what a log's bank holds
 pub log_flagged : (c : Option Course) (then : Course) (s : LogState) (flags : List Bool) (body bytes : List ℕ) (xs : List Change) → FollowsLog c s body xs bytes → FollowsLog (Some then) (record s { flags = flags }) body xs bytes
-log_flagged c then s flags body bytes xs follows = record { holds = any_flags s flags body bytes anything follows.holds; closed = λ shut. closed_while c then xs _ (follows.closed shut) }
+log_flagged c then s flags body bytes xs follows = record { holds = any_flags s flags body bytes anything follows.holds; closed = λ shut. closed_while c then s xs _ (follows.closed shut) }
 
 pub active_flagged : (c : Option Course) (then : Course) (s : BanksState) (flags : List Bool) (body bytes : List ℕ) (xs : List Change) → IfSome s.active (λ a. FollowsLog c s.log body xs bytes) → IfSome s.active (λ a. FollowsLog (Some then) (record s.log { flags = flags }) body xs bytes)
 active_flagged c then s flags body bytes xs follows = each s.active (λ a. FollowsLog c s.log body xs bytes) (λ a. FollowsLog (Some then) (record s.log { flags = flags }) body xs bytes) (λ a at. log_flagged c then s.log flags body bytes xs) follows
@@ -106,4 +112,5 @@ module _ (s : BanksState) (bytes : List ℕ) where
       record {
         log = active_flagged s.course (Erase 0) s (clear_flags s.log.numbers) (body_of (work_in s.log.tail) content) bytes xs follows.log;
         banks = (record { stands = first.stands; behind = first.behind }, λ q below inside. absurd (omega arith));
+        next = tt;
       }

@@ -66,6 +66,7 @@ content_follows s content after bytes xs same follows = record {
   log = each s.active (λ a. FollowsLog s.course s.log (body_of (work_in s.log.tail) content) xs bytes) (λ a. FollowsLog s.course s.log (body_of (work_in s.log.tail) after) xs bytes)
       (λ a at log. subst (λ (body : List ℕ). FollowsLog s.course s.log body xs bytes) (same_content s content after same) log) follows.log;
   banks = follows.banks;
+  next = follows.next;
 }
 
 pub same_follow : SameFollow

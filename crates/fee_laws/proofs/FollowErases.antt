@@ -1,7 +1,8 @@
 -- The erases of a switch's target.
-use Rattle.std.proofs.Common.{◌≡◌, ◌<◌, ◌≤◌, ◌+◌, ◌*◌, ◌==◌, ◌++◌, ◌∷◌, ℕ, List, [], length, Some, None, sym, ap, ◌∙◌, subst, arith}
-use Rattle.std.proofs.lemmas.Bool.{cond_both, eqb-true}
+use Rattle.std.proofs.Common.{◌≡◌, inl, inr, ◌<◌, ◌≤◌, ◌+◌, ◌*◌, ◌==◌, ◌++◌, ◌∷◌, ℕ, zero, suc, List, [], length, Some, None, sym, ap, ◌∙◌, subst, arith}
+use Rattle.std.proofs.lemmas.Bool.{cond_both, cases_lt, eqb-true, eqb-false}
 use Rattle.nv_base.specs.Geometry.{sectors_of_bank, pages_of_sector}
+use Rattle.fls_model.specs.declared.flash.FlashAnswer.TheVariants.{Done, Failed}
 use Rattle.fls_model.specs.Op.{MayLeave, after_op}
 use Rattle.fls_model.specs.Told.{Change}
 use Rattle.fee_image.specs.Image.{Layout}
@@ -16,16 +17,19 @@ use Rattle.fee_course.specs.declared.course.Course.TheVariants.{Erase, Copy, Hea
 use Rattle.fee_course.specs.Course.{settled}
 use Rattle.fee_switch.specs.declared.target.Stage.TheVariants as stage
 use Rattle.fee_switch.specs.Target.{op_at}
-use Rattle.fee_switch.specs.Banks.{BanksState, IsBanksState, target_at, advanced, fallen_back}
+use Rattle.fee_switch.specs.Banks.{BanksState, IsBanksState, target_at, begun_again, advanced, fallen_back}
 use Rattle.fee_switch_laws.specs.Shown.{layout_in}
 use Rattle.fee_laws.specs.Inside.{body_of}
-use Rattle.fee_laws.specs.Follows.{anything, FollowsCopies, FollowsTarget, FollowsBytes}
+use Rattle.fee_laws.specs.Switches.{op_in}
+use Rattle.fee_laws.specs.Follows.{anything, FollowsCopies, FollowsTarget, FollowsNext, FollowsBytes}
 use Rattle.fee_image.proofs.Erases.{erased_others, erased_blank, still_blank}
 use Rattle.fee_image.proofs.Frames.{SameOthers}
-use Rattle.fee_laws.proofs.FollowBanks.{legal}
+use Rattle.promise_device.specs.Wear.{bank_of_op}
+use Rattle.fee_laws.proofs.FollowOperations.{AreOf, bank_of_erase, next_in_order, same_in_order}
+use Rattle.fee_laws.proofs.FollowBanks.{some_sector, legal}
 use Rattle.fee_laws.proofs.FollowTargets.{was, builds, settled_target}
 
-module _ (s : BanksState) (is : IsBanksState s) (content old new : List ℕ) (xs : List Change) (x : Change) (n : ℕ) (course : s.course ≡ Some (Erase n)) (short : n < sectors_of_bank s.geometry s.banks) (leaves : MayLeave (op_at (target_at s (stage.Erase n)) (stage.Erase n)) old new) (follows : FollowsBytes s content xs old) where
+module _ (s : BanksState) (is : IsBanksState s) (content old new : List ℕ) (xs : List Change) (x : Change) (n : ℕ) (course : s.course ≡ Some (Erase n)) (short : n < sectors_of_bank s.geometry s.banks) (leaves : MayLeave (op_at (target_at s (stage.Erase n)) (stage.Erase n)) old new) (op : x.op ≡ op_in s (stage.Erase n)) (follows : FollowsBytes s content xs old) where
   abbrev l : Layout
   l = layout_in s
 
@@ -35,14 +39,21 @@ module _ (s : BanksState) (is : IsBanksState s) (content old new : List ℕ) (xs
   apart : SameOthers l old new s.target
   apart = erased_others s.geometry s.banks s.target n old new is.legal is.shared short leaves
 
+  of : AreOf s.geometry s.banks s.target (x ∷ [])
+  of = (ap (bank_of_op s.geometry s.banks) op ∙ bank_of_erase s.geometry s.banks s.target n (some_sector s.geometry is.legal) short, tt)
+
   was' : FollowsTarget s (Erase n) old
-  was' = (was s is content old new xs (x ∷ []) (Erase n) course long apart follows).1
+  was' = (was s is content old new xs (x ∷ []) (Erase n) course of long apart follows).1
 
-  pub erase_fails : FollowsBytes (fallen_back s (Erase n)) content (xs ++ x ∷ []) new
-  erase_fails = builds s is content old new xs (x ∷ []) (Erase n) course long apart follows (clear_flags s.log.numbers) (Erase n) (erased_state s.geometry s.banks s.target s.copies.numbers) s.buffer
-      (still_blank s.geometry s.banks s.target n old new is.legal is.shared short leaves was')
+  next_again : (k : ℕ) → x.op ≡ op_in s (stage.Erase k) → x.answer ≡ Failed → FollowsNext (begun_again s (Erase k)) (Erase k) (xs ++ x ∷ []) new
+  next_again zero is' failed = tt
+  next_again (suc k) is' failed = same_in_order s.geometry s.banks s.target (suc k) xs x is' failed
 
-  module _ (size : l.pages * l.page * s.banks ≤ length old) (copies : IsLogState s.copies) (is_empty : s.copies ≡ erased_state s.geometry s.banks s.target s.copies.numbers) (done : new ≡ after_op (op_at (target_at s (stage.Erase n)) (stage.Erase n)) old) where
+  pub erase_fails : x.answer ≡ Failed → FollowsBytes (fallen_back s (Erase n)) content (xs ++ x ∷ []) new
+  erase_fails failed = builds s is content old new xs (x ∷ []) (Erase n) course of long apart follows (clear_flags s.log.numbers) (Erase n) (erased_state s.geometry s.banks s.target s.copies.numbers) s.buffer
+      (still_blank s.geometry s.banks s.target n old new is.legal is.shared short leaves was') (next_again n op failed)
+
+  module _ (size : l.pages * l.page * s.banks ≤ length old) (copies : IsLogState s.copies) (is_empty : s.copies ≡ erased_state s.geometry s.banks s.target s.copies.numbers) (done : new ≡ after_op (op_at (target_at s (stage.Erase n)) (stage.Erase n)) old) (is_done : x.answer ≡ Done) where
     blank : AreBlank l new s.target ((n + 1) * pages_of_sector s.geometry)
     blank = erased_blank s.geometry s.banks s.target n old new is.legal is.shared short leaves is.target size done was'
 
@@ -55,16 +66,22 @@ module _ (s : BanksState) (is : IsBanksState s) (content old new : List ℕ) (xs
         subst (λ (k : LogState). HoldsState k (body_of (work_in k.tail) s.buffer) new anything) (sym is_empty)
         (erased_holds s.geometry s.banks s.target s.copies.numbers [] new anything state (omega (arith, size, long)) (λ q two inside. all_blank last q inside inside) (λ number length. tt))
 
+    next_erase : (n + 1 ≡ sectors_of_bank s.geometry s.banks → ⊥) → FollowsNext s (Erase (n + 1)) (xs ++ x ∷ []) new
+    next_erase more =
+        let same : suc n ≡ n + 1 = omega arith in
+        let inside : suc n < sectors_of_bank s.geometry s.banks = elim (cases_lt (suc n) (sectors_of_bank s.geometry s.banks)) [ inl less ↦ less | inr no_less ↦ absurd (more (omega (arith, short, no_less))) ] in
+        subst (λ (k : ℕ). FollowsNext s (Erase k) (xs ++ x ∷ []) new) same (next_in_order s.geometry s.banks s.target n xs x (some_sector s.geometry is.legal) inside op is_done)
+
     two : 2 ≤ l.pages
     two = (legal s is old new).pages
 
     pub erase_goes_on : FollowsBytes (advanced s (Erase n)) content (xs ++ x ∷ []) new
     erase_goes_on =
-        let goes = builds s is content old new xs (x ∷ []) (Erase n) course long apart follows s.log.flags in
+        let goes = builds s is content old new xs (x ∷ []) (Erase n) course of long apart follows s.log.flags in
         cond_both (n + 1 == sectors_of_bank s.geometry s.banks) (settled s.log.numbers s.log.places s.log.flags) (Erase (n + 1)) (λ (after : Course). FollowsBytes (record s { course = Some after }) content (xs ++ x ∷ []) new)
         (λ e.
         (let last = eqb-true (n + 1) (sectors_of_bank s.geometry s.banks) e in
         let front : AreBlank l new s.target 2 = λ q below inside. all_blank last q inside inside in
         settled_target s.log.numbers s.log.places s.log.flags (λ (after : Course). record s { course = Some after }) (λ (t : BanksState). FollowsBytes t content (xs ++ x ∷ []) new)
-        (goes (Copy None) s.copies s.buffer (front, empty_holds last)) (goes Head s.copies s.buffer (front, empty_holds last))))
-        (λ e. goes (Erase (n + 1)) s.copies s.buffer blank)
+        (goes (Copy None) s.copies s.buffer (front, empty_holds last) tt) (goes Head s.copies s.buffer (front, empty_holds last) tt)))
+        (λ e. goes (Erase (n + 1)) s.copies s.buffer blank (next_erase (eqb-false (n + 1) (sectors_of_bank s.geometry s.banks) e)))

@@ -4,6 +4,7 @@ use Rattle.std.proofs.Common.{◌≡◌, inl, inr, ◌<◌, ◌≤◌, ◌+◌, 
 use Rattle.std.proofs.lemmas.Bool.{cases_lt, cases_eq, eqb-false}
 use Rattle.std.proofs.lemmas.Option.{same_Some}
 use Rattle.std.proofs.lemmas.List.{length-replicate}
+use Rattle.fls_model.specs.declared.flash.FlashAnswer.TheVariants.{Failed}
 use Rattle.fls_model.specs.Op.{MayLeave, after_op}
 use Rattle.fls_model.specs.Told.{Change}
 use Rattle.fee_format.specs.declared.bank_head.BankHead.{BankHead}
@@ -23,10 +24,14 @@ use Rattle.fee_switch.specs.Banks.{BanksState, IsBanksState, target_at, next_gen
 use Rattle.fee_switch.proofs.Targets.{page_inside}
 use Rattle.fee_switch_laws.specs.Shown.{layout_in}
 use Rattle.fee_laws.specs.Inside.{body_of}
+use Rattle.promise_device.specs.Wear.{bank_of_op}
+use Rattle.promise_device.proofs.Wears.{failed_are_repeated}
+use Rattle.fee_laws.specs.Switches.{op_in}
 use Rattle.fee_laws.specs.Follows.{anything, ComesBehind, StandsFirst, target_head, FollowsCopies, FollowsTarget, FollowsBytes}
 use Rattle.fee_image.proofs.Frames.{SameOthers, others_stay, page_stays}
 use Rattle.fee_laws.proofs.FollowStates.{any_content}
-use Rattle.fee_laws.proofs.FollowBanks.{legal, copies_stay}
+use Rattle.fee_laws.proofs.FollowOperations.{AreOf, bank_of_program}
+use Rattle.fee_laws.proofs.FollowBanks.{some_page, legal, copies_stay}
 use Rattle.fee_laws.proofs.FollowTargets.{was, first, builds}
 
 -- the greatest generation but the last has a next one
@@ -48,7 +53,7 @@ newer l bytes t j (Some a) other first behind stands = elim (cases_eq j a.bank) 
   | inr differs ↦ elim (behind differs) [ inl less ↦ inl (omega arith) | inr tie ↦ inl (omega (arith, tie.0)) ]
 ]
 
-module _ (s : BanksState) (is : IsBanksState s) (content old new : List ℕ) (xs : List Change) (x : Change) (failed : Bool) (course : s.course ≡ Some (Gate failed)) (leaves : MayLeave (op_at (target_at s stage.Gate) stage.Gate) old new) (follows : FollowsBytes s content xs old) where
+module _ (s : BanksState) (is : IsBanksState s) (content old new : List ℕ) (xs : List Change) (x : Change) (failed : Bool) (course : s.course ≡ Some (Gate failed)) (leaves : MayLeave (op_at (target_at s stage.Gate) stage.Gate) old new) (op : x.op ≡ op_in s stage.Gate) (follows : FollowsBytes s content xs old) where
   abbrev l : Layout
   l = layout_in s
 
@@ -67,8 +72,11 @@ module _ (s : BanksState) (is : IsBanksState s) (content old new : List ℕ) (xs
   same : (q : ℕ) → q < l.pages → (q ≡ 1 → ⊥) → image_page l new s.target q ≡ image_page l old s.target q
   same = page_stays l old new page s.target 1 size (omega (arith, two)) leaves
 
+  of : AreOf s.geometry s.banks s.target (x ∷ [])
+  of = (ap (bank_of_op s.geometry s.banks) op ∙ bank_of_program s.geometry s.banks s.target 1 page (some_page s.geometry is.legal) (omega (arith, two)), tt)
+
   was' : FollowsTarget s (Gate failed) old
-  was' = (was s is content old new xs (x ∷ []) (Gate failed) course leaves.0.size apart follows).1
+  was' = (was s is content old new xs (x ∷ []) (Gate failed) course of leaves.0.size apart follows).1
 
   head_on : image_page l new s.target 0 ≡ bank_head_page s.geometry.page (target_head s)
   head_on = same 0 (omega (arith, two)) (λ e. (let z : ◌≡◌ {A = ℕ} 0 1 = e in cc z)) ∙ was'.0
@@ -76,8 +84,8 @@ module _ (s : BanksState) (is : IsBanksState s) (content old new : List ℕ) (xs
   copies_on : FollowsCopies s new
   copies_on = copies_stay s is old new leaves.0.size (λ q low inside. same q inside (λ e. omega (arith, low, e))) was'.1
 
-  pub gate_fails : FollowsBytes (fallen_back s (Gate failed)) content (xs ++ x ∷ []) new
-  gate_fails = builds s is content old new xs (x ∷ []) (Gate failed) course leaves.0.size apart follows s.log.flags (Gate true) s.copies s.buffer (head_on, copies_on)
+  pub gate_fails : x.answer ≡ Failed → FollowsBytes (fallen_back s (Gate failed)) content (xs ++ x ∷ []) new
+  gate_fails bad = builds s is content old new xs (x ∷ []) (Gate failed) course of leaves.0.size apart follows s.log.flags (Gate true) s.copies s.buffer (head_on, copies_on) (failed_are_repeated s.geometry s.banks xs x (op_in s stage.Gate) op bad)
 
   module _ (wide : l.pages * l.page * s.banks ≤ length old) (worn : is_worn_out s.active ≡ false) (tail : s.copies.tail ≡ Open) (done : new ≡ after_op (op_at (target_at s stage.Gate) stage.Gate) old) where
     gate_on : image_page l new s.target 1 ≡ page
@@ -86,7 +94,7 @@ module _ (s : BanksState) (is : IsBanksState s) (content old new : List ℕ) (xs
         subst (λ (bytes : List ℕ). image_page l bytes s.target 1 ≡ page) (sym done) stood.0
 
     first_on : StandsFirst s new
-    first_on = first s is content old new xs (x ∷ []) (Gate failed) course leaves.0.size apart follows
+    first_on = first s is content old new xs (x ∷ []) (Gate failed) course of leaves.0.size apart follows
 
     stands : BankStands l new s.target (target_head s)
     stands = record { head = record { legal = record { format = inr refl; generation = next_fits s.active l new first_on.stands worn }; page_is = head_on }; gate = gate_on }
@@ -108,4 +116,5 @@ module _ (s : BanksState) (is : IsBanksState s) (content old new : List ℕ) (xs
             closed = λ shut. cc;
           };
           banks = sym ((active_computes l new s.target (target_head s)).0 is_active);
+          next = tt;
         }

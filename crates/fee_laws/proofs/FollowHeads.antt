@@ -1,5 +1,5 @@
 -- The head of a switch's target.
-use Rattle.std.proofs.Common.{◌≡◌, ◌≤◌, ◌*◌, ◌++◌, ◌∷◌, ℕ, false, List, [], length, Some, sym, subst, arith}
+use Rattle.std.proofs.Common.{◌≡◌, ◌≤◌, ◌*◌, ◌++◌, ◌∷◌, ℕ, false, List, [], length, Some, sym, ap, ◌∙◌, subst, arith}
 use Rattle.fls_model.specs.Op.{MayLeave, after_op}
 use Rattle.fls_model.specs.Told.{Change}
 use Rattle.fee_format.specs.Formats.{new_format}
@@ -12,13 +12,16 @@ use Rattle.fee_switch.specs.Target.{op_at}
 use Rattle.fee_switch.specs.Banks.{BanksState, IsBanksState, target_at, next_generation, advanced, fallen_back}
 use Rattle.fee_switch.proofs.Targets.{page_inside}
 use Rattle.fee_switch_laws.specs.Shown.{layout_in}
+use Rattle.promise_device.specs.Wear.{bank_of_op}
+use Rattle.fee_laws.specs.Switches.{op_in}
 use Rattle.fee_laws.specs.Follows.{target_head, FollowsTarget, FollowsBytes}
 use Rattle.fee_image.proofs.Frames.{SameOthers, others_stay, page_stays}
 use Rattle.fee_laws.proofs.FollowBytes.{bank_head_is}
-use Rattle.fee_laws.proofs.FollowBanks.{legal, copies_stay}
+use Rattle.fee_laws.proofs.FollowOperations.{AreOf, bank_of_program}
+use Rattle.fee_laws.proofs.FollowBanks.{some_page, legal, copies_stay}
 use Rattle.fee_laws.proofs.FollowTargets.{was, builds, again}
 
-module _ (s : BanksState) (is : IsBanksState s) (content old new : List ℕ) (xs : List Change) (x : Change) (course : s.course ≡ Some Head) (leaves : MayLeave (op_at (target_at s stage.Head) stage.Head) old new) (follows : FollowsBytes s content xs old) where
+module _ (s : BanksState) (is : IsBanksState s) (content old new : List ℕ) (xs : List Change) (x : Change) (course : s.course ≡ Some Head) (leaves : MayLeave (op_at (target_at s stage.Head) stage.Head) old new) (op : x.op ≡ op_in s stage.Head) (follows : FollowsBytes s content xs old) where
   abbrev l : Layout
   l = layout_in s
 
@@ -34,11 +37,14 @@ module _ (s : BanksState) (is : IsBanksState s) (content old new : List ℕ) (xs
   apart : SameOthers l old new s.target
   apart = others_stay l old new page s.target 0 size (omega (arith, two)) leaves
 
+  of : AreOf s.geometry s.banks s.target (x ∷ [])
+  of = (ap (bank_of_op s.geometry s.banks) op ∙ bank_of_program s.geometry s.banks s.target 0 page (some_page s.geometry is.legal) (omega (arith, two)), tt)
+
   was' : FollowsTarget s Head old
-  was' = (was s is content old new xs (x ∷ []) Head course leaves.0.size apart follows).1
+  was' = (was s is content old new xs (x ∷ []) Head course of leaves.0.size apart follows).1
 
   pub head_fails : FollowsBytes (fallen_back s Head) content (xs ++ x ∷ []) new
-  head_fails = again s is content old new xs (x ∷ []) Head course leaves.0.size apart follows s.buffer
+  head_fails = again s is content old new xs (x ∷ []) Head course of leaves.0.size apart follows s.buffer
 
   pub head_stands : l.pages * l.page * s.banks ≤ length old → new ≡ after_op (op_at (target_at s stage.Head) stage.Head) old → FollowsBytes (advanced s Head) content (xs ++ x ∷ []) new
   head_stands wide done =
@@ -46,5 +52,6 @@ module _ (s : BanksState) (is : IsBanksState s) (content old new : List ℕ) (xs
       let stood = programs_stand (bank_in l new_format s.target) old page 0 page_of.size page_of.bytes (page_inside l old s.target 0 wide is.target (omega (arith, two))) (was'.0 0 (omega arith) (omega (arith, two))) in
       let here : image_page l new s.target 0 ≡ page = subst (λ (bytes : List ℕ). image_page l bytes s.target 0 ≡ page) (sym done) stood.0 in
       let same = page_stays l old new page s.target 0 size (omega (arith, two)) leaves in
-      builds s is content old new xs (x ∷ []) Head course leaves.0.size apart follows s.log.flags (Gate false) s.copies s.buffer
+      builds s is content old new xs (x ∷ []) Head course of leaves.0.size apart follows s.log.flags (Gate false) s.copies s.buffer
       (here, copies_stay s is old new leaves.0.size (λ q low inside. same q inside (λ e. omega (arith, low, e))) was'.1)
+      (same 1 (omega (arith, two)) (λ e. (let z : ◌≡◌ {A = ℕ} 1 0 = e in cc z)) ∙ was'.0 1 (omega arith) (omega (arith, two)))

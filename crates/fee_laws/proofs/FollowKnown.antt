@@ -1,5 +1,5 @@
 -- What a device that is worn out has to know.
-use Rattle.std.specs.Prelude.{IfSome, IsSome, IsTrue, is_some, if◌then◌else◌, ◌++◌, ◌∷◌, [], get_or, replicate}
+use Rattle.std.specs.Prelude.{IfSome, IsSome, IsTrue, is_some, if◌then◌else◌, ◌&&◌, ◌++◌, ◌∷◌, [], get_or, replicate}
 use Rattle.std.proofs.Common.{◌≡◌, ◌⊎◌, inl, inr, ◌≤◌, ◌<◌, ◌+◌, ◌-◌, ℕ, zero, suc, Bool, true, false, List, Option, Some, None, refl, sym, ap, ◌∙◌, subst, arith}
 use Rattle.nv_base.specs.declared.geometry.Geometry.{Geometry}
 use Rattle.nv_base.specs.declared.instance.DeviceNumber.{DeviceNumber}
@@ -26,7 +26,7 @@ use Rattle.promise_device.specs.Image.{HasNoRoomFor}
 use Rattle.fee_laws.specs.Inside.{Parts, body_of, IsActiveOf}
 use Rattle.fee_laws.specs.Turn.{IsOn}
 use Rattle.fee_laws.specs.Worn.{KnowsRoom}
-use Rattle.fee_laws.specs.Follows.{anything, may_be_closed_beside, FollowsLog, FollowsBanks, FollowsBytes}
+use Rattle.fee_laws.specs.Follows.{anything, failed_of, may_be_closed_beside, FollowsLog, FollowsBanks, FollowsBytes}
 
 -- THE PAGES
 pub no_header : (p : ℕ) (rest : List ℕ) → 1 ≤ p → (82 ∷ rest) ≡ replicate p 255 → ⊥
@@ -66,6 +66,10 @@ pub test : (b : Bool) → (b ≡ true) ⊎ (b ≡ false)
 test true = inl refl
 test false = inr refl
 
+first_of : (a b : Bool) → IsTrue (a && b) → IsTrue a
+first_of true b is = refl
+first_of false b is = cc is
+
 -- THE BANKS
 module _ (m : Making) (entry : Told) (s : Parts) (listed : List (DeviceNumber × ℕ)) (kept count : ℕ) (on : IsOn m entry s listed kept count) (bytes : List ℕ) (follows : FollowsBytes s.banks s.content s.operations bytes) where
   abbrev body' : List ℕ
@@ -81,23 +85,26 @@ module _ (m : Making) (entry : Told) (s : Parts) (listed : List (DeviceNumber ×
     formats : s.banks.log.format ≡ a.head.format
     formats = subst (IsActiveOf s.banks) active (on.sound.works on.started).active
 
-    bank : s.banks.log.bank ≡ a.bank
-    bank = (subst (λ (o : Option ActiveBank). IfSome o (λ y. (y.bank ≡ s.banks.target → ⊥) × (s.banks.log.bank ≡ y.bank))) active on.banks.active).1
+    pub own_bank : s.banks.log.bank ≡ a.bank
+    own_bank = (subst (λ (o : Option ActiveBank). IfSome o (λ y. (y.bank ≡ s.banks.target → ⊥) × (s.banks.log.bank ≡ y.bank))) active on.banks.active).1
 
     pub bank_is : bank_of s.banks.log ≡ bank_in (banks_of m) a.head.format a.bank
-    bank_is = λ i. bank_in (layout_of ((on.banks.log.shape ∙ on.sound.made_for.banks_geometry) i) ((on.banks.log.shared ∙ on.sound.made_for.shared) i)) (formats i) (bank i)
+    bank_is = λ i. bank_in (layout_of ((on.banks.log.shape ∙ on.sound.made_for.banks_geometry) i) ((on.banks.log.shared ∙ on.sound.made_for.shared) i)) (formats i) (own_bank i)
 
-    closed_beside : is_closed s.banks.log.tail ≡ true → (let b = bank_in (banks_of m) a.head.format a.bank in IsClosed b bytes (end_of b bytes)) ⊎ IsTrue (may_be_closed_beside s.banks.course s.operations)
+    closed_beside : is_closed s.banks.log.tail ≡ true → (let b = bank_in (banks_of m) a.head.format a.bank in IsClosed b bytes (end_of b bytes)) ⊎ IsTrue (may_be_closed_beside s.banks.course s.banks.log s.operations)
     closed_beside shut = elim (follows_log.closed shut) [ inl is ↦ inl (subst (λ (b : Bank). IsClosed b bytes (end_of b bytes)) bank_is is) | inr failed ↦ inr failed ]
 
+    may_by : s.banks.course ≡ None → IsTrue (may_be_closed_beside s.banks.course s.banks.log s.operations) → IsTrue (may_be_closed s.operations)
+    may_by none failed = first_of (may_be_closed s.operations) (failed_of s.banks.log s.operations) (subst (λ (c : Option Course). IsTrue (may_be_closed_beside c s.banks.log s.operations)) none failed)
+
     pub closed_at : s.banks.course ≡ None → is_closed s.banks.log.tail ≡ true → (let b = bank_in (banks_of m) a.head.format a.bank in IsClosed b bytes (end_of b bytes)) ⊎ IsTrue (may_be_closed s.operations)
-    closed_at none shut = subst (λ (c : Option Course). (let b = bank_in (banks_of m) a.head.format a.bank in IsClosed b bytes (end_of b bytes)) ⊎ IsTrue (may_be_closed_beside c s.operations)) none (closed_beside shut)
+    closed_at none shut = elim (closed_beside shut) [ inl is ↦ inl is | inr failed ↦ inr (may_by none failed) ]
 
     pub free_is : free_pages s.banks ≡ free_in s.banks.log
     free_is = ap (λ (o : Option ActiveBank). if is_some o then free_in s.banks.log else 0) active
 
     -- also while a switch is open
-    pub room_beside : work_in s.banks.log.tail ≡ None → (let b = bank_in (banks_of m) a.head.format a.bank in HasNoMore b bytes (free_pages s.banks)) ⊎ IsTrue (may_be_closed_beside s.banks.course s.operations)
+    pub room_beside : work_in s.banks.log.tail ≡ None → (let b = bank_in (banks_of m) a.head.format a.bank in HasNoMore b bytes (free_pages s.banks)) ⊎ IsTrue (may_be_closed_beside s.banks.course s.banks.log s.operations)
     room_beside idle = elim (test (is_closed s.banks.log.tail)) [
       | inl shut ↦ (elim (closed_beside shut) [ inl is ↦ inl (inl is) | inr failed ↦ inr failed ])
       | inr wide ↦ inl (
@@ -107,7 +114,7 @@ module _ (m : Making) (entry : Told) (s : Parts) (listed : List (DeviceNumber ×
     ]
 
     room_at : s.banks.course ≡ None → work_in s.banks.log.tail ≡ None → (let b = bank_in (banks_of m) a.head.format a.bank in HasNoMore b bytes (free_pages s.banks)) ⊎ IsTrue (may_be_closed s.operations)
-    room_at none idle = subst (λ (c : Option Course). (let b = bank_in (banks_of m) a.head.format a.bank in HasNoMore b bytes (free_pages s.banks)) ⊎ IsTrue (may_be_closed_beside c s.operations)) none (room_beside idle)
+    room_at none idle = elim (room_beside idle) [ inl is ↦ inl is | inr failed ↦ inr (may_by none failed) ]
 
   pub shows_active : s.banks.course ≡ None → active_shown s.banks.active ≡ active_of (banks_of m) bytes
   shows_active shut = subst (λ (l : Layout). active_shown s.banks.active ≡ active_of l bytes) layout_is (subst (λ (c : Option Course). FollowsBanks s.banks c bytes) shut follows.banks)

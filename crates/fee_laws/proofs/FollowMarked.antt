@@ -18,9 +18,12 @@ use Rattle.fee_course.specs.Copies.{next_copy}
 use Rattle.fee_switch.specs.Banks.{BanksState, IsBanksState, IsLogOf, after_answer}
 use Rattle.fee_switch_laws.proofs.RoomAppends.{work_begun}
 use Rattle.fee_laws.specs.Inside.{body_of}
-use Rattle.fee_laws.specs.Follows.{FollowsBytes, FollowsTarget, FollowsBanks}
+use Rattle.fee_laws.specs.Follows.{FollowsBytes, FollowsTarget, FollowsBanks, FollowsNext}
 use Rattle.fee_switch_laws.specs.Shown.{layout_in}
 use Rattle.fee_image.proofs.Frames.{SameOthers}
+use Rattle.promise_device.specs.Wear.{bank_of_op}
+use Rattle.fee_laws.proofs.FollowOperations.{AreOf}
+use Rattle.fee_laws.proofs.FollowAppends.{bank_is}
 use Rattle.fee_laws.proofs.FollowTargets.{builds, again}
 use Rattle.fee_laws.proofs.FollowCopies.{page_small, apart, page_goes_on, begun_course, begun_tail, begun_holds, begun_state}
 
@@ -30,7 +33,7 @@ pub record MayCopy (s : BanksState) (head : RecHead) : Type 0 where
   pub configured : IsFor s.copies.numbers head
   pub room : record_pages_of head.length s.copies.geometry.page ≤ free_in s.copies
 
-module _ (s : BanksState) (is : IsBanksState s) (content old new : List ℕ) (xs : List Change) (x : Change) (course : s.course ≡ Some (Copy None)) (copies : IsLogState s.copies) (head : RecHead) (none : head.length ≡ 0) (may : MayCopy s head) (leaves : MayLeave (op_of (begun s.copies head) []) old new) (follows : FollowsBytes s content xs old) where
+module _ (s : BanksState) (is : IsBanksState s) (content old new : List ℕ) (xs : List Change) (x : Change) (course : s.course ≡ Some (Copy None)) (copies : IsLogState s.copies) (head : RecHead) (none : head.length ≡ 0) (may : MayCopy s head) (leaves : MayLeave (op_of (begun s.copies head) []) old new) (op : x.op ≡ op_of (begun s.copies head) []) (follows : FollowsBytes s content xs old) where
   abbrev c : Course
   c = Copy None
 
@@ -82,14 +85,17 @@ module _ (s : BanksState) (is : IsBanksState s) (content old new : List ℕ) (xs
   size : length new ≡ length old
   size = leaves.0.size
 
+  is_of : AreOf s.geometry s.banks s.target (x ∷ [])
+  is_of = (ap (bank_of_op s.geometry s.banks) op ∙ bank_is s.geometry s.banks k of is.legal state some [] ∙ is.target_log, tt)
+
   pub mark_copied : (answer : FlashAnswer) → (answer ≡ Off → ⊥) → Leaves (op_of k []) answer old new → FollowsBytes (after_answer (record s { copies = after_step k answer }) c answer) content (xs ++ x ∷ []) new
   mark_copied Done on left =
       let done = subst (λ (b : List ℕ). Leaves (op_of k b) Done old new) (sym body_none) left in
       let both = page_goes_on s is content old new xs x c course k of is.target_log state some page programs follows target.0
       (begun_holds s.copies copies may.tail head may.configured may.room before s.buffer old fits target.1) done in
-      let goes = λ (next : Course) (holds : FollowsTarget (record s { course = Some next; copies = after_step k Done }) next new).
-      builds s is content old new xs (x ∷ []) c course size other follows s.log.flags next (after_step k Done) s.buffer holds in
+      let goes = λ (next : Course) (holds : FollowsTarget (record s { course = Some next; copies = after_step k Done }) next new) (behind : FollowsNext (record s { course = Some next; copies = after_step k Done }) next (xs ++ x ∷ []) new).
+      builds s is content old new xs (x ∷ []) c course is_of size other follows s.log.flags next (after_step k Done) s.buffer holds behind in
       begun_course s.geometry.page (next_copy s.log.numbers s.log.places s.log.flags) (λ (next : Course). record s { course = Some next; copies = after_step k Done }) (λ (t : BanksState). FollowsBytes t content (xs ++ x ∷ []) new)
-      (λ o. goes (Copy o) both) (goes Head both)
-  mark_copied Failed on left = again s is content old new xs (x ∷ []) c course size other follows s.buffer
+      (λ o. goes (Copy o) both tt) (goes Head both tt)
+  mark_copied Failed on left = again s is content old new xs (x ∷ []) c course is_of size other follows s.buffer
   mark_copied Off on left = absurd (on refl)

@@ -22,7 +22,7 @@ use Rattle.fee_switch.specs.Banks.{BanksState, IsBanksState, FindsActive, LoadsA
 use Rattle.fee_switch.specs.Start.{IsLoadedAs}
 use Rattle.fee_switch_laws.specs.Shown.{layout_in}
 use Rattle.fee_laws.specs.Inside.{body_of}
-use Rattle.fee_laws.specs.Follows.{anything, FollowsLog, FollowsBanks, FollowsBytes}
+use Rattle.fee_laws.specs.Follows.{anything, FollowsLog, FollowsBanks, FollowsNext, FollowsBytes}
 use Rattle.fee_laws.proofs.FollowBanks.{legal}
 
 -- THE SIZE
@@ -82,4 +82,5 @@ module _ (s : BanksState) (is : IsBanksState s) (bytes : List ℕ) (are : AreByt
   found_follows shut finds loaded = record {
     log = found_by s.active is.active loaded;
     banks = subst (λ (c : Option Course). FollowsBanks s c bytes) (sym shut) finds;
+    next = subst (λ (c : Option Course). IfSome c (λ x. FollowsNext s x xs bytes)) (sym shut) tt;
   }

@@ -1,6 +1,6 @@
 -- The turns of a device: a page of a record, and each step of a switch.
-use Rattle.std.specs.Prelude.{IfSome, take, slice_index_or}
-use Rattle.std.proofs.Common.{◌≡◌, ◌≤◌, ◌+◌, ◌*◌, ◌++◌, ◌∷◌, ℕ, true, false, List, [], length, Option, Some, None, refl, sym, ap, ◌∙◌, subst, arith}
+use Rattle.std.specs.Prelude.{IfSome, take, slice_get, slice_index_or}
+use Rattle.std.proofs.Common.{◌≡◌, ◌<◌, ◌≤◌, ◌+◌, ◌*◌, ◌++◌, ◌∷◌, ℕ, zero, suc, true, false, List, [], length, Option, Some, None, refl, sym, ap, ◌∙◌, subst, arith}
 use Rattle.std.proofs.lemmas.List.{length-take-le}
 use Rattle.nv_base.specs.Geometry.{sectors_of_bank, address_of_page}
 use Rattle.nv_base.specs.Pages.{record_pages_of}
@@ -23,6 +23,7 @@ use Rattle.fee_course.specs.declared.copies.Source.{Source}
 use Rattle.fee_course.specs.declared.course.Course.{Course}
 use Rattle.fee_course.specs.declared.course.Course.TheVariants.{Erase, Copy, Head, Gate}
 use Rattle.fee_course.specs.Course.{IsShort}
+use Rattle.fee_course.specs.Copies.{next_copy}
 use Rattle.fee_switch.specs.declared.target.Stage.TheVariants as stage
 use Rattle.fee_switch.specs.Target.{op_at}
 use Rattle.fee_switch.specs.Banks.{BanksState, target_at, reads_next, reads_source, reads_place, after_answer}
@@ -36,7 +37,7 @@ use Rattle.fee_laws.specs.Inside.{Parts, body_of}
 use Rattle.fee_laws.specs.Record.{IsInWork}
 use Rattle.fee_laws.specs.Turn.{IsOn, operated}
 use Rattle.fee_laws.specs.Appends.{work_op}
-use Rattle.fee_laws.specs.Switches.{IsStepping, step_op}
+use Rattle.fee_laws.specs.Switches.{IsStepping, mark_op_of, mark_op_for, copy_op_of, step_op}
 use Rattle.fee_laws.specs.Follows.{FollowsBytes, Follows}
 use Rattle.fee_laws.specs.FollowLaws.{PagesFollow, StepsFollow, CopiesFollow}
 use Rattle.fee_laws.proofs.FollowAppends.{goes_on}
@@ -83,6 +84,11 @@ module _ (m : Making) (entry : Told) (s : Parts) (listed : List (DeviceNumber ×
       (λ not_off old new at leaves left was. goes not_off old new (all_pages m entry s listed kept count on old at) leaves left was) follows)
 
 -- ITS FIRST ONE
+pub slice_is : (ns : List (DeviceNumber × ℕ)) (i : ℕ) (n : DeviceNumber) (size : ℕ) → i < length ns → ((d : DeviceNumber × ℕ) → slice_index_or ns i d ≡ (n, size)) → slice_get ns i ≡ Some (n, size)
+slice_is [] i n size less named = absurd (omega arith)
+slice_is (x ∷ xs) zero n size less named = ap (λ (y : DeviceNumber × ℕ). Some y) (named x)
+slice_is (x ∷ xs) (suc i) n size less named = slice_is xs i n size (omega arith) named
+
 -- the number that is copied next, in what makes its copy, and in what was known before
 pub mark_length : (p : Place) (n : DeviceNumber) (size : ℕ) → reads_place p ≡ false → (head_at p n size).length ≡ 0
 mark_length (place.Content at count) n size reads = cc reads
@@ -104,7 +110,7 @@ is_content (place.Erased count) reads = cc reads
 is_content place.Unwritten reads = cc reads
 
 module _ (m : Making) (entry : Told) (s : Parts) (listed : List (DeviceNumber × ℕ)) (kept count : ℕ) (made : BanksState) (answer : FlashAnswer) (f : FlsState) (is : IsStepping m entry s listed kept count (Copy None) made answer f) where
-  can : CanCopy s.banks
+  pub can : CanCopy s.banks
   can = subst (λ (o : Option Course). IfSome o (CanGoOn s.banks)) is.course (steps_may_be_made m.reserve s.banks is.on.banks is.on.log (is.on.sound.room is.on.started (power m entry s listed kept count is.on)))
 
   abbrev src : Source
@@ -138,16 +144,26 @@ module _ (m : Making) (entry : Told) (s : Parts) (listed : List (DeviceNumber ×
     room = subst (λ (g : Geometry). record_pages_of (head_at src.place num src.length).length g.page ≤ free_in s.banks.copies) (sym is.on.banks.copies.shape) can.can.room;
   }
 
+  -- its first operation
+  pub mark_op : mark_op_of s.banks (next_copy s.banks.log.numbers s.banks.log.places s.banks.log.flags) ≡ op_of (begun s.banks.copies (head_at src.place num src.length)) []
+  mark_op = ap (mark_op_of s.banks) can.next.first ∙ ap (mark_op_for s.banks.copies src.place) (slice_is s.banks.log.numbers src.index num src.length can.next.inside can.next.named)
+
   -- a mark
   module _ (changes : reads_next s.banks.log (Some (Copy None)) ≡ false) where
     unread : reads_place src.place ≡ false
     unread = sym (ap reads_source can.next.first) ∙ changes
 
-    abbrev mark : RecHead
+    abbrev pub mark : RecHead
     mark = head_at src.place num src.length
 
     none : mark.length ≡ 0
     none = mark_length src.place num src.length unread
+
+    pub may_mark : MayCopy s.banks mark
+    may_mark = may_copy
+
+    pub mark_fits : length (body_of (Some mark) s.banks.buffer) ≡ mark.length
+    mark_fits = ap (λ (n : ℕ). length (take n s.banks.buffer)) none ∙ sym none
 
     begins_mark : IsStep (op_of (begun s.banks.copies mark) []) s.fls.flash answer f.flash × (made ≡ record s.banks { copies = after_step (begun s.banks.copies mark) answer })
     begins_mark = mark_begins src.place s.banks num src.length s.fls.flash f.flash answer made unread begins_at
@@ -179,42 +195,42 @@ steps m entry s listed kept count (Erase n) made answer f is changes =
     by_answer : (a : FlashAnswer) (old new : List ℕ) → (layout_in s.banks).pages * (layout_in s.banks).page * s.banks.banks ≤ length old → MayLeave (op_at (target_at s.banks (stage.Erase n)) (stage.Erase n)) old new → Leaves (op_at (target_at s.banks (stage.Erase n)) (stage.Erase n)) a old new
         → FollowsBytes s.banks s.content s.operations old → a ≡ answer → (a ≡ Off → ⊥) → FollowsBytes (after_answer s.banks (Erase n) a) s.content (s.operations ++ change_of (step_op s.banks (Erase n)) s.fls.flash answer ∷ []) new
     by_answer Done old new wide leaves left was same online =
-        erase_goes_on s.banks is.on.banks s.content old new s.operations (change_of (step_op s.banks (Erase n)) s.fls.flash answer) n is.course (short m entry s listed kept count (Erase n) made answer f is) leaves was wide is.copies
-        (roomy m entry s listed kept count (Erase n) made answer f is).target.copies left
+        erase_goes_on s.banks is.on.banks s.content old new s.operations (change_of (step_op s.banks (Erase n)) s.fls.flash answer) n is.course (short m entry s listed kept count (Erase n) made answer f is) leaves refl was wide is.copies
+        (roomy m entry s listed kept count (Erase n) made answer f is).target.copies left (sym same)
     by_answer Failed old new wide leaves left was same online =
-        erase_fails s.banks is.on.banks s.content old new s.operations (change_of (step_op s.banks (Erase n)) s.fls.flash answer) n is.course (short m entry s listed kept count (Erase n) made answer f is) leaves was
+        erase_fails s.banks is.on.banks s.content old new s.operations (change_of (step_op s.banks (Erase n)) s.fls.flash answer) n is.course (short m entry s listed kept count (Erase n) made answer f is) leaves refl was (sym same)
     by_answer Off old new wide leaves left was same online = absurd (online refl)
 steps m entry s listed kept count Head made answer f is changes =
     lift m entry s listed kept count Head made answer f is (op_at (target_at s.banks stage.Head) stage.Head) s.banks is.makes.0 is.makes.1 (λ not_off old new wide leaves left was. by_answer answer old new wide leaves left was not_off)
   where
     by_answer : (a : FlashAnswer) (old new : List ℕ) → (layout_in s.banks).pages * (layout_in s.banks).page * s.banks.banks ≤ length old → MayLeave (op_at (target_at s.banks stage.Head) stage.Head) old new → Leaves (op_at (target_at s.banks stage.Head) stage.Head) a old new
         → FollowsBytes s.banks s.content s.operations old → (a ≡ Off → ⊥) → FollowsBytes (after_answer s.banks Head a) s.content (s.operations ++ change_of (step_op s.banks Head) s.fls.flash answer ∷ []) new
-    by_answer Done old new wide leaves left was online = head_stands s.banks is.on.banks s.content old new s.operations (change_of (step_op s.banks Head) s.fls.flash answer) is.course leaves was wide left
-    by_answer Failed old new wide leaves left was online = head_fails s.banks is.on.banks s.content old new s.operations (change_of (step_op s.banks Head) s.fls.flash answer) is.course leaves was
+    by_answer Done old new wide leaves left was online = head_stands s.banks is.on.banks s.content old new s.operations (change_of (step_op s.banks Head) s.fls.flash answer) is.course leaves refl was wide left
+    by_answer Failed old new wide leaves left was online = head_fails s.banks is.on.banks s.content old new s.operations (change_of (step_op s.banks Head) s.fls.flash answer) is.course leaves refl was
     by_answer Off old new wide leaves left was online = absurd (online refl)
 steps m entry s listed kept count (Gate failed) made answer f is changes =
-    lift m entry s listed kept count (Gate failed) made answer f is (op_at (target_at s.banks stage.Gate) stage.Gate) s.banks is.makes.0 is.makes.1 (λ not_off old new wide leaves left was. by_answer answer old new wide leaves left was not_off)
+    lift m entry s listed kept count (Gate failed) made answer f is (op_at (target_at s.banks stage.Gate) stage.Gate) s.banks is.makes.0 is.makes.1 (λ not_off old new wide leaves left was. by_answer answer old new wide leaves left was refl not_off)
   where
     by_answer : (a : FlashAnswer) (old new : List ℕ) → (layout_in s.banks).pages * (layout_in s.banks).page * s.banks.banks ≤ length old → MayLeave (op_at (target_at s.banks stage.Gate) stage.Gate) old new → Leaves (op_at (target_at s.banks stage.Gate) stage.Gate) a old new
-        → FollowsBytes s.banks s.content s.operations old → (a ≡ Off → ⊥) → FollowsBytes (after_answer s.banks (Gate failed) a) s.content (s.operations ++ change_of (step_op s.banks (Gate failed)) s.fls.flash answer ∷ []) new
-    by_answer Done old new wide leaves left was online =
+        → FollowsBytes s.banks s.content s.operations old → a ≡ answer → (a ≡ Off → ⊥) → FollowsBytes (after_answer s.banks (Gate failed) a) s.content (s.operations ++ change_of (step_op s.banks (Gate failed)) s.fls.flash answer ∷ []) new
+    by_answer Done old new wide leaves left was same online =
         (let room = roomy m entry s listed kept count (Gate failed) made answer f is in
-        gate_stands s.banks is.on.banks s.content old new s.operations (change_of (step_op s.banks (Gate failed)) s.fls.flash answer) failed is.course leaves was wide room.worn room.target.work left)
-    by_answer Failed old new wide leaves left was online = gate_fails s.banks is.on.banks s.content old new s.operations (change_of (step_op s.banks (Gate failed)) s.fls.flash answer) failed is.course leaves was
-    by_answer Off old new wide leaves left was online = absurd (online refl)
+        gate_stands s.banks is.on.banks s.content old new s.operations (change_of (step_op s.banks (Gate failed)) s.fls.flash answer) failed is.course leaves refl was wide room.worn room.target.work left)
+    by_answer Failed old new wide leaves left was same online = gate_fails s.banks is.on.banks s.content old new s.operations (change_of (step_op s.banks (Gate failed)) s.fls.flash answer) failed is.course leaves refl was (sym same)
+    by_answer Off old new wide leaves left was same online = absurd (online refl)
 steps m entry s listed kept count (Copy (Some w)) made answer f is changes =
     let here : IsOpenCopy s.banks w = (roomy m entry s listed kept count (Copy (Some w)) made answer f is).target.work in
     let work : work_in s.banks.copies.tail ≡ Some here.head = ap work_in here.tail in
     let step = subst (λ (o : Option RecHead). IsStep (op_of s.banks.copies (body_of o s.banks.buffer)) s.fls.flash answer f.flash) (sym work) (is.makes.0 here.head work) in
     lift m entry s listed kept count (Copy (Some w)) made answer f is (op_of s.banks.copies (body_of (work_in s.banks.copies.tail) s.banks.buffer)) (record s.banks { copies = after_step s.banks.copies answer }) step is.makes.1
-    (λ not_off old new wide leaves left was. page_copied s.banks is.on.banks s.content old new s.operations (change_of (step_op s.banks (Copy (Some w))) s.fls.flash answer) w is.course is.copies here.head here.done here.tail is.bytes leaves was answer not_off left)
+    (λ not_off old new wide leaves left was. page_copied s.banks is.on.banks s.content old new s.operations (change_of (step_op s.banks (Copy (Some w))) s.fls.flash answer) w is.course is.copies here.head here.done here.tail is.bytes leaves (ap (copy_op_of s.banks) work ∙ ap (λ (o : Option RecHead). op_of s.banks.copies (body_of o s.banks.buffer)) (sym work)) was answer not_off left)
 steps m entry s listed kept count (Copy None) made answer f is changes =
     let begins = begins_mark m entry s listed kept count made answer f is changes in
     let may = may_copy m entry s listed kept count made answer f is in
     let mark' = mark m entry s listed kept count made answer f is changes in
     let none' = none m entry s listed kept count made answer f is changes in
     lift m entry s listed kept count (Copy None) made answer f is (op_of (begun s.banks.copies mark') []) (record s.banks { copies = after_step (begun s.banks.copies mark') answer }) begins.0 begins.1
-    (λ not_off old new wide leaves left was. mark_copied s.banks is.on.banks s.content old new s.operations (change_of (step_op s.banks (Copy None)) s.fls.flash answer) is.course is.copies mark' none' may leaves was answer not_off left)
+    (λ not_off old new wide leaves left was. mark_copied s.banks is.on.banks s.content old new s.operations (change_of (step_op s.banks (Copy None)) s.fls.flash answer) is.course is.copies mark' none' may leaves (mark_op m entry s listed kept count made answer f is) was answer not_off left)
 
 pub steps_follow : StepsFollow
 steps_follow m entry s listed kept count c made answer f is changes follows = steps m entry s listed kept count c made answer f is changes follows

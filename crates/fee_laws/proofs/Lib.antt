@@ -73,9 +73,13 @@ pub mod WornFull
 mod WornShown
 mod WornKnown
 pub mod WornTurn
-pub mod WornErases
+mod WornErases
+mod WornPrograms
+mod WornGates
+pub mod WornSteps
 mod FollowStates
 mod FollowSteps
+mod FollowOperations
 mod FollowBytes
 mod FollowBanks
 mod FollowAppends

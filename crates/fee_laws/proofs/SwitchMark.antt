@@ -1,6 +1,6 @@
 -- The turns of the header of a mark's copy.
 use Rattle.std.specs.Prelude.{length}
-use Rattle.std.proofs.Common.{◌≡◌, ◌<◌, ◌+◌, ℕ, Bool, false, if◌then◌else◌, List, [], ◌∷◌, Option, Some, None, refl, sym, ap, ◌∙◌, subst, arith}
+use Rattle.std.proofs.Common.{◌≡◌, ◌<◌, ◌+◌, ℕ, Bool, false, if◌then◌else◌, List, [], Option, Some, None, refl, sym, ap, ◌∙◌, subst, arith}
 use Rattle.nv_base.specs.Geometry.{sectors_of_bank}
 use Rattle.nv_base.specs.declared.geometry.Geometry.{Geometry}
 use Rattle.nv_base.specs.declared.instance.DeviceNumber.{DeviceNumber}
@@ -40,7 +40,6 @@ use Rattle.fee_log.specs.declared.tail.Tail.TheVariants.{Writes}
 use Rattle.fee_log.specs.Log.{IsLogState, tail_with}
 use Rattle.fee_log.specs.Step.{op_of}
 use Rattle.std.specs.Prelude.{slice_index_or}
-use Rattle.std.proofs.Common.{zero, suc}
 use Rattle.std.proofs.lemmas.Bool.{ne_eqb}
 use Rattle.fee_image.specs.declared.place.Place.{Place}
 use Rattle.fee_image.specs.declared.place.Place.TheVariants as place
@@ -48,8 +47,7 @@ use Rattle.fee_log.specs.Log.{begun}
 use Rattle.fee_course.specs.declared.copies.Source.{Source}
 use Rattle.fee_course.specs.declared.course.Course.TheVariants.{Copy}
 use Rattle.fee_switch.specs.Copy.{head_at, IsNext}
-use Rattle.fee_laws.proofs.SwitchNext.{Named}
-use Rattle.std.specs.Prelude.{slice_get, take}
+use Rattle.std.specs.Prelude.{take}
 use Rattle.fee_log.specs.Step.{after_step}
 use Rattle.fee_image.specs.Step.{is_last}
 use Rattle.fee_image.specs.Places.{held_at}
@@ -64,12 +62,7 @@ use Rattle.fee_laws.proofs.SwitchPage.{settled_same, torn, cutting, page_failed,
 use Rattle.fee_laws.proofs.SwitchCopy.{IsOver, q, page, op_of_is, size, inside, not_gate, done_kept}
 use Rattle.fee_laws.proofs.SwitchNext.{found_copies}
 use Rattle.fee_laws.proofs.SwitchFirst.{can, source, number, h, k, tail, state, over, found, is_open, begun_held}
-use Rattle.fee_laws.proofs.FollowTurned.{mark_length}
-
-slice_is : (ns : List (DeviceNumber × ℕ)) (i : ℕ) (n : DeviceNumber) (size : ℕ) → i < length ns → Named ns i n size → slice_get ns i ≡ Some (n, size)
-slice_is [] i n size less named = absurd (omega arith)
-slice_is (x ∷ xs) zero n size less named = ap (λ (y : DeviceNumber × ℕ). Some y) (named x)
-slice_is (x ∷ xs) (suc i) n size less named = slice_is xs i n size (omega arith) named
+use Rattle.fee_laws.proofs.FollowTurned.{slice_is, mark_length}
 
 -- of a place that isn't read the record's header is programmed, which is all that it shows
 begins_mark : (p : Place) (s : BanksState) (n : DeviceNumber) (size : ℕ) (told : Told) (answer : FlashAnswer) (made : BanksState) (then_told : Told) → reads_place p ≡ false → BeginsAt p s n size told answer made then_told

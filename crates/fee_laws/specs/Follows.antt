@@ -1,14 +1,16 @@
 -- What the banks in memory keep of the bytes of their flash, whatever these were when the device was made.
-use Rattle.std.specs.Prelude.{◌≡◌, ◌⊎◌, ◌<◌, ◌*◌, ℕ, Bool, true, false, IsTrue, List, Option, Some, None, IfSome}
+use Rattle.std.specs.Prelude.{◌≡◌, ◌⊎◌, ◌<◌, ◌*◌, ◌&&◌, ℕ, suc, Bool, true, false, IsTrue, List, Option, Some, None, IfSome}
 use Rattle.nv_base.specs.Geometry.{pages_of_sector}
 use Rattle.fls_model.specs.Told.{Change}
 use Rattle.fee_format.specs.Formats.{new_format}
 use Rattle.fee_format.specs.declared.bank_head.BankHead.{BankHead}
 use Rattle.fee_format.specs.BankHead.{bank_head_page}
+use Rattle.fee_format.specs.Pages.{blank_page}
 use Rattle.fee_image.specs.Image.{image_page, BankStands, ComesFirst, active_of}
 use Rattle.fee_image.specs.RecordList.{IsClosed, end_of}
 use Rattle.fee_image.specs.May.{May}
 use Rattle.fee_image.specs.Banks.{AreBlank}
+use Rattle.fee_image.specs.Laws.{place_of_sector}
 use Rattle.fee_log.specs.Laws.{HoldsState}
 use Rattle.fee_log.specs.Log.{LogState, bank_of, work_in, is_closed}
 use Rattle.fee_switch.specs.declared.active.ActiveBank.{ActiveBank}
@@ -16,24 +18,30 @@ use Rattle.fee_switch.specs.Active.{active_shown}
 use Rattle.fee_course.specs.declared.course.Course.{Course}
 use Rattle.fee_course.specs.declared.course.Course.TheVariants.{Erase, Copy, Head, Gate}
 use Rattle.fee_switch.specs.Banks.{BanksState, next_generation}
+use Rattle.fee_switch.specs.declared.target.Stage.TheVariants as stage
 use Rattle.fee_switch_laws.specs.Shown.{layout_in}
 use Rattle.promise_device.specs.Bridge.{may_be_closed}
-use Rattle.promise_device.specs.Wear.{has_failed_program}
+use Rattle.promise_device.specs.Wear.{failed_in, is_repeated, is_in_order}
 use Rattle.fee_laws.specs.Inside.{Parts, body_of}
+use Rattle.fee_laws.specs.Switches.{op_in}
 
 -- any mark may be found
 abbrev pub anything : May
 anything number length = None
 
 -- THE ACTIVE LOG
--- a program failed that may have closed it: since the last erase, or at any time where a switch is open, which erases
-abbrev pub may_be_closed_beside : Option Course → List Change → Bool
-may_be_closed_beside None operations = may_be_closed operations
-may_be_closed_beside (Some c) operations = has_failed_program false operations
+-- a program of its bank failed since that was erased
+abbrev pub failed_of : LogState → List Change → Bool
+failed_of log operations = failed_in log.geometry log.banks log.bank false operations
+
+-- that may have closed it; where no switch is open it failed since the last erase of any bank
+abbrev pub may_be_closed_beside : Option Course → LogState → List Change → Bool
+may_be_closed_beside None log operations = may_be_closed operations && failed_of log operations
+may_be_closed_beside (Some c) log operations = failed_of log operations
 
 -- where it is closed in memory its bank is closed in the bytes, or such a program failed
 abbrev pub IsClosedFor : Option Course → LogState → List Change → List ℕ → Type 0
-IsClosedFor course log operations bytes = is_closed log.tail ≡ true → (let b = bank_of log in IsClosed b bytes (end_of b bytes)) ⊎ IsTrue (may_be_closed_beside course operations)
+IsClosedFor course log operations bytes = is_closed log.tail ≡ true → (let b = bank_of log in IsClosed b bytes (end_of b bytes)) ⊎ IsTrue (may_be_closed_beside course log operations)
 
 -- its bank holds it, whatever marks that shows
 pub record FollowsLog (course : Option Course) (log : LogState) (body : List ℕ) (operations : List Change) (bytes : List ℕ) : Type 0 where
@@ -70,10 +78,20 @@ abbrev pub FollowsBanks : BanksState → Option Course → List ℕ → Type 0
 FollowsBanks s None bytes = active_shown s.active ≡ active_of (layout_in s) bytes
 FollowsBanks s (Some c) bytes = StandsFirst s bytes × FollowsTarget s c bytes
 
+-- THE NEXT OPERATION
+-- Of a switch's next operation: an erase behind the first comes in its turn, the gate's page is blank, and the gate is made again
+-- behind itself, which failed.
+abbrev pub FollowsNext : BanksState → Course → List Change → List ℕ → Type 0
+FollowsNext s (Erase (suc done)) operations bytes = IsTrue (is_in_order s.geometry s.banks operations (place_of_sector s.geometry s.banks s.target (suc done)) s.geometry.sector)
+FollowsNext s (Gate true) operations bytes = IsTrue (is_repeated s.geometry s.banks operations (op_in s stage.Gate))
+FollowsNext s (Gate false) operations bytes = image_page (layout_in s) bytes s.target 1 ≡ blank_page s.geometry.page
+FollowsNext s c operations bytes = Unit {0}
+
 -- this is the content of the record in work
 pub record FollowsBytes (s : BanksState) (content : List ℕ) (operations : List Change) (bytes : List ℕ) : Type 0 where
   pub log : IfSome s.active (λ a. FollowsLog s.course s.log (body_of (work_in s.log.tail) content) operations bytes)
   pub banks : FollowsBanks s s.course bytes
+  pub next : IfSome s.course (λ c. FollowsNext s c operations bytes)
 
 -- THE DEVICE
 -- while it is started and its power is on, its banks follow the bytes of its flash, where these are told

@@ -1,4 +1,4 @@
--- The erases of a device: each comes where one is due, by the bytes before it.
+-- The operations of a device: each is due, by the bytes before it.
 use Rattle.std.specs.Prelude.{◌≡◌, ℕ, false, IsTrue, List, [], ◌∷◌, ◌++◌, Some}
 use Rattle.nv_base.specs.declared.instance.DeviceNumber.{DeviceNumber}
 use Rattle.fls_model.specs.declared.flash.FlashAnswer.{FlashAnswer}
@@ -8,7 +8,7 @@ use Rattle.fee_course.specs.declared.course.Course.{Course}
 use Rattle.fee_switch.specs.Banks.{BanksState, reads_next}
 use Rattle.promise_device.specs.Making.{Making}
 use Rattle.promise_device.specs.Bridge.{reading_of}
-use Rattle.promise_device.specs.Wear.{erases_are_due}
+use Rattle.promise_device.specs.Wear.{are_due}
 use Rattle.fls_told.specs.Clock.{change_of}
 use Rattle.fls_told.specs.Device.{is_told_sound}
 use Rattle.fee_laws.specs.Inside.{Parts}
@@ -18,7 +18,7 @@ use Rattle.fee_laws.specs.Follows.{Follows}
 
 -- from a sound image on, where the flash tells its bytes
 abbrev pub Wears : Making → Told → List Change → Type 0
-Wears m entry operations = IsTrue (is_told_sound (reading_of m) (bytes_now entry)) → IsTrue (erases_are_due m false operations)
+Wears m entry operations = IsTrue (is_told_sound (reading_of m) (bytes_now entry)) → IsTrue (are_due m [] operations)
 
 -- the next operation of an open switch keeps it
 abbrev pub StepsWear : Type 0
@@ -31,4 +31,4 @@ StepsWear =
 abbrev pub PagesWear : Type 0
 PagesWear =
     (m : Making) (entry : Told) (s : Parts) (listed : List (DeviceNumber × ℕ)) (kept count : ℕ) (answer : FlashAnswer) (f : FlsState)
-    → IsAppending m entry s listed kept count answer f → Wears m entry s.operations → Wears m entry (after_page answer f s).operations
+    → IsAppending m entry s listed kept count answer f → Follows s → Wears m entry s.operations → Wears m entry (after_page answer f s).operations

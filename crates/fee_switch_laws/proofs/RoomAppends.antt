@@ -107,7 +107,7 @@ module _ (reserve : ℕ) (s : BanksState) (end : ℕ) (tail : Tail) (places : Li
 
   page_roomy : (course : Course) → IsRoomy reserve s course → free_pages after ≤ free_pages s → IsGoing after course → HasTarget after course
       → IfSome (work_in tail) (λ h. TakesRecord h.kind (Some course)) → IsRoomy reserve after course
-  page_roomy course r free going target work = record { going = going; worn = r.worn; target = target; work = work; few = omega (arith, r.few, free); room = omega (arith, r.room, free) }
+  page_roomy course r free going target work = record { going = going; worn = r.worn; target = target; work = work; few = omega (arith, r.few, free); room = omega (arith, r.room, free); taken = omega (arith, r.taken, free) }
 
   page_keeps : (course : Course) → IsRoomy reserve s course → free_pages after ≤ free_pages s → StaysLeft → IsSome (work_in s.log.tail)
       → IfSome (work_in tail) (λ h. h.kind ≡ kind.Content) → IsRoomy reserve after course
@@ -239,6 +239,7 @@ module _ (reserve : ℕ) (s : BanksState) (h : RecHead) (is : IsBanksState s) (s
         work = subst (λ (o : Option RecHead). IfSome o (λ x. TakesRecord x.kind (Some course))) (sym (work_begun s.log.tail h)) takes;
         few = omega (arith, r.few, less);
         room = omega (arith, r.room, less, more);
+        taken = omega (arith, r.taken, less, more);
       }
 
   -- a copy in work, of its number or another

@@ -81,6 +81,7 @@ again_roomy reserve s n space short worn idle few = record {
   work = subst (λ (o : Option RecHead). IfSome o (λ h. TakesRecord h.kind (Some (Erase n)))) (sym idle) tt;
   few = few;
   room = let all = clear_is_all s.geometry.page s.log.numbers in let full = space.space in omega (arith, all, full, few);
+  taken = let all = clear_is_all s.geometry.page s.log.numbers in omega (arith, all, few);
 }
 
 -- A PAGE OF A COPY
@@ -137,6 +138,7 @@ module _ (reserve : ℕ) (s : BanksState) (is : IsBanksState s) (state : IsLogSt
     work = subst (λ (o : Option RecHead). IfSome o (λ h. TakesRecord h.kind (Some course))) (sym idle) tt;
     few = r.few;
     room = omega (arith, r.room, less);
+    taken = omega (arith, r.taken, less);
   }
 
   going_after : (course : Course) (copies : LogState) (buffer : List ℕ) → s.course ≡ Some course → IsBeforeGate course → IsGoing s course

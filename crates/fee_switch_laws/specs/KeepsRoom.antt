@@ -16,7 +16,7 @@ use Rattle.fee_course.specs.Copies.{as_copied}
 use Rattle.fee_course.specs.Course.{copied_by}
 use Rattle.fee_switch.specs.Banks.{BanksState, TakesRecord, is_worn_out}
 use Rattle.fee_switch_laws.specs.Turns.{IsGoing}
-use Rattle.fee_switch_laws.specs.Space.{HasSpace, most_pages, free_pages}
+use Rattle.fee_switch_laws.specs.Space.{HasSpace, all_pages, most_pages, free_pages}
 
 -- THE TARGET'S LOG
 -- the copy in work is of the number at its place in the list, and has as many pages left as the course says
@@ -75,6 +75,9 @@ pub record IsRoomy (reserve : ℕ) (s : BanksState) (course : Course) : Type 0 w
   pub few : free_pages s < most_pages s.geometry.page s.log.numbers reserve
   pub room : taken_pages s + uncopied_pages s.geometry.page s.log.numbers (flags_due course s.log.flags) + free_pages s
       + most_pages s.geometry.page s.log.numbers reserve ≤ pages_of_bank s.geometry s.banks
+  -- no more of it is taken than its head and gate, a copy of each number, and fewer pages than a record may ask for
+  pub taken : taken_pages s + uncopied_pages s.geometry.page s.log.numbers (flags_due course s.log.flags) + free_pages s
+      ≤ 1 + all_pages s.geometry.page s.log.numbers + most_pages s.geometry.page s.log.numbers reserve
 
 -- AT ANY TIME
 pub record KeepsRoom (reserve : ℕ) (s : BanksState) : Type 0 where

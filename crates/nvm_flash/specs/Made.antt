@@ -11,7 +11,7 @@ use Rattle.fee_core.specs.fls_model.declared.flash.AttachFault.TheVariants as at
 use Rattle.fls_devices.specs.Cutter.{cutting, told_cutting}
 use Rattle.fee_core.specs.promise_device.Making.{Making}
 use Rattle.fee_core.specs.promise_device.Bridge.{Bridges, reading_of}
-use Rattle.fee_core.specs.promise_device.Wear.{ErasesAreDue}
+use Rattle.fee_core.specs.promise_device.Wear.{OperationsAreDue}
 use Rattle.fee_core.specs.fee_told.Device.{Device, told_of}
 use Rattle.fee_core.specs.fee_laws.Made.{IsMadeOf}
 use Rattle.nvm_core.specs.ram_blocks.declared.plain_block.PlainBlock.{PlainBlock}
@@ -48,7 +48,7 @@ pub record ComesBack (c : Configuration) (fault : MakeFault) (s t : Told) : Type
 pub record IsBack (c : Configuration) (inner exit : Told) (before : PartTold) (now : DeviceTold) (clock : Clock) : Type 0 where
   pub operations : List Change
   pub bridges : Bridges (reading_of (making_of c)) true (record { entry = inner; exit = exit; operations = operations }) before now clock
-  pub wear : ErasesAreDue (making_of c) (record { entry = inner; exit = exit; operations = operations })
+  pub wear : OperationsAreDue (making_of c) (record { entry = inner; exit = exit; operations = operations })
   -- all numbers are of its one part
   pub parts : (n : ℕ) → (figures_at now.fixed n).part ≡ First
   pub geometry : exit.geometry ≡ c.geometry

@@ -18,7 +18,7 @@ use Rattle.nvm_flash.specs.fls_devices.Cutter.{cutting, told_cutting}
 use Rattle.nvm_flash.specs.promise_device.Making.{Making}
 use Rattle.nvm_flash.specs.promise_device.Reading.{Reading}
 use Rattle.nvm_flash.specs.promise_device.Bridge.{Bridges, reading_of, cuts_of}
-use Rattle.nvm_flash.specs.promise_device.Wear.{ErasesAreDue}
+use Rattle.nvm_flash.specs.promise_device.Wear.{OperationsAreDue}
 use Rattle.nvm_flash.specs.promise_device.FlashRun.{HasFailed, TellsBytes, StartsSound}
 use Rattle.nvm_flash.specs.fls_told.Clock.{off_in_of}
 use Rattle.nvm_flash.specs.fee_told.Device.{Device, flash_device, told_of, clock_of}
@@ -285,7 +285,7 @@ vouched c inner cuts making entry exit s e same halves values origin config most
         one = λ block. rw (parts (block * 64)) refl;
       })
       (told_bridge (reading_of (making_of s.desk.config)) inner exit back.operations (part_at entry) s.device bridge)
-      (subst (λ (x : Configuration). ErasesAreDue (making_of x) (record { entry = inner; exit = exit; operations = back.operations })) (sym config) back.wear);
+      (subst (λ (x : Configuration). OperationsAreDue (making_of x) (record { entry = inner; exit = exit; operations = back.operations })) (sym config) back.wear);
 }
   where
     own : Bridges (reading_of (making_of c)) true (record { entry = inner; exit = exit; operations = back.operations }) (part_at entry) (told_of s.device) (clock_of s.device)

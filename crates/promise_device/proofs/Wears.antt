@@ -1,70 +1,41 @@
--- Erases that are due, and the programs that failed before them.
-use Rattle.std.specs.Prelude.{◌&&◌, ◌||◌, ◌==◌, not}
+-- Operations that are due, and those that came before them.
+use Rattle.std.specs.Prelude.{◌&&◌, ◌||◌, ◌==◌, not, if◌then◌else◌}
 use Rattle.std.specs.Option.{option_map_or}
-use Rattle.std.proofs.Common.{◌≡◌, ◌⊎◌, inl, inr, ◌++◌, ℕ, Bool, true, false, IsTrue, List, [], ◌∷◌, Option, refl, sym, subst}
+use Rattle.std.proofs.Common.{◌≡◌, ◌⊎◌, inl, inr, ◌-◌, ◌++◌, ℕ, Bool, true, false, IsTrue, List, [], ◌∷◌, Option, Some, None, refl, sym, ap, ◌∙◌, subst, arith}
+use Rattle.std.proofs.lemmas.List.{append_assoc, append-nil}
+use Rattle.nv_base.specs.Geometry.{pages_of_bank}
+use Rattle.nv_base.specs.declared.geometry.Geometry.{Geometry}
+use Rattle.fls_model.specs.declared.flash.FlashAnswer.TheVariants.{Failed}
+use Rattle.fls_model.specs.Op.{Op, Program, Erase}
 use Rattle.fls_model.specs.Told.{Change}
 use Rattle.fee_format.specs.declared.bank_head.BankHead.{BankHead}
 use Rattle.fee_format.specs.BankHead.{last_generation}
-use Rattle.fee_format.proofs.Tests.{eq_is}
+use Rattle.fee_format.specs.Formats.{new_format}
+use Rattle.fee_format.proofs.Tests.{eq_is, bytes_are}
 use Rattle.fee_image.specs.Image.{bank_in}
 use Rattle.promise_device.specs.Making.{banks_of}
 use Rattle.promise_device.specs.Image.{lacks_pages}
-use Rattle.promise_device.specs.Bridge.{is_program, is_failed, failed_from}
-use Rattle.promise_device.specs.Wear.{most_wanted, may_erase_beside, is_failed_program, has_failed_program, is_due, erases_are_due}
-use Rattle.promise_device.specs.Laws.{FailuresStay, ClosingsFailedOnce, MayErases, ErasesGoOn}
+use Rattle.promise_device.specs.Bridge.{is_program, is_failed}
+use Rattle.promise_device.specs.Wear.{bank_of_op, last_in, failed_in, same_op, repeats, is_repeated, most_wanted, most_copied, may_erase_beside, is_due, are_due}
+use Rattle.promise_device.specs.Laws.{LastsGoOn, FailuresGoOn, FailedAreRepeated, MayErases, RoomsCompute, DueGoOn}
 use Rattle.promise_device.proofs.Readings.{lacks_is}
 
--- PROGRAMS THAT FAILED
-once_failed : (xs : List Change) → IsTrue (has_failed_program true xs)
-once_failed [] = refl
-once_failed (x ∷ xs) = once_failed xs
+-- TESTS
+pub denied : (b : Bool) → (IsTrue b → ⊥) → IsTrue (not b)
+denied true never = absurd (never refl)
+denied false never = refl
 
-stays_by : (before : Bool) (xs : List Change) → IsTrue before → IsTrue (has_failed_program before xs)
-stays_by true xs is = once_failed xs
-stays_by false xs is = cc is
+pub unlike : (n k : ℕ) → (n ≡ k → ⊥) → IsTrue (not (n == k))
+unlike n k never = denied (n == k) (λ e. never ((eq_is n k).0 e))
 
-pub failures_stay : FailuresStay
-failures_stay before [] more is = stays_by before more is
-failures_stay before (x ∷ xs) more is = failures_stay (before || is_failed_program x) xs more is
-
-keeps : (program failed before then : Bool) → (IsTrue before → IsTrue then) → IsTrue (program && (before || failed)) → IsTrue (then || (program && failed))
-keeps program failed before true goes is = refl
-keeps false failed before false goes is = cc is
-keeps true failed true false goes is = (let never = goes refl in cc never)
-keeps true failed false false goes is = is
-
-failed_since : (before then : Bool) (xs : List Change) → (IsTrue before → IsTrue then) → IsTrue (failed_from before xs) → IsTrue (has_failed_program then xs)
-failed_since before then [] goes is = goes is
-failed_since before then (x ∷ xs) goes is =
-    failed_since (is_program x.op && (before || is_failed x.answer)) (then || is_failed_program x) xs (keeps (is_program x.op) (is_failed x.answer) before then goes) is
-
-pub closings_failed_once : ClosingsFailedOnce
-closings_failed_once operations is = failed_since false false operations (λ e. e) is
-
--- ERASES
-not_last : (n : ℕ) → (n ≡ last_generation → ⊥) → IsTrue (not (n == last_generation))
-not_last n never = by (n == last_generation) (λ e. never ((eq_is n last_generation).0 e))
-  where
-    by : (b : Bool) → (IsTrue b → ⊥) → IsTrue (not b)
-    by true never' = absurd (never' refl)
-    by false never' = refl
-
-all_two : (a b : Bool) → IsTrue a → IsTrue b → IsTrue (a && b)
+pub all_two : (a b : Bool) → IsTrue a → IsTrue b → IsTrue (a && b)
 all_two true b is holds = holds
 all_two false b is holds = cc is
 
-one_of : (a b : Bool) → IsTrue a ⊎ IsTrue b → IsTrue (a || b)
+pub one_of : (a b : Bool) → IsTrue a ⊎ IsTrue b → IsTrue (a || b)
 one_of true b is = refl
 one_of false b (inl is) = cc is
 one_of false b (inr is) = is
-
-pub may_erases : MayErases
-may_erases m failed image (inl none) = subst (λ (o : Option (ℕ × BankHead)). IsTrue (option_map_or (may_erase_beside m failed image) o true)) (sym none) refl
-may_erases m failed image (inr (k, h, at, fresh, why)) =
-    let b = bank_in (banks_of m) h.format k in
-    let lacks : IsTrue failed ⊎ IsTrue (lacks_pages (most_wanted m) b image) = elim why [ inl is ↦ inl is | inr few ↦ inr ((lacks_is (most_wanted m) image b).1 few) ] in
-    subst (λ (o : Option (ℕ × BankHead)). IsTrue (option_map_or (may_erase_beside m failed image) o true)) (sym at)
-    (all_two (not (h.generation == last_generation)) (failed || lacks_pages (most_wanted m) b image) (not_last h.generation fresh) (one_of failed (lacks_pages (most_wanted m) b image) lacks))
 
 first_of : (a b : Bool) → IsTrue (a && b) → IsTrue a
 first_of true b is = refl
@@ -74,8 +45,56 @@ second_of : (a b : Bool) → IsTrue (a && b) → IsTrue b
 second_of true b is = is
 second_of false b is = cc is
 
-pub erases_go_on : ErasesGoOn
-erases_go_on m before [] x due is = all_two (is_due m before x) true is refl
-erases_go_on m before (y ∷ ys) x due is =
-    all_two (is_due m before y) (erases_are_due m (before || is_failed_program y) (ys ++ x ∷ [])) (first_of (is_due m before y) (erases_are_due m (before || is_failed_program y) ys) due)
-    (erases_go_on m (before || is_failed_program y) ys x (second_of (is_due m before y) (erases_are_due m (before || is_failed_program y) ys) due) is)
+-- OPERATIONS BEFORE
+pub lasts_go_on : LastsGoOn
+lasts_go_on g banks k last [] x = refl
+lasts_go_on g banks k last (y ∷ ys) x = lasts_go_on g banks k (if bank_of_op g banks y.op == k then Some y else last) ys x
+
+pub failures_go_on : FailuresGoOn
+failures_go_on g banks k failed [] x = refl
+failures_go_on g banks k failed (y ∷ ys) x = failures_go_on g banks k (if bank_of_op g banks y.op == k then is_program y.op && (failed || is_failed y.answer) else failed) ys x
+
+-- the last one in its own bank
+pub last_here : (g : Geometry) (banks : ℕ) (xs : List Change) (x : Change) → last_in g banks (bank_of_op g banks x.op) None (xs ++ x ∷ []) ≡ Some x
+last_here g banks xs x =
+    let k = bank_of_op g banks x.op in
+    lasts_go_on g banks k None xs x ∙ ap (λ (b : Bool). if b then Some x else last_in g banks k None xs) ((eq_is k k).1 refl)
+
+same_once : (op : Op) → IsTrue (same_op op op)
+same_once (Program a page) = all_two (a == a) _ ((eq_is a a).1 refl) ((bytes_are page page).1 refl)
+same_once (Erase a n) = all_two (a == a) (n == n) ((eq_is a a).1 refl) ((eq_is n n).1 refl)
+
+repeats_last : (g : Geometry) (banks : ℕ) (xs : List Change) (x : Change) → x.answer ≡ Failed → IsTrue (is_repeated g banks (xs ++ x ∷ []) x.op)
+repeats_last g banks xs x failed =
+    subst (λ (o : Option Change). IsTrue (option_map_or (repeats x.op) o false)) (sym (last_here g banks xs x))
+    (all_two (is_failed x.answer) (same_op x.op x.op) (ap is_failed failed) (same_once x.op))
+
+pub failed_are_repeated : FailedAreRepeated
+failed_are_repeated g banks xs x op is failed = subst (λ (y : Op). IsTrue (is_repeated g banks (xs ++ x ∷ []) y)) is (repeats_last g banks xs x failed)
+
+-- ERASES
+pub may_erases : MayErases
+may_erases m earlier t image (inl none) = subst (λ (o : Option (ℕ × BankHead)). IsTrue (option_map_or (may_erase_beside m earlier t image) o true)) (sym none) refl
+may_erases m earlier t image (inr (k, h, at, other, fresh, why)) =
+    let b = bank_in (banks_of m) h.format k in
+    let failed = failed_in m.geometry m.banks k false earlier in
+    let lacks : IsTrue failed ⊎ IsTrue (lacks_pages (most_wanted m) b image) = elim why [ inl is ↦ inl is | inr few ↦ inr ((lacks_is (most_wanted m) image b).1 few) ] in
+    subst (λ (o : Option (ℕ × BankHead)). IsTrue (option_map_or (may_erase_beside m earlier t image) o true)) (sym at)
+    (all_two (not (k == t) && not (h.generation == last_generation)) (failed || lacks_pages (most_wanted m) b image)
+    (all_two (not (k == t)) (not (h.generation == last_generation)) (unlike k t other) (unlike h.generation last_generation fresh)) (one_of failed (lacks_pages (most_wanted m) b image) lacks))
+
+-- GATES
+pub rooms_compute : RoomsCompute
+rooms_compute m k image wide inside few =
+    let b = bank_in (banks_of m) new_format k in
+    let pages = pages_of_bank m.geometry m.banks - most_copied m in
+    denied (lacks_pages pages b image) (λ lacks. elim ((lacks_is pages image b).0 lacks) [ inl closed ↦ wide closed | inr more ↦ absurd (omega (arith, inside, few, more)) ])
+
+-- ALL OPERATIONS
+pub due_go_on : DueGoOn
+due_go_on m earlier [] x due is = all_two (is_due m earlier x) true (subst (λ (ys : List Change). IsTrue (is_due m ys x)) (append-nil earlier) is) refl
+due_go_on m earlier (y ∷ ys) x due is =
+    let first = is_due m earlier y in
+    let later = are_due m (earlier ++ y ∷ []) ys in
+    all_two first (are_due m (earlier ++ y ∷ []) (ys ++ x ∷ [])) (first_of first later due)
+    (due_go_on m (earlier ++ y ∷ []) ys x (second_of first later due) (subst (λ (zs : List Change). IsTrue (is_due m zs x)) (sym (append_assoc earlier (y ∷ []) ys)) is))

@@ -1,5 +1,5 @@
 -- Two operations of a flash of two pages of 2 bytes, and what a device tells over two banks of ten pages.
-use Rattle.std.specs.Prelude.{◌≡◌, ℕ, Bool, true, false, List, [], ◌∷◌, ◌++◌, replicate, Some, None}
+use Rattle.std.specs.Prelude.{◌≡◌, ℕ, Bool, true, false, List, [], ◌∷◌, ◌++◌, take, replicate, Some, None}
 use Rattle.nv_base.specs.Plan.{no_planning}
 use Rattle.nv_base.specs.declared.mark.Mark.TheVariants.{Content}
 use Rattle.memif.specs.declared.answer.JobResult.TheVariants.{JobOk}
@@ -16,7 +16,7 @@ use Rattle.fee_format.specs.declared.rec_head.RecordKind.TheVariants as kind
 use Rattle.promise_device.specs.Making.{Making}
 use Rattle.promise_device.specs.FlashRun.{FlashRun}
 use Rattle.promise_device.specs.Room.{TellsWork}
-use Rattle.promise_device.specs.Wear.{erases_are_due}
+use Rattle.promise_device.specs.Wear.{are_due}
 
 abbrev pub blank : List ℕ
 blank = 255 ∷ 255 ∷ 255 ∷ 255 ∷ []
@@ -121,12 +121,55 @@ full = standing written
 abbrev pub last : List ℕ
 last = standing_as last_generation written
 
--- an erase of the other bank over these bytes, and a program of its first page
+-- bank 1 took over, and has room
+abbrev pub taken_over : List ℕ
+taken_over = bank_head_page 16 (record { format = 2; generation = 1 }) ++ gate_page 16 ++ written ++ bank_head_page 16 (record { format = 2; generation = 2 }) ++ gate_page 16 ++ replicate 128 255
+
+-- an erase of a bank over these bytes
+abbrev pub erased_at : (address : ℕ) → FlashAnswer → List ℕ → Change
+erased_at address answer image = record { op = Erase address 160; before = image; answer = answer }
+
 abbrev pub erased : List ℕ → Change
-erased image = record { op = Erase 160 160; before = image; answer = Done }
+erased image = erased_at 160 Done image
 
+-- a program of the page at an address
+abbrev pub programmed_at : (address : ℕ) → FlashAnswer → List ℕ → Change
+programmed_at address answer image = record { op = Program address (replicate 16 0); before = image; answer = answer }
+
+-- of the first page of bank 1, and of the page behind the log of bank 0
 abbrev pub programmed : FlashAnswer → List ℕ → Change
-programmed answer image = record { op = Program 160 (replicate 16 0); before = image; answer = answer }
+programmed answer image = programmed_at 160 answer image
 
-abbrev pub are_due : List Change → Bool
-are_due operations = erases_are_due two_banks false operations
+abbrev pub appended : FlashAnswer → List ℕ → Change
+appended answer image = programmed_at 32 answer image
+
+abbrev pub are_due_there : List Change → Bool
+are_due_there operations = are_due two_banks [] operations
+
+-- the same flash in sectors of half the size: two a bank
+abbrev pub small_sectors : Making
+small_sectors = record two_banks { geometry = record { page = 16; sector = 80; sectors = 4 } }
+
+-- an erase of the first sector of bank 1, and of the second
+abbrev pub first_sector : FlashAnswer → Change
+first_sector answer = record { op = Erase 160 80; before = full; answer = answer }
+
+abbrev pub second_sector : FlashAnswer → Change
+second_sector answer = record { op = Erase 240 80; before = full; answer = answer }
+
+abbrev pub in_order : List Change → Bool
+in_order operations = are_due small_sectors [] operations
+
+-- and one of 20 pages a bank, of which a switch writes 13 at most
+abbrev pub wide_banks : Making
+wide_banks = record two_banks { geometry = record { page = 16; sector = 320; sectors = 2 } }
+
+-- the gate of bank 1 behind its head, beside a blank bank 0, and over these bytes of its other pages
+abbrev pub gate_over : List ℕ → Change
+gate_over pages = record { op = Program 336 (gate_page 16); before = replicate 320 255 ++ bank_head_page 16 (record { format = 2; generation = 1 }) ++ replicate 16 255 ++ pages; answer = Done }
+
+abbrev pub copied : List ℕ
+copied = take 64 written
+
+abbrev pub opens : List ℕ → Bool
+opens pages = are_due wide_banks [] (gate_over pages ∷ [])

@@ -1,8 +1,12 @@
 -- What the reading of a device over banks computes is what is said of an image.
-use Rattle.std.specs.Prelude.{◌≡◌, ◌⊎◌, ◌↔◌, ◌<◌, ◌+◌, ◌++◌, ℕ, Bool, false, IsTrue, List, [], ◌∷◌, Some, None}
+use Rattle.std.specs.Prelude.{◌≡◌, ◌⊎◌, ◌↔◌, ◌<◌, ◌≤◌, ◌+◌, ◌++◌, ◌&&◌, ◌||◌, ◌==◌, if◌then◌else◌, ℕ, Bool, false, IsTrue, List, [], ◌∷◌, Option, Some, None}
+use Rattle.nv_base.specs.declared.geometry.Geometry.{Geometry}
+use Rattle.fls_model.specs.declared.flash.FlashAnswer.TheVariants.{Failed}
+use Rattle.fls_model.specs.Op.{Op}
 use Rattle.fls_model.specs.Told.{Change}
 use Rattle.fee_format.specs.declared.bank_head.BankHead.{BankHead}
 use Rattle.fee_format.specs.BankHead.{last_generation}
+use Rattle.fee_format.specs.Formats.{new_format}
 use Rattle.fee_image.specs.Bank.{Bank}
 use Rattle.fee_image.specs.Image.{bank_in, active_of}
 use Rattle.fee_image.specs.RecordList.{IsClosed, end_of}
@@ -10,8 +14,8 @@ use Rattle.promise_device.specs.Making.{Making, banks_of}
 use Rattle.promise_device.specs.Image.{IsSoundFlash, IsOfLastGeneration, is_of_last_generation, is_closed_bank, HasNoRoomFor, has_no_room_for}
 use Rattle.promise_device.specs.FlashRun.{FlashRun, StartsSound}
 use Rattle.promise_device.specs.Reading.{BeginsSound, AttachesSound}
-use Rattle.promise_device.specs.Bridge.{has_failed, may_be_closed, IsWornOut, IsWornBy, reading_of}
-use Rattle.promise_device.specs.Wear.{most_wanted, may_erase, has_failed_program, is_due, erases_are_due}
+use Rattle.promise_device.specs.Bridge.{is_program, is_failed, has_failed, may_be_closed, IsWornOut, IsWornBy, reading_of}
+use Rattle.promise_device.specs.Wear.{most_wanted, most_copied, bank_of_op, last_in, failed_in, is_repeated, may_erase, has_room_behind, is_due, are_due}
 
 abbrev pub SoundFlashesCompute : Type 0
 SoundFlashesCompute = (m : Making) (image : List ℕ) → IsTrue ((reading_of m).is_sound image) ↔ IsSoundFlash m image
@@ -41,24 +45,43 @@ abbrev pub BanksAttachSound : Type 0
 BanksAttachSound = (m : Making) → AttachesSound (reading_of m)
 
 -- WEAR
--- a program failed, whatever came behind it; and one did that failed since the last erase
-abbrev pub FailuresStay : Type 0
-FailuresStay = (before : Bool) (operations more : List Change) → IsTrue (has_failed_program before operations) → IsTrue (has_failed_program before (operations ++ more))
+-- one operation more: it is the last one in its bank, and leaves the other banks' as they were
+abbrev pub LastsGoOn : Type 0
+LastsGoOn =
+    (g : Geometry) (banks k : ℕ) (last : Option Change) (operations : List Change) (x : Change)
+    → last_in g banks k last (operations ++ x ∷ []) ≡ (if bank_of_op g banks x.op == k then Some x else last_in g banks k last operations)
 
-abbrev pub ClosingsFailedOnce : Type 0
-ClosingsFailedOnce = (operations : List Change) → IsTrue (may_be_closed operations) → IsTrue (has_failed_program false operations)
+-- a program keeps what failed in its bank, and an erase clears it
+abbrev pub FailuresGoOn : Type 0
+FailuresGoOn =
+    (g : Geometry) (banks k : ℕ) (failed : Bool) (operations : List Change) (x : Change)
+    → failed_in g banks k failed (operations ++ x ∷ [])
+    ≡ (if bank_of_op g banks x.op == k then is_program x.op && (failed_in g banks k failed operations || is_failed x.answer) else failed_in g banks k failed operations)
 
--- where no bank is active one may erase, and else where the active one isn't worn out and lacks the pages, is closed, or may be
+-- an operation that failed is repeated by the same one
+abbrev pub FailedAreRepeated : Type 0
+FailedAreRepeated =
+    (g : Geometry) (banks : ℕ) (operations : List Change) (x : Change) (op : Op)
+    → x.op ≡ op → x.answer ≡ Failed → IsTrue (is_repeated g banks (operations ++ x ∷ []) op)
+
+-- where no bank is active one may erase, and else another one where the active one isn't worn out and lacks the pages, is closed, or
+-- may be
 abbrev pub MayErases : Type 0
 MayErases =
-    (m : Making) (failed : Bool) (image : List ℕ)
+    (m : Making) (earlier : List Change) (t : ℕ) (image : List ℕ)
     → (active_of (banks_of m) image ≡ None)
-    ⊎ ((k : ℕ) × (h : BankHead) × (active_of (banks_of m) image ≡ Some (k, h)) × (h.generation ≡ last_generation → ⊥)
-    × (IsTrue failed ⊎ (let b = bank_in (banks_of m) h.format k in IsClosed b image (end_of b image) ⊎ (b.pages < end_of b image + most_wanted m))))
-    → IsTrue (may_erase m failed image)
+    ⊎ ((k : ℕ) × (h : BankHead) × (active_of (banks_of m) image ≡ Some (k, h)) × (k ≡ t → ⊥) × (h.generation ≡ last_generation → ⊥)
+    × (IsTrue (failed_in m.geometry m.banks k false earlier) ⊎ (let b = bank_in (banks_of m) h.format k in IsClosed b image (end_of b image) ⊎ (b.pages < end_of b image + most_wanted m))))
+    → IsTrue (may_erase m earlier t image)
+
+-- a bank has the room that a switch leaves where it isn't closed and its log ends within the most that a switch writes
+abbrev pub RoomsCompute : Type 0
+RoomsCompute =
+    (m : Making) (k : ℕ) (image : List ℕ)
+    → let b = bank_in (banks_of m) new_format k in (IsClosed b image (end_of b image) → ⊥) → end_of b image ≤ b.pages → end_of b image ≤ most_copied m → IsTrue (has_room_behind m k image)
 
 -- an operation that is due goes on behind others that were
-abbrev pub ErasesGoOn : Type 0
-ErasesGoOn =
-    (m : Making) (before : Bool) (operations : List Change) (x : Change)
-    → IsTrue (erases_are_due m before operations) → IsTrue (is_due m (has_failed_program before operations) x) → IsTrue (erases_are_due m before (operations ++ x ∷ []))
+abbrev pub DueGoOn : Type 0
+DueGoOn =
+    (m : Making) (earlier operations : List Change) (x : Change)
+    → IsTrue (are_due m earlier operations) → IsTrue (is_due m (earlier ++ operations) x) → IsTrue (are_due m earlier (operations ++ x ∷ []))

@@ -1,9 +1,10 @@
 // Whose operations they are, and whose room it is.
-ghost use Rattle.std.specs.Prelude.{◌≡◌, ℕ, [], ◌∷◌, true, false};
-ghost use Rattle.fls_model.specs.declared.flash.FlashAnswer.TheVariants.{Done, Failed};
+ghost use Rattle.std.specs.Prelude.{◌≡◌, ℕ, [], ◌∷◌, ◌++◌, replicate, true, false};
+ghost use Rattle.fls_model.specs.Op.{Program, Erase};
+ghost use Rattle.fls_model.specs.declared.flash.FlashAnswer.TheVariants.{Done, Failed, Off};
 ghost use Rattle.promise_device.specs.FlashRun.{AreSeen, IsChain, CountsAll};
 ghost use Rattle.promise_device.specs.Bridge.{may_be_closed};
-ghost use Rattle.promise_device.specs.Cases.{blank, other, erase, answered, broken_off, first_byte, program, two_programs, seen_there, never, second, any, counted, Tells, roomy, torn, no_job, urgent_write, standard_write, failed_erase, are_due, erased, programmed, no_bank, full, last};
+ghost use Rattle.promise_device.specs.Cases.{blank, other, erase, answered, broken_off, first_byte, program, two_programs, seen_there, never, second, any, counted, Tells, roomy, torn, no_job, urgent_write, standard_write, failed_erase, are_due_there, in_order, erased, erased_at, programmed, programmed_at, appended, first_sector, second_sector, opens, copied, no_bank, full, last, taken_over};
 
 /// An erase that the flash saw, and a program of which a planned cut let nothing be done, so that its bytes stay, or one byte, or
 /// all; two such cuts take their bytes in order. A program that failed, with its answer.
@@ -83,22 +84,71 @@ pub fn banks_that_may_be_closed()
 {}
 
 /// A bank is erased where none is active, or where the active one has fewer free pages than a record may ask for, or is closed; and
-/// behind a program that failed, which may have closed it.
+/// behind a program of it that failed, which may have closed it.
 pub fn erases_of_a_flash()
-    ensures none_active { are_due (erased no_bank ∷ []) ≡ true }
-    ensures full { are_due (erased full ∷ erased full ∷ []) ≡ true }
-    ensures torn { are_due (erased torn ∷ []) ≡ true }
-    ensures failed { are_due (programmed Failed roomy ∷ erased roomy ∷ []) ≡ true }
-    ensures no_erase { are_due (programmed Done roomy ∷ programmed Done last ∷ []) ≡ true }
+    ensures none_active { are_due_there (erased no_bank ∷ []) ≡ true }
+    ensures full { are_due_there (erased full ∷ erased full ∷ []) ≡ true }
+    ensures torn { are_due_there (erased torn ∷ []) ≡ true }
+    ensures failed { are_due_there (appended Failed roomy ∷ erased roomy ∷ []) ≡ true }
+    ensures failed_beside { are_due_there (appended Failed roomy ∷ programmed Done roomy ∷ erased roomy ∷ []) ≡ true }
 {}
 
-/// A flash that is erased while its active bank has room, at whatever erase, is another device's; and so is one that is erased
-/// beside a bank of the last generation, also where that is full or a program failed.
+/// A flash that is erased while its active bank has room, at whatever erase, is another device's, also where a program of the
+/// other bank failed, or one of this bank before it was erased; and so is one whose active bank is erased, or two sectors at once, or
+/// one beside a bank of the last generation, also where that is full or a program failed.
 pub fn erases_of_another_flash()
-    ensures with_room { are_due (erased roomy ∷ []) ≡ false }
-    ensures later { are_due (erased full ∷ programmed Done full ∷ erased roomy ∷ []) ≡ false }
-    ensures erase_failed { are_due (failed_erase ∷ erased roomy ∷ []) ≡ false }
-    ensures failed_behind { are_due (erased roomy ∷ programmed Failed roomy ∷ []) ≡ false }
-    ensures last { are_due (erased last ∷ []) ≡ false }
-    ensures last_failed { are_due (programmed Failed last ∷ erased last ∷ []) ≡ false }
+    ensures with_room { are_due_there (erased roomy ∷ []) ≡ false }
+    ensures later { are_due_there (erased full ∷ programmed Done full ∷ erased roomy ∷ []) ≡ false }
+    ensures erase_failed { are_due_there (erased_at 160 Failed full ∷ erased roomy ∷ []) ≡ false }
+    ensures failed_elsewhere { are_due_there (programmed Failed roomy ∷ erased roomy ∷ []) ≡ false }
+    ensures failed_behind { are_due_there (erased roomy ∷ appended Failed roomy ∷ []) ≡ false }
+    ensures failed_before { are_due_there (appended Failed roomy ∷ erased roomy ∷ erased_at 0 Done taken_over ∷ []) ≡ false }
+    ensures failed_long_ago { are_due_there (programmed Failed full ∷ erased full ∷ erased_at 0 Done taken_over ∷ []) ≡ false }
+    ensures the_active_one { are_due_there (erased_at 0 Done full ∷ []) ≡ false }
+    ensures two_sectors { in_order (record (first_sector Done) { op = Erase 160 160 } ∷ []) ≡ false }
+    ensures last { are_due_there (erased last ∷ []) ≡ false }
+    ensures last_failed { are_due_there (appended Failed last ∷ erased last ∷ []) ≡ false }
+{}
+
+/// The sectors of a bank are erased one behind the other; one that failed is erased again, and a switch that begins again begins
+/// with the first.
+pub fn sectors_in_order()
+    ensures whole { in_order (first_sector Done ∷ second_sector Done ∷ []) ≡ true }
+    ensures again { in_order (first_sector Done ∷ second_sector Failed ∷ second_sector Done ∷ []) ≡ true }
+    ensures anew { in_order (first_sector Done ∷ second_sector Done ∷ first_sector Done ∷ second_sector Done ∷ []) ≡ true }
+{}
+
+/// One that was erased isn't erased again without the first, and none comes before its turn.
+pub fn sectors_out_of_order()
+    ensures twice { in_order (first_sector Done ∷ second_sector Done ∷ second_sector Done ∷ []) ≡ false }
+    ensures alone { in_order (second_sector Done ∷ []) ≡ false }
+    ensures behind_a_failure { in_order (first_sector Failed ∷ second_sector Done ∷ []) ≡ false }
+    ensures behind_a_cut { in_order (first_sector Off ∷ second_sector Done ∷ []) ≡ false }
+{}
+
+/// A page is programmed where it is blank, or again right behind its program that failed.
+pub fn programs_of_a_flash()
+    ensures blank { are_due_there (appended Done roomy ∷ programmed Done last ∷ []) ≡ true }
+    ensures again { are_due_there (appended Failed roomy ∷ appended Done torn ∷ []) ≡ true }
+    ensures again_beside { are_due_there (appended Failed roomy ∷ programmed Done torn ∷ appended Done torn ∷ []) ≡ true }
+{}
+
+/// A flash whose page is programmed where it isn't blank is another device's, also behind a program that was done or cut, behind
+/// another page of its bank, or with other bytes.
+pub fn programs_of_another_flash()
+    ensures not_blank { are_due_there (appended Done torn ∷ []) ≡ false }
+    ensures done { are_due_there (appended Done roomy ∷ appended Done torn ∷ []) ≡ false }
+    ensures cut { are_due_there (appended Off roomy ∷ appended Done torn ∷ []) ≡ false }
+    ensures another_page { are_due_there (programmed_at 48 Failed roomy ∷ appended Done torn ∷ []) ≡ false }
+    ensures behind_another { are_due_there (appended Failed roomy ∷ programmed_at 48 Done torn ∷ appended Done torn ∷ []) ≡ false }
+    ensures other_bytes { are_due_there (record (appended Failed roomy) { op = Program 32 (replicate 16 1) } ∷ appended Done torn ∷ []) ≡ false }
+{}
+
+/// A bank takes over with its records where it has as many pages free as a switch leaves: here seven of 20.
+pub fn banks_that_take_over()
+    ensures empty { opens (replicate 288 255) ≡ true }
+    ensures copied { opens (copied ++ replicate 224 255) ≡ true }
+    ensures copied_twice { opens (copied ++ copied ++ replicate 160 255) ≡ true }
+    ensures too_many { opens (copied ++ copied ++ copied ++ replicate 96 255) ≡ false }
+    ensures closed { opens (copied ++ 0 ∷ replicate 223 255) ≡ false }
 {}

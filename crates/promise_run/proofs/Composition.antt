@@ -16,7 +16,7 @@ use Rattle.promise_device.specs.Image.{held_in, IsSoundFlash}
 use Rattle.promise_device.specs.Reading.{BeginsSound}
 use Rattle.promise_device.specs.FlashRun.{TellsBytes, StartsSound, IsCutImage, AreOperations, bytes_after}
 use Rattle.promise_device.specs.Bridge.{IsWornOut, reading_of, cuts_of}
-use Rattle.promise_device.specs.Wear.{ErasesAreDue}
+use Rattle.promise_device.specs.Wear.{OperationsAreDue}
 use Rattle.promise_device.proofs.FlashRun.{seen_more}
 use Rattle.promise_device.proofs.Readings.{sound_flashes_compute, sound_starts_compute, worn_banks_compute}
 use Rattle.promise_run.specs.Run.{Run, alone, cap, has_cutter}
@@ -123,7 +123,7 @@ cuts_count r before now clock block device tells sound cuts k ops image small cu
     (device.after tells ops (inl (sound_starts_compute (making_of c) r.flash sound)) (omega (arith, soon, within)) (omega (arith, soon, small)))
 
 -- over one flash
-of_one : (clock : Clock) (r : Run) (before : Part → PartTold) (now : DeviceTold) → BlockHalf (alone r) before now clock → DeviceHalf r (before First) now (beyond_end clock) → ErasesAreDue (making_of r.configuration) r.flash → Promise (alone r)
+of_one : (clock : Clock) (r : Run) (before : Part → PartTold) (now : DeviceTold) → BlockHalf (alone r) before now clock → DeviceHalf r (before First) now (beyond_end clock) → OperationsAreDue (making_of r.configuration) r.flash → Promise (alone r)
 of_one clock r before now block device wear = record {
   order = block.order;
   power_cut = λ tells sound k image small cut. record {

@@ -13,7 +13,8 @@ mod Spells
 mod WrongOrders
 mod WrongMarks
 mod WrongCauses
-mod WrongErases
+mod WrongOperations
+pub mod SectorErases
 mod KeptRuns
 mod TwoFlashes
 mod LostWrite

@@ -69,7 +69,7 @@ none_left n (Some zero) made =
 none_left n (Some (suc m)) (inl made) = absurd (cc made)
 none_left n (Some (suc m)) (inr made) = absurd (cc made)
 
-as_asked : (c : Configuration) (id : ℕ) (s : State) (es : List Entry) → list_all tells_no_refusal es ≡ true → AreAsAsked c id s 0 es 0
+pub as_asked : (c : Configuration) (id : ℕ) (s : State) (es : List Entry) → list_all tells_no_refusal es ≡ true → AreAsAsked c id s 0 es 0
 as_asked c id s [] none = refl
 as_asked c id s (e ∷ es) none = elim (cases_Bool (tells_no_refusal e)) [
   | inl one ↦
@@ -80,7 +80,7 @@ as_asked c id s (e ∷ es) none = elim (cases_Bool (tells_no_refusal e)) [
 
 -- NO CUT WAS PLANNED
 
-unplanned : (ops : ℕ) (es : List Entry) → CutsAre None ops (map Added es) [] (offs_in es)
+pub unplanned : (ops : ℕ) (es : List Entry) → CutsAre None ops (map Added es) [] (offs_in es)
 unplanned ops [] = (refl, refl)
 unplanned ops (Off now ∷ es) = inr (offs_in es, refl, unplanned now es)
 unplanned ops (Ask caller r reply ∷ es) = unplanned (ops_behind ops (Ask caller r reply ∷ [])) es

@@ -1,9 +1,12 @@
 -- Runs that break the promise by their marks.
-use Rattle.std.specs.Prelude.{Contains}
-use Rattle.std.proofs.Common.{◌≡◌, ℕ, zero, suc, List, [], ◌∷◌, ◌++◌, drop, replicate, Some, refl, sym, ap, ◌∙◌, inl, inr, arith}
+use Rattle.std.specs.Prelude.{Contains, take, nat_lt, ◌&&◌}
+use Rattle.std.specs.List.{list_all}
+use Rattle.std.proofs.Common.{◌≡◌, ℕ, zero, suc, Bool, true, false, IsTrue, List, [], ◌∷◌, ◌++◌, drop, Some, refl, sym, ap, ◌∙◌, inl, inr, arith}
 use Rattle.fls_model.specs.Bytes.{AreBytes}
 use Rattle.block_machine.specs.Words.{Erased}
 use Rattle.block_machine.specs.nv_base.Held.{Held}
+use Rattle.fee_format.specs.BankHead.{bank_head_page}
+use Rattle.fee_format.proofs.Tests.{lt_is}
 use Rattle.fee_image.specs.Laws.{BlankIsSound, BlankHasErased, SoundImagesCompute}
 use Rattle.fls_model.specs.Told.{bytes_now}
 use Rattle.block_machine.specs.History.{up_to}
@@ -49,32 +52,30 @@ no_other_dataset exit =
 pub other_dataset_breaks : BlankIsSound → BreaksBy other_dataset (ExitKeeps other_dataset other_dataset.beside)
 other_dataset_breaks sound = (λ p. p.at_exit (from_blank other_dataset.flash _ refl refl) (sound (banks_of (making_of small)) 320), no_other_dataset)
 
-zeros : (n : ℕ) → AreBytes (replicate n 0)
-zeros zero k = omega arith
-zeros (suc n) zero = omega arith
-zeros (suc n) (suc k) = zeros n k
+first_of : (a b : Bool) → IsTrue (a && b) → IsTrue a
+first_of true b is = refl
+first_of false b is = cc is
 
-joined_bytes : (a b : List ℕ) → AreBytes a → AreBytes b → AreBytes (a ++ b)
-joined_bytes [] b p q k = q k
-joined_bytes (x ∷ a) b p q zero = p zero
-joined_bytes (x ∷ a) b p q (suc k) = joined_bytes a b (λ j. p (suc j)) q k
+second_of : (a b : Bool) → IsTrue (a && b) → IsTrue b
+second_of true b is = is
+second_of false b is = cc is
 
-dropped_bytes : (n : ℕ) (xs : List ℕ) → AreBytes xs → AreBytes (drop n xs)
-dropped_bytes zero xs p = p
-dropped_bytes (suc n) [] p = p
-dropped_bytes (suc n) (x ∷ xs) p = dropped_bytes n xs (λ j. p (suc j))
+bytes_of : (xs : List ℕ) → IsTrue (list_all (λ x. nat_lt x 256) xs) → AreBytes xs
+bytes_of [] all k = omega arith
+bytes_of (x ∷ xs) all zero = (lt_is x 256).0 (first_of (nat_lt x 256) _ all)
+bytes_of (x ∷ xs) all (suc k) = bytes_of xs (second_of (nat_lt x 256) _ all) k
 
 abbrev written : List ℕ
 written = begun 4
 
--- a cut of the fifth operation may leave any bytes on the page of the head, as those of an open gate
+-- a cut of the fifth operation may leave any bytes on its page, as those of a head
 abbrev torn : List ℕ
-torn = replicate 16 0 ++ drop 16 written
+torn = take 160 written ++ bank_head_page 16 (record { format = 2; generation = 2 }) ++ drop 176 written
 
 no_lost_write : CutsKeep lost_write lost_write.beside → ⊥
 no_lost_write cuts =
     let keeps = cuts 4 torn (omega arith)
-    (_, refl, (record { size = refl; front = refl; back = refl }, λ were. joined_bytes (replicate 16 0) (drop 16 written) (zeros 16) (dropped_bytes 16 written were))) in
+    (_, refl, (record { size = refl; front = refl; back = refl }, λ were. bytes_of torn refl)) in
     elim (keeps.marks.stands (record { 0 = 128 }, 4) (2, omega arith, refl)) [
       | inl is ↦ cc is
       | inr (k, few, is) ↦ omega (arith, few)
@@ -91,7 +92,7 @@ lost_write_breaks computes = (
 no_lost_count : CutsCount lost_write lost_write.beside → ⊥
 no_lost_count counts =
     let keeps : KeepsCounts small (up_to 4 lost_write.history) (counts_by small (begun 0)) (counts_by small torn) = counts 4 0 torn (omega arith)
-    (_, refl, (record { size = refl; front = refl; back = refl }, λ were. joined_bytes (replicate 16 0) (drop 16 written) (zeros 16) (dropped_bytes 16 written were))) refl in
+    (_, refl, (record { size = refl; front = refl; back = refl }, λ were. bytes_of torn refl)) refl in
     elim (keeps (record { 0 = 128 }, 4) (2, omega arith, refl)) [
       | inl is ↦ cc is
       | inr (is, since) ↦ cc is

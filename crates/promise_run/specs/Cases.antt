@@ -7,7 +7,7 @@ use Rattle.block_machine.specs.block_config.DemoConfig.{demo_config}
 use Rattle.block_machine.specs.block_config.Block.{plain_block, manager_block}
 use Rattle.fls_model.specs.declared.flash.FlashAnswer.{FlashAnswer}
 use Rattle.fls_model.specs.declared.flash.FlashAnswer.TheVariants.{Done, Failed, Off as FlashOff}
-use Rattle.fls_model.specs.Op.{Program, Erase}
+use Rattle.fls_model.specs.Op.{Op, Program, Erase}
 use Rattle.fls_model.specs.Told.{Told, Change}
 use Rattle.fee_format.specs.Pages.{gate_page}
 use Rattle.fee_format.specs.BankHead.{bank_head_page}
@@ -193,13 +193,15 @@ worn_long_ago = failed_behind before_the_erase 2 (image_of 4294967295 (replicate
 abbrev pub worn_and_full : Run
 worn_and_full = failed_on (image_of 4294967295 (record_of 77 one ++ record_of 77 one))
 
--- a write begins with an erase of the blank bank 1, on this image
-abbrev pub erases_other : List ℕ → List Change
-erases_other image = record { op = Erase 160 160; before = image; answer = Done } ∷ []
+-- a write begins with this operation, on this image
+abbrev pub begins_with : Op → List ℕ → Run
+begins_with op image =
+    let operations = record { op = op; before = image; answer = Done } ∷ [] in
+    plays (asks_one ∷ (Turn 1, picks_one ∷ []) ∷ (Turn 1, []) ∷ []) (record { entry = tells image (Some []); exit = tells image (Some operations); operations = operations })
 
+-- with an erase of the blank bank 1
 abbrev pub erased_beside : List ℕ → Run
-erased_beside image =
-    plays (asks_one ∷ (Turn 1, picks_one ∷ []) ∷ (Turn 1, []) ∷ []) (record { entry = tells image (Some []); exit = tells image (Some (erases_other image)); operations = erases_other image })
+erased_beside image = begins_with (Erase 160 160) image
 
 -- whose active bank has room for the record, has none for it, or none and the last generation
 abbrev pub erased_with_room : Run
@@ -211,6 +213,10 @@ erased_when_full = erased_beside (image_of 1 (record_of 77 one ++ record_of 77 t
 abbrev pub erased_beside_last : Run
 erased_beside_last = erased_beside (image_of 4294967295 (record_of 77 one ++ record_of 77 two))
 
+-- or with its header over that of a record
+abbrev pub programmed_over : Run
+programmed_over = begins_with (Program 32 (take 16 (record_of 77 one))) (image_of 1 (record_of 77 one ++ replicate 64 255))
+
 -- on a flash of no bytes a write begins with the erase of bank 0, which a planned cut keeps from the flash; then a restart
 abbrev pub kept_write : Run
 kept_write =
@@ -221,20 +227,22 @@ kept_write =
 abbrev pub untold_write : Run
 untold_write = let f = kept_write.flash in record kept_write { flash = record f { exit = tells blank None } }
 
--- the first pages of the record in a bank that stands, and the program of the next one
+-- the first pages of the record in a bank that stands, and the program of the next one; bank 1 has an open gate, and no head
 abbrev pub begun : ℕ → List ℕ
-begun pages = image_of 1 (take (16 * pages) (record_of 128 one) ++ replicate (128 - 16 * pages) 255)
+begun pages =
+    bank_head_page 16 (record { format = 2; generation = 1 }) ++ gate_page 16 ++ take (16 * pages) (record_of 128 one) ++ replicate (128 - 16 * pages) 255
+    ++ replicate 16 255 ++ gate_page 16 ++ replicate 128 255
 
 abbrev pub programs : ℕ → Change
 programs pages =
     record { op = Program (32 + 16 * pages) (take 16 (drop (16 * pages) (record_of 128 one))); before = begun pages; answer = Done }
 
--- `one` is written and acknowledged with the fourth operation; the fifth programs the head of its bank again, so that a cut
--- within it may lose what was acknowledged
+-- `one` is written and acknowledged with the fourth operation; the fifth programs the head's page of bank 1, so that a cut
+-- within it may make that bank stand, and lose what was acknowledged
 abbrev pub operations : List Change
 operations =
     programs 0 ∷ programs 1 ∷ programs 2 ∷ programs 3
-    ∷ record { op = Program 0 (bank_head_page 16 (record { format = 2; generation = 1 })); before = begun 4; answer = Done } ∷ []
+    ∷ record { op = Program 160 (replicate 16 255); before = begun 4; answer = Done } ∷ []
 
 abbrev pub lost_write : Run
 lost_write =

@@ -6,7 +6,7 @@ use Rattle.memif.specs.Clock.{Clock}
 use Rattle.promise_blocks.specs.OverDevice.{KeepsOver, KeepsEarly, is_of}
 use Rattle.promise_device.specs.FlashRun.{TellsBytes}
 use Rattle.promise_device.specs.Bridge.{Bridges, reading_of, cuts_of}
-use Rattle.promise_device.specs.Wear.{ErasesAreDue}
+use Rattle.promise_device.specs.Wear.{OperationsAreDue}
 use Rattle.promise_run.specs.Run.{Run, cap, HasOrder, has_cutter, CutsExplain}
 use Rattle.promise_run.specs.Refusals.{RefusesAsAsked}
 use Rattle.promise_run.specs.Promise.{Promise, BeginsWell, making_of}
@@ -38,5 +38,5 @@ EarlyMakesIt clock =
 
 -- both halves make the promise, where the device's erases are due
 abbrev pub HalvesMakeIt : Clock → Type 0
-HalvesMakeIt clock = (r : Run) (before : Part → PartTold) (now : DeviceTold) → BlockHalf r before now clock → DeviceHalf r (before First) now (beyond_end clock) → ErasesAreDue (making_of r.configuration) r.flash
+HalvesMakeIt clock = (r : Run) (before : Part → PartTold) (now : DeviceTold) → BlockHalf r before now clock → DeviceHalf r (before First) now (beyond_end clock) → OperationsAreDue (making_of r.configuration) r.flash
     → Promise r

@@ -10,6 +10,7 @@ pub mod Completeness
 pub mod RunHalves
 pub mod Turns
 pub mod JobTurns
+pub mod SectorErases
 pub mod InRoom
 pub mod Texts
 pub mod Cases

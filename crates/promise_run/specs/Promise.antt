@@ -19,7 +19,7 @@ use Rattle.promise_device.specs.FlashRun.{TellsBytes, TellsOperations, StartsSou
 use Rattle.promise_device.specs.Making.{Making}
 use Rattle.promise_device.specs.Reading.{BeginsSound}
 use Rattle.promise_device.specs.Bridge.{IsWornOut, IsWornBy}
-use Rattle.promise_device.specs.Wear.{ErasesAreDue}
+use Rattle.promise_device.specs.Wear.{OperationsAreDue}
 use Rattle.promise_run.specs.Beside.{Beside, AreCutImages, IsMerged, is_beside, ops_of}
 use Rattle.promise_run.specs.Run.{Run, cap, HasOrder, of_flashes, has_cutter, CutsExplain}
 use Rattle.promise_run.specs.Refusals.{RefusesAsAsked}
@@ -136,8 +136,9 @@ pub record Promise (r : Run) : Type 0 where
   pub block_machine : IsLegal r.configuration cap r.history
   -- a failure result comes only from counted faults, refused copies or what the flash holds written.
   pub faults : FailuresArePaid r r.beside
-  -- A bank of the flash is erased only where the active one has no room for a record, and hasn't the last generation.
-  pub wear : ErasesAreDue (making_of r.configuration) r.flash
+  -- Each operation of the flash is due: a bank is erased, its sectors in order, only where the active one has no room for a record
+  -- and hasn't the last generation, and a page is programmed where it is blank, or once more where its program failed.
+  pub wear : OperationsAreDue (making_of r.configuration) r.flash
   pub refusals : (id : ℕ) → RefusesAsAsked r.configuration r.course r.history id
   -- An Off is planned, or the flash counted a cut.
   pub off : CutsExplain r.course r.history r.cuts (of_flashes (λ f. f.entry.cuts) r) (of_flashes (λ f. f.exit.cuts) r)

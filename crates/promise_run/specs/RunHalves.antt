@@ -11,7 +11,7 @@ use Rattle.promise_blocks.specs.OverDevice.{HasStarted, KeepsOver, is_of}
 use Rattle.promise_device.specs.FlashRun.{FlashRun}
 use Rattle.promise_device.specs.Reading.{Reading}
 use Rattle.promise_device.specs.Bridge.{Bridges, reading_of}
-use Rattle.promise_device.specs.Wear.{ErasesAreDue}
+use Rattle.promise_device.specs.Wear.{OperationsAreDue}
 use Rattle.promise_run.specs.Run.{Run, Ran, RunsBy, cap}
 use Rattle.promise_run.specs.Promise.{Promise, making_of}
 use Rattle.promise_run.specs.Halves.{BlockHalf, beyond_end}
@@ -60,4 +60,4 @@ abbrev pub CallersKeepPromise : Clock → Type 0
 CallersKeepPromise clock =
     (r : Run) (steps : List Step) (looks : List Look) (before : Part → PartTold) (now : DeviceTold) → KeepsCallers r steps looks before now clock
     → now.first.planning.came ≡ [] → Bridges (reading_of (making_of r.configuration)) true r.flash (before First) now (beyond_end clock)
-    → ErasesAreDue (making_of r.configuration) r.flash → Promise r
+    → OperationsAreDue (making_of r.configuration) r.flash → Promise r

@@ -7,7 +7,7 @@ ghost use Rattle.promise_blocks.specs.OverDevice.{BeginsBefore, TellsAtMost};
 ghost use Rattle.promise_device.specs.FlashRun.{AreOperations};
 ghost use Rattle.promise_run.specs.Run.{cap, HasOrder, CutsExplain};
 ghost use Rattle.promise_run.specs.Refusals.{RefusesAsAsked};
-ghost use Rattle.promise_device.specs.Wear.{ErasesAreDue};
+ghost use Rattle.promise_device.specs.Wear.{OperationsAreDue};
 ghost use Rattle.promise_run.specs.Promise.{making_of, BeginsWell, OperationsAre, Promise, StartUpsFind, CutsCount, CutsKeep, ExitKeeps, FailuresArePaid, MayBeKept};
 ghost use Rattle.promise_run.specs.Call.{IsRunOf, text_of};
 ghost use Rattle.promise_run.specs.Completeness.{Completeness};
@@ -15,7 +15,7 @@ ghost use Rattle.script_walks.specs.Words.{AskStep, Restart};
 ghost use Rattle.block_machine.specs.Words.{Status, Fine, Canceled, BlockSkipped, Post};
 ghost use Rattle.promise_run.specs.Run.{FlashFault, HistoryFull};
 ghost use Rattle.promise_run.specs.Turns.{BeginsAt, EndsBy, HasTurns};
-ghost use Rattle.promise_run.specs.Cases.{six_turns, lazy, leaps, at_faults, faulty, PaysFailed, CountsFailed, HadRoomAt, LeftAt, DrainsTo, WorksAt, EndsWith, mended, posts_on_credit, starts_on_credit, untold, BreaksBy, small, one, two, quiet, quiet_beside, wiped, empty_at_11, made_up_mark, off_without_a_cut, cut_within, cut_twice, stale_in_play, invented_store, second_found, other_dataset, worn_but_roomy, worn_and_full, kept_write, lost_write, two_callers, written_at, always, turned, not_drained, fails_for_nothing, ends_for_nothing, demo_run, demo_call, untold_write, unseen_stale, later_store, full_for_nothing, not_served, worn_long_ago, cut_comes, cut_missed, last_in_two, erased_with_room, erased_when_full, erased_beside_last};
+ghost use Rattle.promise_run.specs.Cases.{six_turns, lazy, leaps, at_faults, faulty, PaysFailed, CountsFailed, HadRoomAt, LeftAt, DrainsTo, WorksAt, EndsWith, mended, posts_on_credit, starts_on_credit, untold, BreaksBy, small, one, two, quiet, quiet_beside, wiped, empty_at_11, made_up_mark, off_without_a_cut, cut_within, cut_twice, stale_in_play, invented_store, second_found, other_dataset, worn_but_roomy, worn_and_full, kept_write, lost_write, two_callers, written_at, always, turned, not_drained, fails_for_nothing, ends_for_nothing, demo_run, demo_call, untold_write, unseen_stale, later_store, full_for_nothing, not_served, worn_long_ago, cut_comes, cut_missed, last_in_two, erased_with_room, erased_when_full, erased_beside_last, programmed_over};
 
 /// A start-up alone keeps it, and so do a write that a cut breaks off with a restart behind it, and the requests of two
 /// callers.
@@ -84,11 +84,12 @@ pub fn wrong_causes_break_it()
 {}
 
 /// An erase beside an active bank that has room for the record breaks it by its wear, and so does one beside a bank of the last
-/// generation, which is full. Beside another one that is full it is due.
-pub fn wrong_erases_break_it()
-    ensures with_room { BreaksBy erased_with_room (ErasesAreDue (making_of small) erased_with_room.flash) }
-    ensures beside_last { BreaksBy erased_beside_last (ErasesAreDue (making_of small) erased_beside_last.flash) }
-    ensures when_full { ErasesAreDue (making_of small) erased_when_full.flash }
+/// generation, which is full, and a program of a page that isn't blank. Beside another bank that is full an erase is due.
+pub fn wrong_operations_break_it()
+    ensures with_room { BreaksBy erased_with_room (OperationsAreDue (making_of small) erased_with_room.flash) }
+    ensures beside_last { BreaksBy erased_beside_last (OperationsAreDue (making_of small) erased_beside_last.flash) }
+    ensures over_a_record { BreaksBy programmed_over (OperationsAreDue (making_of small) programmed_over.flash) }
+    ensures when_full { OperationsAreDue (making_of small) erased_when_full.flash }
 {}
 
 /// A run that may lose an acknowledged write at a cut breaks it, by its power cut and its counts alone: all other fields hold.
@@ -101,7 +102,7 @@ pub fn a_lost_write_breaks_it()
     ensures at_exit { ExitKeeps lost_write lost_write.beside }
     ensures block_machine { IsLegal small cap lost_write.history }
     ensures faults { FailuresArePaid lost_write lost_write.beside }
-    ensures wear { ErasesAreDue (making_of small) lost_write.flash }
+    ensures wear { OperationsAreDue (making_of small) lost_write.flash }
     ensures refusals { (id : ℕ) → RefusesAsAsked small lost_write.course lost_write.history id }
     ensures off { CutsExplain lost_write.course lost_write.history lost_write.cuts 0 0 }
     ensures operations { AreOperations small.geometry lost_write.flash (MayBeKept lost_write) lost_write.cuts }

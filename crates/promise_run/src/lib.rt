@@ -16,8 +16,8 @@ pub use cases::{
     a_list_that_ends_early_breaks_it, a_lost_write_breaks_it, canceled_requests_end,
     drains_leave_nothing_open, failures_are_counted_in_their_moves, full_histories_end,
     planned_cuts_come, runs_of_calls, runs_over_two_flashes, runs_that_are_served,
-    runs_that_keep_it, turns_one_by_one, wrong_causes_break_it, wrong_erases_break_it,
-    wrong_marks_break_it, wrong_orders_break_it,
+    runs_that_keep_it, turns_one_by_one, wrong_causes_break_it, wrong_marks_break_it,
+    wrong_operations_break_it, wrong_orders_break_it,
 };
 pub use life::units_hold_marks;
 pub use refused_cases::{copies_not_refused_as_asked, copies_refused_as_asked};

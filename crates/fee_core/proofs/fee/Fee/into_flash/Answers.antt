@@ -6,7 +6,7 @@ use Rattle.fee_course.specs.Course.{most_turns}
 use Rattle.fls_model.specs.Told.{Told, changes_in}
 use Rattle.promise_device.specs.Bridge.{Bridges, reading_of}
 use Rattle.promise_device.specs.Room.{TellsWorkOver}
-use Rattle.promise_device.specs.Wear.{ErasesAreDue}
+use Rattle.promise_device.specs.Wear.{OperationsAreDue}
 use Rattle.fee_log.specs.Log.{IsLogState}
 use Rattle.fee_switch.specs.Banks.{IsBanksState}
 use Rattle.fls_told.proofs.Runs.{runs_bridge}
@@ -89,4 +89,4 @@ returns-clause-wear g c =
     let p = c.self.inside.parts in
     let told = g.F.Flash.told c.into_flash.result in
     let here = wear_told m entry told p.parts.operations c.self.invariant.wears in
-    subst (λ (x : Device). ErasesAreDue m (record { entry = entry; exit = told; operations = x.operations })) c.self.view_is here
+    subst (λ (x : Device). OperationsAreDue m (record { entry = entry; exit = told; operations = x.operations })) c.self.view_is here
