@@ -1,5 +1,6 @@
 -- What a pass learns that adds nothing.
-use Rattle.std.proofs.Common.{◌≡◌, inl, ℕ, true, List, ◌++◌, length, Option, Some, refl, sym, ap, ◌∙◌, subst}
+use Rattle.std.proofs.Common.{◌≡◌, inl, ℕ, true, List, [], ◌++◌, length, Option, Some, refl, sym, ap, ◌∙◌, subst}
+use Rattle.std.proofs.lemmas.List.{append-nil}
 use Rattle.nvm_core.specs.memif.Told.{DeviceTold}
 use Rattle.nvm_core.specs.memif.Clock.{Clock}
 use Rattle.nvm_core.specs.block_machine.Words.{Entry}
@@ -42,8 +43,11 @@ learns_more v u w log seen starts since kin is =
 pub desk_is : (t : Terms) (o : Option Terms) (x : LockedState) (seen : List Entry) → o ≡ Some t → o ≡ Some (terms_of x) → seen ≡ x.desk.entries → x.desk ≡ desk_with t seen
 desk_is t o x seen own root entries = ap (λ (s : Terms). desk_with s x.desk.entries) (same_terms o (terms_of x) t root own) ∙ ap (desk_with t) (sym entries)
 
+same_starts : {A : Type 0} (xs ys : List A) → ys ≡ xs → StartsWith ys xs
+same_starts xs ys same = ([], same ∙ sym (append-nil xs))
+
 pub more_learns : (v w : V) → LearnsMore v w → LearnsTurn v w
-more_learns v w more = record { starts = more.starts; notes = more.notes; heard = more.heard; own = λ k has. inl (subst (λ (ks : List ℕ). Has ks k) more.own has) }
+more_learns v w more = record { starts = more.starts; notes = same_starts v.notes w.notes more.notes; heard = same_starts v.heard w.heard more.heard; own = λ k has. inl (subst (λ (ks : List ℕ). Has ks k) more.own has) }
 
 -- the driver's parts stay tied to it
 module _ {D C : Type 0} (told : D → DeviceTold) (clock : D → Clock) (copies : C → List Told) (t : Terms) (v w : V) (s : DriverState D C) (learns : LearnsMore v w) (mark : v.mark ≡ true)

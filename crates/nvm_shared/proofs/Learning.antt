@@ -19,8 +19,8 @@ use Rattle.nvm_shared.specs.Driving.{DriverState, stack_of}
 abbrev V : Type 0
 V = View Entry Terms
 
-starts_through : (a b c : List Entry) → StartsWith b a → StartsWith c b → StartsWith c a
-starts_through a b c (x, first) (y, second) = (x ++ y, second ∙ ap (λ (l : List Entry). l ++ y) first ∙ append_assoc a x y)
+goes_through : {A : Type 0} (a b c : List A) → StartsWith b a → StartsWith c b → StartsWith c a
+goes_through {A} a b c (x, first) (y, second) = (x ++ y, second ∙ ap (λ (l : List A). l ++ y) first ∙ append_assoc a x y)
 
 -- an entry stands in each list that goes on
 entry_on : (old new : List Entry) (k : ℕ) (e : Entry) → StartsWith new old → IsEntry old k e → IsEntry new k e
@@ -43,9 +43,9 @@ half_learns v w half = record { starts = half.starts; notes = half.notes; heard 
 
 pub both_learn : (v u w : V) → LearnsHalf v u → LearnsHalf u w → LearnsTurn v w
 both_learn v u w first second = record {
-  starts = starts_through v.seen u.seen w.seen first.starts second.starts;
-  notes = second.notes ∙ first.notes;
-  heard = second.heard ∙ first.heard;
+  starts = goes_through v.seen u.seen w.seen first.starts second.starts;
+  notes = goes_through v.notes u.notes w.notes first.notes second.notes;
+  heard = goes_through v.heard u.heard w.heard first.heard second.heard;
   own = λ k has. elim (own_in u w second.own k has) [
     | inl between ↦ elim (own_in v u first.own k between) [
       | inl before ↦ inl before

@@ -7,6 +7,8 @@ pub mod Making
 mod Learning
 mod Serving
 mod Stale
+mod PicksShown
+mod Holding
 mod Resting
 mod Counting
 pub mod WritingLegal

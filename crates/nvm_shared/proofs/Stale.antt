@@ -21,17 +21,17 @@ abbrev rest_of : List Entry → List Entry
 rest_of [] = []
 rest_of (x ∷ xs) = xs
 
-same_last : (xs ys : List Entry) (x y : Entry) → xs ++ x ∷ [] ≡ ys ++ y ∷ [] → x ≡ y
+pub same_last : (xs ys : List Entry) (x y : Entry) → xs ++ x ∷ [] ≡ ys ++ y ∷ [] → x ≡ y
 same_last [] [] x y e = cc
 same_last [] (b ∷ bs) x y e = absurd (omega (arith, ap (λ (l : List Entry). length l) e, length-append bs (y ∷ [])))
 same_last (a ∷ more) [] x y e = absurd (omega (arith, ap (λ (l : List Entry). length l) e, length-append more (x ∷ [])))
 same_last (a ∷ more) (b ∷ bs) x y e = same_last more bs x y (ap rest_of e)
 
-abbrev block_in : Entry → ℕ
+abbrev pub block_in : Entry → ℕ
 block_in (Pick block kind t ops) = block
 block_in e = 0
 
-abbrev taken_in : Entry → Taken
+abbrev pub taken_in : Entry → Taken
 taken_in (Pick block kind t ops) = t
 taken_in e = TookNothing
 

@@ -1,5 +1,6 @@
 -- The halves of a turn, behind requests of others.
-use Rattle.std.proofs.Common.{◌≡◌, inl, inr, ℕ, ◌^◌, Bool, true, false, List, [], ◌∷◌, ◌++◌, length, Option, Some, sym, ap, ◌∙◌, subst}
+use Rattle.std.proofs.Common.{◌≡◌, inl, inr, ℕ, ◌^◌, Bool, true, false, List, [], ◌∷◌, ◌++◌, length, Option, Some, refl, sym, ap, ◌∙◌, subst}
+use Rattle.std.proofs.lemmas.List.{append-nil}
 use Rattle.nvm_core.specs.memif.Told.{DeviceTold, Part, PartTold}
 use Rattle.nvm_core.specs.memif.Clock.{Clock}
 use Rattle.nvm_core.specs.block_machine.Words.{Entry, Ask, Configuration}
@@ -21,7 +22,7 @@ use Rattle.nvm_shared.specs.Written.{AreWritten}
 use Rattle.nvm_shared.specs.Behind.{AreAsks, HandIsPending, StandsBehind, with_more}
 use Rattle.nvm_shared.specs.declared.terms.Terms.{Terms}
 use Rattle.nvm_shared.specs.Locked.{LockedState, desk_with, terms_of}
-use Rattle.nvm_shared.specs.Passes.{IsExtended, LearnsHalf, IsEntry}
+use Rattle.nvm_shared.specs.Passes.{IsExtended, IsInformed, LearnsHalf, IsEntry}
 use Rattle.nvm_shared.proofs.Asking.{V, starts_on}
 use Rattle.nvm_shared.proofs.Writing.{Writes}
 use Rattle.nvm_shared.proofs.WritingLegal.{rests_are_written}
@@ -84,7 +85,7 @@ fits_behind t seen x hand d clock behind kept telling told =
     let (before, keeps) = kept tells in ((behind.stands.kept.kept before keeps).all (telling tells)).fits
 
 -- WHAT THE PASS LEARNS
--- w is u outside, with an entry more or none
+-- w is the pass u outside, with an entry more or none
 pub record Leaves (u w : V) (log : List Entry) : Type 0 where
   pub same : log ≡ u.seen → w ≡ went_out u
   pub more : (e : Entry) → log ≡ u.seen ++ e ∷ [] → w ≡ went_out (grown u log)
@@ -97,53 +98,70 @@ pub record Left (v w : V) (log : List Entry) : Type 0 where
 agree_on : (log : List Entry) (e : Entry) (notes : List Note) → AllAgree gives log notes → AllAgree gives (log ++ e ∷ []) notes
 agree_on log e notes agree i n at = let (x, here, is) = agree i n at in (x, at_longer log (e ∷ []) n.1 x here, is)
 
-pub extended : (t : Terms) (v u : V) (x y : LockedState) (tells : Bool) → Enters t v u x → Writes tells x.desk y.desk → IsExtended u y.desk.entries
-extended t v u x y tells enters (inl same) = inl (ap (λ (d : DeskState). d.entries) same ∙ sym enters.seen)
-extended t v u x y tells enters (inr (e, adds, written, driven)) = inr (
+-- a pass that is told nothing
+pub same_informed : (u : V) → IsInformed u u
+same_informed u = record { root = refl; seen = refl; own = refl; notes = ([], sym (append-nil u.notes)); heard = ([], sym (append-nil u.heard)); mark = refl; parts = refl }
+
+-- the pass u was told what n knows
+pub extended : (t : Terms) (v u n : V) (x y : LockedState) (tells : Bool) → Enters t v u x → IsInformed u n → Writes tells x.desk y.desk → IsExtended n y.desk.entries
+extended t v u n x y tells enters told (inl same) = inl (ap (λ (d : DeskState). d.entries) same ∙ sym (told.seen ∙ enters.seen))
+extended t v u n x y tells enters told (inr (e, adds, written, driven)) = inr (
   e,
-  ap (λ (d : DeskState). d.entries) adds ∙ ap (λ (l : List Entry). l ++ e ∷ []) (sym enters.seen),
-  (λ off. let on : u.mark ≡ true = enters.kin.3 ∙ enters.mark in cc),
+  ap (λ (d : DeskState). d.entries) adds ∙ ap (λ (l : List Entry). l ++ e ∷ []) (sym (told.seen ∙ enters.seen)),
+  (λ off. let on : n.mark ≡ true = told.mark ∙ enters.kin.3 ∙ enters.mark in cc),
   driven.1,
 )
 
-module _ (t : Terms) (v u w : V) (x y : LockedState) (tells : Bool) (enters : Enters t v u x) (leaves : Leaves u w y.desk.entries) where
+-- what began with a list begins with the same
+begins_on : {A : Type 0} (v u n w : List A) → u ≡ v → StartsWith n u → w ≡ n → StartsWith w v
+begins_on {A} v u n w first (rest, is) last = (rest, last ∙ is ∙ ap (λ (l : List A). l ++ rest) first)
+
+module _ (t : Terms) (v u n w : V) (x y : LockedState) (tells : Bool) (enters : Enters t v u x) (told : IsInformed u n) (leaves : Leaves n w y.desk.entries) where
+  learned_notes : w.notes ≡ n.notes → StartsWith w.notes v.notes
+  learned_notes is = begins_on v.notes u.notes n.notes w.notes enters.kin.2 told.notes is
+
+  learned_heard : w.heard ≡ n.heard → StartsWith w.heard v.heard
+  learned_heard is = begins_on v.heard u.heard n.heard w.heard enters.kin.5 told.heard is
+
   pub left : Writes tells x.desk y.desk → Left v w y.desk.entries
   left (inl same) =
-      let entries : y.desk.entries ≡ u.seen = ap (λ (d : DeskState). d.entries) same ∙ sym enters.seen in
+      let seen : n.seen ≡ x.desk.entries = told.seen ∙ enters.seen in
+      let entries : y.desk.entries ≡ n.seen = ap (λ (d : DeskState). d.entries) same ∙ sym seen in
       let is = leaves.same entries in
-      let log : x.desk.entries ≡ w.seen = sym enters.seen ∙ ap (λ (z : V). z.seen) (sym is) in record {
+      let log : x.desk.entries ≡ w.seen = sym seen ∙ ap (λ (z : V). z.seen) (sym is) in record {
         seen = ap (λ (z : V). z.seen) is ∙ sym entries;
-        root = ap (λ (z : V). z.root) is ∙ enters.kin.0;
+        root = ap (λ (z : V). z.root) is ∙ told.root ∙ enters.kin.0;
         learns = record {
           starts = subst (λ (l : List Entry). StartsWith l v.seen) log enters.starts;
           agree = subst (λ (l : List Entry). AllAgree gives l v.notes) log enters.agree;
-          own = inl (ap (λ (z : V). z.own) is ∙ enters.kin.1);
+          own = inl (ap (λ (z : V). z.own) is ∙ told.own ∙ enters.kin.1);
           alone = λ all. inl (sym log ∙ enters.alone all);
-          notes = ap (λ (z : V). z.notes) is ∙ enters.kin.2;
-          heard = ap (λ (z : V). z.heard) is ∙ enters.kin.5;
-          mark = ap (λ (z : V). z.mark) is ∙ enters.kin.3;
-          parts = ap (λ (z : V). z.parts) is ∙ enters.kin.4;
+          notes = learned_notes (ap (λ (z : V). z.notes) is);
+          heard = learned_heard (ap (λ (z : V). z.heard) is);
+          mark = ap (λ (z : V). z.mark) is ∙ told.mark ∙ enters.kin.3;
+          parts = ap (λ (z : V). z.parts) is ∙ told.parts ∙ enters.kin.4;
         };
       }
   left (inr (e, adds, written, driven)) =
       let grew : y.desk.entries ≡ x.desk.entries ++ e ∷ [] = ap (λ (d : DeskState). d.entries) adds in
-      let is = leaves.more e (grew ∙ ap (λ (l : List Entry). l ++ e ∷ []) (sym enters.seen)) in
+      let seen : n.seen ≡ x.desk.entries = told.seen ∙ enters.seen in
+      let is = leaves.more e (grew ∙ ap (λ (l : List Entry). l ++ e ∷ []) (sym seen)) in
       let log : x.desk.entries ++ e ∷ [] ≡ w.seen = sym grew ∙ ap (λ (z : V). z.seen) (sym is) in record {
         seen = ap (λ (z : V). z.seen) is;
-        root = ap (λ (z : V). z.root) is ∙ enters.kin.0;
+        root = ap (λ (z : V). z.root) is ∙ told.root ∙ enters.kin.0;
         learns = record {
           starts = subst (λ (l : List Entry). StartsWith l v.seen) log (starts_on x.desk.entries v.seen e enters.starts);
           agree = subst (λ (l : List Entry). AllAgree gives l v.notes) log (agree_on x.desk.entries e v.notes enters.agree);
           own = inr (
-            length u.seen,
-            ap (λ (z : V). z.own) is ∙ ap (λ (l : List ℕ). l ++ length u.seen ∷ []) enters.kin.1,
-            (e, subst (λ (l : List Entry). IsEntry l (length u.seen) e) log (at_last x.desk.entries e (length u.seen) (ap length (sym enters.seen))), driven.0, driven.1),
+            length n.seen,
+            ap (λ (z : V). z.own) is ∙ ap (λ (l : List ℕ). l ++ length n.seen ∷ []) (told.own ∙ enters.kin.1),
+            (e, subst (λ (l : List Entry). IsEntry l (length n.seen) e) log (at_last x.desk.entries e (length n.seen) (ap length (sym seen))), driven.0, driven.1),
           );
           alone = λ all. inr (e, sym log ∙ ap (λ (l : List Entry). l ++ e ∷ []) (enters.alone all), driven.0);
-          notes = ap (λ (z : V). z.notes) is ∙ enters.kin.2;
-          heard = ap (λ (z : V). z.heard) is ∙ enters.kin.5;
-          mark = ap (λ (z : V). z.mark) is ∙ enters.kin.3;
-          parts = ap (λ (z : V). z.parts) is ∙ enters.kin.4;
+          notes = learned_notes (ap (λ (z : V). z.notes) is);
+          heard = learned_heard (ap (λ (z : V). z.heard) is);
+          mark = ap (λ (z : V). z.mark) is ∙ told.mark ∙ enters.kin.3;
+          parts = ap (λ (z : V). z.parts) is ∙ told.parts ∙ enters.kin.4;
         };
       }
 

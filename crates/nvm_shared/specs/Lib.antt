@@ -10,3 +10,4 @@ pub mod Written
 pub mod Behind
 pub mod Unplanned
 pub mod Known
+pub mod Noted

@@ -53,23 +53,34 @@ IsDriven seen k = (e : Entry) × IsEntry seen k e × (is_ask e ≡ false) × (is
 abbrev pub IsDrivenOn : (seen seen_new : List Entry) → Type 0
 IsDrivenOn seen seen_new = (seen_new ≡ seen) ⊎ ((e : Entry) × (seen_new ≡ seen ++ e ∷ []) × (is_ask e ≡ false))
 
+-- A pass was told what callers knew, or nothing. Else it knows what it knew.
+pub record IsInformed (v w : View Entry Terms) : Type 0 where
+  pub root : w.root ≡ v.root
+  pub seen : w.seen ≡ v.seen
+  pub own : w.own ≡ v.own
+  pub notes : StartsWith w.notes v.notes
+  pub heard : StartsWith w.heard v.heard
+  pub mark : w.mark ≡ v.mark
+  pub parts : w.parts ≡ v.parts
+
 -- What a half of a turn tells its pass: the list goes on, and an entry that it added is the driver's. Where the pass has all parts,
--- nothing of others comes between.
+-- nothing of others comes between. What callers knew may come to what it was told.
 pub record LearnsHalf (v w : View Entry Terms) : Type 0 where
   pub starts : StartsWith w.seen v.seen
   pub agree : AllAgree gives w.seen v.notes
   pub own : (w.own ≡ v.own) ⊎ ((k : ℕ) × (w.own ≡ v.own ++ k ∷ []) × IsDriven w.seen k)
   pub alone : v.parts ≡ 2 ^ 64 → IsDrivenOn v.seen w.seen
-  pub notes : w.notes ≡ v.notes
-  pub heard : w.heard ≡ v.heard
+  pub notes : StartsWith w.notes v.notes
+  pub heard : StartsWith w.heard v.heard
   pub mark : w.mark ≡ v.mark
   pub parts : w.parts ≡ v.parts
 
--- what a whole turn tells its pass: the list goes on, and what it added is the driver's
+-- what a whole turn tells its pass: the list goes on, and what it added is the driver's; what callers knew may come to what it was
+-- told
 pub record LearnsTurn (v w : View Entry Terms) : Type 0 where
   pub starts : StartsWith w.seen v.seen
-  pub notes : w.notes ≡ v.notes
-  pub heard : w.heard ≡ v.heard
+  pub notes : StartsWith w.notes v.notes
+  pub heard : StartsWith w.heard v.heard
   pub own : (k : ℕ) → Has w.own k → Has v.own k ⊎ IsDriven w.seen k
 
 -- A request was made: its entry stands behind a list that begins with all that was seen, and that agrees with all that polls

@@ -36,6 +36,11 @@ told_by (Post block r given refused ops) = told_at (code_of r) block
 told_by (Off ops) = Some (off_word, 1)
 told_by e = None
 
+-- the block of a Pick
+abbrev pub picked_by : Entry → Option ℕ
+picked_by (Pick block kind t ops) = Some block
+picked_by e = None
+
 abbrev pub gives_by : Option (ℕ × ℕ) → ℕ → Option ℕ
 gives_by (Some p) word = if p.0 == word then Some p.1 else None
 gives_by None word = None

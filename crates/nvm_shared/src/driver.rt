@@ -16,12 +16,14 @@ ghost use Rattle.nvm_core.specs.Turns.{IsFirstHalf};
 ghost use Rattle.nvm_core.specs.Work.{Lowers, TakesTurns};
 ghost use Rattle.nvm_shared.specs.Behind.{AreAsks, with_more};
 ghost use Rattle.nvm_shared.specs.Locked.{desk_with};
-ghost use Rattle.nvm_shared.specs.Passes.{IsUserOf, LearnsHalf, LearnsTurn};
+ghost use Rattle.nvm_shared.specs.Passes.{IsUserOf, LearnsHalf, LearnsMore, LearnsTurn};
+ghost use Rattle.nvm_shared.specs.Noted.{PickIsShown};
 ghost use Rattle.nvm_shared.specs.Stale.{StaleIsShown};
 ghost use Rattle.nvm_core.specs.nvm_device_laws.Turn.{TellsSlots};
 ghost use Rattle.script_walks.specs.Runs.{has_ended};
-ghost use Rattle.nvm_shared.specs.Driving.{DriverState, IsDriverOf, BeginsTurn, IsTurned, EndsTurn, MayEnd, NeedsNoMore, ServesDue, TurnsBehind, stack_of};
+ghost use Rattle.nvm_shared.specs.Driving.{DriverState, IsDriverOf, BeginsTurn, IsTurned, EndsTurn, MayEnd, NeedsNoMore, ServesDue, TurnsBehind, driver_of, stack_of};
 
+use crate::noted::{NotedCopies, hold_picked};
 use crate::shared::{Shared, StackPass};
 use nvm_core::job_progress::Hand;
 use nvm_core::memif::{DeviceTurn, MemDevice};
@@ -61,6 +63,28 @@ impl<D: MemDevice, C: SyncCalls + Drop> Driver<D, C> {
         (device, copies, hand)
     }
 
+    /// The same driver with other copies, and those that it had.
+    pub fn with_copies<E: SyncCalls + Drop>(self, copies: E) -> (Driver<D, E>, C)
+        ensures driver { result.0 ≡ driver_of self.device copies self.hand }
+        ensures copies { result.1 ≡ self.copies }
+    {
+        let Driver {
+            device,
+            copies: own,
+            hand,
+        } = self;
+        (
+            Driver {
+                device,
+                copies,
+                hand,
+            },
+            own,
+        )
+    }
+}
+
+impl<D: MemDevice, C: NotedCopies + Drop> Driver<D, C> {
     /// Whether a job is in hand.
     pub fn is_busy(&self) -> bool
         ensures { result ≡ is_some self.now.hand }
@@ -83,6 +107,7 @@ impl<D: MemDevice, C: SyncCalls + Drop> Driver<D, C> {
         ensures parts { (knows pass.new).parts ≡ (knows pass.old).parts }
         ensures keeps { StaysKept (desk_with shared.now.terms (knows pass.old).seen) self.now.hand (D.told self.now.device) (D.clock self.now.device) (desk_with shared.now.terms (knows pass.new).seen) self.now.hand (D.told self.now.device) (D.clock self.now.device) }
         ensures learns { LearnsTurn (knows pass.old) (knows pass.new) }
+        ensures more { LearnsMore (knows pass.old) (knows pass.new) }
     {
         shared.count(rt, pass)
     }
@@ -91,11 +116,13 @@ impl<D: MemDevice, C: SyncCalls + Drop> Driver<D, C> {
     pub fn begin<W: Wait>(&mut self, rt: &W, shared: &Shared, pass: &mut StackPass) -> Act
         requires driver { IsDriverOf D.told D.clock C.told shared.now pass.old self.old }
         requires telling { shared.now.terms.tells ≡ true → TellsSlots (D.told self.old.device) }
+        requires lock { C.is_of shared.now.gate }
         ensures driver { IsDriverOf D.told D.clock C.told shared.now pass.new self.new }
         ensures begins { BeginsTurn D.told C.told C.is_store C.looked result (desk_with shared.now.terms (knows pass.old).seen) (desk_with shared.now.terms (knows pass.new).seen) self.old self.new }
         ensures keeps { StaysKept (desk_with shared.now.terms (knows pass.old).seen) self.old.hand (D.told self.old.device) (D.clock self.old.device) (desk_with shared.now.terms (knows pass.new).seen) self.new.hand (D.told self.new.device) (D.clock self.new.device) }
         ensures left { HalfLeft result (program_in_hand self.old.hand) (D.told self.old.device) (program_in_hand self.new.hand) (D.told self.new.device) }
         ensures stale { result ≡ Act.Ended Turned.Picked → StaleIsShown C.looked (knows pass.new).seen self.old.copies self.new.copies }
+        ensures shown { result ≡ Act.Ended Turned.Picked → PickIsShown C.is_store C.looked C.over C.stands shared.now.terms.config (knows pass.new).seen self.old.copies self.new.copies }
         ensures off { result ≡ Act.Ended Turned.Off → (state_of (desk_with shared.now.terms (knows pass.new).seen)).off ≡ true }
         ensures clock { SameClock (D.clock self.old.device) (D.clock self.new.device) }
         ensures stays_over { (first : C) → C.over first self.old.copies → C.over first self.new.copies }
@@ -104,6 +131,8 @@ impl<D: MemDevice, C: SyncCalls + Drop> Driver<D, C> {
         let mut value = shared.gate.enter(rt, pass);
         let number = value.len();
         let act = value.first_half(&mut self.hand, &mut self.device, &mut self.copies);
+        let picked = value.picked_behind(number);
+        hold_picked(&mut self.copies, picked, shared, pass);
         let _status = self.device.status();
         let _len = value.len();
         shared.leave(pass, value, number);
@@ -146,6 +175,7 @@ impl<D: MemDevice, C: SyncCalls + Drop> Driver<D, C> {
     pub fn turn<W: Wait>(&mut self, rt: &W, shared: &Shared, pass: &mut StackPass) -> Turned
         requires driver { IsDriverOf D.told D.clock C.told shared.now pass.old self.old }
         requires telling { shared.now.terms.tells ≡ true → TellsSlots (D.told self.old.device) }
+        requires lock { C.is_of shared.now.gate }
         ensures driver { IsDriverOf D.told D.clock C.told shared.now pass.new self.new }
         ensures parts { (knows pass.new).parts ≡ (knows pass.old).parts }
         ensures keeps { StaysKept (desk_with shared.now.terms (knows pass.old).seen) self.old.hand (D.told self.old.device) (D.clock self.old.device) (desk_with shared.now.terms (knows pass.new).seen) self.new.hand (D.told self.new.device) (D.clock self.new.device) }
@@ -156,6 +186,7 @@ impl<D: MemDevice, C: SyncCalls + Drop> Driver<D, C> {
         ensures rests { (knows pass.old).parts ≡ 2 ^ 64 → NeedsNoMore result self.old.hand → IsTrue (has_ended shared.now.terms.config (knows pass.new).seen) }
         ensures due { ServesDue D.told (desk_with shared.now.terms (knows pass.old).seen) (desk_with shared.now.terms (knows pass.new).seen) self.old self.new }
         ensures left { TakesTurns D.told result (stack_of (desk_with shared.now.terms (knows pass.old).seen) self.old) (stack_of (desk_with shared.now.terms (knows pass.new).seen) self.new) }
+        ensures shown { result ≡ Turned.Picked → PickIsShown C.is_store C.looked C.over C.stands shared.now.terms.config (knows pass.new).seen self.old.copies self.new.copies }
         ensures stores_stay { (b n : ℕ) (x : List ℕ) → C.is_store self.old.copies b n x → C.is_store self.new.copies b n x }
         ensures stays_over { (first : C) → C.over first self.old.copies → C.over first self.new.copies }
         ensures learns { LearnsTurn (knows pass.old) (knows pass.new) }

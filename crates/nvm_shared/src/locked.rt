@@ -9,7 +9,7 @@ ghost use Rattle.nvm_core.specs.block_machine.StartUp.{at_first};
 ghost use Rattle.nvm_core.specs.block_machine.Reply.{fits, reply_of};
 ghost use Rattle.nvm_core.specs.block_machine.Legal.{HasStore};
 ghost use Rattle.nvm_core.specs.nv_desk.Desk.{state_of};
-ghost use Rattle.nvm_shared.specs.StatusWords.{told_by};
+ghost use Rattle.nvm_shared.specs.StatusWords.{picked_by, told_by};
 ghost use Rattle.nvm_shared.specs.Written.{AreWritten};
 ghost use Rattle.nvm_shared.specs.Behind.{HandIsPending};
 ghost use Rattle.nvm_core.specs.nv_desk_copies.Front.{AreSynchronized, StagesAll};
@@ -28,7 +28,7 @@ ghost use Rattle.nvm_core.specs.Stack.{stack_with};
 
 use crate::telling::{Telling, Tells};
 use crate::terms::Terms;
-use crate::told_by;
+use crate::{picked_by, told_by};
 use nvm_core::job_progress::Hand;
 use nvm_core::memif::{DeviceTurn, MemDevice};
 use nvm_core::nv_base::{Entry, Reply, Request};
@@ -130,6 +130,17 @@ impl Locked {
     {
         match self.front.desk.history().entry(count) {
             Some(entry) => told_by(entry),
+            None => None,
+        }
+    }
+
+    /// The block of the Pick behind so many others, if the entry there is one.
+    pub fn picked_behind(&self, count: u32) -> Option<u16>
+        ensures none { length self.now.desk.entries ≡ count → result ≡ None }
+        ensures some { (h : List MachineEntry) (e : MachineEntry) → self.now.desk.entries ≡ h ++ e ∷ [] → length h ≡ count → result ≡ picked_by e }
+    {
+        match self.front.desk.history().entry(count) {
+            Some(entry) => picked_by(entry),
             None => None,
         }
     }

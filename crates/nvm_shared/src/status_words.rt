@@ -1,7 +1,7 @@
 // The word that an entry changes.
 ghost use Rattle.std.specs.Prelude.{◌≡◌};
 ghost use Rattle.nvm_core.specs.nv_base.Result.{code_of};
-ghost use Rattle.nvm_shared.specs.StatusWords.{told_by, told_at, pending_block};
+ghost use Rattle.nvm_shared.specs.StatusWords.{told_by, picked_by, told_at, pending_block};
 
 use nvm_core::nv_base::{Entry, Reply, ReqResult, Request, result_code};
 
@@ -24,6 +24,16 @@ pub fn told_by(entry: &Entry) -> Option<(u32, u8)>
         Entry::Pick { block, .. } => told_at(ReqResult::Pending, *block),
         Entry::Post { block, result, .. } => told_at(*result, *block),
         Entry::Off { .. } => Some((OFF_WORD, 1)),
+        _ => None,
+    }
+}
+
+/// The block of a Pick.
+pub(crate) fn picked_by(entry: &Entry) -> Option<u16>
+    ensures { result ≡ picked_by entry.now }
+{
+    match entry {
+        Entry::Pick { block, .. } => Some(*block),
         _ => None,
     }
 }

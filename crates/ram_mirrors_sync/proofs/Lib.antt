@@ -1,5 +1,6 @@
 mod Copying
 pub mod Copies
 mod Belonging
+pub mod Coming
 mod Blocks
 mod Ending

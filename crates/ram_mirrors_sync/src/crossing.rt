@@ -1,6 +1,7 @@
-// A side may go to another thread, and all threads may share the mirrors.
+// A side, and several, may go to another thread, and all threads may share the mirrors.
 use crate::mirrors::Mirrors;
 use crate::side::Side;
+use crate::sides::Sides;
 
 fn sends<T: Send>(x: T) -> T {
     x
@@ -10,10 +11,14 @@ fn shares<T: Sync>(x: &T) -> &T {
     x
 }
 
-pub fn side_crosses(x: Side) -> Side {
+pub fn side_crosses<N: Send>(x: Side<N>) -> Side<N> {
     sends(x)
 }
 
-pub fn mirrors_are_shared(x: &Mirrors) -> &Mirrors {
+pub fn sides_cross<N: Send>(x: Sides<N>) -> Sides<N> {
+    sends(x)
+}
+
+pub fn mirrors_are_shared<N: Send>(x: &Mirrors<N>) -> &Mirrors<N> {
     shares(x)
 }

@@ -1,30 +1,31 @@
 // The driver's ends of the mirrors.
-ghost use Rattle.std.specs.Prelude.{◌≡◌, ℕ, List, length, vec_items};
+ghost use Rattle.std.specs.Prelude.{◌≡◌, ℕ, List, length, vec_items, IfSome, IfNone};
 ghost use Rattle.ram_mirrors_sync.specs.Ends.{IsEndOf, CopiesEndOut, CopiesEndIn};
 
 use crate::mirrors::Pair;
+use crate::note::Note;
 use ram_mirrors::{Owner, Taker};
 use std::marker::Model;
 
 /// The driver's ends of a block's mirrors, with what the application has before its first store.
 #[derive(Drop)]
-pub struct End {
-    pub(crate) up: Taker<()>,
+pub struct End<N> {
+    pub(crate) up: Taker<N>,
     pub(crate) down: Owner<()>,
     pub(crate) first: Vec<u8>,
 }
 
-impl Model for End {
+impl<N> Model for End<N> {
     ghost use Rattle.ram_mirrors_sync.specs.Ends.{EndValue};
 
-    ghost Value = { EndValue };
+    ghost Value = { EndValue N };
 
     ghost view = { λ e. record { up = e.up; down = e.down; first = e.first.items } };
 }
 
-impl End {
+impl<N: Drop> End<N> {
     // Looks once at the application's newest store, and copies it, or the one that was taken last. Answers its number.
-    pub(crate) fn copy_out(&mut self, pair: &Pair, into: &mut [u8]) -> u64
+    pub(crate) fn copy_out(&mut self, pair: &Pair<N>, into: &mut [u8]) -> u64
         requires end { IsEndOf pair.now self.old }
         requires whole { length into.old ≡ self.old.up.size }
         ensures end { IsEndOf pair.now self.new }
@@ -41,7 +42,7 @@ impl End {
     }
 
     // Stores a content for the application. Answers how many there were.
-    pub(crate) fn copy_in(&mut self, pair: &Pair, from: &[u8]) -> u64
+    pub(crate) fn copy_in(&mut self, pair: &Pair<N>, from: &[u8]) -> u64
         requires end { IsEndOf pair.now self.old }
         requires whole { length from.now ≡ self.old.up.size }
         ensures end { IsEndOf pair.now self.new }
@@ -51,16 +52,32 @@ impl End {
     }
 }
 
-/// The driver's ends of all mirrors. Contracts see those of each block, by id.
-#[derive(Drop)]
-pub struct Ends {
-    pub(crate) ends: Vec<Option<End>>,
+// Holds what came along with the store that was taken last beside something, where it is there.
+pub(crate) fn hold_note<G, P, N: Note<G, P> + Drop>(end: &mut End<N>, with: &G, by: &mut P)
+    requires ready { N.ready with.now by.old }
+    ensures same { end.new ≡ end.old }
+    ensures none { IfNone end.old.up.note (by.new ≡ by.old) }
+    ensures some { IfSome end.old.up.note (λ n. N.held with.now n by.old by.new) }
+{
+    match end.up.take_note() {
+        Some(mut note) => {
+            note.hold(with, by);
+            end.up.put_note(Some(note));
+        }
+        None => end.up.put_note(None),
+    }
 }
 
-impl Model for Ends {
+/// The driver's ends of all mirrors. Contracts see those of each block, by id.
+#[derive(Drop)]
+pub struct Ends<N> {
+    pub(crate) ends: Vec<Option<End<N>>>,
+}
+
+impl<N> Model for Ends<N> {
     ghost use Rattle.ram_mirrors_sync.specs.Blocks.{EndList};
 
-    ghost Value = { EndList };
+    ghost Value = { EndList N };
 
     ghost view = { λ e. e.ends.items };
 }

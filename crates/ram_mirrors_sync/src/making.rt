@@ -14,7 +14,10 @@ use std::alloc::{AllocError, Global};
 
 /// The mirrors of a configuration's synchronized blocks before the first store, with the driver's ends, and the application's
 /// sides, which are all in. This alone takes memory.
-pub fn make(alloc: Global, config: &Config) -> Result<(Mirrors, Ends, Sides), AllocError>
+pub fn make<N: Drop>(
+    alloc: Global,
+    config: &Config,
+) -> Result<(Mirrors<N>, Ends<N>, Sides<N>), AllocError>
     ensures made { IfOk result (λ r. AreMade config.now r.0 r.1 r.2) }
     ensures ends { IfOk result (λ r. AreEndsOf r.0 r.1) }
     ensures sides { IfOk result (λ r. AreSidesOf r.0 r.2 × AreIn r.0 r.2) }
@@ -31,14 +34,14 @@ pub fn make(alloc: Global, config: &Config) -> Result<(Mirrors, Ends, Sides), Al
     Ok((Mirrors { pairs }, Ends { ends }, Sides { sides }))
 }
 
-type Made = Option<(Pair, End, Side)>;
+type Made<N> = Option<(Pair<N>, End<N>, Side<N>)>;
 
 // Puts a block's mirrors, ends and side behind those of the blocks before.
-fn push_block(
-    made: Made,
-    pairs: &mut Vec<Option<Pair>>,
-    ends: &mut Vec<Option<End>>,
-    sides: &mut Vec<Option<Side>>,
+fn push_block<N: Drop>(
+    made: Made<N>,
+    pairs: &mut Vec<Option<Pair<N>>>,
+    ends: &mut Vec<Option<End<N>>>,
+    sides: &mut Vec<Option<Side<N>>>,
 ) -> Result<(), AllocError>
     ensures pairs { OnOk result (pairs.new.items ≡ pairs.old.items ++ option_map (λ m. m.0) made ∷ []) }
     ensures ends { OnOk result (ends.new.items ≡ ends.old.items ++ option_map (λ m. m.1) made ∷ []) }
@@ -60,7 +63,11 @@ fn push_block(
 }
 
 // The mirrors of a block, if it is synchronized.
-fn block_of(alloc: Global, id: u16, desc: Option<&BlockDesc>) -> Result<Made, AllocError>
+fn block_of<N: Drop>(
+    alloc: Global,
+    id: u16,
+    desc: Option<&BlockDesc>,
+) -> Result<Made<N>, AllocError>
     requires legal { IfSome desc (λ d. is_synchronized d.now.ram ≡ true → length (first_of d.now) ≡ d.now.length) }
     ensures made { IfOk result (λ m. IsMade id (option_copied desc.entry) (option_map (λ x. x.0) m) (option_map (λ x. x.1) m) (option_map (λ x. x.2) m)) }
 {
@@ -70,7 +77,11 @@ fn block_of(alloc: Global, id: u16, desc: Option<&BlockDesc>) -> Result<Made, Al
     }
 }
 
-fn mirrored(alloc: Global, id: u16, desc: &BlockDesc) -> Result<(Pair, End, Side), AllocError>
+fn mirrored<N: Drop>(
+    alloc: Global,
+    id: u16,
+    desc: &BlockDesc,
+) -> Result<(Pair<N>, End<N>, Side<N>), AllocError>
     requires synchronized { is_synchronized desc.now.ram ≡ true }
     requires first { length (first_of desc.now) ≡ desc.now.length }
     ensures { IfOk result (λ m. IsMade id (Some desc.now) (Some m.0) (Some m.1) (Some m.2)) }

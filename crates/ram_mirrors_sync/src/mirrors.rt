@@ -5,14 +5,14 @@ ghost use Rattle.ram_mirrors_sync.specs.Blocks.{pair_at};
 use ram_mirrors::Mirror;
 use std::marker::Model;
 
-/// The mirrors of a block: from the application to the driver, and back.
+/// The mirrors of a block: from the application to the driver, and back. A store of the application hands a note along.
 #[derive(Drop)]
-pub struct Pair {
-    pub(crate) up: Mirror<()>,
+pub struct Pair<N> {
+    pub(crate) up: Mirror<N>,
     pub(crate) down: Mirror<()>,
 }
 
-impl Model for Pair {
+impl<N> Model for Pair<N> {
     ghost use Rattle.ram_mirrors_sync.specs.Ends.{PairValue};
 
     ghost Value = { PairValue };
@@ -22,11 +22,11 @@ impl Model for Pair {
 
 /// The mirrors of all synchronized blocks, which the threads share. Contracts see those of each block, by id.
 #[derive(Drop)]
-pub struct Mirrors {
-    pub(crate) pairs: Vec<Option<Pair>>,
+pub struct Mirrors<N> {
+    pub(crate) pairs: Vec<Option<Pair<N>>>,
 }
 
-impl Model for Mirrors {
+impl<N> Model for Mirrors<N> {
     ghost use Rattle.ram_mirrors_sync.specs.Blocks.{Pairs};
 
     ghost Value = { Pairs };
@@ -34,9 +34,9 @@ impl Model for Mirrors {
     ghost view = { λ m. m.pairs.items };
 }
 
-impl Mirrors {
+impl<N> Mirrors<N> {
     // Those of a block that has them.
-    pub(crate) fn pair(&self, block: u16) -> &Pair
+    pub(crate) fn pair(&self, block: u16) -> &Pair<N>
         requires { IsSome (pair_at self.now block) }
         ensures { pair_at self.now block ≡ Some result.now }
     {

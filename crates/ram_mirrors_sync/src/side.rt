@@ -14,24 +14,24 @@ use std::marker::Model;
 /// The application's side of a synchronized block: it stores contents, and takes the contents that were read. Contracts see
 /// the block, all stores, and what was taken.
 #[derive(Drop)]
-pub struct Side {
+pub struct Side<N> {
     pub(crate) block: u16,
-    pub(crate) up: Owner<()>,
+    pub(crate) up: Owner<N>,
     pub(crate) down: Taker<()>,
 }
 
-impl Model for Side {
+impl<N> Model for Side<N> {
     ghost use Rattle.std.specs.Prelude.{◌≡◌, length};
     ghost use Rattle.ram_mirrors_sync.specs.Blocks.{SideValue};
 
-    ghost Value = { SideValue };
+    ghost Value = { SideValue N };
 
     ghost view = { λ s. record { block = s.block; up = s.up; down = s.down } };
 
     ghost invariant = { λ s. length s.down.content ≡ s.up.size };
 }
 
-impl Side {
+impl<N: Drop> Side<N> {
     /// The block that it is the side of.
     pub fn block(&self) -> u16
         ensures { result ≡ self.now.block }
@@ -46,23 +46,24 @@ impl Side {
         self.down.content().len()
     }
 
-    /// Stores a content of the block's length, and answers the store's number, from 1. It waits for nobody and takes no memory.
-    pub fn store(&mut self, mirrors: &Mirrors, content: &[u8]) -> u64
+    /// Stores a content of the block's length, hands a note along, and answers the store's number, from 1. It waits for nobody and
+    /// takes no memory.
+    pub fn store(&mut self, mirrors: &Mirrors<N>, content: &[u8], note: Option<N>) -> u64
         requires own { IsSideIn mirrors.now self.old }
         requires whole { length content.now ≡ self.old.up.size }
         ensures own { IsSideIn mirrors.now self.new }
-        ensures stored { IsNextStore content.now self.old self.new }
+        ensures stored { IsNextStore content.now note self.old self.new }
         ensures number { result ≡ store_number (length self.new.up.stores) }
     {
         mirrors
             .pair(self.block)
             .up
-            .store(&mut self.up, content, None)
+            .store(&mut self.up, content, note)
     }
 
     /// Looks once for a content that was read since the last one was taken. None comes exactly where there is none; else the
     /// newest is taken, for `content`, and its number is answered. It waits for nobody and takes no memory.
-    pub fn refresh(&mut self, mirrors: &Mirrors) -> Option<u64>
+    pub fn refresh(&mut self, mirrors: &Mirrors<N>) -> Option<u64>
         requires own { IsSideIn mirrors.now self.old }
         ensures own { IsSideIn mirrors.now self.new }
         ensures taken { IsNextRead result self.old self.new }
@@ -71,9 +72,9 @@ impl Side {
     }
 
     /// `refresh`, with the content that it took.
-    pub fn newest(&mut self, mirrors: &Mirrors) -> Option<(u64, &[u8])>
+    pub fn newest(&mut self, mirrors: &Mirrors<N>) -> Option<(u64, &[u8])>
         requires own { IsSideIn mirrors.now self.old }
-        ensures* ends { sem 𝓛 (follows_so the_row the_row self.entry.ghost_name none (λ _ _. ⊤) (λ u. IsSideIn mirrors.now u × IsNextRead (option_map (λ p. p.0) result) self.old u × IfSome result (λ p. p.1.now ≡ u.down.content))) }
+        ensures* ends { sem 𝓛 (follows_so (the_row N.row) (the_row N.row) self.entry.ghost_name none (λ _ _. ⊤) (λ u. IsSideIn mirrors.now u × IsNextRead (option_map (λ p. p.0) result) self.old u × IfSome result (λ p. p.1.now ≡ u.down.content))) }
     {
         let found = self.refresh(mirrors);
         self.taken(found)

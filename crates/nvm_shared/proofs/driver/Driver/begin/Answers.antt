@@ -1,4 +1,5 @@
-use Rattle.std.proofs.Common.{◌≡◌, sym, subst, ◌∙◌, true}
+use Rattle.std.specs.Prelude.{IfSome}
+use Rattle.std.proofs.Common.{◌≡◌, ℕ, true, List, ◌++◌, length, Option, Some, sym, ap, subst, ◌∙◌}
 use Rattle.nvm_core.specs.memif.Clock.{SameClock}
 use Rattle.turn_gate.specs.Pass.{knows}
 use Rattle.nvm_core.specs.nv_desk_copies.Front.{AreSynchronized}
@@ -16,13 +17,17 @@ use Rattle.nvm_core.specs.Stack.{stack_with}
 use Rattle.nvm_core.specs.Turns.{IsFirstHalf}
 use Rattle.nvm_core.proofs.TurnsMade.{half_adds}
 use Rattle.nvm_shared.specs.declared.terms.Terms.{Terms}
+use Rattle.nvm_core.specs.block_machine.Words.{Entry, Pick}
 use Rattle.nvm_shared.specs.Locked.{desk_with}
+use Rattle.nvm_shared.specs.Noted.{PickIsShown}
+use Rattle.nvm_shared.specs.Stale.{StaleIsShown}
 use Rattle.nvm_shared.specs.Driving.{BeginsTurn, DriverState, driver_of}
 use Rattle.nvm_shared.proofs.Turning.{Enters, desk_behind, extended, left}
 use Rattle.nvm_shared.proofs.Writing.{half_writes}
 use Rattle.nvm_shared.proofs.Halves.{drives, fits, stands}
 use Rattle.nvm_shared.proofs.Serving.{begins_served}
 use Rattle.nvm_shared.proofs.Stale.{stale_shown}
+use Rattle.nvm_shared.proofs.PicksShown.{Holds, pick_shown}
 use Rattle.nvm_shared.proofs.driver.Driver.begin.Goals as goal
 
 pub first_half-act-requires-clause-tied : goal.first_half-act-requires-clause-tied
@@ -49,7 +54,7 @@ leave-requires-clause-adds g c =
     let e = c.enter-value.ensures in
     let enters : Enters t v u x = record { own = c.requires.driver.own.root; root = e.root; seen = e.seen; starts = e.starts; agree = e.agree; mark = c.requires.driver.mark; open_now = e.open; kin = e.same; alone = e.alone; written = c.len-number.ensures.written } in
     let new = c.first_half-act.new.self in
-    extended t v u x new x.tells enters (half_writes x.tells c.first_half-act.result _ _ x.desk new.desk _ _ _ c.first_half-act.ensures.half.half
+    extended t v u (knows c.hold_picked.new.pass) x new x.tells enters c.hold_picked.ensures.informed (half_writes x.tells c.first_half-act.result _ _ x.desk new.desk _ _ _ c.first_half-act.ensures.half.half
     (fits g.D.MemDevice.told g.D.MemDevice.clock g.C.SyncCalls.told t v u x enters c.args.self.now (driver_of inside.device inside.copies inside.hand) c.self.view_is c.requires.driver.drives c.requires.telling))
 
 pub returns : goal.returns
@@ -73,16 +78,18 @@ returns g c =
     let b = stands told clocks copies t v u x enters c.args.self.now now c.self.view_is c.requires.driver.drives in
     let writes = half_writes x.tells c.first_half-act.result _ _ x.desk new.self.desk _ _ _ half.half.half (fits told clocks copies t v u x enters c.args.self.now now c.self.view_is c.requires.driver.drives c.requires.telling) in
     let w = knows c.leave.new.pass in
-    let l = left t v u w x new.self x.tells enters (record { same = c.leave.ensures.same; more = c.leave.ensures.more }) writes in
+    let l = left t v u (knows c.hold_picked.new.pass) w x new.self x.tells enters c.hold_picked.ensures.informed (record { same = c.leave.ensures.same; more = c.leave.ensures.more }) writes in
     let desk : new.self.desk ≡ desk_with t w.seen = desk_behind t x new.self w.seen b.terms half.terms l.seen in
     let clock_new = clocks new.device in
     let is = g.C.SyncCalls.is_store in
     let looked = g.C.SyncCalls.looked in
     let first : IsFirstHalf told copies is looked c.first_half-act.result (stack_with x.desk inside.hand inside.device inside.copies) (stack_with new.self.desk new.hand new.device new.copies) = half.half in
+    let over = g.C.SyncCalls.over in
+    let held_in = g.C.NotedCopies.stands in
     let behind_it = driver_of new.device new.copies new.hand in
-    let begins : BeginsTurn told copies is looked c.first_half-act.result (desk_with t v.seen) (desk_with t w.seen) c.args.self.now behind_it =
-    subst (λ (s : DriverState g.row.D.Denot g.row.C.Denot). BeginsTurn told copies is looked c.first_half-act.result (desk_with t v.seen) (desk_with t w.seen) s behind_it) c.self.view_is
-    (record {
+    let same : c.hold_picked.new.copies ≡ new.copies = c.hold_picked.ensures.same in
+    let made : BeginsTurn told copies is looked c.first_half-act.result (desk_with t v.seen) (desk_with t w.seen) now behind_it =
+    record {
       asks = b.asks;
       are = b.are;
       half = subst (λ (y : DeskState). IsFirstHalf told copies is looked c.first_half-act.result (stack_with y inside.hand inside.device inside.copies) (stack_with (desk_with t w.seen) new.hand new.device new.copies)) b.desk
@@ -91,11 +98,25 @@ returns g c =
           b.desk desk b.replied drive.next
           (λ number turns due. first_halves_serve (told new.device) clock_new c.first_half-act.result x.desk new.self.desk _ _ inside.hand new.hand d number turns (λ picked. c.status-status.ensures.order)
           (half_adds c.first_half-act.result _ _ x.desk new.self.desk _ _ _ first.half) first.at_device half.first b.stands.tied first.tied due);
-    }) in
+    } in
+    let begins : BeginsTurn told copies is looked c.first_half-act.result (desk_with t v.seen) (desk_with t w.seen) c.args.self.now behind_it =
+    subst (λ (s : DriverState g.row.D.Denot g.row.C.Denot). BeginsTurn told copies is looked c.first_half-act.result (desk_with t v.seen) (desk_with t w.seen) s behind_it) c.self.view_is made in
+    let holds : Holds looked over held_in (v.seen ++ b.asks) w.seen inside.copies new.copies =
+    λ before block ops kind taken last front.
+    let stood : x.desk.entries ≡ before = ap (λ (d : DeskState). d.entries) b.desk ∙ front in
+    let picked : c.picked_behind-picked.result ≡ Some block =
+    c.picked_behind-picked.ensures.some before (Pick block kind taken ops) (sym l.seen ∙ last) (ap (λ (log : List Entry). length log) (sym stood) ∙ sym c.len-number.ensures.count) in
+    let has : ((since : g.row.C.Denot) (m : ℕ) → looked since new.copies block m → held_in new.copies block m u.seen) × over new.copies new.copies =
+    subst (λ (o : Option ℕ). IfSome o (λ k. ((since : g.row.C.Denot) (m : ℕ) → looked since new.copies k m → held_in new.copies k m u.seen) × over new.copies new.copies)) picked c.hold_picked.ensures.stands in
+    ((λ m shown. subst (λ (log : List Entry). held_in new.copies block m log) (e.seen ∙ stood) (has.0 inside.copies m shown)), has.1) in
     record {
-      begins = begins;
-      stale = λ picked. stale_shown told copies is looked (desk_with t v.seen) (desk_with t w.seen) c.args.self.now behind_it
-          (subst (λ (a : Act). BeginsTurn told copies is looked a (desk_with t v.seen) (desk_with t w.seen) c.args.self.now behind_it) picked begins);
+      begins = subst (λ (z : g.row.C.Denot). BeginsTurn told copies is looked c.first_half-act.result (desk_with t v.seen) (desk_with t w.seen) c.args.self.now (driver_of new.device z new.hand)) (sym same) begins;
+      stale = λ picked. subst (λ (z : g.row.C.Denot). StaleIsShown looked w.seen c.args.self.now.copies z) (sym same)
+          (stale_shown told copies is looked (desk_with t v.seen) (desk_with t w.seen) c.args.self.now behind_it
+          (subst (λ (a : Act). BeginsTurn told copies is looked a (desk_with t v.seen) (desk_with t w.seen) c.args.self.now behind_it) picked begins));
+      shown = λ picked. subst (λ (z : g.row.C.Denot). PickIsShown is looked over held_in t.config w.seen c.args.self.now.copies z) (sym same)
+          (subst (λ (s : DriverState g.row.D.Denot g.row.C.Denot). PickIsShown is looked over held_in t.config w.seen s.copies new.copies) c.self.view_is
+          (pick_shown told copies is looked over held_in c.first_half-act.result (desk_with t v.seen) (desk_with t w.seen) now behind_it made picked holds));
       driver = record {
         own = record { own = c.leave.ensures.own; outside = c.leave.ensures.outside; root = l.root ∙ c.requires.driver.own.root };
         mark = l.learns.mark ∙ c.requires.driver.mark;
@@ -103,7 +124,7 @@ returns g c =
           tied = subst (λ (y : DeskState). IsTied y new.hand (told new.device)) desk first.tied;
           pending = subst (λ (y : DeskState). HandIsPending (state_of y)) desk c.len-len.ensures.pending;
           next = subst (λ (y : DeskState). NextIsPending y.config (state_of y)) desk c.len-len.ensures.next;
-          synchronized = subst (λ (s : Terms). AreSynchronized s.config (copies new.copies)) b.terms half.synchronized;
+          synchronized = subst (λ (z : g.row.C.Denot). AreSynchronized t.config (copies z)) (sym same) (subst (λ (s : Terms). AreSynchronized s.config (copies new.copies)) b.terms half.synchronized);
           kept = λ told_now. let (before, kept) = drive.kept told_now in (before, subst (λ (y : DeskState). StackKeepsAsTold before y new.hand (told new.device) clock_new) desk (half.keeps.kept before (b.stands.kept.kept before kept)));
         };
       };
@@ -112,7 +133,7 @@ returns g c =
           (stays_more _ _ _ _ _ _ _ _ _ _ _ _ b.stands.kept half.keeps));
       left = subst (λ (s : DriverState g.row.D.Denot g.row.C.Denot). HalfLeft c.first_half-act.result (program_in_hand s.hand) (told s.device) (program_in_hand new.hand) (told new.device)) c.self.view_is half.left;
       clock = subst (λ (s : DriverState g.row.D.Denot g.row.C.Denot). SameClock (clocks s.device) clock_new) c.self.view_is half.clock;
-      stays_over = λ first h. half.stays_over first (subst (λ (s : DriverState g.row.D.Denot g.row.C.Denot). g.C.SyncCalls.over first s.copies) (sym c.self.view_is) h);
+      stays_over = λ first h. subst (λ (z : g.row.C.Denot). over first z) (sym same) (half.stays_over first (subst (λ (s : DriverState g.row.D.Denot g.row.C.Denot). g.C.SyncCalls.over first s.copies) (sym c.self.view_is) h));
       off = λ now. subst (λ (y : DeskState). (state_of y).off ≡ true) desk (half.off now);
       learns = l.learns;
     }

@@ -1,7 +1,7 @@
 use Rattle.std.proofs.Common.{ap, ◌∙◌}
 use Rattle.turn_gate.specs.Pass.{knows}
 use Rattle.nvm_shared.specs.Driving.{DriverState, driver_of}
-use Rattle.nvm_shared.proofs.Turning.{Enters, desk_behind, extended, left}
+use Rattle.nvm_shared.proofs.Turning.{Enters, desk_behind, extended, left, same_informed}
 use Rattle.nvm_shared.proofs.Writing.{turn_writes}
 use Rattle.nvm_shared.proofs.Halves.{drives_on, ends, is_behind, stood}
 use Rattle.nvm_shared.proofs.driver.Driver.finish.Goals as goal
@@ -26,7 +26,7 @@ leave-requires-clause-adds g c =
     let y = c.second_half-answer.new.self in
     let enters : Enters c.args.shared.now.terms (knows c.args.pass.now) (knows c.enter-value.new.pass) x =
     record { own = c.requires.own.root; root = e.root; seen = e.seen; starts = e.starts; agree = e.agree; mark = c.requires.mark; open_now = e.open; kin = e.same; alone = e.alone; written = c.len-number.ensures.written } in
-    extended c.args.shared.now.terms (knows c.args.pass.now) (knows c.enter-value.new.pass) x y x.tells enters
+    extended c.args.shared.now.terms (knows c.args.pass.now) (knows c.enter-value.new.pass) (knows c.enter-value.new.pass) x y x.tells enters (same_informed (knows c.enter-value.new.pass))
     (turn_writes x.tells c.args.turned c.second_half-answer.result x.desk y.desk inside.hand c.second_half-answer.new.hand (told s.device) (told inside.device) c.second_half-answer.ensures.takes
     (is_behind told g.D.MemDevice.clock g.C.SyncCalls.told c.args.shared.now.terms (knows c.args.pass.now) (knows c.enter-value.new.pass) x enters c.args.self.now
     (driver_of inside.device inside.copies inside.hand) c.self.view_is c.args.turned s may))
@@ -52,7 +52,7 @@ returns g c =
     let enters : Enters t v u x = record { own = c.requires.own.root; root = e.root; seen = e.seen; starts = e.starts; agree = e.agree; mark = c.requires.mark; open_now = e.open; kin = e.same; alone = e.alone; written = c.len-number.ensures.written } in
     let writes = turn_writes x.tells c.args.turned c.second_half-answer.result x.desk y.desk inside.hand hand (told s.device) (told inside.device) half.takes
     (is_behind told clock copies t v u x enters self now c.self.view_is c.args.turned s may) in
-    let l = left t v u w x y x.tells enters (record { same = c.leave.ensures.same; more = c.leave.ensures.more }) writes in
+    let l = left t v u u w x y x.tells enters (same_informed u) (record { same = c.leave.ensures.same; more = c.leave.ensures.more }) writes in
     let desk = desk_behind t x y w.seen (stood told clock copies t v u x enters self now c.self.view_is c.args.turned s may).terms half.terms l.seen in
     record {
       device = ap (λ (s : DriverState g.row.D.Denot g.row.C.Denot). s.device) c.self.view_is;

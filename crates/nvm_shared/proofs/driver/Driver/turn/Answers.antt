@@ -17,6 +17,9 @@ use Rattle.nvm_shared.proofs.Halves.{may_end}
 use Rattle.nvm_shared.proofs.Learning.{both_learn, half_learns, takes_with}
 use Rattle.nvm_shared.proofs.Resting.{device_rests, ended_rests}
 use Rattle.nvm_shared.proofs.Serving.{ended_serves, less_before, lowers_ended, none_before, off_before}
+use Rattle.nvm_core.specs.BehindDevice.{TurnsDevice}
+use Rattle.nvm_core.specs.nvm_laws.declared.turned.Act.TheVariants.{Ended}
+use Rattle.nvm_core.specs.nvm_laws.declared.turned.Turned.{Turned}
 use Rattle.nvm_core.specs.nvm_laws.declared.turned.Turned.TheVariants as turned
 use Rattle.nvm_shared.proofs.driver.Driver.turn.Goals as goal
 
@@ -44,6 +47,7 @@ returns-in-Ended g c =
       parts = is.learns.parts;
       keeps = is.keeps;
       turns = inl is.begins;
+      shown = λ picked. is.shown (ap (λ (a : Turned). Ended a) picked);
       counted = omega (arith, same);
       lasts = half_lasts (told old.device) (told new.device) (clocks old.device) (clocks new.device) half.device is.clock;
       lowers = lowers_ended told desk is.begins.asks old answer (stack_of desk_new new) never (ended_lowers told (stack_of asked old) answer (stack_of desk_new new) never half.lowers);
@@ -88,6 +92,7 @@ returns-in-Device g c =
         subst (λ (d : g.row.D.Denot). CutsInATurnKeep (told between.device) (clocks between.device) (told d) (clocks d)) (sym behind.device) c.device_turn-turned.ensures.turns.cuts,
         ends,
       );
+      shown = λ picked. absurd (subst (λ (a : Turned). TurnsDevice a (told between.device) (clocks between.device) (told new.device) (clocks new.device)) picked ends.turns);
       counted = omega (arith, same, more);
       lasts = lasts_more (told old.device) (clocks old.device) (told between.device) (clocks between.device) (told new.device) (clocks new.device)
           (half_lasts (told old.device) (told between.device) (clocks old.device) (clocks between.device) half.device is.clock)

@@ -6,24 +6,24 @@ use Rattle.ram_mirrors_sync.proofs.end.End.copy_out.Goals.{then-number-eq0, else
 use Rattle.ram_mirrors_sync.proofs.end.End.copy_out.Goals as goal
 
 pub returns-clause-copied : goal.returns-clause-copied
-returns-clause-copied c =
+returns-clause-copied g c =
     let t = c.refresh.new.taker in
-    let old : EndValue = record { up = c.self.inside.up; down = c.self.inside.down; first = c.self.inside.first.items } in
+    let old : EndValue g.row.N.Denot = record { up = c.self.inside.up; down = c.self.inside.down; first = c.self.inside.first.items } in
     let own : IsTakerOf c.pair.inside.up c.self.inside.up =
-    subst (λ (p : PairValue). IsTakerOf p.up c.self.inside.up) (sym c.pair.view_is) (subst (λ (e : EndValue). IsTakerOf c.args.pair.now.up e.up) (sym c.self.view_is) c.requires.end.up) in
+    subst (λ (p : PairValue). IsTakerOf p.up c.self.inside.up) (sym c.pair.view_is) (subst (λ (e : EndValue g.row.N.Denot). IsTakerOf c.args.pair.now.up e.up) (sym c.self.view_is) c.requires.end.up) in
     let looks : Looks c.pair.inside.up c.self.inside.up t = looks_by c.pair.inside.up c.self.inside.up t c.refresh.result own c.refresh.ensures.own c.refresh.ensures.none c.refresh.ensures.some c.refresh.ensures.shows in
-    let shown : IsShown t = shown_on c.self.inside.up t c.refresh.result (subst (λ (e : EndValue). IsShown e.up) (sym c.self.view_is) c.requires.end.shown) c.refresh.ensures.none c.refresh.ensures.some in
-    subst (λ (e : EndValue). CopiesEndOut e c.shown-number.result c.if-number-eq0.into (record { up = t; down = c.self.inside.down; first = c.self.inside.first.items })) c.self.view_is
+    let shown : IsShown t = shown_on c.self.inside.up t c.refresh.result (subst (λ (e : EndValue g.row.N.Denot). IsShown e.up) (sym c.self.view_is) c.requires.end.shown) c.refresh.ensures.none c.refresh.ensures.some in
+    subst (λ (e : EndValue g.row.N.Denot). CopiesEndOut e c.shown-number.result c.if-number-eq0.into (record { up = t; down = c.self.inside.down; first = c.self.inside.first.items })) c.self.view_is
     (elim c.if-number-eq0.branch [
       | then-number-eq0 w ↦ copies_first c.pair.inside.up old t c.shown-number.result c.if-number-eq0.into looks c.shown-number.ensures w.if-number-eq0.true (w.into-is ∙ w.copy_from_slice.ensures.after ∙ w.as_slice.ensures.value)
       | else-number-eq0 w ↦ copies_last c.pair.inside.up old t c.shown-number.result c.if-number-eq0.into looks shown c.shown-number.ensures w.if-number-eq0.false (w.into-is ∙ w.copy_from_slice-else-number-eq0.ensures.after ∙ w.content.ensures)
     ])
 
 pub returns-clause-end : goal.returns-clause-end
-returns-clause-end c =
+returns-clause-end g c =
     let t = c.refresh.new.taker in
     let was : IsEndOf c.args.pair.now (record { up = c.self.inside.up; down = c.self.inside.down; first = c.self.inside.first.items }) =
-    subst (λ (e : EndValue). IsEndOf c.args.pair.now e) (sym c.self.view_is) c.requires.end in
+    subst (λ (e : EndValue g.row.N.Denot). IsEndOf c.args.pair.now e) (sym c.self.view_is) c.requires.end in
     let own : IsTakerOf c.args.pair.now.up t = subst (λ (p : PairValue). IsTakerOf p.up t) c.pair.view_is c.refresh.ensures.own in
     let size = was.up.1 ∙ sym own.1 in
     record {

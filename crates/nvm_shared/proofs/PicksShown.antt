@@ -1,0 +1,155 @@
+-- What a Pick copied was shown, and what came along stands in the entries before it.
+use Rattle.std.specs.Prelude.{◌&&◌, not, is_some, IfSome}
+use Rattle.std.proofs.Common.{◌≡◌, ◌<◌, ℕ, Bool, true, false, List, [], ◌∷◌, ◌++◌, length, length-append, Option, Some, None, refl, sym, ap, ◌∙◌, subst, arith}
+use Rattle.nvm_core.specs.memif.Told.{DeviceTold}
+use Rattle.nvm_core.specs.block_machine.Words.{JobKind, WriteJob, Taken, TookNothing, TookContent, TookRefused, TookStale, BlockDesc, Configuration, Entry, Pick}
+use Rattle.nvm_core.specs.block_machine.State.{State, BlockState, Job, Sweep}
+use Rattle.nvm_core.specs.block_machine.Blocks.{desc_of, block_at, is_synchronized, names_ram, job_block, kind_of}
+use Rattle.nvm_core.specs.block_machine.Sweeps.{member_job, member_request}
+use Rattle.nvm_core.specs.block_machine.Next.{Next, Nothing, PickJob, BeginSweep, PickMember, PostMember, EndSweep, next_of}
+use Rattle.nvm_core.specs.block_machine.Steps.{after}
+use Rattle.nvm_core.specs.block_machine.Legal.{TakesBy, TakesForWrite, MayPick}
+use Rattle.nvm_core.specs.ram_blocks.Told.{Told}
+use Rattle.nvm_core.specs.nv_desk.Desk.{DeskState, state_of}
+use Rattle.nvm_core.specs.nv_desk_copies.Takes.{copies_out_by, copies_out_for, copies_out_next, IsFromCopies, IsCopied}
+use Rattle.nvm_core.specs.nvm_laws.declared.turned.Turned.TheVariants as turned
+use Rattle.nvm_core.specs.nvm_laws.declared.turned.Act.{Act}
+use Rattle.nvm_core.specs.nvm_laws.declared.turned.Act.TheVariants.{Ended}
+use Rattle.nvm_core.specs.Turns.{IsFirstHalf}
+use Rattle.script_walks.specs.Turn.{copies_next}
+use Rattle.nvm_shared.specs.Behind.{with_more}
+use Rattle.nvm_shared.specs.Driving.{BeginsTurn, DriverState, stack_of}
+use Rattle.nvm_shared.specs.Noted.{IsPickShown, PickIsShown}
+use Rattle.nvm_shared.proofs.Stale.{block_in, taken_in, same_last, stale_shown}
+
+-- WHAT WAS COPIED
+-- where the Pick copies, a content is one of these
+abbrev Took : (ℕ → List ℕ → Type 0) → Bool → Taken → Type 0
+Took P true (TookContent bytes number) = P number bytes
+Took P copies t = Unit {0}
+
+took_nothing : (P : ℕ → List ℕ → Type 0) (copies : Bool) (t : Taken) → t ≡ TookNothing → Took P copies t
+took_nothing P true t none = subst (λ (u : Taken). Took P true u) (sym none) tt
+took_nothing P false t none = tt
+
+module _ (P : ℕ → List ℕ → Type 0) (c : Configuration) (block : ℕ) (old new : List Told) where
+  of_copy : (t : Taken) → IsFromCopies P block old new t → Took P true t
+  of_copy (TookContent bytes number) is = is
+  of_copy (TookStale wanted got count) is = tt
+  of_copy (TookRefused count) is = tt
+  of_copy TookNothing is = absurd is
+
+  by_kind : (d : BlockDesc) (b : BlockState) (j : Job) (kind : JobKind) (content : Option (List ℕ × ℕ)) (names synchronized : Bool) (t : Taken)
+      → IsCopied P c block old new (copies_out_by kind content synchronized) t → TakesBy d b j kind t → Took P (not (is_some content) && (names && synchronized)) t
+  by_kind d b j kind (Some x) names synchronized t is takes = tt
+  by_kind d b j kind None false synchronized t is takes = tt
+  by_kind d b j kind None true false t is takes = tt
+  by_kind d b j WriteJob None true true t is takes = of_copy t is.from
+  by_kind d b j _ None true true t is takes = took_nothing P true t takes
+
+  of_job : (s : State) (j : Job) (t : Taken) → IsCopied P c block old new (copies_out_for c j) t → TakesBy (desc_of c (job_block j)) (block_at s (job_block j)) j (kind_of j) t
+      → Took P (not (is_some j.content) && (names_ram j.request && is_synchronized (desc_of c (job_block j)).ram)) t
+  of_job s j t is takes =
+      by_kind (desc_of c (job_block j)) (block_at s (job_block j)) j (kind_of j) j.content (names_ram j.request) (is_synchronized (desc_of c (job_block j)).ram) t is takes
+
+member_names : (c : Configuration) (sw : Sweep) (id : ℕ) → names_ram (member_job c sw id).request ≡ true
+member_names c sw id = by sw.writes
+  where
+    by : (t : Bool) → names_ram (member_request t id) ≡ true
+    by true = refl
+    by false = refl
+
+member_block : (c : Configuration) (sw : Sweep) (id : ℕ) → job_block (member_job c sw id) ≡ id
+member_block c sw id = by (member_job c sw id) sw.writes refl
+  where
+    by : (j : Job) (t : Bool) → j.request ≡ member_request t id → job_block j ≡ id
+    by j true is = rw is refl
+    by j false is = rw is refl
+
+took : (P : ℕ → List ℕ → Type 0) (c : Configuration) (s : State) (block : ℕ) (kind : JobKind) (old new : List Told) (t : Taken) (n : Next)
+    → IsCopied P c block old new (copies_out_next c n) t → MayPick c s block kind t n → Took P (copies_next c n) t
+took P c s block kind old new t (PickJob j) is may = of_job P c block old new s j t is may.takes
+took P c s block kind old new t (PickMember sw id) is may =
+    let j = member_job c sw id in
+    subst (λ (names : Bool). Took P (names && is_synchronized (desc_of c id).ram) t) (member_names c sw id)
+    (subst (λ (m : ℕ). Took P (names_ram j.request && is_synchronized (desc_of c m).ram) t) (member_block c sw id) (of_job P c block old new s j t is may.takes))
+took P c s block kind old new t (BeginSweep sw) is may = tt
+took P c s block kind old new t (PostMember sw id) is may = absurd may
+took P c s block kind old new t (EndSweep sw) is may = absurd may
+took P c s block kind old new t Nothing is may = absurd may
+
+-- WHAT WAS TOO OLD
+module _ (wanted got count : ℕ) where
+  late_for_write : (d : BlockDesc) (b : BlockState) (j : Job) (content : Option (List ℕ × ℕ)) (synchronized : Bool) → TakesForWrite d b j content synchronized (TookStale wanted got count) → got < wanted
+  late_for_write d b j (Some x) synchronized takes = cc
+  late_for_write d b j None true takes = omega (arith, takes.0, takes.1)
+  late_for_write d b j None false takes = cc
+
+  late_by_kind : (d : BlockDesc) (b : BlockState) (j : Job) (kind : JobKind) → TakesBy d b j kind (TookStale wanted got count) → got < wanted
+  late_by_kind d b j WriteJob takes = late_for_write d b j j.content (is_synchronized d.ram) takes
+  late_by_kind d b j kind takes = cc
+
+  late : (c : Configuration) (s : State) (block : ℕ) (kind : JobKind) (n : Next) → MayPick c s block kind (TookStale wanted got count) n → got < wanted
+  late c s block kind (PickJob j) may = late_by_kind (desc_of c (job_block j)) (block_at s (job_block j)) j (kind_of j) may.takes
+  late c s block kind (PickMember sw id) may =
+      let j = member_job c sw id in
+      late_by_kind (desc_of c (job_block j)) (block_at s (job_block j)) j (kind_of j) may.takes
+  late c s block kind (BeginSweep sw) may = let none = may.takes_nothing in cc
+  late c s block kind (PostMember sw id) may = absurd may
+  late c s block kind (EndSweep sw) may = absurd may
+  late c s block kind Nothing may = absurd may
+
+-- THE FIRST HALF OF A TURN
+abbrev rest_of : List Entry → List Entry
+rest_of [] = []
+rest_of (x ∷ xs) = xs
+
+abbrev head_of : Entry → List Entry → Entry
+head_of e [] = e
+head_of e (x ∷ xs) = x
+
+pub same_front : (xs ys : List Entry) (x y : Entry) → xs ++ x ∷ [] ≡ ys ++ y ∷ [] → xs ≡ ys
+same_front [] [] x y e = refl
+same_front [] (b ∷ bs) x y e = absurd (omega (arith, ap (λ (l : List Entry). length l) e, length-append bs (y ∷ [])))
+same_front (a ∷ more) [] x y e = absurd (omega (arith, ap (λ (l : List Entry). length l) e, length-append more (x ∷ [])))
+same_front (a ∷ more) (b ∷ bs) x y e = ap (λ (h : Entry). h ∷ more) (ap (head_of a) e) ∙ ap (λ (l : List Entry). b ∷ l) (same_front more bs x y (ap rest_of e))
+
+-- what is held of the block of the last entry, where that is a Pick behind these
+abbrev pub Holds : {C : Type 0} → (looked : C → C → ℕ → ℕ → Type 0) → (over : C → C → Type 0) → (stands : C → ℕ → ℕ → List Entry → Type 0) → (front entries : List Entry) → (old new : C) → Type 0
+Holds looked over stands front entries old new =
+    (before : List Entry) (block ops : ℕ) (kind : JobKind) (t : Taken) → entries ≡ before ++ Pick block kind t ops ∷ [] → front ≡ before
+    → ((m : ℕ) → looked old new block m → stands new block m before) × over new new
+
+pub pick_shown : {D C : Type 0} (told : D → DeviceTold) (copies : C → List Told) (is_store : C → ℕ → ℕ → List ℕ → Type 0) (looked : C → C → ℕ → ℕ → Type 0) (over : C → C → Type 0)
+    (stands : C → ℕ → ℕ → List Entry → Type 0) (act : Act) (desk desk_new : DeskState) (old new : DriverState D C) (begins : BeginsTurn told copies is_store looked act desk desk_new old new)
+    → act ≡ Ended turned.Picked → Holds looked over stands (desk.entries ++ begins.asks) desk_new.entries old.copies new.copies
+    → PickIsShown is_store looked over stands desk.config desk_new.entries old.copies new.copies
+pick_shown told copies is_store looked over stands act desk desk_new old new begins is_picked holds before block ops kind t last =
+    let d : DeskState = with_more desk begins.asks in
+    let c : Configuration = d.config in
+    let half : IsFirstHalf told copies is_store looked (Ended turned.Picked) (stack_of d old) (stack_of desk_new new) =
+    subst (λ (a : Act). IsFirstHalf told copies is_store looked a (stack_of d old) (stack_of desk_new new)) is_picked begins.half in
+    let (at, picked) = half.half in
+    let P : ℕ → List ℕ → Type 0 = λ m x. is_store new.copies at m x × looked old.copies new.copies at m in
+    let adds = sym (ap (λ (x : DeskState). x.entries) picked.adds) ∙ last in
+    let same = same_last d.entries before _ (Pick block kind t ops) adds in
+    let front : d.entries ≡ before = same_front d.entries before _ (Pick block kind t ops) adds in
+    let took_it : picked.taken ≡ t = ap taken_in same in
+    let is_at : at ≡ block = ap block_in same in
+    let held = holds before block ops kind t last front in record {
+      content = λ bytes number is copies_it.
+          let has : Took P (copies_next c (next_of c (after c d.entries))) picked.taken =
+          took P c (state_of d) at picked.kind (copies old.copies) (copies new.copies) picked.taken (next_of c (state_of d)) picked.copied picked.allowed.1 in
+          let here : Took P true (TookContent bytes number) =
+          subst (λ (b : Bool). Took P b (TookContent bytes number)) copies_it
+          (subst (λ (l : List Entry). Took P (copies_next c (next_of c (after c l))) (TookContent bytes number)) front
+          (subst (λ (u : Taken). Took P (copies_next c (next_of c (after c d.entries))) u) (took_it ∙ is) has)) in
+          subst (λ (k : ℕ). is_store new.copies k number bytes × looked old.copies new.copies k number) is_at here;
+      stale = λ wanted got count is. (
+        stale_shown told copies is_store looked desk desk_new old new (subst (λ (a : Act). BeginsTurn told copies is_store looked a desk desk_new old new) is_picked begins) before block wanted got count ops kind (last ∙ ap (λ (u : Taken). before ++ Pick block kind u ops ∷ []) is),
+        late wanted got count c (state_of d) at picked.kind (next_of c (state_of d))
+            (subst (λ (u : Taken). MayPick c (state_of d) at picked.kind u (next_of c (state_of d))) (took_it ∙ is) picked.allowed.1),
+      );
+      stands_in = held.0;
+      over_itself = held.1;
+    }
