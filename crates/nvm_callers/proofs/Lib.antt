@@ -1,1 +1,25 @@
+mod Refusing
+mod Turning
+pub mod Following
+pub mod Keeping
+pub mod Adding
+pub mod Looking
+pub mod TakenCopies
+pub mod Showing
+pub mod Waiting
+pub mod Doing
+pub mod Ordering
+pub mod Sharing
+pub mod JoinedPasses
+pub mod Storing
+pub mod Shown
+pub mod StoresShown
 mod Making
+mod Driving
+mod Working
+mod Passing
+pub mod KeptSteps
+mod Beginning
+mod Finishing
+mod Closing
+mod Moving

@@ -1,16 +1,18 @@
 // What a caller does.
-ghost use Rattle.std.specs.Prelude.{◌≡◌, ◌≤◌, ◌++◌, ◌∷◌, [], ℕ, List, length, take, All, IfOk, OnOk, OnErr, IsErrOf};
+ghost use Rattle.std.specs.Prelude.{◌≡◌, ◌≤◌, ◌++◌, ◌∷◌, [], ℕ, List, Option, length, take, All, IfOk, OnOk, OnErr, IsErrOf};
 ghost use Rattle.turn_gate.specs.Pass.{knows};
 ghost use Rattle.nvm_core.specs.block_machine.Legal.{HasStore};
 ghost use Rattle.nvm_core.specs.nv_desk.declared.ask.AskFault.TheVariants as fault;
 ghost use Rattle.script_callers.specs.declared.deed.Deed.{Deed as Deeds};
 ghost use Rattle.script_callers.specs.declared.deed.Deed.TheVariants as deed_of;
 ghost use Rattle.nvm_shared.specs.Passes.{IsUserOf};
+ghost use Rattle.nvm_callers.specs.Stored.{Stored};
 ghost use Rattle.nvm_callers.specs.Calls.{Did, IsAsk, KeepsPass, MayMake};
 ghost use Rattle.nvm_callers.specs.Endings.{EndsBy, FindsNoRoom};
 
 use crate::ending::Ending;
 use crate::hold::Hold;
+use crate::stores::Stores;
 use crate::wait::await_end;
 use nvm_core::nv_base::Request;
 use nvm_core::nv_desk::AskFault;
@@ -48,8 +50,8 @@ impl<'a, H: Hold> Caller<'a, H> {
         requires store { HasStore shared.now.terms.config request.now }
         ensures own { IsUserOf shared.now pass.new }
         ensures keeps { KeepsPass (knows pass.old) (knows pass.new) }
-        ensures done { (ds : List Deeds) → Did shared.now.terms self.now.number ds (knows pass.old) → OnOk result (Did shared.now.terms self.now.number (ds ++ deed_of.Ask line request.now ∷ []) (knows pass.new)) }
-        ensures left { (ds : List Deeds) → Did shared.now.terms self.now.number ds (knows pass.old) → OnErr result (Did shared.now.terms self.now.number ds (knows pass.new)) }
+        ensures done { (ds : List Deeds) (bytes : ℕ → Option ℕ) (began made : ℕ → List Stored) → Did shared.now.terms self.now.number ds (knows pass.old) bytes began made → OnOk result (Did shared.now.terms self.now.number (ds ++ deed_of.Ask line request.now ∷ []) (knows pass.new) bytes began made) }
+        ensures left { (ds : List Deeds) (bytes : ℕ → Option ℕ) (began made : ℕ → List Stored) → Did shared.now.terms self.now.number ds (knows pass.old) bytes began made → OnErr result (Did shared.now.terms self.now.number ds (knows pass.new) bytes began made) }
         ensures full { IsErrOf result fault.NoRoom → FindsNoRoom shared.now.terms (knows pass.new) }
     {
         let Ok(request) = copy_of(request) else {
@@ -71,26 +73,49 @@ impl<'a, H: Hold> Caller<'a, H> {
         requires configured { block ≤ length shared.now.terms.config.blocks }
         ensures own { IsUserOf shared.now pass.new }
         ensures keeps { KeepsPass (knows pass.old) (knows pass.new) }
-        ensures done { (ds : List Deeds) → Did shared.now.terms self.now.number ds (knows pass.old) → Did shared.now.terms self.now.number (ds ++ deed_of.Await line block ∷ []) (knows pass.new) }
+        ensures done { (ds : List Deeds) (bytes : ℕ → Option ℕ) (began made : ℕ → List Stored) → Did shared.now.terms self.now.number ds (knows pass.old) bytes began made → Did shared.now.terms self.now.number (ds ++ deed_of.Await line block ∷ []) (knows pass.new) bytes began made }
     {
         await_end(rt, shared, pass, block);
     }
 
+    // One store.
+    fn store<S: Stores>(
+        &self,
+        shared: &Shared,
+        pass: &mut StackPass,
+        stores: &mut S,
+        deed: (u32, u16, u64),
+        content: &[u8],
+    )
+        requires lock { S.is_of shared.now.gate }
+        requires own { IsUserOf shared.now pass.old }
+        ensures own { IsUserOf shared.now pass.new }
+        ensures keeps { KeepsPass (knows pass.old) (knows pass.new) }
+        ensures bytes { (block : ℕ) → S.bytes stores.new block ≡ S.bytes stores.old block }
+        ensures done { (ds : List Deeds) (bytes : ℕ → Option ℕ) (began : ℕ → List Stored) → ((block : ℕ) → S.bytes stores.old block ≡ bytes block) → Did shared.now.terms self.now.number ds (knows pass.old) bytes began (S.made stores.old) → Did shared.now.terms self.now.number (ds ++ deed_of.Store deed.0 deed.1 deed.2 content.now ∷ []) (knows pass.new) bytes began (S.made stores.new) }
+    {
+        let (_line, block, _number) = deed;
+        stores.store(shared, pass, block, content);
+    }
+
     // One of them.
-    fn make<W: Wait>(
+    fn make<W: Wait, S: Stores>(
         &self,
         rt: &W,
         shared: &Shared,
         pass: &mut StackPass,
+        stores: &mut S,
         deed: &Deed,
     ) -> Result<(), AskFault>
+        requires lock { S.is_of shared.now.gate }
         requires own { IsUserOf shared.now pass.old }
         requires caller { self.now.number ≤ 15 }
         requires may { MayMake shared.now.terms.config deed.now }
         ensures own { IsUserOf shared.now pass.new }
         ensures keeps { KeepsPass (knows pass.old) (knows pass.new) }
-        ensures done { (ds : List Deeds) → Did shared.now.terms self.now.number ds (knows pass.old) → OnOk result (Did shared.now.terms self.now.number (ds ++ deed.now ∷ []) (knows pass.new)) }
-        ensures left { (ds : List Deeds) → Did shared.now.terms self.now.number ds (knows pass.old) → OnErr result (Did shared.now.terms self.now.number ds (knows pass.new)) }
+        ensures bytes { (block : ℕ) → S.bytes stores.new block ≡ S.bytes stores.old block }
+        ensures done { (ds : List Deeds) (bytes : ℕ → Option ℕ) (began : ℕ → List Stored) → ((block : ℕ) → S.bytes stores.old block ≡ bytes block) → Did shared.now.terms self.now.number ds (knows pass.old) bytes began (S.made stores.old) → OnOk result (Did shared.now.terms self.now.number (ds ++ deed.now ∷ []) (knows pass.new) bytes began (S.made stores.new)) }
+        ensures left { (ds : List Deeds) (bytes : ℕ → Option ℕ) (began : ℕ → List Stored) → ((block : ℕ) → S.bytes stores.old block ≡ bytes block) → Did shared.now.terms self.now.number ds (knows pass.old) bytes began (S.made stores.old) → OnErr result (Did shared.now.terms self.now.number ds (knows pass.new) bytes began (S.made stores.new)) }
         ensures full { IsErrOf result fault.NoRoom → FindsNoRoom shared.now.terms (knows pass.new) × IsAsk deed.now }
     {
         match deed {
@@ -99,31 +124,48 @@ impl<'a, H: Hold> Caller<'a, H> {
                 self.wait(rt, shared, pass, *line, *block);
                 Ok(())
             }
-            Deed::Store { .. } => unreachable!(),
+            Deed::Store {
+                line,
+                block,
+                number,
+                content,
+            } => {
+                self.store(
+                    shared,
+                    pass,
+                    stores,
+                    (*line, *block, *number),
+                    content.as_slice(),
+                );
+                Ok(())
+            }
         }
     }
 
     /// All of them in order, up to a request that finds no room or no memory. It answers how many were made, and how it
     /// ended.
-    pub fn make_all<W: Wait>(
+    pub fn make_all<W: Wait, S: Stores>(
         &self,
         rt: &W,
         shared: &Shared,
         pass: &mut StackPass,
+        stores: &mut S,
         deeds: &[Deed],
     ) -> (usize, Ending)
+        requires lock { S.is_of shared.now.gate }
         requires own { IsUserOf shared.now pass.old }
         requires caller { self.now.number ≤ 15 }
         requires may { All (MayMake shared.now.terms.config) deeds.now }
-        requires first { Did shared.now.terms self.now.number [] (knows pass.old) }
+        requires first { Did shared.now.terms self.now.number [] (knows pass.old) (S.bytes stores.old) (S.made stores.old) (S.made stores.old) }
         ensures own { IsUserOf shared.now pass.new }
         ensures keeps { KeepsPass (knows pass.old) (knows pass.new) }
         ensures count { result.0 ≤ length deeds.now }
-        ensures done { Did shared.now.terms self.now.number (take result.0 deeds.now) (knows pass.new) }
+        ensures bytes { (block : ℕ) → S.bytes stores.new block ≡ S.bytes stores.old block }
+        ensures done { Did shared.now.terms self.now.number (take result.0 deeds.now) (knows pass.new) (S.bytes stores.old) (S.made stores.old) (S.made stores.new) }
         ensures ends { EndsBy shared.now.terms deeds.now result.0 (knows pass.new) result.1 }
     {
         for place in 0..deeds.len() {
-            match self.make(rt, shared, pass, &deeds[place]) {
+            match self.make(rt, shared, pass, stores, &deeds[place]) {
                 Ok(()) => {}
                 Err(AskFault::NoRoom) => return (place, Ending::NoRoom),
                 Err(AskFault::Memory) => return (place, Ending::Memory),

@@ -10,17 +10,19 @@ use std::sync::Wait;
 use std::thread::Threads;
 use turn_gate::{Gate, Kept, Pass};
 
-/// A pass with what its caller came to: how many deeds it made, how it ended, and how many entries it saw then.
+/// A pass, and where its stores go, with what its caller came to: how many deeds it made, how it ended, and how many entries it saw
+/// then.
 #[derive(Drop)]
-pub struct WorkerOf<P> {
+pub struct WorkerOf<P, S> {
     pub pass: P,
+    pub stores: S,
     pub made: usize,
     pub ending: Ending,
     pub seen: u32,
 }
 
 /// The worker of a caller. It is an alias, since a thread takes a struct whose parameters stand bare.
-pub type Worker = WorkerOf<StackPass>;
+pub type Worker<S> = WorkerOf<StackPass, S>;
 
 // A thread takes a gate and passes that name their value by a parameter alone, so the calls stand one over another.
 fn run_of<
@@ -46,26 +48,14 @@ fn run_at<
     R: Threads + Wait + Sync,
     V: Kept + Send + Drop,
     T: TellsTerms + Drop + Sync,
-    J: Work<SharedOf<Gate<V>, T>, WorkerOf<Pass<V>>> + Sync,
+    S: Send,
+    J: Work<SharedOf<Gate<V>, T>, WorkerOf<Pass<V>, S>> + Sync,
     K: Drive<SharedOf<Gate<V>, T>>,
->(rt: &R, shared: &SharedOf<Gate<V>, T>, job: &J, workers: &mut [WorkerOf<Pass<V>>], driver: &mut K)
-    requires some { 0 < length workers.old }
-    requires count { length workers.old ≡ J.count job.now }
-    requires each { All (λ w. J.ready job.now shared.now w) workers.old }
-    requires ready { K.ready driver.old shared.now }
-    ensures count { length workers.new ≡ length workers.old }
-    ensures each { AllPlaced (J.done job.now shared.now) workers.new }
-    ensures done { K.done driver.old driver.new shared.now }
-{
-    run_of::<R, Gate<V>, T, WorkerOf<Pass<V>>, J, K>(rt, shared, job, workers, driver);
-}
-
-/// The workers in threads of their own, and the driver beside them.
-pub fn run_shared<R: Threads + Wait + Sync, J: Work<Shared, Worker> + Sync, K: Drive<Shared>>(
+>(
     rt: &R,
-    shared: &Shared,
+    shared: &SharedOf<Gate<V>, T>,
     job: &J,
-    workers: &mut [Worker],
+    workers: &mut [WorkerOf<Pass<V>, S>],
     driver: &mut K,
 )
     requires some { 0 < length workers.old }
@@ -76,5 +66,23 @@ pub fn run_shared<R: Threads + Wait + Sync, J: Work<Shared, Worker> + Sync, K: D
     ensures each { AllPlaced (J.done job.now shared.now) workers.new }
     ensures done { K.done driver.old driver.new shared.now }
 {
-    run_at::<R, Locked, Snapshot<Locked>, J, K>(rt, shared, job, workers, driver);
+    run_of::<R, Gate<V>, T, WorkerOf<Pass<V>, S>, J, K>(rt, shared, job, workers, driver);
+}
+
+/// The workers in threads of their own, and the driver beside them.
+pub fn run_shared<
+    R: Threads + Wait + Sync,
+    S: Send,
+    J: Work<Shared, Worker<S>> + Sync,
+    K: Drive<Shared>,
+>(rt: &R, shared: &Shared, job: &J, workers: &mut [Worker<S>], driver: &mut K)
+    requires some { 0 < length workers.old }
+    requires count { length workers.old ≡ J.count job.now }
+    requires each { All (λ w. J.ready job.now shared.now w) workers.old }
+    requires ready { K.ready driver.old shared.now }
+    ensures count { length workers.new ≡ length workers.old }
+    ensures each { AllPlaced (J.done job.now shared.now) workers.new }
+    ensures done { K.done driver.old driver.new shared.now }
+{
+    run_at::<R, Locked, Snapshot<Locked>, S, J, K>(rt, shared, job, workers, driver);
 }

@@ -1,9 +1,7 @@
-// A shared stack over a device in memory and mirrors: two callers with a side each, and the driver.
-ghost use Rattle.std.specs.Prelude.{◌≡◌, ◌≢◌, ◌≤◌, ◌<◌, ◌+◌, ◌^◌, false, length, map, None, IfOk, IfSome};
+// A shared stack over a device in memory: two callers, and the driver.
+ghost use Rattle.std.specs.Prelude.{◌≡◌, ◌≤◌, ◌+◌, ◌^◌, false, IfOk};
 ghost use Rattle.nvm_laws.specs.block_config.Lengths.{lengths_of};
 ghost use Rattle.turn_gate.specs.Pass.{knows};
-ghost use Rattle.nvm_laws.specs.nv_desk_copies.Front.{AreSynchronized};
-ghost use Rattle.ram_mirrors_sync.specs.Blocks.{AreEndsOf, AreSidesOf, IsSideIn, side_at, told_by};
 ghost use Rattle.nvm_shared.specs.Passes.{IsUserOf};
 ghost use Rattle.nvm_shared.specs.Driving.{IsDriverOf};
 
@@ -11,9 +9,8 @@ use nvm_laws::Turned;
 use nvm_laws::block_config::{Config, read};
 use nvm_laws::memif::{MemDevice, PlainStore};
 use nvm_laws::nv_base::{Reply, Request};
-use nvm_laws::ram_blocks::SyncCalls;
-use nvm_shared::{Driver, Shared, StackPass, make};
-use ram_mirrors_sync::{Ends, MirrorSync, Mirrors, Side, Sides, close};
+use nvm_laws::ram_blocks::PlainSync;
+use nvm_shared::{Driver, NotedCopies, Shared, StackPass, make};
 use std::alloc::{AllocError, Global};
 use std::sync::Wait;
 
@@ -30,17 +27,17 @@ fn make_device(alloc: Global, config: &Config) -> Result<PlainStore, AllocError>
 }
 
 // Turns until one is idle. Answers whether one was.
-fn rest<W: Wait, D: MemDevice, C: SyncCalls + Drop>(
+fn rest<W: Wait, D: MemDevice, C: NotedCopies + Drop>(
     rt: &W,
     shared: &Shared,
     pass: &mut StackPass,
     driver: &mut Driver<D, C>,
 ) -> bool
     requires driver { IsDriverOf D.told D.clock C.told shared.now pass.old driver.old }
+    requires lock { C.is_of shared.now.gate }
     requires quiet { shared.now.terms.tells ≡ false }
     ensures driver { IsDriverOf D.told D.clock C.told shared.now pass.new driver.new }
     ensures parts { (knows pass.new).parts ≡ (knows pass.old).parts }
-    ensures over { (first : C) → C.over first driver.old.copies → C.over first driver.new.copies }
 {
     for _ in 0..100 {
         if matches!(driver.turn(rt, shared, pass), Turned::Idle) {
@@ -79,14 +76,6 @@ fn is_written(shared: &Shared, pass: &mut StackPass, block: u16) -> bool
     shared.poll(pass, block).status == 0 && shared.poll_off(pass).status == 0
 }
 
-fn store(mirrors: &Mirrors, side: &mut Side, content: &[u8]) -> bool
-    requires own { IsSideIn mirrors.now side.old }
-    ensures own { IsSideIn mirrors.now side.new }
-    ensures block { side.new.block ≡ side.old.block }
-{
-    side.bytes() == content.len() && side.store(mirrors, content) == 1
-}
-
 // Whether what a caller wrote comes back to it.
 fn reads<W: Wait>(rt: &W, alloc: Global, shared: &Shared, pass: &mut StackPass, block: u16) -> bool
     requires own { IsUserOf shared.now pass.old }
@@ -101,7 +90,7 @@ fn reads<W: Wait>(rt: &W, alloc: Global, shared: &Shared, pass: &mut StackPass, 
 }
 
 // Two callers write a block each, and one reads the other's; the driver makes the turns.
-fn are_served<W: Wait, D: MemDevice, C: SyncCalls + Drop>(
+fn are_served<W: Wait, D: MemDevice, C: NotedCopies + Drop>(
     rt: &W,
     alloc: Global,
     shared: &Shared,
@@ -112,10 +101,10 @@ fn are_served<W: Wait, D: MemDevice, C: SyncCalls + Drop>(
 ) -> bool
     requires own { IsUserOf shared.now one.old × IsUserOf shared.now two.old }
     requires driver { IsDriverOf D.told D.clock C.told shared.now pass.old driver.old }
+    requires lock { C.is_of shared.now.gate }
     requires quiet { shared.now.terms.tells ≡ false }
     ensures own { IsUserOf shared.now pass.new × IsUserOf shared.now one.new × IsUserOf shared.now two.new }
     ensures parts { ((knows pass.new).parts ≡ (knows pass.old).parts) × ((knows one.new).parts ≡ (knows one.old).parts) × ((knows two.new).parts ≡ (knows two.old).parts) }
-    ensures over { (first : C) → C.over first driver.old.copies → C.over first driver.new.copies }
 {
     let asked = writes(rt, alloc, shared, one, 2);
     let asked_two = writes(rt, alloc, shared, two, 3);
@@ -138,18 +127,18 @@ fn entries_at_end(shared: Shared, mut pass: StackPass, one: StackPass, two: Stac
 }
 
 // Whether a shared stack serves two callers, with one history at the end: a start-up, three requests, two writes of three entries
-// and a read of two. The copies come back, over what they were lent.
-fn serves<W: Wait, D: MemDevice + Drop, C: SyncCalls + Drop>(
+// and a read of two.
+fn serves<W: Wait, D: MemDevice + Drop, C: NotedCopies + Drop>(
     rt: &W,
     alloc: Global,
     shared: Shared,
     mut pass: StackPass,
     mut driver: Driver<D, C>,
-) -> (bool, C)
+) -> bool
     requires driver { IsDriverOf D.told D.clock C.told shared pass driver }
+    requires lock { C.is_of shared.gate }
     requires quiet { shared.terms.tells ≡ false }
     requires parts { (knows pass).parts ≡ 2 ^ 64 }
-    ensures over { (first : C) → C.over first driver.copies → C.over first result.1 }
 {
     let mut one = shared.split(&mut pass);
     let mut two = shared.split(&mut pass);
@@ -162,78 +151,26 @@ fn serves<W: Wait, D: MemDevice + Drop, C: SyncCalls + Drop>(
         &mut two,
         &mut driver,
     );
-    let (_device, copies, hand) = driver.into_parts();
-    let served = entries_at_end(shared, pass, one, two) == 12 && served && hand.is_none();
-    (served, copies)
+    let (_device, _copies, hand) = driver.into_parts();
+    entries_at_end(shared, pass, one, two) == 12 && served && hand.is_none()
 }
 
-// Whether what two callers stored is written, and what was read comes back; with the driver's ends, which are those of the mirrors
-// still.
-fn is_shared<W: Wait>(
-    rt: &W,
-    alloc: Global,
-    mirrors: &Mirrors,
-    ends: Ends,
-    config: Config,
-    first: &mut Side,
-    second: &mut Side,
-) -> Option<(bool, Ends)>
-    requires ends { AreEndsOf mirrors.now ends }
-    requires synchronized { AreSynchronized config (map told_by ends) }
-    requires own { IsSideIn mirrors.now first.old × IsSideIn mirrors.now second.old }
-    ensures own { IsSideIn mirrors.now first.new × IsSideIn mirrors.now second.new }
-    ensures blocks { (first.new.block ≡ first.old.block) × (second.new.block ≡ second.old.block) }
-    ensures ends { IfSome result (λ r. AreEndsOf mirrors.now r.1) }
-{
+// Whether what two callers wrote is written, and what was read comes back.
+fn is_shared<W: Wait>(rt: &W, alloc: Global, config: Config) -> Option<bool> {
+    let _blocks = config.blocks();
     let device = make_device(alloc, &config).ok()?;
-    let stored = store(mirrors, first, b"abcd");
-    let stored_two = store(mirrors, second, b"wxyz");
-    let copies = MirrorSync::of(mirrors, ends);
+    let copies = PlainSync::make(alloc, &config).ok()?;
     match make(alloc, config, device, copies, 100) {
-        Ok((shared, pass, driver)) => {
-            let (served, copies) = serves(rt, alloc, shared, pass, driver);
-            let came =
-                matches!(first.newest(mirrors), Some((1, content)) if content == b"abcd".as_slice());
-            Some((stored && stored_two && served && came, copies.into_ends()))
-        }
+        Ok((shared, pass, driver)) => Some(serves(rt, alloc, shared, pass, driver)),
         Err(_) => None,
     }
-}
-
-// Puts two sides back, and ends all mirrors. Answers whether all sides were in.
-fn are_closed(mirrors: Mirrors, ends: Ends, mut sides: Sides, first: Side, second: Side) -> bool
-    requires ends { AreEndsOf mirrors ends }
-    requires sides { AreSidesOf mirrors sides }
-    requires own { IsSideIn mirrors first × IsSideIn mirrors second }
-    requires places { (first.block < length sides) × (second.block < length sides) × (first.block ≢ second.block) }
-    requires out { (side_at sides first.block ≡ None) × (side_at sides second.block ≡ None) }
-{
-    sides.put(first);
-    sides.put(second);
-    if !sides.are_in(&mirrors) {
-        return false;
-    }
-    close(mirrors, ends, sides);
-    true
 }
 
 fn is_made_and_shared<W: Wait>(rt: &W, alloc: Global) -> bool {
     let Ok(config) = read(alloc, BLOCKS.as_bytes()) else {
         return false;
     };
-    let Ok((mirrors, ends, mut sides)) = ram_mirrors_sync::make(alloc, &config) else {
-        return false;
-    };
-    let Some(mut first) = sides.take(2) else {
-        return false;
-    };
-    let Some(mut second) = sides.take(3) else {
-        return false;
-    };
-    match is_shared(rt, alloc, &mirrors, ends, config, &mut first, &mut second) {
-        Some((served, ends)) => served && are_closed(mirrors, ends, sides, first, second),
-        None => false,
-    }
+    matches!(is_shared(rt, alloc, config), Some(true))
 }
 
 #[test]

@@ -15,19 +15,19 @@ const BLOCKS: &str =
 
 const STORES: u64 = 100_000;
 
-fn store_all(mirrors: &Mirrors, side: &mut Side)
+fn store_all(mirrors: &Mirrors<()>, side: &mut Side<()>)
     requires own { IsSideIn mirrors.now side.old }
     ensures own { IsSideIn mirrors.now side.new }
     ensures block { side.new.block ≡ side.old.block }
 {
     for i in 0..STORES {
         if side.bytes() == 8 {
-            side.store(mirrors, &(i + 1).to_le_bytes());
+            side.store(mirrors, &(i + 1).to_le_bytes(), None);
         }
     }
 }
 
-fn copy_once(sync: &mut MirrorSync, found: &mut Found) {
+fn copy_once(sync: &mut MirrorSync<()>, found: &mut Found) {
     let mut into = [0; 8];
     if sync.bytes(2) == Some(8) {
         match sync.copy_out(2, &mut into) {
@@ -38,7 +38,7 @@ fn copy_once(sync: &mut MirrorSync, found: &mut Found) {
 }
 
 // Copies until the last store is copied.
-fn copy_all(sync: &mut MirrorSync, found: &mut Found) {
+fn copy_all(sync: &mut MirrorSync<()>, found: &mut Found) {
     for _ in 0..LOOKS {
         copy_once(sync, found);
         if found.last == STORES {
@@ -49,7 +49,7 @@ fn copy_all(sync: &mut MirrorSync, found: &mut Found) {
 }
 
 // Whether a content that the driver hands over comes to the application once.
-fn is_handed(mirrors: &Mirrors, side: &mut Side, sync: &mut MirrorSync) -> bool
+fn is_handed(mirrors: &Mirrors<()>, side: &mut Side<()>, sync: &mut MirrorSync<()>) -> bool
     requires own { IsSideIn mirrors.now side.old }
 {
     let handed = sync.bytes(2) == Some(8)
@@ -64,7 +64,12 @@ fn is_handed(mirrors: &Mirrors, side: &mut Side, sync: &mut MirrorSync) -> bool
 }
 
 // Whether each copy was a store, in order, up to the last one.
-fn are_copied<R: Threads>(rt: &R, mirrors: &Mirrors, side: &mut Side, sync: &mut MirrorSync) -> bool
+fn are_copied<R: Threads>(
+    rt: &R,
+    mirrors: &Mirrors<()>,
+    side: &mut Side<()>,
+    sync: &mut MirrorSync<()>,
+) -> bool
     requires own { IsSideIn mirrors.now side.old }
     ensures own { IsSideIn mirrors.now side.new }
 {
@@ -81,7 +86,7 @@ fn over_mirrors<R: Threads>(rt: &R, alloc: Global) -> bool {
     let Ok(config) = read(alloc, BLOCKS.as_bytes()) else {
         return false;
     };
-    let Ok((mirrors, ends, mut sides)) = make(alloc, &config) else {
+    let Ok((mirrors, ends, mut sides)) = make::<()>(alloc, &config) else {
         return false;
     };
     let Some(mut side) = sides.take(2) else {
@@ -104,7 +109,7 @@ fn are_closed(alloc: Global) -> bool {
     let Ok(config) = read(alloc, BLOCKS.as_bytes()) else {
         return false;
     };
-    let Ok((mirrors, ends, mut sides)) = make(alloc, &config) else {
+    let Ok((mirrors, ends, mut sides)) = make::<()>(alloc, &config) else {
         return false;
     };
     if let Some(side) = sides.take(2) {

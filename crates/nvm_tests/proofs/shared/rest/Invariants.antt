@@ -6,4 +6,3 @@ use Rattle.nvm_tests.proofs.shared.rest.Given as goal
 abbrev pub invariant-loop : goal.invariant-loop
 invariant-loop g l =
     IsDriverOf g.D.MemDevice.told g.D.MemDevice.clock g.C.SyncCalls.told l.shared l.pass l.driver × (l.shared.terms.tells ≡ false) × ((knows l.pass).parts ≡ (knows l.initial.pass).parts)
-    × ((first : g.row.C.Denot) → g.C.SyncCalls.over first l.initial.driver.copies → g.C.SyncCalls.over first l.driver.copies)

@@ -3,5 +3,5 @@ use Rattle.nvm_callers.proofs.Making.{did_wait}
 use Rattle.nvm_callers.proofs.caller.Caller.wait.Goals as goal
 
 pub returns-clause-done : goal.returns-clause-done
-returns-clause-done g c = λ ds did.
-    did_wait c.args.shared.now.terms c.args.self.now.number ds c.args.line c.args.block (knows c.args.pass.now) (knows c.await_end.new.pass) c.await_end.ensures.polled c.await_end.ensures.over did
+returns-clause-done g c = λ ds bytes began made did.
+    did_wait c.args.shared.now.terms c.args.self.now.number ds bytes began made c.args.line c.args.block (knows c.args.pass.now) (knows c.await_end.new.pass) c.await_end.ensures.polled c.await_end.ensures.over did

@@ -1,0 +1,252 @@
+-- What a caller knows of what it did.
+use Rattle.std.proofs.Common.{◌≡◌, ℕ, zero, suc, ◌+◌, ◌<◌, ◌≤◌, ◌∙◌, List, [], ◌∷◌, ◌++◌, length, take, drop, refl, sym, ap, subst, arith, length-take}
+use Rattle.std.proofs.lemmas.List.{append-nil, drop_all, take-append-le, drop-append-le}
+use mathlib.Core.Option.{some, some-ne-none, some-injective}
+use lib.ListN.{get_elem?}
+use Rattle.atomic_table.proofs.Lists.{at_last, at_longer}
+use Rattle.nvm_core.specs.block_machine.Words.{Request, Reply, Entry, Ask, Configuration}
+use Rattle.nvm_core.specs.block_machine.Legal.{IsLegal}
+use Rattle.nvm_core.specs.block_laws.Consistent.{Each, Ascend}
+use Rattle.turn_gate.specs.Entries.{Note, StartsWith, AllAgree}
+use Rattle.turn_gate.specs.Pass.{Has}
+use Rattle.script_walks.specs.Callers.{WaitedFor, asks_of}
+use Rattle.nvm_shared.specs.StatusWords.{gives}
+use Rattle.nvm_shared.specs.Numbers.{IsEntry, AreAt, AreAll}
+use Rattle.nvm_shared.proofs.Numbering.{asks_by_number}
+use Rattle.script_callers.specs.declared.deed.Deed.{Deed}
+use Rattle.script_callers.specs.declared.deed.Deed.TheVariants.{Ask as AskDeed, Store as StoreDeed, Await}
+use Rattle.script_callers.specs.Deeds.{requests_in}
+use Rattle.nvm_callers.specs.Deeds.{HasWaited, HasWaitedAll, NoneIsDone, AsksAreDone, StoresAreDone, WaitsAreDone, DeedsLast, WereOver, DeedsHold}
+use Rattle.nvm_callers.proofs.Waiting.{agree_before, at_take, inside_length, of_take, starts_again, waited_on}
+
+-- NUMBERS
+module _ (P : ℕ → Type 0) where
+  pub each_on : (Q : ℕ → Type 0) (ks : List ℕ) → ((k : ℕ) → P k → Q k) → Each P ks → Each Q ks
+  each_on Q [] turns each = tt
+  each_on Q (k ∷ ks) turns each = (turns k each.0, each_on Q ks turns each.1)
+
+  pub each_last : (ks : List ℕ) (n : ℕ) → Each P ks → P n → Each P (ks ++ n ∷ [])
+  each_last [] n each is = (is, tt)
+  each_last (k ∷ ks) n each is = (each.0, each_last ks n each.1 is)
+
+  each_at : (ks : List ℕ) (i k : ℕ) → Each P ks → get_elem? ks i ≡ some k → P k
+  each_at [] i k each at = absurd (some-ne-none k (sym at))
+  each_at (x ∷ xs) zero k each at = subst P (some-injective x k at) each.0
+  each_at (x ∷ xs) (suc i) k each at = each_at xs i k each.1 at
+
+  pub each_take : (n : ℕ) (ks : List ℕ) → Each P ks → Each P (take n ks)
+  each_take zero ks each = tt
+  each_take (suc n) [] each = tt
+  each_take (suc n) (k ∷ ks) each = (each.0, each_take n ks each.1)
+
+ascend_last : (ks : List ℕ) (n : ℕ) → Ascend ks → Each (λ k. k < n) ks → Ascend (ks ++ n ∷ [])
+ascend_last [] n ascend below = (tt, tt)
+ascend_last (k ∷ ks) n ascend below = (each_last (λ m. k < m) ks n ascend.0 below.0, ascend_last ks n ascend.1 below.1)
+
+pub ascend_take : (n : ℕ) (ks : List ℕ) → Ascend ks → Ascend (take n ks)
+ascend_take zero ks ascend = tt
+ascend_take (suc n) [] ascend = tt
+ascend_take (suc n) (k ∷ ks) ascend = (each_take (λ m. k < m) n ks ascend.0, ascend_take n ks ascend.1)
+
+-- a number below the later ones is among the first
+pub has_first : (n end : ℕ) (ks : List ℕ) (j : ℕ) → Each (λ k. end ≤ k) (drop n ks) → j < end → Has ks j → Has (take n ks) j
+has_first zero end ks j later low (i, at) = let not = each_at (λ k. end ≤ k) ks i j later at in absurd (omega (arith, low, not))
+has_first (suc n) end [] j later low (i, at) = absurd (some-ne-none j (sym at))
+has_first (suc n) end (k ∷ ks) j later low (zero, at) = (zero, at)
+has_first (suc n) end (k ∷ ks) j later low (suc i, at) = let rest = has_first n end ks j later low (i, at) in (suc rest.0, rest.1)
+
+-- REQUESTS
+asks_more : (ds : List Deed) (line : ℕ) (r : Request) → requests_in (ds ++ AskDeed line r ∷ []) ≡ requests_in ds ++ r ∷ []
+asks_more [] line r = refl
+asks_more (AskDeed l q ∷ ds) line r = ap (λ (l : List Request). q ∷ l) (asks_more ds line r)
+asks_more (StoreDeed l block number content ∷ ds) line r = asks_more ds line r
+asks_more (Await l block ∷ ds) line r = asks_more ds line r
+
+-- a deed that is no request
+abbrev IsNoAsk : Deed → Type 0
+IsNoAsk d = requests_in (d ∷ []) ≡ []
+
+others_more : (ds : List Deed) (d : Deed) → IsNoAsk d → requests_in (ds ++ d ∷ []) ≡ requests_in ds
+others_more [] d none = none
+others_more (AskDeed line q ∷ ds) d none = ap (λ (l : List Request). q ∷ l) (others_more ds d none)
+others_more (StoreDeed line block number content ∷ ds) d none = others_more ds d none
+others_more (Await line block ∷ ds) d none = others_more ds d none
+
+module _ (caller : ℕ) where
+  pub are_longer : (h seen : List Entry) (ks : List ℕ) (rs : List Request) → StartsWith h seen → AreAt seen caller ks rs → AreAt h caller ks rs
+  are_longer h seen [] [] starts are = tt
+  are_longer h seen (k ∷ ks) (r ∷ rs) starts are = (
+    (are.0.0, subst (λ (l : List Entry). IsEntry l k (Ask caller r are.0.0)) (sym starts.1) (at_longer seen starts.0 k (Ask caller r are.0.0) are.0.1)),
+    are_longer h seen ks rs starts are.1,
+  )
+  are_longer h seen [] (r ∷ rs) starts are = absurd are
+  are_longer h seen (k ∷ ks) [] starts are = absurd are
+
+  pub are_below : (seen : List Entry) (ks : List ℕ) (rs : List Request) → AreAt seen caller ks rs → Each (λ k. k < length seen) ks
+  are_below seen [] [] are = tt
+  are_below seen (k ∷ ks) (r ∷ rs) are = (inside_length seen k (Ask caller r are.0.0) are.0.1, are_below seen ks rs are.1)
+  are_below seen [] (r ∷ rs) are = absurd are
+  are_below seen (k ∷ ks) [] are = absurd are
+
+  are_last : (h : List Entry) (ks : List ℕ) (rs : List Request) (n : ℕ) (r : Request) (reply : Reply) → AreAt h caller ks rs → IsEntry h n (Ask caller r reply)
+      → AreAt h caller (ks ++ n ∷ []) (rs ++ r ∷ [])
+  are_last h [] [] n r reply are at = ((reply, at), tt)
+  are_last h (k ∷ ks) (q ∷ rs) n r reply are at = (are.0, are_last h ks rs n r reply are.1 at)
+  are_last h [] (q ∷ rs) n r reply are at = absurd are
+  are_last h (k ∷ ks) [] n r reply are at = absurd are
+
+  pub are_as_many : (h : List Entry) (ks : List ℕ) (rs : List Request) → AreAt h caller ks rs → length ks ≡ length rs
+  are_as_many h [] [] are = refl
+  are_as_many h (k ∷ ks) (r ∷ rs) are = let rest = are_as_many h ks rs are.1 in omega (arith, rest)
+  are_as_many h [] (r ∷ rs) are = absurd are
+  are_as_many h (k ∷ ks) [] are = absurd are
+
+  pub are_first : (n end : ℕ) (h : List Entry) (ks : List ℕ) (rs : List Request) → AreAt h caller ks rs → Each (λ k. k < end) (take n ks)
+      → AreAt (take end h) caller (take n ks) (take n rs)
+  are_first zero end h ks rs are low = tt
+  are_first (suc n) end h [] [] are low = tt
+  are_first (suc n) end h (k ∷ ks) (r ∷ rs) are low = (
+    (are.0.0, at_take end h k (Ask caller r are.0.0) low.0 are.0.1),
+    are_first n end h ks rs are.1 low.1,
+  )
+  are_first (suc n) end h [] (r ∷ rs) are low = absurd are
+  are_first (suc n) end h (k ∷ ks) [] are low = absurd are
+
+-- WAITS
+module _ (c : Configuration) (cap : ℕ) where
+  -- a wait that was over stays so, also behind a request that comes later
+  pub waits_on : (own own_new : List ℕ) (seen seen_new : List Entry) (notes notes_new : List Note)
+      → ((block k : ℕ) → k ≤ length own → HasWaited c cap own seen notes block k → HasWaited c cap own_new seen_new notes_new block k)
+      → (k : ℕ) (ds : List Deed) → k + length (requests_in ds) ≤ length own → HasWaitedAll c cap own seen notes k ds → HasWaitedAll c cap own_new seen_new notes_new k ds
+  waits_on own own_new seen seen_new notes notes_new turns k [] few all = tt
+  waits_on own own_new seen seen_new notes notes_new turns k (AskDeed line r ∷ ds) few all =
+      waits_on own own_new seen seen_new notes notes_new turns (k + 1) ds (omega (arith, few)) all
+  waits_on own own_new seen seen_new notes notes_new turns k (StoreDeed line block number content ∷ ds) few all =
+      waits_on own own_new seen seen_new notes notes_new turns k ds few all
+  waits_on own own_new seen seen_new notes notes_new turns k (Await line block ∷ ds) few all =
+      (turns block k (omega (arith, few)) all.0, waits_on own own_new seen seen_new notes notes_new turns k ds few all.1)
+
+  wait_asked : (own : List ℕ) (seen before : List Entry) (notes : List Note) (e : Entry) (block k : ℕ) → StartsWith before seen → AllAgree gives before notes
+      → k ≤ length own → HasWaited c cap own seen notes block k → HasWaited c cap (own ++ length before ∷ []) (before ++ e ∷ []) notes block k
+  wait_asked own seen before notes e block k starts agree few has = record {
+    end = has.end;
+    asked = subst (λ (l : List ℕ). Each (λ n. n < has.end) l) (sym (take-append-le k own (length before ∷ []) few)) has.asked;
+    later = subst (λ (l : List ℕ). Each (λ n. has.end ≤ n) l) (sym (drop-append-le k own (length before ∷ []) few))
+        (each_last (λ n. has.end ≤ n) (drop k own) (length before) has.later (has.waited.within before starts agree));
+    waited = waited_on c cap block has.end seen (before ++ e ∷ []) notes notes has.waited (starts_again (before ++ e ∷ []) before seen (e ∷ [], refl) starts) (λ h a. a);
+  }
+
+  wait_seen : (own : List ℕ) (seen seen_new : List Entry) (notes more : List Note) (block k : ℕ) → StartsWith seen_new seen
+      → HasWaited c cap own seen notes block k → HasWaited c cap own seen_new (notes ++ more) block k
+  wait_seen own seen seen_new notes more block k starts has = record {
+    end = has.end;
+    asked = has.asked;
+    later = has.later;
+    waited = waited_on c cap block has.end seen seen_new notes (notes ++ more) has.waited starts (λ h a. agree_before h notes more a);
+  }
+
+  -- behind the last
+  all_asked : (own : List ℕ) (seen : List Entry) (notes : List Note) (line : ℕ) (r : Request) (k : ℕ) (ds : List Deed) → HasWaitedAll c cap own seen notes k ds
+      → HasWaitedAll c cap own seen notes k (ds ++ AskDeed line r ∷ [])
+  all_asked own seen notes line r k [] all = tt
+  all_asked own seen notes line r k (AskDeed l q ∷ ds) all = all_asked own seen notes line r (k + 1) ds all
+  all_asked own seen notes line r k (StoreDeed l block number content ∷ ds) all = all_asked own seen notes line r k ds all
+  all_asked own seen notes line r k (Await l block ∷ ds) all = (all.0, all_asked own seen notes line r k ds all.1)
+
+  all_stored : (own : List ℕ) (seen : List Entry) (notes : List Note) (line block number : ℕ) (content : List ℕ) (k : ℕ) (ds : List Deed) → HasWaitedAll c cap own seen notes k ds
+      → HasWaitedAll c cap own seen notes k (ds ++ StoreDeed line block number content ∷ [])
+  all_stored own seen notes line block number content k [] all = tt
+  all_stored own seen notes line block number content k (AskDeed l q ∷ ds) all = all_stored own seen notes line block number content (k + 1) ds all
+  all_stored own seen notes line block number content k (StoreDeed l b n x ∷ ds) all = all_stored own seen notes line block number content k ds all
+  all_stored own seen notes line block number content k (Await l b ∷ ds) all = (all.0, all_stored own seen notes line block number content k ds all.1)
+
+  all_waited : (own : List ℕ) (seen : List Entry) (notes : List Note) (line block k : ℕ) (ds : List Deed) → k + length (requests_in ds) ≡ length own
+      → ((n : ℕ) → n ≡ length own → HasWaited c cap own seen notes block n) → HasWaitedAll c cap own seen notes k ds
+      → HasWaitedAll c cap own seen notes k (ds ++ Await line block ∷ [])
+  all_waited own seen notes line block k [] many last all = (last k (omega (arith, many)), tt)
+  all_waited own seen notes line block k (AskDeed l q ∷ ds) many last all = all_waited own seen notes line block (k + 1) ds (omega (arith, many)) last all
+  all_waited own seen notes line block k (StoreDeed l b n x ∷ ds) many last all = all_waited own seen notes line block k ds many last all
+  all_waited own seen notes line block k (Await l b ∷ ds) many last all = (all.0, all_waited own seen notes line block k ds many last all.1)
+
+-- THE LAWS
+pub none_is_done : NoneIsDone
+none_is_done c cap seen notes caller = record { ascend = tt; at = tt; waits = tt }
+
+pub asks_are_done : AsksAreDone
+asks_are_done c cap own seen before notes caller deeds line r reply done starts agree =
+    let onwards : StartsWith (before ++ Ask caller r reply ∷ []) seen = starts_again (before ++ Ask caller r reply ∷ []) before seen (Ask caller r reply ∷ [], refl) starts in
+    let many = are_as_many caller seen own (requests_in deeds) done.at in
+    let below = are_below caller before own (requests_in deeds) (are_longer caller before seen own (requests_in deeds) starts done.at) in
+    record {
+      ascend = ascend_last own (length before) done.ascend below;
+      at = subst (λ (l : List Request). AreAt (before ++ Ask caller r reply ∷ []) caller (own ++ length before ∷ []) l) (sym (asks_more deeds line r))
+          (are_last caller (before ++ Ask caller r reply ∷ []) own (requests_in deeds) (length before) r reply
+          (are_longer caller (before ++ Ask caller r reply ∷ []) seen own (requests_in deeds) onwards done.at) (at_last before (Ask caller r reply) (length before) refl));
+      waits = all_asked c cap (own ++ length before ∷ []) (before ++ Ask caller r reply ∷ []) notes line r 0 deeds
+          (waits_on c cap own (own ++ length before ∷ []) seen (before ++ Ask caller r reply ∷ []) notes notes
+          (λ block k few has. wait_asked c cap own seen before notes (Ask caller r reply) block k starts agree few has) 0 deeds (omega (arith, many)) done.waits);
+    }
+
+pub stores_are_done : StoresAreDone
+stores_are_done c cap own seen notes caller deeds line block number content done = record {
+  ascend = done.ascend;
+  at = subst (λ (l : List Request). AreAt seen caller own l) (sym (others_more deeds (StoreDeed line block number content) refl)) done.at;
+  waits = all_stored c cap own seen notes line block number content 0 deeds done.waits;
+}
+
+pub waits_are_done : WaitsAreDone
+waits_are_done c cap own seen notes more caller deeds line block done (place, behind, waited) =
+    let many = are_as_many caller seen own (requests_in deeds) done.at in
+    let below = are_below caller seen own (requests_in deeds) done.at in
+    record {
+      ascend = done.ascend;
+      at = subst (λ (l : List Request). AreAt seen caller own l) (sym (others_more deeds (Await line block) refl)) done.at;
+      waits = all_waited c cap own seen (notes ++ more) line block 0 deeds (omega (arith, many))
+          (λ n is. record {
+            end = place;
+            asked = each_take (λ k. k < place) n own (each_on (λ k. k < length seen) (λ k. k < place) own (λ k low. omega (arith, low, behind)) below);
+            later = subst (λ (l : List ℕ). Each (λ k. place ≤ k) l) (sym (drop_all n own (omega (arith, is)))) tt;
+            waited = waited;
+          })
+          (waits_on c cap own own seen seen notes (notes ++ more) (λ b k few has. wait_seen c cap own seen seen notes more b k ([], sym (append-nil seen)) has) 0 deeds (omega (arith, many)) done.waits);
+    }
+
+pub deeds_last : DeedsLast
+deeds_last c cap own seen seen_new notes more caller deeds done starts =
+    let many = are_as_many caller seen own (requests_in deeds) done.at in
+    record {
+      ascend = done.ascend;
+      at = are_longer caller seen_new seen own (requests_in deeds) starts done.at;
+      waits = waits_on c cap own own seen seen_new notes (notes ++ more) (λ b k few has. wait_seen c cap own seen seen_new notes more b k starts has) 0 deeds (omega (arith, many)) done.waits;
+    }
+
+-- AT THE END
+module _ (c : Configuration) (cap : ℕ) (own : List ℕ) (seen : List Entry) (notes : List Note) (caller : ℕ) (rs : List Request) (h : List Entry)
+    (legal : IsLegal c cap h) (starts : StartsWith h seen) (agree : AllAgree gives h notes) (ascend : Ascend own) (at : AreAt h caller own rs) (all : AreAll h caller own) where
+  was_over : (block k : ℕ) → k ≤ length rs → HasWaited c cap own seen notes block k → WaitedFor c caller block k h
+  was_over block k few has =
+      let asks : asks_of caller (take has.end h) ≡ take k rs = asks_by_number (take has.end h) caller (take k own) (take k rs) (record {
+        ascend = ascend_take k own ascend;
+        at = are_first caller k has.end h own rs at has.asked;
+        all = λ j r reply is. let is_in = of_take has.end h j (Ask caller r reply) is in has_first k has.end own j has.later is_in.0 (all j r reply is_in.1);
+      }) in
+      record {
+        entries = has.end;
+        some = has.waited.some;
+        within = has.waited.within h starts agree;
+        asked = ap length asks ∙ omega (arith, length-take k rs, few);
+        over = has.waited.over h legal starts agree;
+      }
+
+  pub were_over : (k : ℕ) (ds : List Deed) → k + length (requests_in ds) ≤ length rs → HasWaitedAll c cap own seen notes k ds → WereOver c caller h k ds
+  were_over k [] few has = tt
+  were_over k (AskDeed line r ∷ ds) few has = were_over (k + 1) ds (omega (arith, few)) has
+  were_over k (StoreDeed line block number content ∷ ds) few has = were_over k ds few has
+  were_over k (Await line block ∷ ds) few has = (was_over block k (omega (arith, few)) has.0, were_over k ds few has.1)
+
+pub deeds_hold : DeedsHold
+deeds_hold c cap own seen notes caller deeds h done legal starts agree all =
+    let at = are_longer caller h seen own (requests_in deeds) starts done.at in record {
+      asks = asks_by_number h caller own (requests_in deeds) (record { ascend = done.ascend; at = at; all = all });
+      waits = were_over c cap own seen notes caller (requests_in deeds) h legal starts agree done.ascend at all 0 deeds (omega arith) done.waits;
+    }

@@ -1,0 +1,56 @@
+-- What the driver did beside the callers, call by call.
+use Rattle.std.proofs.Common.{◌≡◌, inl, inr, ℕ, zero, suc, true, List, [], refl, sym, ap, subst, ◌∙◌}
+use Rattle.nvm_core.specs.memif.Told.{DeviceTold, faults_of}
+use Rattle.nvm_core.specs.memif.Clock.{Clock}
+use Rattle.nvm_core.specs.memif.Trials.{Lasts}
+use Rattle.nvm_core.specs.block_machine.Words.{Entry}
+use Rattle.nvm_core.specs.ram_blocks.Told.{Told}
+use Rattle.turn_gate.specs.declared.pass.View.{View}
+use Rattle.turn_gate.specs.Pass.{both}
+use Rattle.nvm_shared.specs.declared.terms.Terms.{Terms}
+use Rattle.nvm_shared.specs.Passes.{LearnsMore, LearnsTurn}
+use Rattle.nvm_shared.specs.Driving.{DriverState}
+use Rattle.nvm_callers.specs.Driven.{HasDriven, SeesOn, StaysKeptOver, TurnsOn}
+use Rattle.nvm_callers.proofs.Following.{drives_follow}
+use Rattle.nvm_callers.specs.Shares.{Share}
+use Rattle.nvm_callers.specs.Joins.{Collects}
+use Rattle.nvm_callers.proofs.JoinedPasses.{turns_collect}
+use Rattle.nvm_callers.specs.Steering.{HasSteered, KeepsShares}
+
+abbrev V : Type 0
+V = View Entry Terms
+
+module _ {D C : Type 0} (told : D → DeviceTold) (clock : D → Clock) (copies : C → List Told) (is_store : C → ℕ → ℕ → List ℕ → Type 0) (looked : C → C → ℕ → ℕ → Type 0) (over : C → C → Type 0) (stands : C → ℕ → ℕ → List Entry → Type 0) (t : Terms) where
+  abbrev Steers : (v w : V) → (old new : DriverState D C) → Type 0
+  Steers v w old new = HasSteered told clock copies is_store looked over stands t v w old new
+
+  -- nothing
+  pub none_steered : (v : V) (old : DriverState D C) → Steers v v old old
+  none_steered v old = record { driven = (0, (refl, refl)); shares = λ shares collects. collects; parts = refl }
+
+  -- one behind another
+  pub steered_more : (u v w : V) (a b c : DriverState D C) → Steers u v a b → Steers v w b c → Steers u w a c
+  steered_more u v w a b c one two = record {
+    driven = drives_follow told clock copies is_store looked over stands t u.seen v.seen w.seen a b c one.driven two.driven;
+    shares = λ shares collects. two.shares shares (one.shares shares collects);
+    parts = two.parts ∙ one.parts;
+  }
+
+  -- a turn
+  pub turn_steers : (v w : V) (old new : DriverState D C) → TurnsOn told clock copies is_store looked over stands t v.seen w.seen old new → LearnsTurn v w → w.parts ≡ v.parts → Steers v w old new
+  turn_steers v w old new turns learns parts = record {
+    driven = (1, (v.seen, old, (refl, refl), inl turns));
+    shares = λ shares collects. turns_collect shares v w learns collects;
+    parts = parts;
+  }
+
+  -- no turn, but more that was seen
+  pub count_steers : (v w : V) (old : DriverState D C) → v.mark ≡ true → LearnsMore v w → LearnsTurn v w
+      → StaysKeptOver told clock copies is_store looked over stands t v.seen w.seen old old → Steers v w old old
+  count_steers v w old mark more learns keeps = record {
+    driven =
+        let asks = more.open_since mark in
+        (1, (v.seen, old, (refl, refl), inr (record { more = asks.0; are = asks.1; grows = asks.2; same = refl; keeps = keeps })));
+    shares = λ shares collects. turns_collect shares v w learns collects;
+    parts = more.parts;
+  }

@@ -1,0 +1,118 @@
+-- A run of callers at its end.
+use Rattle.std.specs.Prelude.{map, IsTrue, IfSome, drop, take, Contains}
+use Rattle.std.specs.List.{list_all}
+use Rattle.std.proofs.Common.{◌≡◌, ◌≢◌, ℕ, zero, suc, not, Bool, true, false, List, [], ◌∷◌, ◌++◌, Option, Some, None, refl, sym, ap, ◌∙◌, subst}
+use Rattle.nvm_core.specs.memif.Told.{DeviceTold}
+use Rattle.nvm_core.specs.memif.Clock.{Clock}
+use Rattle.nvm_core.specs.block_machine.Words.{Entry, Ask, Found, Instance, Mark, Configuration}
+use Rattle.nvm_core.specs.block_machine.Legal.{IsLegal}
+use Rattle.nvm_core.specs.block_machine.StartUp.{at_first}
+use Rattle.nvm_core.specs.ram_blocks.Told.{Told, told_at}
+use Rattle.nvm_core.specs.ram_blocks.declared.plain_block.PlainBlock.{PlainBlock}
+use Rattle.ram_mirrors_sync.specs.Blocks.{EndList, told_by}
+use Rattle.nvm_core.specs.nv_desk.Desk.{DeskState}
+use Rattle.nvm_core.specs.nv_desk_copies.Front.{AreSynchronized}
+use Rattle.turn_gate.specs.declared.pass.View.{View}
+use Rattle.script_walks.specs.Words.{Step}
+use Rattle.script_walks.specs.Looks.{Look}
+use Rattle.script_walks.specs.Callers.{IsInOrder, program_of}
+use Rattle.script_walks.specs.Runs.{IsRun, has_ended, is_found}
+use Rattle.script_callers.specs.Programs.{programs_of}
+use Rattle.script_callers.specs.RunScripts.{AreRun}
+use Rattle.nvm_shared.specs.declared.terms.Terms.{Terms}
+use Rattle.nvm_shared.specs.Locked.{desk_with}
+use Rattle.nvm_shared.specs.Opening.{IsFirst}
+use Rattle.nvm_shared.specs.Passes.{IsEntry}
+use Rattle.nvm_shared.specs.Driving.{DriverState, driver_of, stack_of}
+use Rattle.nvm_callers.specs.Driven.{HasDriven}
+use Rattle.nvm_callers.specs.Added.{RefusesNone}
+use Rattle.nvm_callers.specs.Looked.{HasLooked, LooksAreOrdered}
+use Rattle.nvm_callers.specs.Shares.{BeginsUnasked}
+use Rattle.promise_run.specs.Run.{RunsBy, cap}
+use Rattle.nvm_callers.specs.Callers.{HaveRun}
+use Rattle.nvm_callers.specs.KeptSteps.{EndSo, IsClosedBy}
+use Rattle.nvm_callers.specs.declared.ending.Ending.{Ending}
+use Rattle.nvm_callers.specs.declared.ending.Ending.TheVariants as ending
+use Rattle.nvm_callers.proofs.Keeping.{driving_keeps}
+use Rattle.nvm_callers.proofs.Adding.{driving_adds}
+use Rattle.nvm_callers.proofs.Looking.{driving_looks}
+use Rattle.nvm_callers.proofs.KeptSteps.{callers_ask, callers_keep_steps}
+use Rattle.nvm_callers.specs.Ran.{KeepsOrder, StoresAreTaken, WasRun, end_of}
+
+-- mirrors refuse no copy
+pub refuse_none : {N : Type 0} (es : EndList N) → RefusesNone (map told_by es)
+refuse_none [] block = tt
+refuse_none (None ∷ es) zero = tt
+refuse_none (Some e ∷ es) zero = refl
+refuse_none (e ∷ es) (suc block) = refuse_none es block
+
+module _ {D C : Type 0} (told : D → DeviceTold) (clock : D → Clock) (copies : C → List Told) (is_store : C → ℕ → ℕ → List ℕ → Type 0) (looked : C → C → ℕ → ℕ → Type 0) (over : C → C → Type 0) (stands : C → ℕ → ℕ → List Entry → Type 0) (t : Terms) where
+  -- WHAT WAS KEPT
+  pub was_run : (begin seen : List Entry) (first : DriverState D (List PlainBlock)) (m : C) (now : DriverState D C) (e : Ending) (desk : DeskState) (device : D)
+      → HasDriven told clock copies is_store looked over stands t begin seen (driver_of first.device m first.hand) now → AreSynchronized t.config (copies m) → RefusesNone (copies m)
+      → IsTrue (has_ended t.config seen) → desk ≡ desk_with t seen → device ≡ now.device → WasRun told clock (stack_of (desk_with t begin) first) e desk device
+  was_run begin seen first m now e desk device driven synchronized none ended is_desk is_device =
+      let kept = driving_keeps told clock copies is_store looked over stands t begin seen (driver_of first.device m first.hand) now driven in
+      let added = driving_adds told clock copies is_store looked over stands t begin seen (driver_of first.device m first.hand) now driven in
+      let was : WasRun told clock (stack_of (desk_with t begin) first) e (desk_with t seen) now.device = record {
+        config = refl;
+        cap = refl;
+        more = added.more;
+        grows = added.grows;
+        no_start = added.no_start;
+        no_refusal = (added.no_refusal synchronized none).1;
+        hand = now.hand;
+        keeps = kept.keeps;
+        cuts = added.cuts;
+        ends = λ other. ended;
+      } in
+      subst (λ (y : DeskState). WasRun told clock (stack_of (desk_with t begin) first) e y device) (sym is_desk)
+      (subst (λ (x : D). WasRun told clock (stack_of (desk_with t begin) first) e (desk_with t seen) x) (sym is_device) was)
+
+  -- THE ORDER
+  module _ (steps : List Step) (run : AreRun t.config steps) (marks : List (Instance × Mark)) (ops : ℕ) (h : List Entry) (old new : DriverState D C) (looks : HasLooked told clock copies is_store looked over stands t (Found marks ops ∷ []) h old new) (no_start : IsTrue (list_all (λ e. not (is_found e)) looks.more)) where
+    grown : h ≡ Found marks ops ∷ looks.more
+    grown = looks.grows
+
+    unasked : BeginsUnasked h
+    unasked caller r reply = subst (λ (l : List Entry). ¬ IsEntry l 0 (Ask caller r reply)) (sym grown) (λ is. cc is)
+
+    is_run : ((caller : ℕ) → IsInOrder t.config caller (program_of caller steps) h) → StoresAreTaken steps looks.looks (desk_with t h) → IsRun t.config steps looks.looks h
+    is_run order taken = record {
+      one_start = subst (λ (l : List Entry). IsTrue (list_all (λ e. not (is_found e)) (drop 1 l))) (sym grown) no_start;
+      order = order;
+      stores = taken.stores;
+      in_order = looks.in_order;
+      shown = taken.shown;
+    }
+
+    runs_by : (e : Ending) → IsRun t.config steps looks.looks h → EndSo t.config cap steps h e → IsTrue (has_ended t.config h) → RunsBy t.config steps looks.looks (end_of e) h
+    runs_by ending.All is ends ended = record { order = is; all = ends; ends = ended }
+    runs_by ending.NoRoom is ends ended = record { order = is; caller = ends.0; full = ends.1; others = ends.2; ends = ended }
+    runs_by ending.Memory is ends ended = is
+
+    pub keeps_order : (e : Ending) (v : View Entry Terms) (desk : DeskState) → t.cap ≡ cap → HaveRun t (programs_of t.config steps) e v → IsClosedBy v h → IsTrue (has_ended t.config h)
+        → desk ≡ desk_with t h → KeepsOrder steps e desk
+    keeps_order e v desk most ran closed ended is_desk =
+        let asked = callers_ask t steps e v h run ran closed unasked in
+        let keeps : KeepsOrder steps e (desk_with t h) = record {
+          asks = asked.asks;
+          all = asked.all;
+          looks = looks.looks;
+          in_order = looks.in_order;
+          order = λ legal taken.
+              let kept = callers_keep_steps t steps e v h run ran closed legal in
+              runs_by e (is_run kept.order taken) (subst (λ (n : ℕ). EndSo t.config n steps h e) most kept.ends) ended;
+        } in
+        subst (λ (y : DeskState). KeepsOrder steps e y) (sym is_desk) keeps
+
+  -- behind one start-up
+  pub keeps_order_of : LooksAreOrdered looked over → (steps : List Step) → AreRun t.config steps → (begin h : List Entry) → IsFirst begin → (old new : DriverState D C) → HasDriven told clock copies is_store looked over stands t begin h old new
+      → (e : Ending) (v : View Entry Terms) (desk : DeskState) → t.cap ≡ cap → HaveRun t (programs_of t.config steps) e v → IsClosedBy v h → IsTrue (has_ended t.config h) → desk ≡ desk_with t h → KeepsOrder steps e desk
+  keeps_order_of ordered steps run begin h (marks, ops, one) old new driven e v desk most ran closed ended is_desk =
+      let first = Found marks ops ∷ [] in
+      let own = subst (λ (l : List Entry). HasDriven told clock copies is_store looked over stands t l h old new) one driven in
+      let looks = driving_looks told clock copies is_store looked over stands t ordered first h old new own in
+      let added = driving_adds told clock copies is_store looked over stands t first h old new own in
+      let same : added.more ≡ looks.more = ap (drop 1) (sym added.grows ∙ looks.grows) in
+      keeps_order steps run marks ops h old new looks (subst (λ (l : List Entry). IsTrue (list_all (λ x. not (is_found x)) l)) same added.no_start) e v desk most ran closed ended is_desk

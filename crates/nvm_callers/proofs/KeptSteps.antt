@@ -1,0 +1,331 @@
+-- What a history tells of callers that ran.
+use Rattle.std.specs.Prelude.{slice_get, slice_index_or, Contains, AllPairs}
+use Rattle.std.proofs.Common.{◌≡◌, ◌≢◌, ◌⊎◌, inl, inr, ℕ, zero, suc, ◌<◌, ◌≤◌, ◌+◌, List, [], ◌∷◌, ◌++◌, length, take, drop, Option, Some, None, refl, sym, ap, subst, arith, ◌∙◌}
+use Rattle.std.proofs.lemmas.List.{take-append-drop}
+use Rattle.std.proofs.lemmas.List.Elements.{All-contains}
+use Rattle.turn_gate.specs.declared.pass.View.{View}
+use Rattle.turn_gate.specs.Entries.{StartsWith}
+use Rattle.turn_gate.specs.Pass.{Has}
+use Rattle.nvm_core.specs.block_machine.Words.{Request, Entry, Configuration}
+use Rattle.nvm_core.specs.block_machine.Legal.{IsLegal}
+use Rattle.script_walks.specs.Words.{Step}
+use Rattle.script_walks.specs.Callers.{IsInOrder, asks_of, program_of, requests_of}
+use Rattle.script_walks.specs.Runs.{AskedAll, HadNoRoom}
+use Rattle.nvm_shared.specs.declared.terms.Terms.{Terms}
+use Rattle.script_callers.specs.declared.deed.Deed.{Deed}
+use Rattle.script_callers.specs.declared.deed.Deed.TheVariants.{Ask}
+use Rattle.script_callers.specs.declared.program.Program.{Program}
+use Rattle.script_callers.specs.Deeds.{deeds_of, requests_in}
+use Rattle.script_callers.specs.Programs.{program_by, programs_of}
+use Rattle.script_callers.specs.RunScripts.{AreRun}
+use Rattle.script_callers.specs.Laws.{ArePrograms}
+use Rattle.script_callers.proofs.Apart.{programs_are_apart}
+use Rattle.script_callers.proofs.Growing.{deeds_have_the_requests}
+use Rattle.nvm_callers.specs.Shares.{BeginsUnasked, IsOfShares, Share}
+use Rattle.nvm_callers.specs.Deeds.{Shows}
+use Rattle.nvm_callers.proofs.Waiting.{starts_again}
+use Rattle.nvm_callers.proofs.JoinedPasses.{collected_are_all}
+use Rattle.nvm_callers.proofs.Ordering.{beginnings_ask, beginnings_keep_order, no_room_is_had}
+use Rattle.nvm_callers.proofs.Sharing.{legal_begin_unasked, nobody_else_asks, shares_ask, shares_have_all, shares_hold}
+use Rattle.nvm_callers.specs.Callers.{AllMade, EndsAt, HadFull, HasMade, HaveRun, worse, worst}
+use Rattle.nvm_callers.specs.KeptSteps.{CallersAsk, CallersKeepSteps, EndSo, HaveAsked, IsClosedBy, KeepSteps}
+use Rattle.nvm_callers.specs.declared.ending.Ending.{Ending}
+use Rattle.nvm_callers.specs.declared.ending.Ending.TheVariants.{All as EndsAll, NoRoom, Memory}
+
+-- PLACES
+module _ {A : Type 0} where
+  contained : (l : List A) (i : ℕ) (a : A) → slice_get l i ≡ Some a → Contains l a
+  contained [] i a at = absurd (cc at)
+  contained (x ∷ xs) zero a at = (0, omega arith, cc at)
+  contained (x ∷ xs) (suc i) a at = let rest = contained xs i a at in (suc rest.0, omega (arith, rest.1), cc rest.2)
+
+  placed : (l : List A) (a : A) → Contains l a → (i : ℕ) × (slice_get l i ≡ Some a)
+  placed [] a (i, low, is) = absurd (omega (arith, low))
+  placed (x ∷ xs) a (zero, low, is) = (0, ap Some is)
+  placed (x ∷ xs) a (suc i, low, is) = let rest = placed xs a (i, omega (arith, low), is) in (suc rest.0, rest.1)
+
+  index_of : (l : List A) (i : ℕ) (a d : A) → slice_get l i ≡ Some a → (i < length l) × (slice_index_or l i d ≡ a)
+  index_of [] i a d at = absurd (cc at)
+  index_of (x ∷ xs) zero a d at = (omega arith, cc at)
+  index_of (x ∷ xs) (suc i) a d at = let rest = index_of xs i a d at in (omega (arith, rest.0), rest.1)
+
+  split_at : (l : List A) (i : ℕ) (a : A) → slice_get l i ≡ Some a → l ≡ take i l ++ a ∷ drop (suc i) l
+  split_at [] i a at = absurd (cc at)
+  split_at (x ∷ xs) zero a at = cc at
+  split_at (x ∷ xs) (suc i) a at = ap (λ (l : List A). x ∷ l) (split_at xs i a at)
+
+  all_taken : (l : List A) (n : ℕ) → n ≡ length l → take n l ≡ l
+  all_taken [] zero is = refl
+  all_taken [] (suc n) is = refl
+  all_taken (x ∷ xs) zero is = absurd (omega (arith, is))
+  all_taken (x ∷ xs) (suc n) is = ap (λ (l : List A). x ∷ l) (all_taken xs n (omega (arith, is)))
+
+-- the one is before the other, they are the same, or it is behind
+order : (i j : ℕ) → (i < j) ⊎ ((i ≡ j) ⊎ (j < i))
+order zero zero = inr (inl refl)
+order zero (suc j) = inl (omega arith)
+order (suc i) zero = inr (inr (omega arith))
+order (suc i) (suc j) = elim (order i j) [
+  | inl before ↦ inl (omega (arith, before))
+  | inr other ↦ elim other [
+    | inl same ↦ inr (inl (omega (arith, same)))
+    | inr behind ↦ inr (inr (omega (arith, behind)))
+  ]
+]
+
+-- ENDINGS
+worse_all : (a b : Ending) → worse a b ≡ EndsAll → (a ≡ EndsAll) × (b ≡ EndsAll)
+worse_all EndsAll b is = (refl, is)
+worse_all NoRoom EndsAll is = cc is
+worse_all NoRoom NoRoom is = cc is
+worse_all NoRoom Memory is = cc is
+worse_all Memory b is = cc is
+
+worse_memory : (a : Ending) → worse a Memory ≡ Memory
+worse_memory EndsAll = refl
+worse_memory NoRoom = refl
+worse_memory Memory = refl
+
+worse_room : (a b : Ending) → worse a b ≡ NoRoom → (a ≡ NoRoom) ⊎ (b ≡ NoRoom)
+worse_room EndsAll b is = inr is
+worse_room NoRoom b is = inl refl
+worse_room Memory b is = cc is
+
+all_ended : (es : List Ending) (i : ℕ) (e : Ending) → worst es ≡ EndsAll → slice_get es i ≡ Some e → e ≡ EndsAll
+all_ended [] i e is at = absurd (cc at)
+all_ended (x ∷ es) zero e is at = let same : x ≡ e = cc at in sym same ∙ (worse_all x (worst es) is).0
+all_ended (x ∷ es) (suc i) e is at = all_ended es i e (worse_all x (worst es) is).1 at
+
+memory_ended : (es : List Ending) (i : ℕ) → slice_get es i ≡ Some Memory → worst es ≡ Memory
+memory_ended [] i at = absurd (cc at)
+memory_ended (x ∷ es) zero at = let same : x ≡ Memory = cc at in ap (λ (e : Ending). worse e (worst es)) same
+memory_ended (x ∷ es) (suc i) at = ap (worse x) (memory_ended es i at) ∙ worse_memory x
+
+room_ended : (es : List Ending) → worst es ≡ NoRoom → (i : ℕ) × (slice_get es i ≡ Some NoRoom)
+room_ended [] is = absurd (cc is)
+room_ended (x ∷ es) is = elim (worse_room x (worst es) is) [
+  | inl first ↦ (0, ap Some first)
+  | inr later ↦ (let rest = room_ended es later in (suc rest.0, rest.1))
+]
+
+-- SHARES AND PROGRAMS
+module _ (t : Terms) where
+  share_for : (ps : List Program) (ss : List Share) (es : List Ending) (i : ℕ) (p : Program) → AllMade t ps ss es → slice_get ps i ≡ Some p
+      → (s : Share) × (e : Ending) × (slice_get ss i ≡ Some s) × (slice_get es i ≡ Some e) × HasMade t p s e
+  share_for [] ss es i p made at = absurd (cc at)
+  share_for (q ∷ ps) (s ∷ ss) (e ∷ es) zero p made at = (s, e, refl, refl, subst (λ (x : Program). HasMade t x s e) (cc at) made.0)
+  share_for (q ∷ ps) (s ∷ ss) (e ∷ es) (suc i) p made at = share_for ps ss es i p made.1 at
+  share_for (q ∷ ps) [] es i p made at = absurd made
+  share_for (q ∷ ps) (s ∷ ss) [] i p made at = absurd made
+
+  program_for : (ps : List Program) (ss : List Share) (es : List Ending) (i : ℕ) (s : Share) → AllMade t ps ss es → slice_get ss i ≡ Some s
+      → (p : Program) × (e : Ending) × (slice_get ps i ≡ Some p) × (slice_get es i ≡ Some e) × HasMade t p s e
+  program_for ps [] es i s made at = absurd (cc at)
+  program_for (p ∷ ps) (x ∷ ss) (e ∷ es) zero s made at = (p, e, refl, refl, subst (λ (y : Share). HasMade t p y e) (cc at) made.0)
+  program_for (p ∷ ps) (x ∷ ss) (e ∷ es) (suc i) s made at = program_for ps ss es i s made.1 at
+  program_for [] (x ∷ ss) es i s made at = absurd made
+  program_for (p ∷ ps) (x ∷ ss) [] i s made at = absurd made
+
+  ended_for : (ps : List Program) (ss : List Share) (es : List Ending) (i : ℕ) (e : Ending) → AllMade t ps ss es → slice_get es i ≡ Some e
+      → (p : Program) × (s : Share) × (slice_get ps i ≡ Some p) × (slice_get ss i ≡ Some s) × HasMade t p s e
+  ended_for ps ss [] i e made at = absurd (cc at)
+  ended_for (p ∷ ps) (s ∷ ss) (x ∷ es) zero e made at = (p, s, refl, refl, subst (λ (y : Ending). HasMade t p s y) (cc at) made.0)
+  ended_for (p ∷ ps) (s ∷ ss) (x ∷ es) (suc i) e made at = ended_for ps ss es i e made.1 at
+  ended_for [] [] (x ∷ es) i e made at = absurd made
+  ended_for [] (s ∷ ss) (x ∷ es) i e made at = absurd made
+  ended_for (p ∷ ps) [] (x ∷ es) i e made at = absurd made
+
+  abbrev IsApart : List Program → Type 0
+  IsApart ps = AllPairs (λ p q. p.caller < q.caller) ps
+
+  same_place : (ps : List Program) (i j : ℕ) (p q : Program) → IsApart ps → slice_get ps i ≡ Some p → slice_get ps j ≡ Some q → p.caller ≡ q.caller → i ≡ j
+  same_place ps i j p q apart at there same =
+      let first = index_of ps i p p at in
+      let other = index_of ps j q p there in
+      elim (order i j) [
+        | inl before ↦ absurd (let less = apart i j p before other.0 in omega (arith, less, ap (λ (x : Program). x.caller) first.1, ap (λ (x : Program). x.caller) other.1, same))
+        | inr less_not ↦ elim less_not [
+          | inl is ↦ is
+          | inr behind ↦ absurd (let less = apart j i p behind first.0 in omega (arith, less, ap (λ (x : Program). x.caller) first.1, ap (λ (x : Program). x.caller) other.1, same))
+        ]
+      ]
+
+  shares_apart : (ps : List Program) (ss : List Share) (es : List Ending) (x y : Share) → AllMade t ps ss es → IsApart ps → Contains ss x → Contains ss y → x.caller ≡ y.caller → x ≡ y
+  shares_apart ps ss es x y made apart one other same =
+      let at = placed ss x one in
+      let there = placed ss y other in
+      let (p, e, is_p, is_e, made_p) = program_for ps ss es at.0 x made at.1 in
+      let (q, f, is_q, is_f, made_q) = program_for ps ss es there.0 y made there.1 in
+      let place = same_place ps at.0 there.0 p q apart is_p is_q (sym made_p.caller ∙ same ∙ made_q.caller) in
+      some_same (sym at.1 ∙ ap (slice_get ss) place ∙ there.1)
+    where
+      some_same : Some x ≡ Some y → x ≡ y
+      some_same is = cc is
+
+  shares_done : (ps : List Program) (ss : List Share) (es : List Ending) (s : Share) → AllMade t ps ss es → Contains ss s → (p : Program) × (e : Ending) × HasMade t p s e
+  shares_done ps ss es s made within =
+      let at = placed ss s within in
+      let (p, e, is_p, is_e, made_p) = program_for ps ss es at.0 s made at.1 in (p, e, made_p)
+
+-- a program is of this caller, or none is
+program_of_caller : (ps : List Program) (caller : ℕ) → ((i : ℕ) × (p : Program) × (slice_get ps i ≡ Some p) × (p.caller ≡ caller)) ⊎ ((p : Program) → Contains ps p → p.caller ≡ caller → ⊥)
+program_of_caller [] caller = inr (λ p within. let at = placed [] p within in absurd (cc at.1))
+program_of_caller (p ∷ ps) caller = elim (program_of_caller ps caller) [
+  | inl (i, q, at, is) ↦ inl (suc i, q, at, is)
+  | inr none ↦ elim (order p.caller caller) [
+    | inl less ↦ inr (others none (λ is. omega (arith, is, less)))
+    | inr not_less ↦ elim not_less [
+      | inl same ↦ inl (0, p, refl, same)
+      | inr more ↦ inr (others none (λ is. omega (arith, is, more)))
+    ]
+  ]
+]
+  where
+    others : ((q : Program) → Contains ps q → q.caller ≡ caller → ⊥) → (p.caller ≡ caller → ⊥) → (q : Program) → Contains (p ∷ ps) q → q.caller ≡ caller → ⊥
+    others none not q (zero, low, is) same = not (ap (λ (x : Program). x.caller) is ∙ same)
+    others none not q (suc i, low, is) same = none q (i, omega (arith, low), is) same
+
+-- THE HISTORY
+module _ (t : Terms) (steps : List Step) (ending : Ending) (v : View Entry Terms) (h : List Entry) (run : AreRun t.config steps) (ran : HaveRun t (programs_of t.config steps) ending v)
+    (closed : IsClosedBy v h) (first : BeginsUnasked h) where
+  abbrev c : Configuration
+  c = t.config
+
+  abbrev programs : List Program
+  programs = programs_of t.config steps
+
+  are : ArePrograms c steps programs
+  are = programs_are_apart c steps run
+
+  of_shares : IsOfShares c t.cap h ran.shares
+  of_shares = collected_are_all c t.cap h ran.shares v ran.collects first (closed.all.0) (closed.all.1) closed.agree closed.heard
+      (λ s within. (shares_done t programs ran.shares ran.endings s ran.made within).2.done)
+      (λ x y one other same. shares_apart t programs ran.shares ran.endings x y ran.made are.apart one other same)
+
+  -- what a caller's share did of the caller's steps
+  begins : (caller i : ℕ) (p : Program) (s : Share) (e : Ending) → slice_get programs i ≡ Some p → p.caller ≡ caller → HasMade t p s e → deeds_of c (program_of caller steps) ≡ p.deeds
+  begins caller i p s e at is made =
+      let by = All-contains (λ (q : Program). q ≡ program_by c steps q.caller) programs p are.each (contained programs i p at) in
+      ap (λ (n : ℕ). deeds_of c (program_of n steps)) (sym is) ∙ sym (ap (λ (q : Program). q.deeds) by)
+
+  beginning : (caller i : ℕ) (p : Program) (s : Share) (e : Ending) → slice_get programs i ≡ Some p → p.caller ≡ caller → (made : HasMade t p s e)
+      → deeds_of c (program_of caller steps) ≡ s.deeds ++ drop made.made p.deeds
+  beginning caller i p s e at is made =
+      begins caller i p s e at is made ∙ sym (take-append-drop made.made p.deeds) ∙ ap (λ (ds : List Deed). ds ++ drop made.made p.deeds) (sym made.deeds)
+
+  -- nobody did anything
+  nothing : (caller : ℕ) → ((p : Program) → Contains programs p → p.caller ≡ caller → ⊥) → (deeds_of c (program_of caller steps) ≡ []) × (asks_of caller h ≡ [])
+  nothing caller none = (
+    are.others caller none,
+    nobody_else_asks c t.cap h ran.shares of_shares caller (λ s within same.
+        let at = placed ran.shares s within in
+        let (p, e, is_p, is_e, made_p) = program_for t programs ran.shares ran.endings at.0 s ran.made at.1 in
+        none p (contained programs at.0 p is_p) (sym made_p.caller ∙ same)),
+  )
+
+  asks_by : (caller : ℕ) (s : Share) → Contains ran.shares s → s.caller ≡ caller → asks_of caller h ≡ requests_in s.deeds
+  asks_by caller s within is = subst (λ (n : ℕ). asks_of n h ≡ requests_in s.deeds) is (shares_ask c t.cap h ran.shares of_shares s within)
+
+  asked : (caller : ℕ) → asks_of caller h ≡ take (length (asks_of caller h)) (requests_of c (program_of caller steps))
+  asked caller = elim (program_of_caller programs caller) [
+    | inl (i, p, at, is) ↦ (
+        let (s, e, is_s, is_e, made) = share_for t programs ran.shares ran.endings i p ran.made at in
+        beginnings_ask c caller (program_of caller steps) s.deeds (drop made.made p.deeds) h (beginning caller i p s e at is made)
+        (asks_by caller s (contained ran.shares i s is_s) (made.caller ∙ is)))
+    | inr none ↦ (
+        let no = nothing caller none in
+        beginnings_ask c caller (program_of caller steps) [] [] h no.0 no.1)
+  ]
+
+  -- a caller that did all of its program
+  all_of : (caller i : ℕ) (p : Program) (s : Share) (e : Ending) → slice_get programs i ≡ Some p → p.caller ≡ caller → HasMade t p s e → e ≡ EndsAll → Contains ran.shares s
+      → AskedAll c steps h caller
+  all_of caller i p s e at is made all within =
+      let ends : EndsAt t p.deeds made.made s EndsAll = subst (EndsAt t p.deeds made.made s) all made.ends in
+      asks_by caller s within (made.caller ∙ is) ∙ ap requests_in (made.deeds ∙ all_taken p.deeds made.made ends ∙ sym (begins caller i p s e at is made))
+      ∙ deeds_have_the_requests c (program_of caller steps)
+
+  none_of : (caller : ℕ) → ((p : Program) → Contains programs p → p.caller ≡ caller → ⊥) → AskedAll c steps h caller
+  none_of caller none =
+      let no = nothing caller none in
+      no.1 ∙ ap requests_in (sym no.0) ∙ deeds_have_the_requests c (program_of caller steps)
+
+  all : ending ≡ EndsAll → (caller : ℕ) → AskedAll c steps h caller
+  all is_all caller = elim (program_of_caller programs caller) [
+    | inl (i, p, at, is) ↦ (
+        let (s, e, is_s, is_e, made) = share_for t programs ran.shares ran.endings i p ran.made at in
+        all_of caller i p s e at is made (all_ended ran.endings i e (sym ran.ends ∙ is_all) is_e) (contained ran.shares i s is_s))
+    | inr none ↦ none_of caller none
+  ]
+
+  -- LEGAL
+  module _ (legal : IsLegal t.config t.cap h) where
+    shows_by : (caller : ℕ) (s : Share) → Contains ran.shares s → s.caller ≡ caller → Shows c caller s.deeds h
+    shows_by caller s within is = subst (λ (n : ℕ). Shows c n s.deeds h) is (shares_hold c t.cap h ran.shares of_shares legal s within)
+
+    in_order : (caller : ℕ) → IsInOrder c caller (program_of caller steps) h
+    in_order caller = elim (program_of_caller programs caller) [
+      | inl (i, p, at, is) ↦ (
+          let (s, e, is_s, is_e, made) = share_for t programs ran.shares ran.endings i p ran.made at in
+          beginnings_keep_order c caller (program_of caller steps) s.deeds (drop made.made p.deeds) h (beginning caller i p s e at is made)
+          (shows_by caller s (contained ran.shares i s is_s) (made.caller ∙ is)))
+      | inr none ↦ (
+          let no = nothing caller none in
+          beginnings_keep_order c caller (program_of caller steps) [] [] h no.0 (record { asks = no.1; waits = tt }))
+    ]
+
+    -- a caller whose next request had no room
+    full_of : (caller i : ℕ) (p : Program) (s : Share) (e : Ending) → slice_get programs i ≡ Some p → p.caller ≡ caller → HasMade t p s e → e ≡ NoRoom → Contains ran.shares s
+        → HadNoRoom t.cap c steps h caller
+    full_of caller i p s e at is made full within =
+        let is_full : EndsAt t p.deeds made.made s NoRoom = subst (EndsAt t p.deeds made.made s) full made.ends in
+        let had = is_full.0 in
+        let (line, r, next) = is_full.1 in
+        let share = of_shares.are s within in
+        let program : deeds_of c (program_of s.caller steps) ≡ s.deeds ++ Ask line r ∷ drop (suc made.made) p.deeds =
+        begins s.caller i p s e at (sym made.caller) made ∙ split_at p.deeds made.made (Ask line r) next
+        ∙ ap (λ (ds : List Deed). ds ++ Ask line r ∷ drop (suc made.made) p.deeds) (sym made.deeds) in
+        subst (λ (n : ℕ). HadNoRoom t.cap c steps h n) (made.caller ∙ is)
+        (no_room_is_had c t.cap s.own had.seen s.notes steps s.caller s.deeds (drop (suc made.made) p.deeds) line r h program had.found legal
+        (starts_again h s.seen had.seen share.starts had.starts) (shares_have_all c t.cap h ran.shares of_shares s within))
+
+    either_of : ending ≡ NoRoom → (caller i : ℕ) (p : Program) (s : Share) (e e_is : Ending) → e ≡ e_is → slice_get programs i ≡ Some p → p.caller ≡ caller → HasMade t p s e
+        → slice_get ran.endings i ≡ Some e → Contains ran.shares s → AskedAll c steps h caller ⊎ HadNoRoom t.cap c steps h caller
+    either_of room caller i p s e EndsAll so at is made is_e within = inl (all_of caller i p s e at is made so within)
+    either_of room caller i p s e NoRoom so at is made is_e within = inr (full_of caller i p s e at is made so within)
+    either_of room caller i p s e Memory so at is made is_e within =
+        absurd (never (memory_ended ran.endings i (is_e ∙ ap Some so)))
+      where
+        never : worst ran.endings ≡ Memory → ⊥
+        never is_memory = let both : NoRoom ≡ Memory = sym room ∙ ran.ends ∙ is_memory in cc both
+
+    either : ending ≡ NoRoom → (caller : ℕ) → AskedAll c steps h caller ⊎ HadNoRoom t.cap c steps h caller
+    either room caller = elim (program_of_caller programs caller) [
+      | inl (i, p, at, is) ↦ (
+          let (s, e, is_s, is_e, made) = share_for t programs ran.shares ran.endings i p ran.made at in
+          either_of room caller i p s e e refl at is made is_e (contained ran.shares i s is_s))
+      | inr none ↦ inl (none_of caller none)
+    ]
+
+    one_full : ending ≡ NoRoom → (caller : ℕ) × HadNoRoom t.cap c steps h caller
+    one_full room =
+        let (i, is_e) = room_ended ran.endings (sym ran.ends ∙ room) in
+        let (p, s, at, is_s, made) = ended_for t programs ran.shares ran.endings i NoRoom ran.made is_e in
+        (p.caller, full_of p.caller i p s NoRoom at refl made refl (contained ran.shares i s is_s))
+
+    ends : (e : Ending) → ending ≡ e → EndSo c t.cap steps h e
+    ends EndsAll is = all is
+    ends NoRoom is = let one = one_full is in (one.0, one.1, either is)
+    ends Memory is = tt
+
+pub callers_ask : CallersAsk
+callers_ask t steps ending v h run ran closed first = record {
+  asks = asked t steps ending v h run ran closed first;
+  all = all t steps ending v h run ran closed first;
+}
+
+pub callers_keep_steps : CallersKeepSteps
+callers_keep_steps t steps ending v h run ran closed legal = record {
+  order = in_order t steps ending v h run ran closed (legal_begin_unasked t.config t.cap h legal) legal;
+  ends = ends t steps ending v h run ran closed (legal_begin_unasked t.config t.cap h legal) legal ending refl;
+}

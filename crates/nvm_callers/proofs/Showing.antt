@@ -1,0 +1,41 @@
+-- Each copy was shown.
+use Rattle.std.specs.Prelude.{take, Contains}
+use Rattle.std.proofs.Common.{◌≡◌, ℕ, Bool, true, false, List, [], ◌∷◌, ◌++◌, refl, sym, ap, ◌∙◌, subst, append_assoc}
+use Rattle.std.proofs.Math.Seq.{take-append_seam}
+use Rattle.nvm_core.specs.block_machine.Words.{TookNothing, TookContent, TookRefused, TookStale, Entry, Ask, Pick, Wrote, Post, Off, Found, Configuration}
+use Rattle.nvm_core.specs.block_machine.Next.{next_of}
+use Rattle.nvm_core.specs.block_machine.Steps.{after}
+use Rattle.script_walks.specs.Words.{Step}
+use Rattle.script_walks.specs.Looks.{Look, CanBeStored, CopyIsShown, CopiesAreShown}
+use Rattle.script_walks.specs.Turn.{copies_next}
+use Rattle.nvm_callers.specs.Looked.{TookShown, AllTookShown, look_behind}
+use Rattle.nvm_callers.specs.TakenCopies.{CopiesHaveLooks}
+
+module _ (c : Configuration) (steps : List Step) (looks : List Look) (IsStore : (block number : ℕ) → List ℕ → Type 0) where
+  -- a look in the Pick behind these entries showed what can have been stored by then
+  abbrev Made : List Entry → Type 0
+  Made before = (block shown : ℕ) → Contains looks (look_behind before block shown) → CanBeStored c steps block shown before
+
+  one : (before : List Entry) (e : Entry) (copies : Bool) → Made before → TookShown looks IsStore before e copies → CopyIsShown c steps looks before e copies
+  one before (Pick block kind (TookStale asked got count) ops) copies made took = (record { seen = took.0; made = made block got took.0 }, took.1)
+  one before (Pick block kind (TookContent bytes number) ops) true made took = record { seen = took.0; made = made block number took.0 }
+  one before (Pick block kind (TookContent bytes number) ops) false made took = tt
+  one before (Pick block kind (TookRefused count) ops) copies made took = tt
+  one before (Pick block kind TookNothing ops) copies made took = tt
+  one before (Ask caller r reply) copies made took = tt
+  one before (Wrote i mark ops) copies made took = tt
+  one before (Post block r given refused ops) copies made took = tt
+  one before (Off ops) copies made took = tt
+  one before (Found marks ops) copies made took = tt
+
+  all : (h before more : List Entry) → h ≡ before ++ more → ((l : Look) → Contains looks l → CanBeStored c steps l.block l.shown (take l.entry h))
+      → AllTookShown looks IsStore c before more → CopiesAreShown c steps looks before more
+  all h before [] is made took = tt
+  all h before (e ∷ es) is made took = (
+    one before e (copies_next c (next_of c (after c before)))
+        (λ block shown has. subst (λ (l : List Entry). CanBeStored c steps block shown l) (ap (take _) is ∙ take-append_seam before (e ∷ es)) (made (look_behind before block shown) has)) took.0,
+    all h (before ++ e ∷ []) es (is ∙ sym (append_assoc before (e ∷ []) es)) made took.1,
+  )
+
+pub copies_have_looks : CopiesHaveLooks
+copies_have_looks c steps looks IsStore marks ops more made took = (tt, all c steps looks IsStore (Found marks ops ∷ more) (Found marks ops ∷ []) more refl made took)

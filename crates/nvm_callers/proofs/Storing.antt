@@ -1,0 +1,195 @@
+-- What a caller stored, as it goes on.
+use Rattle.std.proofs.Common.{◌≡◌, ◌≢◌, ◌⊎◌, ◌==◌, ℕ, zero, suc, ◌+◌, ◌<◌, ◌≤◌, ◌∙◌, Bool, true, false, List, [], ◌∷◌, ◌++◌, length, take, drop, if◌then◌else◌, Option, Some, None, inl, inr, refl, sym, ap, subst, arith, length-append}
+use Rattle.std.proofs.lemmas.Bool.{eq-eqb, ne_eqb}
+use Rattle.std.proofs.lemmas.List.{append-nil, append_assoc, take-append-le, drop-append-le, take_all}
+use mathlib.Core.Option.{some, some-ne-none, some-injective}
+use mathlib.Core.Logic.{dite}
+use native.Mathlib.Decide.{ℕ_discrete}
+use lib.ListN.{get_elem?}
+use Rattle.nvm_core.specs.block_machine.Words.{Request, Entry, Configuration}
+use Rattle.nvm_shared.specs.declared.terms.Terms.{Terms}
+use Rattle.ram_mirrors.specs.Stores.{store_of}
+use Rattle.nvm_shared.specs.StatusWords.{gives}
+use Rattle.nvm_shared.specs.Numbers.{AreAt}
+use Rattle.nvm_core.specs.block_laws.Consistent.{Each}
+use Rattle.turn_gate.specs.declared.pass.View.{View}
+use Rattle.turn_gate.specs.Entries.{Note, StartsWith, AllAgree}
+use Rattle.script_callers.specs.declared.deed.Deed.{Deed}
+use Rattle.script_callers.specs.declared.deed.Deed.TheVariants.{Ask as AskDeed, Store as StoreDeed, Await}
+use Rattle.script_callers.specs.Deeds.{requests_in}
+use Rattle.nvm_callers.specs.Deeds.{HasDone, HasWaited}
+use Rattle.nvm_callers.specs.Stored.{Stored, TellsDone, IsStoreOf, HasStored, AreAsMany, StoredOne, stores_in, NoneIsStored, AsksStayStored, StoresLast, StoresAreStored}
+use Rattle.nvm_callers.proofs.Waiting.{agree_before, starts_again}
+use Rattle.nvm_callers.proofs.Doing.{are_as_many, each_last, waits_on}
+
+no_entry : {A : Type 0} (xs : List A) (i : ℕ) (x : A) → xs ≡ [] → get_elem? xs i ≡ some x → ⊥
+no_entry {A} xs i x none at = some-ne-none x (sym (ap (λ (l : List A). get_elem? l i) (sym none) ∙ at))
+
+-- behind the last, or before it
+at_last : {A : Type 0} (l : List A) (a b : A) (j : ℕ) → get_elem? (l ++ a ∷ []) j ≡ some b → (get_elem? l j ≡ some b) ⊎ ((j ≡ length l) × (a ≡ b))
+at_last [] a b zero e = inr (refl, some-injective a b e)
+at_last [] a b (suc j) e = absurd (some-ne-none b (sym e))
+at_last (x ∷ xs) a b zero e = inl e
+at_last (x ∷ xs) a b (suc j) e = elim (at_last xs a b j e) [
+  | inl before ↦ inl before
+  | inr last ↦ inr (ap suc last.0, last.1)
+]
+
+pub none_is_stored : NoneIsStored
+none_is_stored c cap own seen notes caller made none block k x at = absurd (no_entry (made block) k x (none block) at)
+
+starts_through : {A : Type 0} (a b c : List A) → StartsWith b a → StartsWith c b → StartsWith c a
+starts_through {A} a b c (x, first) (y, second) = (x ++ y, second ∙ ap (λ (l : List A). l ++ y) first ∙ append_assoc a x y)
+
+-- the requests of the first of these are no more
+requests_first : (before ds : List Deed) → length (requests_in before) ≤ length (requests_in (before ++ ds))
+requests_first [] ds = omega arith
+requests_first (AskDeed line r ∷ bs) ds = let rest = requests_first bs ds in omega (arith, rest)
+requests_first (StoreDeed line block number content ∷ bs) ds = requests_first bs ds
+requests_first (Await line block ∷ bs) ds = requests_first bs ds
+
+-- the store stays where deeds come behind
+behind : (deeds before after more : List Deed) (d : Deed) → deeds ≡ before ++ d ∷ after → deeds ++ more ≡ before ++ d ∷ (after ++ more)
+behind deeds before after more d is = ap (λ (l : List Deed). l ++ more) is ∙ append_assoc before (d ∷ after) more
+
+module _ (c : Configuration) (cap : ℕ) (caller : ℕ) where
+  tells_asked : (own : List ℕ) (seen list : List Entry) (notes : List Note) (deeds before : List Deed) (note : View Entry Terms) (e : Entry)
+      → HasDone c cap own seen notes caller deeds → length (requests_in before) ≤ length own → StartsWith list seen → AllAgree gives list notes
+      → TellsDone c cap own seen notes caller before note → TellsDone c cap (own ++ length list ∷ []) (list ++ e ∷ []) notes caller before note
+  tells_asked own seen list notes deeds before note e done few starts agree tells =
+      let onwards : StartsWith list note.seen = starts_through note.seen seen list tells.seen_since starts in
+      let agrees : AllAgree gives list note.notes = agree_before list note.notes tells.told_since.0 (subst (λ (l : List Note). AllAgree gives list l) tells.told_since.1 agree) in record {
+        at = subst (λ (l : List ℕ). AreAt note.seen caller l (requests_in before)) (sym (take-append-le (length (requests_in before)) own (length list ∷ []) few)) tells.at;
+        waits = waits_on c cap own (own ++ length list ∷ []) note.seen note.seen note.notes note.notes
+            (λ block k small has. record {
+              end = has.end;
+              asked = subst (λ (l : List ℕ). Each (λ n. n < has.end) l) (sym (take-append-le k own (length list ∷ []) small)) has.asked;
+              later = subst (λ (l : List ℕ). Each (λ n. has.end ≤ n) l) (sym (drop-append-le k own (length list ∷ []) small))
+                  (each_last (λ n. has.end ≤ n) (drop k own) (length list) has.later (has.waited.within list onwards agrees));
+              waited = has.waited;
+            }) 0 before (omega (arith, few)) tells.waits;
+        seen_since = starts_through note.seen list (list ++ e ∷ []) onwards (e ∷ [], refl);
+        told_since = tells.told_since;
+      }
+
+  tells_later : (own : List ℕ) (seen seen_new : List Entry) (notes more : List Note) (before : List Deed) (note : View Entry Terms) → StartsWith seen_new seen
+      → TellsDone c cap own seen notes caller before note → TellsDone c cap own seen_new (notes ++ more) caller before note
+  tells_later own seen seen_new notes more before note starts tells = record {
+    at = tells.at;
+    waits = tells.waits;
+    seen_since = starts_through note.seen seen seen_new tells.seen_since starts;
+    told_since = starts_through note.notes notes (notes ++ more) tells.told_since (more, refl);
+  }
+
+pub asks_stay_stored : AsksStayStored
+asks_stay_stored c cap own seen list notes caller deeds made line r e stored done starts agree block k x at =
+    let s = stored block k x at in
+    let many = are_as_many caller seen own (requests_in deeds) done.at in
+    let first = requests_first s.before (StoreDeed s.line block s.number x.content ∷ s.after) in
+    let few : length (requests_in s.before) ≤ length own = omega (arith, many, first, ap (λ (l : List Deed). length (requests_in l)) s.is) in record {
+      before = s.before;
+      after = s.after ++ AskDeed line r ∷ [];
+      line = s.line;
+      number = s.number;
+      is = behind deeds s.before s.after (AskDeed line r ∷ []) (StoreDeed s.line block s.number x.content) s.is;
+      place = s.place;
+      note = s.note;
+      along = s.along;
+      done = tells_asked c cap caller own seen list notes deeds s.before s.note e done few starts agree s.done;
+    }
+
+pub stores_last : StoresLast
+stores_last c cap own seen seen_new notes more caller deeds more_deeds made stored starts block k x at =
+    let s = stored block k x at in record {
+      before = s.before;
+      after = s.after ++ more_deeds;
+      line = s.line;
+      number = s.number;
+      is = behind deeds s.before s.after more_deeds (StoreDeed s.line block s.number x.content) s.is;
+      place = s.place;
+      note = s.note;
+      along = s.along;
+      done = tells_later c cap caller own seen seen_new notes more s.before s.note starts s.done;
+    }
+
+pub stores_are_stored : StoresAreStored
+stores_are_stored c cap own caller deeds made made_new line block number content note stored many done one id k x at =
+    dite (ℕ_discrete id block)
+    (λ same. last same (at_last (made block) (store_of content (Some note)) x k (subst (λ (l : List Stored). get_elem? l k ≡ some x) one.one (subst (λ (b : ℕ). get_elem? (made_new b) k ≡ some x) same at))))
+    (λ other. old id (subst (λ (l : List Stored). get_elem? l k ≡ some x) (one.others id other) at))
+  where
+    full : take (length (requests_in deeds)) own ≡ own
+    full = take_all (length (requests_in deeds)) own (let as_many = are_as_many caller note.seen own (requests_in deeds) done.at in omega (arith, as_many))
+
+    old : (b : ℕ) → get_elem? (made b) k ≡ some x → IsStoreOf c cap own note.seen note.notes caller (deeds ++ StoreDeed line block number content ∷ []) b k x
+    old b here =
+        let s = stored b k x here in record {
+          before = s.before;
+          after = s.after ++ StoreDeed line block number content ∷ [];
+          line = s.line;
+          number = s.number;
+          is = behind deeds s.before s.after (StoreDeed line block number content ∷ []) (StoreDeed s.line b s.number x.content) s.is;
+          place = s.place;
+          note = s.note;
+          along = s.along;
+          done = s.done;
+        }
+
+    new : (b : ℕ) → b ≡ block → k ≡ length (made block) → store_of content (Some note) ≡ x → IsStoreOf c cap own note.seen note.notes caller (deeds ++ StoreDeed line block number content ∷ []) b k x
+    new b same here is = record {
+      before = deeds;
+      after = [];
+      line = line;
+      number = number;
+      is = ap (λ (l : List ℕ). deeds ++ StoreDeed line block number l ∷ []) (ap (λ (y : Stored). y.content) is) ∙ ap (λ (n : ℕ). deeds ++ StoreDeed line n number x.content ∷ []) (sym same);
+      place = here ∙ many block ∙ ap (λ (n : ℕ). length (stores_in n deeds)) (sym same);
+      note = note;
+      along = sym (ap (λ (y : Stored). y.note) is);
+      done = record {
+        at = subst (λ (l : List ℕ). AreAt note.seen caller l (requests_in deeds)) (sym full) done.at;
+        waits = done.waits;
+        seen_since = ([], sym (append-nil note.seen));
+        told_since = ([], sym (append-nil note.notes));
+      };
+    }
+
+    last : id ≡ block → (get_elem? (made block) k ≡ some x) ⊎ ((k ≡ length (made block)) × (store_of content (Some note) ≡ x)) → IsStoreOf c cap own note.seen note.notes caller (deeds ++ StoreDeed line block number content ∷ []) id k x
+    last same (inl before) = subst (λ (b : ℕ). IsStoreOf c cap own note.seen note.notes caller (deeds ++ StoreDeed line block number content ∷ []) b k x) (sym same) (old block before)
+    last same (inr (here, is)) = new id same here is
+
+-- HOW MANY THERE ARE
+module _ (block : ℕ) where
+  -- one more of these
+  abbrev counted : Bool → List ℕ → List (List ℕ) → List (List ℕ)
+  counted is content rest = if is then content ∷ rest else rest
+
+  counted_more : (is : Bool) (content : List ℕ) (rest more : List (List ℕ)) (n : ℕ) → length more ≡ length rest + n → length (counted is content more) ≡ length (counted is content rest) + n
+  counted_more true content rest more n many = omega (arith, many)
+  counted_more false content rest more n many = many
+
+  stores_behind : (ds : List Deed) (d : Deed) (n : ℕ) → length (stores_in block (d ∷ [])) ≡ n → length (stores_in block (ds ++ d ∷ [])) ≡ length (stores_in block ds) + n
+  stores_behind [] d n many = omega (arith, many)
+  stores_behind (AskDeed line r ∷ ds) d n many = stores_behind ds d n many
+  stores_behind (Await line id ∷ ds) d n many = stores_behind ds d n many
+  stores_behind (StoreDeed line id number content ∷ ds) d n many =
+      counted_more (id == block) content (stores_in block ds) (stores_in block (ds ++ d ∷ [])) n (stores_behind ds d n many)
+
+-- no store more
+pub none_as_many : (deeds : List Deed) (d : Deed) (made : ℕ → List Stored) → ((block : ℕ) → length (stores_in block (d ∷ [])) ≡ 0) → AreAsMany deeds made → AreAsMany (deeds ++ d ∷ []) made
+none_as_many deeds d made none many block = many block ∙ sym (stores_behind block deeds d 0 (none block) ∙ omega arith)
+
+own_store : (block : ℕ) (content : List ℕ) (line number : ℕ) → length (stores_in block (StoreDeed line block number content ∷ [])) ≡ 1
+own_store block content line number = let own : (block == block) ≡ true = eq-eqb block block refl in rw own refl
+
+other_store : (block other : ℕ) (content : List ℕ) (line number : ℕ) → other ≢ block → length (stores_in other (StoreDeed line block number content ∷ [])) ≡ 0
+other_store block other content line number apart = let not_it : (block == other) ≡ false = ne_eqb block other (λ same. apart (sym same)) in rw not_it refl
+
+-- one store more
+pub one_as_many : (deeds : List Deed) (line block number : ℕ) (content : List ℕ) (note : View Entry Terms) (made made_new : ℕ → List Stored) → StoredOne block content note made made_new → AreAsMany deeds made
+    → AreAsMany (deeds ++ StoreDeed line block number content ∷ []) made_new
+one_as_many deeds line block number content note made made_new one many id = dite (ℕ_discrete id block)
+    (λ same. subst (λ (b : ℕ). length (made_new b) ≡ length (stores_in b (deeds ++ StoreDeed line block number content ∷ []))) (sym same)
+    (ap (λ (l : List Stored). length l) one.one ∙ length-append (made block) (store_of content (Some note) ∷ []) ∙ ap (λ (n : ℕ). n + 1) (many block)
+    ∙ sym (stores_behind block deeds (StoreDeed line block number content) 1 (own_store block content line number))))
+    (λ other. ap (λ (l : List Stored). length l) (one.others id other) ∙ many id
+    ∙ sym (stores_behind id deeds (StoreDeed line block number content) 0 (other_store block id content line number other) ∙ omega arith))

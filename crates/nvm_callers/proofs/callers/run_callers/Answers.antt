@@ -1,0 +1,17 @@
+use Rattle.std.proofs.Common.{◌≡◌, ◌<◌, ℕ, zero, suc, true, false, [], length, refl, arith}
+use Rattle.turn_gate.specs.Pass.{knows}
+use Rattle.nvm_callers.proofs.JoinedPasses.{none_is_joined}
+use Rattle.nvm_callers.proofs.Passing.{memory_is_wanting}
+use Rattle.nvm_callers.proofs.callers.run_callers.Goals as goal
+
+never : false ≡ true → ⊥
+never is = cc
+
+some_of : (n : ℕ) → (n ≡ 0 → false ≡ true) → 0 < n
+some_of zero none = absurd (never (none refl))
+some_of (suc n) none = omega arith
+
+pub returns-in-Err-clause-ran : goal.returns-in-Err-clause-ran
+returns-in-Err-clause-ran g c =
+    memory_is_wanting c.args.shared.now.terms c.args.programs.now (knows c.come_to_rest.new.pass) (some_of (length c.args.programs.now) c.in-Err.ensures.succeeds)
+    (c.come_to_rest.ensures.steers.shares [] (none_is_joined (knows c.args.pass) c.requires.own))

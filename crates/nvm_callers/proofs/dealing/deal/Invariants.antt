@@ -1,0 +1,6 @@
+use Rattle.std.proofs.Common.{◌≡◌, length}
+use Rattle.ram_mirrors_sync.specs.Blocks.{AreSidesOf}
+use Rattle.nvm_callers.proofs.dealing.deal.Given as goal
+
+abbrev pub invariant-loop-place : goal.invariant-loop-place
+invariant-loop-place g l = AreSidesOf l.mirrors l.sides × (length l.dealt.items ≡ l.place)

@@ -1,0 +1,12 @@
+use Rattle.std.specs.Prelude.{IfOk}
+use Rattle.std.proofs.Common.{List, subst}
+use Rattle.nvm_core.specs.block_machine.Words.{Configuration}
+use Rattle.script_walks.specs.Words.{Step}
+use Rattle.nvm_callers.specs.Begun.{AreProgramsOf}
+use Rattle.nvm_callers.specs.Ran.{KeepsOrder}
+use Rattle.nvm_callers.proofs.mirrored.run_over.Goals as goal
+
+-- src/mirrored.rt:27:1
+pub returns-in-Ok-clause-order : goal.returns-in-Ok-clause-order
+returns-in-Ok-clause-order g c =
+    subst (λ (k : Configuration). IfOk c.run_mirrored.result (λ r. (steps : List Step) → AreProgramsOf k steps c.args.programs.now → KeepsOrder steps r.ending r.desk)) c.requires.begun.config c.run_mirrored.ensures.order

@@ -1,0 +1,8 @@
+use Rattle.std.proofs.Common.{◌∙◌}
+use Rattle.std.proofs.lemmas.Result.{IfOk-weaker}
+use Rattle.nvm_callers.proofs.player.play_callers.Goals as goal
+
+-- src/player.rt:48:1
+pub returns-in-Ok-share-clause-order : goal.returns-in-Ok-share-clause-order
+returns-in-Ok-share-clause-order g c =
+    IfOk-weaker c.run_over.result _ _ (λ r keeps. keeps c.args.steps.now (record { run = c.requires.steps; are = c.as_slice.ensures.value ∙ c.in-Ok.ensures })) c.run_over.ensures.order

@@ -1,0 +1,18 @@
+use Rattle.turn_gate.specs.Pass.{knows}
+use Rattle.nvm_callers.proofs.Driving.{turn_steers}
+use Rattle.nvm_callers.proofs.steering.ends_turns.Goals as goal
+
+pub returns-clause-steers : goal.returns-clause-steers
+returns-clause-steers g c =
+    let is = c.turn-turned.ensures in
+    turn_steers g.D.MemDevice.told g.D.MemDevice.clock g.C.SyncCalls.told g.C.SyncCalls.is_store g.C.SyncCalls.looked g.C.SyncCalls.over g.C.NotedCopies.stands c.args.shared.now.terms
+    (knows c.args.pass.now) (knows c.turn-turned.new.pass) c.args.driver.now c.turn-turned.new.self (record {
+      answer = c.turn-turned.result;
+      turns = is.turns;
+      keeps = is.keeps;
+      counted = is.counted;
+      lasts = is.lasts;
+      stores_stay = is.stores_stay;
+      stays_over = is.stays_over;
+      shown = is.shown;
+    }) is.learns is.parts

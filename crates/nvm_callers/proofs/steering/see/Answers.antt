@@ -1,0 +1,19 @@
+use Rattle.turn_gate.specs.Pass.{knows}
+use Rattle.nvm_callers.proofs.Driving.{count_steers, steered_more}
+use Rattle.nvm_callers.proofs.steering.see.Goals as goal
+
+pub returns-then-entries-count-clause-steers : goal.returns-then-entries-count-clause-steers
+returns-then-entries-count-clause-steers g c =
+    steered_more g.D.MemDevice.told g.D.MemDevice.clock g.C.SyncCalls.told g.C.SyncCalls.is_store g.C.SyncCalls.looked g.C.SyncCalls.over g.C.NotedCopies.stands c.args.shared.now.terms
+    (knows c.args.pass.now) (knows c.loop.pass) (knows c.count.new.pass) c.args.driver.now c.args.driver.now c.args.driver.now c.loop.invariant.1
+    (count_steers g.D.MemDevice.told g.D.MemDevice.clock g.C.SyncCalls.told g.C.SyncCalls.is_store g.C.SyncCalls.looked g.C.SyncCalls.over g.C.NotedCopies.stands c.args.shared.now.terms
+    (knows c.loop.pass) (knows c.count.new.pass) c.args.driver.now c.loop.invariant.0.mark c.count.ensures.more c.count.ensures.learns c.count.ensures.keeps)
+
+pub loop-preserved : goal.loop-preserved
+loop-preserved g c = (
+  c.count.ensures.driver,
+  steered_more g.D.MemDevice.told g.D.MemDevice.clock g.C.SyncCalls.told g.C.SyncCalls.is_store g.C.SyncCalls.looked g.C.SyncCalls.over g.C.NotedCopies.stands c.args.shared.now.terms
+      (knows c.args.pass.now) (knows c.loop.pass) (knows c.count.new.pass) c.args.driver.now c.args.driver.now c.args.driver.now c.loop.invariant.1
+      (count_steers g.D.MemDevice.told g.D.MemDevice.clock g.C.SyncCalls.told g.C.SyncCalls.is_store g.C.SyncCalls.looked g.C.SyncCalls.over g.C.NotedCopies.stands c.args.shared.now.terms
+      (knows c.loop.pass) (knows c.count.new.pass) c.args.driver.now c.loop.invariant.0.mark c.count.ensures.more c.count.ensures.learns c.count.ensures.keeps),
+)

@@ -1,0 +1,46 @@
+-- What any number of a driver's turns adds to the history, with requests of others between them.
+use Rattle.std.specs.Prelude.{◌≡◌, ℕ, not, Bool, true, false, IsTrue, List, ◌++◌, IfSome, Some}
+use Rattle.std.specs.List.{list_all}
+use Rattle.nvm_core.specs.nv_base.Count.{WereCounted}
+use Rattle.nvm_core.specs.memif.Told.{DeviceTold}
+use Rattle.nvm_core.specs.memif.Clock.{Clock}
+use Rattle.nvm_core.specs.block_machine.Words.{Entry}
+use Rattle.nvm_core.specs.ram_blocks.Told.{Told, told_at}
+use Rattle.nvm_core.specs.nv_desk.Desk.{DeskState, state_of}
+use Rattle.nvm_core.specs.nv_desk_copies.Front.{AreSynchronized}
+use Rattle.script_walks.specs.Runs.{is_found}
+use Rattle.nvm_shared.specs.declared.terms.Terms.{Terms}
+use Rattle.nvm_shared.specs.Locked.{desk_with}
+use Rattle.nvm_shared.specs.Driving.{DriverState}
+use Rattle.nvm_shared.specs.Unplanned.{IsUnplanned}
+use Rattle.promise_run.specs.RunHalves.{offs_in, tells_no_refusal}
+use Rattle.nvm_callers.specs.Driven.{HasDriven}
+
+-- none of the next copies of a synchronized block is to be refused
+abbrev pub RefusesNone : List Told → Type 0
+RefusesNone copies = (block : ℕ) → IfSome (told_at copies block) (λ s. s.to_refuse ≡ Some 0)
+
+-- A device of one part, at which no planned cut came and none is planned; and where it is off the machine's power is, since an Off
+-- tells of each cut.
+pub record IsUncut (desk : DeskState) (d : DeviceTold) : Type 0 where
+  pub one : d.fixed.two ≡ false
+  pub unplanned : IsUnplanned d.first
+  pub power : d.first.off ≡ true → (state_of desk).off ≡ true
+
+module _ {D C : Type 0} (told : D → DeviceTold) (clock : D → Clock) (copies : C → List Told) (is_store : C → ℕ → ℕ → List ℕ → Type 0) (looked : C → C → ℕ → ℕ → Type 0) (over : C → C → Type 0) (stands : C → ℕ → ℕ → List Entry → Type 0) (t : Terms) where
+  -- The history went on, without a start-up. Where no copy is to be refused none was. Where no cut is planned none that was planned
+  -- came, and each Off is a cut that was counted.
+  pub record HasAdded (seen seen_new : List Entry) (old new : DriverState D C) : Type 0 where
+    pub more : List Entry
+    pub grows : seen_new ≡ seen ++ more
+    pub no_start : IsTrue (list_all (λ e. not (is_found e)) more)
+    pub no_refusal : AreSynchronized t.config (copies old.copies) → RefusesNone (copies old.copies)
+        → RefusesNone (copies new.copies) × IsTrue (list_all tells_no_refusal more)
+    pub cuts : IsUncut (desk_with t seen) (told old.device)
+        → IsUncut (desk_with t seen_new) (told new.device)
+        × WereCounted (offs_in more) (told old.device).first.planning.unplanned (told new.device).first.planning.unplanned
+
+  abbrev pub DrivingAdds : Type 0
+  DrivingAdds =
+      (seen seen_new : List Entry) (old new : DriverState D C) → HasDriven told clock copies is_store looked over stands t seen seen_new old new
+      → HasAdded seen seen_new old new

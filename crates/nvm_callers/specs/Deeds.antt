@@ -1,0 +1,84 @@
+-- What a caller knows of what it did.
+use Rattle.std.specs.Prelude.{◌≡◌, ◌≤◌, ◌<◌, ℕ, ◌+◌, List, [], ◌∷◌, ◌++◌, length, take, drop}
+use Rattle.nvm_core.specs.block_machine.Words.{Request, Reply, Entry, Ask, Configuration}
+use Rattle.nvm_core.specs.block_machine.Legal.{IsLegal}
+use Rattle.nvm_core.specs.block_laws.Consistent.{Each, Ascend}
+use Rattle.turn_gate.specs.Entries.{Note, StartsWith, AllAgree}
+use Rattle.script_walks.specs.Callers.{WaitedFor, asks_of}
+use Rattle.nvm_shared.specs.StatusWords.{gives}
+use Rattle.nvm_shared.specs.Numbers.{AreAt, AreAll}
+use Rattle.script_callers.specs.declared.deed.Deed.{Deed}
+use Rattle.script_callers.specs.declared.deed.Deed.TheVariants.{Ask as AskDeed, Store as StoreDeed, Await}
+use Rattle.script_callers.specs.Deeds.{requests_in}
+use Rattle.nvm_callers.specs.Waits.{Waited, EndsWait}
+
+module _ (c : Configuration) (cap : ℕ) (own : List ℕ) (seen : List Entry) (notes : List Note) where
+  -- a wait was over behind the caller's first k requests, and before its later ones
+  pub record HasWaited (block k : ℕ) : Type 0 where
+    pub end : ℕ
+    pub asked : Each (λ n. n < end) (take k own)
+    pub later : Each (λ n. end ≤ n) (drop k own)
+    pub waited : Waited c cap block end seen notes
+
+  -- so was each wait of these, before which the caller made k requests
+  abbrev pub HasWaitedAll : ℕ → List Deed → Type 0
+  HasWaitedAll k [] = Unit {0}
+  HasWaitedAll k (AskDeed line r ∷ ds) = HasWaitedAll (k + 1) ds
+  HasWaitedAll k (StoreDeed line block number content ∷ ds) = HasWaitedAll k ds
+  HasWaitedAll k (Await line block ∷ ds) = HasWaited block k × HasWaitedAll k ds
+
+  -- The caller's own entries are these requests, in order, and it awaited between them what it was to await.
+  pub record HasDone (caller : ℕ) (deeds : List Deed) : Type 0 where
+    pub ascend : Ascend own
+    pub at : AreAt seen caller own (requests_in deeds)
+    pub waits : HasWaitedAll 0 deeds
+
+-- at first it did nothing
+abbrev pub NoneIsDone : Type 0
+NoneIsDone = (c : Configuration) (cap : ℕ) (seen : List Entry) (notes : List Note) (caller : ℕ) → HasDone c cap [] seen notes caller []
+
+-- one request more
+abbrev pub AsksAreDone : Type 0
+AsksAreDone =
+    (c : Configuration) (cap : ℕ) (own : List ℕ) (seen before : List Entry) (notes : List Note) (caller : ℕ) (deeds : List Deed) (line : ℕ) (r : Request) (reply : Reply)
+    → HasDone c cap own seen notes caller deeds → StartsWith before seen → AllAgree gives before notes
+    → HasDone c cap (own ++ length before ∷ []) (before ++ Ask caller r reply ∷ []) notes caller (deeds ++ AskDeed line r ∷ [])
+
+-- one store more
+abbrev pub StoresAreDone : Type 0
+StoresAreDone =
+    (c : Configuration) (cap : ℕ) (own : List ℕ) (seen : List Entry) (notes : List Note) (caller : ℕ) (deeds : List Deed) (line block number : ℕ) (content : List ℕ)
+    → HasDone c cap own seen notes caller deeds → HasDone c cap own seen notes caller (deeds ++ StoreDeed line block number content ∷ [])
+
+-- one wait more
+abbrev pub WaitsAreDone : Type 0
+WaitsAreDone =
+    (c : Configuration) (cap : ℕ) (own : List ℕ) (seen : List Entry) (notes more : List Note) (caller : ℕ) (deeds : List Deed) (line block : ℕ)
+    → HasDone c cap own seen notes caller deeds → EndsWait c cap block seen (notes ++ more)
+    → HasDone c cap own seen (notes ++ more) caller (deeds ++ Await line block ∷ [])
+
+-- what was done stays done, whatever is seen and told later
+abbrev pub DeedsLast : Type 0
+DeedsLast =
+    (c : Configuration) (cap : ℕ) (own : List ℕ) (seen seen_new : List Entry) (notes more : List Note) (caller : ℕ) (deeds : List Deed)
+    → HasDone c cap own seen notes caller deeds → StartsWith seen_new seen → HasDone c cap own seen_new (notes ++ more) caller deeds
+
+-- in a history each wait of these, before which the caller made k requests, was over in time
+abbrev pub WereOver : Configuration → (caller : ℕ) → List Entry → ℕ → List Deed → Type 0
+WereOver c caller h k [] = Unit {0}
+WereOver c caller h k (AskDeed line r ∷ ds) = WereOver c caller h (k + 1) ds
+WereOver c caller h k (StoreDeed line block number content ∷ ds) = WereOver c caller h k ds
+WereOver c caller h k (Await line block ∷ ds) = WaitedFor c caller block k h × WereOver c caller h k ds
+
+-- a history tells what a caller did
+pub record Shows (c : Configuration) (caller : ℕ) (deeds : List Deed) (h : List Entry) : Type 0 where
+  pub asks : asks_of caller h ≡ requests_in deeds
+  pub waits : WereOver c caller h 0 deeds
+
+-- Each legal history tells it that begins with all that the caller saw, agrees with all that it was told, and has no other request
+-- of it.
+abbrev pub DeedsHold : Type 0
+DeedsHold =
+    (c : Configuration) (cap : ℕ) (own : List ℕ) (seen : List Entry) (notes : List Note) (caller : ℕ) (deeds : List Deed) (h : List Entry)
+    → HasDone c cap own seen notes caller deeds → IsLegal c cap h → StartsWith h seen → AllAgree gives h notes → AreAll h caller own
+    → Shows c caller deeds h

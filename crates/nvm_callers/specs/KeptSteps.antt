@@ -1,0 +1,52 @@
+-- What a history tells of callers that ran.
+use Rattle.std.specs.Prelude.{◌≡◌, ◌⊎◌, ℕ, List, length, take}
+use Rattle.turn_gate.specs.declared.pass.View.{View}
+use Rattle.turn_gate.specs.Entries.{AllAgree, AllHeard}
+use Rattle.turn_gate.specs.Pass.{OwnsAll}
+use Rattle.nvm_core.specs.block_machine.Words.{Entry, Configuration}
+use Rattle.nvm_core.specs.block_machine.Legal.{IsLegal}
+use Rattle.script_walks.specs.Words.{Step}
+use Rattle.script_walks.specs.Callers.{IsInOrder, asks_of, program_of, requests_of}
+use Rattle.script_walks.specs.Runs.{AskedAll, HadNoRoom}
+use Rattle.nvm_shared.specs.declared.terms.Terms.{Terms}
+use Rattle.nvm_shared.specs.StatusWords.{gives}
+use Rattle.script_callers.specs.Programs.{programs_of}
+use Rattle.script_callers.specs.RunScripts.{AreRun}
+use Rattle.nvm_callers.specs.Shares.{BeginsUnasked}
+use Rattle.nvm_callers.specs.Callers.{HaveRun}
+use Rattle.nvm_callers.specs.declared.ending.Ending.{Ending}
+use Rattle.nvm_callers.specs.declared.ending.Ending.TheVariants.{All as EndsAll, NoRoom, Memory}
+
+-- the list of a lock that was closed by this pass
+pub record IsClosedBy (v : View Entry Terms) (h : List Entry) : Type 0 where
+  pub all : OwnsAll v h
+  pub agree : AllAgree gives h v.notes
+  pub heard : AllHeard h v.heard
+
+-- Each caller asked for the first requests of its steps, in order, and nobody else asked; where all ended well, for each.
+pub record HaveAsked (c : Configuration) (steps : List Step) (ending : Ending) (h : List Entry) : Type 0 where
+  pub asks : (caller : ℕ) → asks_of caller h ≡ take (length (asks_of caller h)) (requests_of c (program_of caller steps))
+  pub all : ending ≡ EndsAll → (caller : ℕ) → AskedAll c steps h caller
+
+-- so it is over any device, legal or not
+abbrev pub CallersAsk : Type 0
+CallersAsk =
+    (t : Terms) (steps : List Step) (ending : Ending) (v : View Entry Terms) (h : List Entry) → AreRun t.config steps → HaveRun t (programs_of t.config steps) ending v
+    → IsClosedBy v h → BeginsUnasked h → HaveAsked t.config steps ending h
+
+-- how callers ended who asked so: each for all of its requests; or one met a full history, and each other one too or it asked for all
+abbrev pub EndSo : Configuration → (cap : ℕ) → List Step → List Entry → Ending → Type 0
+EndSo c cap steps h EndsAll = (caller : ℕ) → AskedAll c steps h caller
+EndSo c cap steps h NoRoom = (caller : ℕ) × HadNoRoom cap c steps h caller × ((other : ℕ) → AskedAll c steps h other ⊎ HadNoRoom cap c steps h other)
+EndSo c cap steps h Memory = Unit {0}
+
+-- Each caller kept to its steps, and they ended so.
+pub record KeepSteps (c : Configuration) (cap : ℕ) (steps : List Step) (ending : Ending) (h : List Entry) : Type 0 where
+  pub order : (caller : ℕ) → IsInOrder c caller (program_of caller steps) h
+  pub ends : EndSo c cap steps h ending
+
+-- so it is where the history is legal
+abbrev pub CallersKeepSteps : Type 0
+CallersKeepSteps =
+    (t : Terms) (steps : List Step) (ending : Ending) (v : View Entry Terms) (h : List Entry) → AreRun t.config steps → HaveRun t (programs_of t.config steps) ending v
+    → IsClosedBy v h → IsLegal t.config t.cap h → KeepSteps t.config t.cap steps ending h

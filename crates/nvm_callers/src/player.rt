@@ -1,0 +1,59 @@
+// A run of callers.
+ghost use Rattle.std.specs.Prelude.{◌≡◌, true, All, IfErr, IfOk};
+ghost use Rattle.nvm_shared.specs.Opening.{IsFirst};
+ghost use Rattle.script_callers.specs.RunScripts.{AreRun};
+ghost use Rattle.promise_run.specs.Run.{cap};
+ghost use Rattle.nvm_callers.specs.Ran.{KeepsOrder, WasRun};
+
+use crate::Ending;
+use crate::mirrored::run_over;
+use nvm_core::Stack;
+use nvm_core::block_config::Config;
+use nvm_core::memif::MemDevice;
+use nvm_core::nv_desk::Desk;
+use nvm_core::ram_blocks::PlainSync;
+use nvm_script::StepList;
+use nvm_shared::share;
+use script_callers::callers;
+use std::alloc::Global;
+use std::marker::Brand;
+use std::sync::Wait;
+use std::thread::Threads;
+
+/// How callers ended, with their history and the device.
+#[derive(Drop)]
+pub struct Ran<D: MemDevice> {
+    pub ending: Ending,
+    pub desk: Desk,
+    pub device: D,
+}
+
+/// Runs a script's callers on the stack of a configuration behind its first start-up, whose application stored nothing yet, until
+/// nothing is pending or the power is off. It waits. Where there is no memory to begin with, the device is handed back.
+pub fn play_callers<R: Threads + Wait + Sync, D: MemDevice>(
+    rt: &R,
+    alloc: Global,
+    config: &Config,
+    stack: Stack<D, PlainSync>,
+    steps: &StepList,
+) -> Result<Ran<D>, D>
+    requires ready { stack.ready ≡ true }
+    requires first { IsFirst stack.desk.entries }
+    requires cap { stack.desk.cap ≡ cap }
+    requires own { config.now ≡ stack.desk.config }
+    requires steps { AreRun config.now steps.now }
+    ensures memory { IfErr result (λ device. device ≡ stack.device) }
+    ensures ran { IfOk result (λ r. WasRun D.told D.clock stack r.ending r.desk r.device) }
+    ensures order { IfOk result (λ r. KeepsOrder steps.now r.ending r.desk) }
+{
+    let Ok(programs) = callers(alloc, config, steps) else {
+        return Err(stack.into_device());
+    };
+    let _device = stack.device();
+    match share(alloc, stack) {
+        Ok((shared, pass, driver)) => {
+            run_over::<R, D, Brand>(rt, alloc, config, shared, pass, driver, programs.as_slice())
+        }
+        Err(failed) => Err(failed.device),
+    }
+}

@@ -1,0 +1,180 @@
+// The driver's turns beside the callers, and behind them.
+ghost use Rattle.std.specs.Prelude.{◌≡◌, ◌≤◌, ◌^◌, true, false, length, is_some, Option, IsTrue};
+ghost use Rattle.nvm_core.specs.job_progress.Hand.{HandState};
+ghost use Rattle.turn_gate.specs.Pass.{knows};
+ghost use Rattle.script_walks.specs.Runs.{has_ended};
+ghost use Rattle.nvm_shared.specs.Driving.{IsDriverOf, NeedsNoMore};
+ghost use Rattle.nvm_callers.specs.Steering.{HasSteered};
+
+use crate::beside::Drive;
+use nvm_core::memif::MemDevice;
+use nvm_core::nvm_laws::Turned;
+use nvm_shared::{Driver, NotedCopies, Shared, StackPass};
+use std::sync::Wait;
+use std::sync::atomic::{AtomicU64, Ordering};
+use std::thread;
+
+/// A driver with its pass, which makes turns until so many callers have ended.
+#[derive(Drop)]
+pub struct SteeringOf<'a, P, T> {
+    pub pass: P,
+    pub driver: T,
+    pub ended: &'a AtomicU64,
+    pub callers: u64,
+}
+
+/// Of a shared stack. It is an alias, as `Worker`.
+pub type Steering<'a, D, C> = SteeringOf<'a, StackPass, Driver<D, C>>;
+
+// A turn. Where it found nothing to do others get the processor.
+fn make_turn<W: Wait, D: MemDevice, C: NotedCopies + Drop>(
+    rt: &W,
+    shared: &Shared,
+    pass: &mut StackPass,
+    driver: &mut Driver<D, C>,
+)
+    requires driver { IsDriverOf D.told D.clock C.told shared.now pass.old driver.old }
+    requires untold { shared.now.terms.tells ≡ false }
+    requires lock { C.is_of shared.now.gate }
+    ensures driver { IsDriverOf D.told D.clock C.told shared.now pass.new driver.new }
+    ensures steers { HasSteered D.told D.clock C.told C.is_store C.looked C.over C.stands shared.now.terms (knows pass.old) (knows pass.new) driver.old driver.new }
+{
+    let turned = driver.turn(rt, shared, pass);
+    give_way(turned);
+}
+
+fn give_way(turned: Turned) {
+    match turned {
+        Turned::Idle | Turned::Off => thread::yield_now(),
+        Turned::Picked | Turned::Posted | Turned::Worked => {}
+    }
+}
+
+// Turns until so many callers have ended.
+fn steer<W: Wait, D: MemDevice, C: NotedCopies + Drop>(
+    rt: &W,
+    shared: &Shared,
+    pass: &mut StackPass,
+    driver: &mut Driver<D, C>,
+    ended: &AtomicU64,
+    callers: u64,
+)
+    requires driver { IsDriverOf D.told D.clock C.told shared.now pass.old driver.old }
+    requires untold { shared.now.terms.tells ≡ false }
+    requires lock { C.is_of shared.now.gate }
+    ensures driver { IsDriverOf D.told D.clock C.told shared.now pass.new driver.new }
+    ensures steers { HasSteered D.told D.clock C.told C.is_store C.looked C.over C.stands shared.now.terms (knows pass.old) (knows pass.new) driver.old driver.new }
+{
+    for _ in rt.forever() {
+        if callers <= ended.load(Ordering::SeqCst) {
+            return;
+        }
+        make_turn(rt, shared, pass, driver);
+    }
+    unreachable!()
+}
+
+impl<'a, D: MemDevice, C: NotedCopies + Drop> Drive<Shared> for Steering<'a, D, C> {
+    ghost use Rattle.std.specs.Prelude.{◌≡◌, false};
+    ghost use Rattle.turn_gate.specs.Pass.{knows};
+    ghost use Rattle.nvm_shared.specs.Driving.{IsDriverOf};
+    ghost use Rattle.nvm_callers.specs.Steering.{HasSteered};
+
+    ghost ready = { λ s g. IsDriverOf D.told D.clock C.told g s.pass s.driver × (g.terms.tells ≡ false) × C.is_of g.gate };
+
+    ghost done = { λ old new g. IsDriverOf D.told D.clock C.told g new.pass new.driver × HasSteered D.told D.clock C.told C.is_store C.looked C.over C.stands g.terms (knows old.pass) (knows new.pass) old.driver new.driver };
+
+    fn drive<W: Wait>(&mut self, rt: &W, shared: &Shared) {
+        steer(
+            rt,
+            shared,
+            &mut self.pass,
+            &mut self.driver,
+            self.ended,
+            self.callers,
+        );
+    }
+}
+
+/// Sees so many entries at the least, without a turn.
+pub(crate) fn see<W: Wait, D: MemDevice, C: NotedCopies + Drop>(
+    rt: &W,
+    shared: &Shared,
+    pass: &mut StackPass,
+    driver: &Driver<D, C>,
+    entries: u32,
+)
+    requires driver { IsDriverOf D.told D.clock C.told shared.now pass.old driver.now }
+    ensures driver { IsDriverOf D.told D.clock C.told shared.now pass.new driver.now }
+    ensures steers { HasSteered D.told D.clock C.told C.is_store C.looked C.over C.stands shared.now.terms (knows pass.old) (knows pass.new) driver.now driver.now }
+    ensures seen { entries ≤ length (knows pass.new).seen }
+{
+    for _ in rt.forever() {
+        if entries <= driver.count(rt, shared, pass) {
+            return;
+        }
+        thread::yield_now();
+    }
+    unreachable!()
+}
+
+/// Turns until one that is idle or finds the power off, or that without a job in hand counts a fault.
+pub(crate) fn come_to_rest<W: Wait, D: MemDevice, C: NotedCopies + Drop>(
+    rt: &W,
+    shared: &Shared,
+    pass: &mut StackPass,
+    driver: &mut Driver<D, C>,
+)
+    requires driver { IsDriverOf D.told D.clock C.told shared.now pass.old driver.old }
+    requires untold { shared.now.terms.tells ≡ false }
+    requires lock { C.is_of shared.now.gate }
+    requires alone { (knows pass.old).parts ≡ 2 ^ 64 }
+    ensures driver { IsDriverOf D.told D.clock C.told shared.now pass.new driver.new }
+    ensures steers { HasSteered D.told D.clock C.told C.is_store C.looked C.over C.stands shared.now.terms (knows pass.old) (knows pass.new) driver.old driver.new }
+    ensures ends { IsTrue (has_ended shared.now.terms.config (knows pass.new).seen) }
+{
+    for _ in rt.forever() {
+        if ends_turns(rt, shared, pass, driver) {
+            return;
+        }
+    }
+    unreachable!()
+}
+
+// Makes a turn, and tells whether none need follow it.
+fn ends_turns<W: Wait, D: MemDevice, C: NotedCopies + Drop>(
+    rt: &W,
+    shared: &Shared,
+    pass: &mut StackPass,
+    driver: &mut Driver<D, C>,
+) -> bool
+    requires driver { IsDriverOf D.told D.clock C.told shared.now pass.old driver.old }
+    requires untold { shared.now.terms.tells ≡ false }
+    requires lock { C.is_of shared.now.gate }
+    requires alone { (knows pass.old).parts ≡ 2 ^ 64 }
+    ensures driver { IsDriverOf D.told D.clock C.told shared.now pass.new driver.new }
+    ensures steers { HasSteered D.told D.clock C.told C.is_store C.looked C.over C.stands shared.now.terms (knows pass.old) (knows pass.new) driver.old driver.new }
+    ensures ends { result ≡ true → IsTrue (has_ended shared.now.terms.config (knows pass.new).seen) }
+{
+    let busy = driver.is_busy();
+    let faults = driver.faults();
+    let turned = driver.turn(rt, shared, pass);
+    let risen = has_risen(faults, driver.faults());
+    is_last(turned, busy, risen)
+}
+
+// Whether a turn is the last one: it had nothing to do, it found the power off, or without a job in hand it counted a fault.
+fn is_last(turned: Turned, busy: bool, risen: bool) -> bool
+    ensures { (hand : Option HandState) → busy ≡ is_some hand → result ≡ true → NeedsNoMore turned hand }
+{
+    match turned {
+        Turned::Idle | Turned::Off => true,
+        Turned::Worked => !busy && risen,
+        Turned::Picked | Turned::Posted => false,
+    }
+}
+
+// Whether a count rose, or stands at its end.
+fn has_risen(before: u64, after: u64) -> bool {
+    before < after || before == u64::MAX
+}
