@@ -31,8 +31,6 @@ mod queues;
 #[cfg(test)]
 mod ram;
 #[cfg(test)]
-mod shared;
-#[cfg(test)]
 mod sides;
 #[cfg(test)]
 mod streams;
