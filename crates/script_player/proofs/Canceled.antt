@@ -2,12 +2,12 @@
 use Rattle.std.specs.Prelude.{option_to_list, not, is_none, ◌==◌}
 use Rattle.std.proofs.Common.{◌≡◌, ◌&&◌, ◌||◌, ℕ, Bool, true, false, IsTrue, List, [], ◌∷◌, ◌++◌, length, Option, Some, None, if◌then◌else◌, refl, ap, ◌∙◌, subst, arith}
 use Rattle.std.proofs.lemmas.Bool.{and_parts, eqb-true}
-use Rattle.nvm_core.specs.block_machine.Words.{ReqResult, Canceled, JobKind, ReadAllJob, WriteAllJob, Taken, TookNothing, Entry, Ask, Pick, Wrote, Post, Off, Found, Configuration}
-use Rattle.nvm_core.specs.block_machine.State.{State, Job, Sweep, jobs_of}
-use Rattle.nvm_core.specs.block_machine.Sweeps.{sweep_result}
-use Rattle.nvm_core.specs.block_machine.Next.{Next, Nothing, BeginSweep, EndSweep, next_member, next_in, next_by, next_of}
-use Rattle.nvm_core.specs.block_machine.Legal.{MayPick, MayPostNext}
-use Rattle.nvm_core.specs.block_machine.Results.{Answer}
+use Rattle.uds_gateway.specs.block_machine.Words.{ReqResult, Canceled, JobKind, ReadAllJob, WriteAllJob, Taken, TookNothing, Entry, Ask, Pick, Wrote, Post, Off, Found, Configuration}
+use Rattle.uds_gateway.specs.block_machine.State.{State, Job, Sweep, jobs_of}
+use Rattle.uds_gateway.specs.block_machine.Sweeps.{sweep_result}
+use Rattle.uds_gateway.specs.block_machine.Next.{Next, Nothing, BeginSweep, EndSweep, next_member, next_in, next_by, next_of}
+use Rattle.uds_gateway.specs.block_machine.Legal.{MayPick, MayPostNext}
+use Rattle.uds_gateway.specs.block_machine.Results.{Answer}
 use Rattle.script_walks.specs.Walk.{is_due, is_at_rest, begins_with_pick_or_post}
 use Rattle.script_walks.specs.Turn.{IsTurn}
 use Rattle.promise_run.specs.Turns.{EndsCanceled}

@@ -3,11 +3,11 @@ use Rattle.std.specs.Prelude.{map, unwrap_or}
 use Rattle.std.proofs.Common.{◌≡◌, ◌<◌, ◌≤◌, ◌+◌, ◌⊎◌, ℕ, zero, suc, List, [], ◌∷◌, ◌++◌, Option, Some, None, length, refl, sym, ap, ◌∙◌, subst, inl, inr, arith, append-nil, append_assoc, length-append}
 use Rattle.std.proofs.lemmas.List.Sums.{fold-append}
 use Rattle.std.proofs.lemmas.Grind.{flat_map-append}
-use Rattle.nvm_core.specs.nv_base.Entry.{ops_of, ops_behind}
-use Rattle.nvm_core.specs.block_machine.Words.{Instance, Mark, Entry, Found, Configuration}
-use Rattle.nvm_core.specs.block_machine.State.{State}
-use Rattle.nvm_core.specs.block_machine.Steps.{after_from}
-use Rattle.nvm_core.proofs.block_laws.HistoryLaws.{histories_go_on}
+use Rattle.uds_gateway.specs.nv_base.Entry.{ops_of, ops_behind}
+use Rattle.uds_gateway.specs.block_machine.Words.{Instance, Mark, Entry, Found, Configuration}
+use Rattle.uds_gateway.specs.block_machine.State.{State}
+use Rattle.uds_gateway.specs.block_machine.Steps.{after_from}
+use Rattle.uds_gateway.proofs.HistoryLaws.{histories_go_on}
 use Rattle.script_walks.specs.Words.{Step}
 use Rattle.script_walks.specs.Walk.{joined}
 use Rattle.promise_run.specs.Run.{Event, Made, Added, events_of}

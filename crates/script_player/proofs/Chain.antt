@@ -5,18 +5,18 @@ use Rattle.std.specs.Option.{is_some}
 use Rattle.std.proofs.Common.{◌≡◌, ◌⊎◌, ◌<◌, ◌≤◌, ◌+◌, ◌-◌, ◌||◌, ◌&&◌, ℕ, Bool, true, false, IsTrue, List, [], ◌∷◌, ◌++◌, Option, Some, None, refl, sym, ap, ◌∙◌, subst, inl, inr, arith, append_assoc}
 use Rattle.std.proofs.lemmas.Bool.{cases_Bool}
 use Rattle.std.proofs.lemmas.Bool.Decides.{leb_tells}
-use Rattle.nvm_core.specs.nv_base.Count.{last_count, Rose}
-use Rattle.nvm_core.specs.block_machine.Words.{Entry, Ask, Pick, Wrote, Post, Off, Found, Configuration}
-use Rattle.nvm_core.specs.block_machine.State.{State, Job}
-use Rattle.nvm_core.specs.block_machine.Blocks.{job_block}
-use Rattle.nvm_core.specs.block_machine.Steps.{after, after_from}
+use Rattle.uds_gateway.specs.nv_base.Count.{last_count, Rose}
+use Rattle.uds_gateway.specs.block_machine.Words.{Entry, Ask, Pick, Wrote, Post, Off, Found, Configuration}
+use Rattle.uds_gateway.specs.block_machine.State.{State, Job}
+use Rattle.uds_gateway.specs.block_machine.Blocks.{job_block}
+use Rattle.uds_gateway.specs.block_machine.Steps.{after, after_from}
 use Rattle.promise_run.specs.Completeness.{is_calm_entry, ends_job}
 use Rattle.promise_run.specs.Turns.{Moment, Move, entry_list, is_asked, is_found, is_picked, fails, ends, IsPostedWithin, EachMove, PostsPicked, ServesTurn, StaysAtRest, all_moves}
 use Rattle.script_player.specs.Chain.{Shown, state_in, IsWithinTurns, IsMoved, AreMoved}
 use Rattle.script_player.proofs.Grown.{state_more}
-use Rattle.nvm_core.proofs.block_laws.Along.{asked_leaves}
+use Rattle.uds_gateway.proofs.Along.{asked_leaves}
 use Rattle.script_player.proofs.InHand.{picked_on, stays_on, stays_in_hand}
-use Rattle.nvm_core.specs.block_machine.Next.{next_of}
+use Rattle.uds_gateway.specs.block_machine.Next.{next_of}
 
 -- CHAINS
 

@@ -1,9 +1,9 @@
 -- Power cuts that are planned, from call to call and from step to step.
 use Rattle.std.proofs.Common.{◌≡◌, ℕ, true, List, [], ◌∷◌, ◌++◌, Option, Some, None, refl, sym, ap, ◌∙◌, subst, inl, inr, arith, append_assoc}
-use Rattle.nvm_core.specs.block_machine.Words.{Request, Reply, Entry, Ask, Pick, Wrote, Post, Off, Found, Configuration}
-use Rattle.nvm_core.specs.block_machine.State.{State}
-use Rattle.nvm_core.specs.block_machine.Steps.{step, after_from}
-use Rattle.nvm_core.proofs.block_laws.HistoryLaws.{histories_step}
+use Rattle.uds_gateway.specs.block_machine.Words.{Request, Reply, Entry, Ask, Pick, Wrote, Post, Off, Found, Configuration}
+use Rattle.uds_gateway.specs.block_machine.State.{State}
+use Rattle.uds_gateway.specs.block_machine.Steps.{step, after_from}
+use Rattle.uds_gateway.proofs.HistoryLaws.{histories_step}
 use Rattle.script_walks.specs.Words.{Step, StepKind, AskStep, Refuse}
 use Rattle.script_walks.specs.Turn.{IsTurn}
 use Rattle.promise_run.specs.Turns.{Moment, Move, Planned, entry_list, entries_of, moment_behind, moment_after, planned_by, IsInTime, AreInTime, CutsCome, AreMoves, all_moves}

@@ -1,12 +1,12 @@
 -- What each step of a walk keeps, with a step more.
 use Rattle.std.proofs.Common.{◌≡◌, List, [], ◌∷◌, ◌++◌, length, sym, ◌∙◌, subst, arith}
-use Rattle.nvm_core.specs.block_machine.Words.{Entry, Configuration}
-use Rattle.nvm_core.specs.block_machine.State.{State}
-use Rattle.nvm_core.specs.block_machine.Steps.{after_from}
+use Rattle.uds_gateway.specs.block_machine.Words.{Entry, Configuration}
+use Rattle.uds_gateway.specs.block_machine.State.{State}
+use Rattle.uds_gateway.specs.block_machine.Steps.{after_from}
 use Rattle.script_walks.specs.Words.{Step}
 use Rattle.script_walks.specs.Walk.{joined}
 use Rattle.promise_run.specs.Run.{EachPiece}
-use Rattle.nvm_core.proofs.block_laws.HistoryLaws.{histories_go_on}
+use Rattle.uds_gateway.proofs.HistoryLaws.{histories_go_on}
 
 -- a fact of each place and one of a place more
 pub each_more : (c : Configuration) (P Q : State → Step → List Entry → List Step → List (List Entry) → Type 0) (x : Step) (p : List Entry) (last : State)

@@ -2,11 +2,11 @@
 use Rattle.std.specs.Prelude.{map}
 use Rattle.std.proofs.Common.{◌≡◌, ◌≤◌, ◌+◌, ℕ, zero, suc, List, [], ◌∷◌, ◌++◌, Option, None, refl, sym, ap, ◌∙◌, subst, inl, arith}
 use Rattle.std.proofs.lemmas.List.{map-append}
-use Rattle.nvm_core.specs.nv_base.Entry.{ops_behind}
-use Rattle.nvm_core.specs.block_machine.Words.{Entry, Configuration}
-use Rattle.nvm_core.specs.block_machine.State.{State}
-use Rattle.nvm_core.specs.block_machine.Blocks.{desc_of}
-use Rattle.nvm_core.specs.block_machine.Steps.{step, after_from}
+use Rattle.uds_gateway.specs.nv_base.Entry.{ops_behind}
+use Rattle.uds_gateway.specs.block_machine.Words.{Entry, Configuration}
+use Rattle.uds_gateway.specs.block_machine.State.{State}
+use Rattle.uds_gateway.specs.block_machine.Blocks.{desc_of}
+use Rattle.uds_gateway.specs.block_machine.Steps.{step, after_from}
 use Rattle.script_walks.specs.Words.{StepKind, Cut, Refuse, Restart}
 use Rattle.promise_run.specs.Run.{DueCut, Event, Added, plan_after}
 use Rattle.promise_run.specs.Refusals.{copy_told, left_by, AreAsAsked, asked_by}

@@ -1,9 +1,9 @@
 -- A stack with some entries more.
 use Rattle.std.proofs.Common.{◌≡◌, true, List, ◌++◌, ap, ◌∙◌, subst, append_assoc}
-use Rattle.nvm_core.specs.block_machine.Words.{Entry, Configuration}
-use Rattle.nvm_core.specs.block_machine.StartUp.{at_first}
-use Rattle.nvm_core.specs.block_machine.Steps.{after, after_from}
-use Rattle.nvm_core.proofs.block_laws.HistoryLaws.{histories_go_on}
+use Rattle.uds_gateway.specs.block_machine.Words.{Entry, Configuration}
+use Rattle.uds_gateway.specs.block_machine.StartUp.{at_first}
+use Rattle.uds_gateway.specs.block_machine.Steps.{after, after_from}
+use Rattle.uds_gateway.proofs.HistoryLaws.{histories_go_on}
 use Rattle.script_player.specs.Told.{StackTold, state_of, IsGrown}
 
 -- the state behind more entries

@@ -4,13 +4,13 @@ use Rattle.std.specs.List.{list_all, list_any}
 use Rattle.std.specs.Option.{is_some, option_to_list}
 use Rattle.std.proofs.Common.{◌≡◌, ◌-◌, ◌==◌, ◌&&◌, ◌⊎◌, ℕ, Bool, true, false, IsTrue, List, [], ◌∷◌, ◌++◌, Option, Some, None, refl, sym, ap, ◌∙◌, subst, inl, inr, arith}
 use Rattle.std.proofs.lemmas.Bool.{and_parts, or_parts, eqb-true}
-use Rattle.nvm_core.specs.block_machine.Words.{ReqResult, Instance, Mark, Request, Reply, Taken, Entry, Ask, Pick, Wrote, Post, Off, Found, Configuration}
-use Rattle.nvm_core.specs.block_machine.State.{State, Job}
-use Rattle.nvm_core.specs.block_machine.StartUp.{at_first}
-use Rattle.nvm_core.specs.block_machine.Blocks.{job_block}
-use Rattle.nvm_core.specs.block_machine.Next.{Next, PickJob, BeginSweep, PickMember, PostMember, EndSweep, next_of}
-use Rattle.nvm_core.specs.block_machine.Steps.{step, after, after_from, picked, wrote, posted, posted_next}
-use Rattle.nvm_core.proofs.block_laws.Along.{Leaves, asked_leaves}
+use Rattle.uds_gateway.specs.block_machine.Words.{ReqResult, Instance, Mark, Request, Reply, Taken, Entry, Ask, Pick, Wrote, Post, Off, Found, Configuration}
+use Rattle.uds_gateway.specs.block_machine.State.{State, Job}
+use Rattle.uds_gateway.specs.block_machine.StartUp.{at_first}
+use Rattle.uds_gateway.specs.block_machine.Blocks.{job_block}
+use Rattle.uds_gateway.specs.block_machine.Next.{Next, PickJob, BeginSweep, PickMember, PostMember, EndSweep, next_of}
+use Rattle.uds_gateway.specs.block_machine.Steps.{step, after, after_from, picked, wrote, posted, posted_next}
+use Rattle.uds_gateway.proofs.Along.{Leaves, asked_leaves}
 use Rattle.script_walks.specs.Walk.{is_at_rest}
 use Rattle.promise_run.specs.Completeness.{is_calm_entry, ends_job}
 use Rattle.promise_run.specs.Turns.{is_found}

@@ -2,13 +2,13 @@
 use Rattle.std.proofs.Common.{◌≡◌, ◌<◌, ◌≤◌, ◌+◌, ◌^◌, ℕ, zero, suc, Bool, true, false, IsTrue, List, [], ◌∷◌, ◌++◌, length, get_or, refl, sym, ap, ◌∙◌, subst, arith, Option, append-nil, length-set}
 use Rattle.std.specs.Prelude.{not, slice_set, Result, Ok, Err, OnOk, IfErr}
 use Rattle.std.proofs.Math.Nat.{min-eq_left}
-use Rattle.nvm_core.specs.block_machine.Words.{Instance, Mark, Request, Reply, Entry, Ask, Found, Configuration}
-use Rattle.nvm_core.specs.block_machine.State.{State}
-use Rattle.nvm_core.specs.block_machine.Blocks.{desc_of, is_synchronized}
-use Rattle.nvm_core.specs.block_machine.Next.{next_of}
-use Rattle.nvm_core.specs.block_machine.Reply.{fits}
-use Rattle.nvm_core.specs.block_machine.Steps.{step, after}
-use Rattle.nvm_core.specs.ram_blocks.Copies.{next_number}
+use Rattle.uds_gateway.specs.block_machine.Words.{Instance, Mark, Request, Reply, Entry, Ask, Found, Configuration}
+use Rattle.uds_gateway.specs.block_machine.State.{State}
+use Rattle.uds_gateway.specs.block_machine.Blocks.{desc_of, is_synchronized}
+use Rattle.uds_gateway.specs.block_machine.Next.{next_of}
+use Rattle.uds_gateway.specs.block_machine.Reply.{fits}
+use Rattle.uds_gateway.specs.block_machine.Steps.{step, after}
+use Rattle.uds_gateway.specs.ram_blocks.Copies.{next_number}
 use Rattle.script_walks.specs.Words.{Step, StepKind, AskStep, Store, Turn, Drain, Restart, Cut, Refuse}
 use Rattle.promise_run.specs.Run.{HasNoRoom, DueCut, plan_after}
 use Rattle.promise_run.specs.InRoom.{is_drain}
@@ -16,7 +16,7 @@ use Rattle.script_walks.specs.Walk.{stores_of, request_after, is_at_rest, copies
 use Rattle.nvm_script.specs.Played.{CanBePlayed}
 use Rattle.script_walks.specs.Stores.{AreNewest, JobsTookStored}
 use Rattle.script_walks.specs.StoreLaws.{is_store}
-use Rattle.nvm_core.proofs.block_laws.HistoryLaws.{histories_step}
+use Rattle.uds_gateway.proofs.HistoryLaws.{histories_step}
 use Rattle.script_walks.proofs.Newest.{others_keep_newest, stores_are_newest, stores_are_few}
 use Rattle.script_walks.proofs.Jobs.{steps_keep_stored, asks_keep_stored, starts_keep_stored}
 use Rattle.script_player.specs.Told.{StackTold, state_of, moment_of}
@@ -32,7 +32,7 @@ use Rattle.script_player.specs.Paying.{Payer, PaysNothing}
 use Rattle.script_player.proofs.Paying.{nothing_pays, ask_pays, found_pays}
 use Rattle.promise_run.specs.Refusals.{asked_by}
 use Rattle.script_player.proofs.Explained.{by_cut, by_entries, by_nothing, by_refuse, by_restart}
-use Rattle.nvm_core.specs.nv_base.Count.{Rose}
+use Rattle.uds_gateway.specs.nv_base.Count.{Rose}
 use Rattle.script_player.proofs.InHand.{power_on}
 use Rattle.script_player.specs.Table.{HasLastStores}
 use Rattle.script_player.proofs.Table.{same_table}

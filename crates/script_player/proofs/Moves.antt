@@ -4,13 +4,13 @@ use Rattle.script_walks.specs.Walk.{is_due, begins_with_pick_or_post}
 use Rattle.std.specs.List.{list_any}
 use Rattle.std.proofs.Common.{◌≡◌, ℕ, false, List, [], ◌∷◌, ◌++◌, IsTrue, map, Some, refl, sym, ap, ◌∙◌, subst, append_assoc, append-nil}
 use Rattle.std.proofs.lemmas.List.{map-append}
-use Rattle.nvm_core.specs.nv_base.Entry.{ops_of}
-use Rattle.nvm_core.specs.block_machine.Words.{Instance, Mark, Request, Reply, Entry, Ask, Pick, Wrote, Post, Off, Found, Configuration}
-use Rattle.nvm_core.specs.block_machine.State.{State}
+use Rattle.uds_gateway.specs.nv_base.Entry.{ops_of}
+use Rattle.uds_gateway.specs.block_machine.Words.{Instance, Mark, Request, Reply, Entry, Ask, Pick, Wrote, Post, Off, Found, Configuration}
+use Rattle.uds_gateway.specs.block_machine.State.{State}
 use Rattle.script_walks.specs.Words.{Step, Drain}
 use Rattle.script_walks.specs.Turn.{IsTurn}
 use Rattle.promise_run.specs.Turns.{Moment, Move, entry_list, entries_of, moment_behind, moment_after, AreTurnsMade, AreMovesOf, AreMoves, HasMoves, ClosesAtDrains, is_asked, is_picked, all_moves, IsInTime, AreInTime}
-use Rattle.nvm_core.specs.block_machine.Steps.{after_from}
+use Rattle.uds_gateway.specs.block_machine.Steps.{after_from}
 use Rattle.script_player.specs.Told.{StackTold, state_of, moment_of, IsGrown}
 use Rattle.script_player.specs.Paying.{Payer, PaysTurn, PaysBy}
 use Rattle.promise_run.proofs.Counted.{behind_more}

@@ -1,10 +1,10 @@
 -- Power cuts that were planned, and others, from events to events.
 use Rattle.std.specs.Prelude.{map}
 use Rattle.std.proofs.Common.{◌≡◌, ◌≤◌, ◌+◌, ◌⊎◌, ℕ, List, [], ◌∷◌, ◌++◌, Option, Some, None, refl, sym, ap, ◌∙◌, subst, inl, inr, arith, append-nil, append_assoc}
-use Rattle.nvm_core.specs.nv_base.Count.{WereCounted, last_count}
-use Rattle.nvm_core.specs.nv_base.Entry.{ops_behind}
-use Rattle.nvm_core.specs.block_machine.Words.{Entry, Ask, Pick, Wrote, Post, Off, Found}
-use Rattle.nvm_core.specs.block_machine.State.{State}
+use Rattle.uds_gateway.specs.nv_base.Count.{WereCounted, last_count}
+use Rattle.uds_gateway.specs.nv_base.Entry.{ops_behind}
+use Rattle.uds_gateway.specs.block_machine.Words.{Entry, Ask, Pick, Wrote, Post, Off, Found}
+use Rattle.uds_gateway.specs.block_machine.State.{State}
 use Rattle.script_walks.specs.Words.{StepKind}
 use Rattle.promise_run.specs.Run.{DueCut, Event, Made, Added, plan_after, CutsAre}
 use Rattle.script_player.specs.Told.{StackTold, state_of, TellsOff, IsNoEarlier, AreCut, plan_behind, ops_at}

@@ -1,13 +1,13 @@
 -- Moves pay, one after another.
 use Rattle.std.proofs.Common.{◌≡◌, ◌≤◌, ◌+◌, ℕ, Some, List, [], ◌∷◌, ◌++◌, if◌then◌else◌, refl, sym, subst, inl, arith}
-use Rattle.nvm_core.specs.block_machine.Words.{Instance, Mark, Request, Reply, Ask, Found, Configuration}
-use Rattle.nvm_core.specs.block_machine.State.{State}
-use Rattle.nvm_core.specs.block_machine.Steps.{after_from}
-use Rattle.nvm_core.specs.promise_blocks.Payment.{Worn}
+use Rattle.uds_gateway.specs.block_machine.Words.{Instance, Mark, Request, Reply, Ask, Found, Configuration}
+use Rattle.uds_gateway.specs.block_machine.State.{State}
+use Rattle.uds_gateway.specs.block_machine.Steps.{after_from}
+use Rattle.uds_gateway.specs.promise_blocks.Payment.{Worn}
 use Rattle.promise_run.specs.Turns.{Moment, Move, entry_list, entries_of, moment_behind, is_picked, ArePaidSince}
 use Rattle.promise_run.proofs.Paid.{since_too}
 use Rattle.promise_run.proofs.Counted.{behind_later, counted_by, counted_more}
-use Rattle.nvm_core.proofs.block_laws.HistoryLaws.{histories_go_on}
+use Rattle.uds_gateway.proofs.HistoryLaws.{histories_go_on}
 use Rattle.script_player.specs.Told.{StackTold, state_of, moment_of}
 use Rattle.script_player.specs.Paying.{Payer, PaysNothing, since_behind, Pays, PaysBy}
 

@@ -2,28 +2,28 @@
 use Rattle.std.specs.Prelude.{IsTrue, map, not}
 use Rattle.std.specs.List.{list_any}
 use Rattle.std.proofs.Common.{◌≡◌, ◌≤◌, ◌⊎◌, ℕ, Bool, true, false, List, [], ◌∷◌, ◌++◌, Option, Some, None, refl, sym, ap, ◌∙◌, subst, inl, inr, arith}
-use Rattle.nvm_core.specs.nv_base.Marks.{instance_of}
-use Rattle.nvm_core.specs.nv_base.Entry.{ops_of as ops_told}
-use Rattle.nvm_core.specs.memif.declared.answer.JobResult.TheVariants.{JobOk, JobFailed, JobPending, JobCanceled, BlockInconsistent, BlockInvalid}
-use Rattle.nvm_core.specs.memif.Told.{DeviceTold, Stand, Open, Ended as At, ops_of, is_off, nothing_open}
-use Rattle.nvm_core.specs.memif.Clock.{Clock}
-use Rattle.nvm_core.specs.block_machine.Words.{Instance, Mark, Entry, Wrote, Off}
-use Rattle.nvm_core.specs.block_machine.State.{State, Job}
-use Rattle.nvm_core.specs.block_machine.Legal.{MayWrite}
-use Rattle.nvm_core.specs.ram_blocks.declared.plain_block.PlainBlock.{PlainBlock}
-use Rattle.nvm_core.specs.ram_blocks.Told.{Told}
-use Rattle.nvm_core.specs.ram_blocks.Plain.{told_of, store_of}
-use Rattle.nvm_core.specs.nv_desk.Desk.{DeskState, state_of}
-use Rattle.nvm_core.specs.nvm_device_laws.Turn.{settled_by, wrote_by}
-use Rattle.nvm_core.specs.job_progress.JobInHand.{IsPaired}
-use Rattle.nvm_core.specs.job_progress.Hand.{HandState}
-use Rattle.nvm_core.specs.nvm_laws.AtDevice.{GoesOn}
-use Rattle.nvm_core.specs.nvm_laws.Turns.{AddsBy}
-use Rattle.nvm_core.specs.nvm_laws.declared.turned.Turned.{Turned}
-use Rattle.nvm_core.specs.nvm_laws.declared.turned.Turned.TheVariants as turned
-use Rattle.nvm_core.specs.nvm_laws.declared.turned.Act.TheVariants.{Device}
-use Rattle.nvm_core.specs.Stack.{StackState, PowersOff}
-use Rattle.nvm_core.specs.Turns.{IsFirstHalf, IsSecondHalf}
+use Rattle.uds_gateway.specs.nv_base.Marks.{instance_of}
+use Rattle.uds_gateway.specs.nv_base.Entry.{ops_of as ops_told}
+use Rattle.uds_gateway.specs.memif.declared.answer.JobResult.TheVariants.{JobOk, JobFailed, JobPending, JobCanceled, BlockInconsistent, BlockInvalid}
+use Rattle.uds_gateway.specs.memif.Told.{DeviceTold, Stand, Open, Ended as At, ops_of, is_off, nothing_open}
+use Rattle.uds_gateway.specs.memif.Clock.{Clock}
+use Rattle.uds_gateway.specs.block_machine.Words.{Instance, Mark, Entry, Wrote, Off}
+use Rattle.uds_gateway.specs.block_machine.State.{State, Job}
+use Rattle.uds_gateway.specs.block_machine.Legal.{MayWrite}
+use Rattle.uds_gateway.specs.ram_blocks.declared.plain_block.PlainBlock.{PlainBlock}
+use Rattle.uds_gateway.specs.ram_blocks.Told.{Told}
+use Rattle.uds_gateway.specs.ram_blocks.Plain.{told_of, store_of}
+use Rattle.uds_gateway.specs.nv_desk.Desk.{DeskState, state_of}
+use Rattle.uds_gateway.specs.nvm_device_laws.Turn.{settled_by, wrote_by}
+use Rattle.uds_gateway.specs.job_progress.JobInHand.{IsPaired}
+use Rattle.uds_gateway.specs.job_progress.Hand.{HandState}
+use Rattle.uds_gateway.specs.nvm_laws.AtDevice.{GoesOn}
+use Rattle.uds_gateway.specs.nvm_laws.Turns.{AddsBy}
+use Rattle.uds_gateway.specs.nvm_laws.declared.turned.Turned.{Turned}
+use Rattle.uds_gateway.specs.nvm_laws.declared.turned.Turned.TheVariants as turned
+use Rattle.uds_gateway.specs.nvm_laws.declared.turned.Act.TheVariants.{Device}
+use Rattle.uds_gateway.specs.nvm_core.Stack.{StackState, PowersOff}
+use Rattle.uds_gateway.specs.nvm_core.Turns.{IsFirstHalf, IsSecondHalf}
 use Rattle.promise_run.specs.Run.{Added}
 use Rattle.promise_run.specs.Refusals.{copy_told}
 use Rattle.script_walks.specs.Walk.{is_due, is_at_rest}

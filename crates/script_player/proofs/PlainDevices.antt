@@ -2,14 +2,14 @@
 use Rattle.std.specs.Prelude.{◌||◌, min}
 use Rattle.std.proofs.Common.{◌≡◌, ◌<◌, ◌≤◌, ◌+◌, ◌⊎◌, ℕ, Bool, true, false, List, [], ◌∷◌, ◌++◌, length, Option, Some, None, refl, sym, ap, ◌∙◌, subst, inl, inr, arith, append-nil}
 use Rattle.std.proofs.lemmas.Bool.Decides.{leb_tells}
-use Rattle.nvm_core.specs.nv_base.Count.{last_count, next_count, WereCounted}
-use Rattle.nvm_core.specs.memif.Told.{DeviceTold, PartTold, Part, First, Second, Fixed, Stand, Open, Ended, part_at, with_part, ops_of, faults_of, is_off}
-use Rattle.nvm_core.specs.memif.Clock.{Clock}
-use Rattle.nvm_core.specs.memif.Calls.{PartTurns, IsOf, Works, IsCut}
-use Rattle.nvm_core.specs.block_machine.Words.{Off}
-use Rattle.nvm_core.specs.BehindDevice.{TurnsDevice}
-use Rattle.nvm_core.specs.nvm_laws.declared.turned.Turned.{Turned}
-use Rattle.nvm_core.specs.nvm_laws.declared.turned.Turned.TheVariants as turned
+use Rattle.uds_gateway.specs.nv_base.Count.{last_count, next_count, WereCounted}
+use Rattle.uds_gateway.specs.memif.Told.{DeviceTold, PartTold, Part, First, Second, Fixed, Stand, Open, Ended, part_at, with_part, ops_of, faults_of, is_off}
+use Rattle.uds_gateway.specs.memif.Clock.{Clock}
+use Rattle.uds_gateway.specs.memif.Calls.{PartTurns, IsOf, Works, IsCut}
+use Rattle.uds_gateway.specs.block_machine.Words.{Off}
+use Rattle.uds_gateway.specs.nvm_core.BehindDevice.{TurnsDevice}
+use Rattle.uds_gateway.specs.nvm_laws.declared.turned.Turned.{Turned}
+use Rattle.uds_gateway.specs.nvm_laws.declared.turned.Turned.TheVariants as turned
 use Rattle.promise_run.specs.Run.{DueCut, Added, CutsAre}
 use Rattle.script_player.specs.Told.{IsNoEarlier}
 use Rattle.script_player.specs.PlainTold.{plan_from, plan_in, takes_in, unplanned_in, came_in, ops_in}

@@ -2,35 +2,35 @@
 use Rattle.std.specs.Prelude.{IsTrue, map, not, ◌&&◌}
 use Rattle.std.specs.Option.{option_map_or}
 use Rattle.std.proofs.Common.{◌≡◌, ◌≤◌, ◌+◌, ℕ, Bool, true, false, List, [], ◌∷◌, ◌++◌, get_or, Option, None, refl, sym, ap, ◌∙◌, subst, inl, inr, arith}
-use Rattle.nvm_core.specs.memif.Told.{DeviceTold, faults_of, ops_of}
-use Rattle.nvm_core.specs.block_machine.Words.{ReqResult, Entry, Pick, Post}
-use Rattle.nvm_core.specs.block_machine.State.{State, Job}
-use Rattle.nvm_core.specs.block_machine.Blocks.{desc_of, is_synchronized, job_block, names_ram}
-use Rattle.nvm_core.specs.block_machine.Results.{Answer}
-use Rattle.nvm_core.specs.block_machine.Next.{Next, Nothing, PickJob, BeginSweep, PickMember, PostMember, EndSweep, next_of}
-use Rattle.nvm_core.specs.ram_blocks.declared.plain_block.PlainBlock.{PlainBlock}
-use Rattle.nvm_core.specs.ram_blocks.Told.{Told}
-use Rattle.nvm_core.specs.ram_blocks.Plain.{told_of, store_of}
-use Rattle.nvm_core.specs.nv_desk.Desk.{DeskState, state_of}
-use Rattle.nvm_core.specs.nv_desk_copies.Takes.{copies_out_next}
-use Rattle.nvm_core.specs.nv_desk_copies.Front.{AreSynchronized}
-use Rattle.nvm_core.specs.nv_desk_copies.Posts.{IsPosted, IsPostedNext}
-use Rattle.nvm_core.specs.job_progress.Hand.{HandState}
-use Rattle.nvm_core.specs.job_progress.JobInHand.{IsPaired}
-use Rattle.nvm_core.specs.nvm_laws.Halves.{AddsPost}
-use Rattle.nvm_core.specs.nvm_laws.Ties.{IsTied}
-use Rattle.nvm_core.specs.nvm_laws.declared.turned.Turned.{Turned}
-use Rattle.nvm_core.specs.nvm_laws.declared.turned.Turned.TheVariants as turned
-use Rattle.nvm_core.specs.nvm_laws.declared.turned.Act.TheVariants.{Ended}
-use Rattle.nvm_core.specs.Stack.{StackState, PowersOff}
-use Rattle.nvm_core.specs.Turns.{IsFirstHalf}
-use Rattle.nvm_core.specs.Work as work
+use Rattle.uds_gateway.specs.memif.Told.{DeviceTold, faults_of, ops_of}
+use Rattle.uds_gateway.specs.block_machine.Words.{ReqResult, Entry, Pick, Post}
+use Rattle.uds_gateway.specs.block_machine.State.{State, Job}
+use Rattle.uds_gateway.specs.block_machine.Blocks.{desc_of, is_synchronized, job_block, names_ram}
+use Rattle.uds_gateway.specs.block_machine.Results.{Answer}
+use Rattle.uds_gateway.specs.block_machine.Next.{Next, Nothing, PickJob, BeginSweep, PickMember, PostMember, EndSweep, next_of}
+use Rattle.uds_gateway.specs.ram_blocks.declared.plain_block.PlainBlock.{PlainBlock}
+use Rattle.uds_gateway.specs.ram_blocks.Told.{Told}
+use Rattle.uds_gateway.specs.ram_blocks.Plain.{told_of, store_of}
+use Rattle.uds_gateway.specs.nv_desk.Desk.{DeskState, state_of}
+use Rattle.uds_gateway.specs.nv_desk_copies.Takes.{copies_out_next}
+use Rattle.uds_gateway.specs.nv_desk_copies.Front.{AreSynchronized}
+use Rattle.uds_gateway.specs.nv_desk_copies.Posts.{IsPosted, IsPostedNext}
+use Rattle.uds_gateway.specs.job_progress.Hand.{HandState}
+use Rattle.uds_gateway.specs.job_progress.JobInHand.{IsPaired}
+use Rattle.uds_gateway.specs.nvm_laws.Halves.{AddsPost}
+use Rattle.uds_gateway.specs.nvm_laws.Ties.{IsTied}
+use Rattle.uds_gateway.specs.nvm_laws.declared.turned.Turned.{Turned}
+use Rattle.uds_gateway.specs.nvm_laws.declared.turned.Turned.TheVariants as turned
+use Rattle.uds_gateway.specs.nvm_laws.declared.turned.Act.TheVariants.{Ended}
+use Rattle.uds_gateway.specs.nvm_core.Stack.{StackState, PowersOff}
+use Rattle.uds_gateway.specs.nvm_core.Turns.{IsFirstHalf}
+use Rattle.uds_gateway.specs.nvm_core.Work as work
 use Rattle.script_walks.specs.Walk.{is_due}
 use Rattle.script_walks.specs.Turn.{TakesNewest, copies_next}
 use Rattle.promise_run.specs.Refusals.{copied_in}
 use Rattle.script_player.specs.Calls.{Turns, IsAnswer, Lowers}
 use Rattle.script_player.specs.PlainTold.{told_by, shown, to_refuse_in}
-use Rattle.nvm_core.specs.block_machine.Legal.{IsAllowed, MayPick, MayPost, MayPostNext}
+use Rattle.uds_gateway.specs.block_machine.Legal.{IsAllowed, MayPick, MayPost, MayPostNext}
 use Rattle.script_player.specs.Told.{moment_of}
 use Rattle.script_player.proofs.Canceled.{rests_next, some_none}
 use Rattle.script_player.proofs.PlainDevices.{goes_same, came_same}

@@ -1,17 +1,17 @@
 -- The turns that are left of the job in hand, and its most.
 use Rattle.std.specs.Prelude.{is_some}
 use Rattle.std.proofs.Common.{◌≡◌, ◌≤◌, ◌<◌, ◌+◌, ℕ, Bool, true, false, if◌then◌else◌, Option, Some, None, IfSome, refl, sym, ap, ◌∙◌, subst, arith}
-use Rattle.nvm_core.specs.memif.Told.{DeviceTold, Fixed, Stand, Open, Ended}
-use Rattle.nvm_core.specs.block_machine.Words.{Outcome, Configuration}
-use Rattle.nvm_core.specs.block_machine.State.{State, Job}
-use Rattle.nvm_core.specs.job_programs.Program.{Program, next_in, is_again, tried, after_by}
-use Rattle.nvm_core.specs.nv_base.declared.job.Outcome.TheVariants.{First}
-use Rattle.nvm_core.specs.nvm_device_laws.Outcomes.{outcome_by}
-use Rattle.nvm_core.specs.nvm_figures.Left.{stack_left, most_turns}
-use Rattle.nvm_core.specs.job_progress.Hand.{HandState, is_finished, ended}
-use Rattle.nvm_core.specs.job_progress.JobInHand.{IsInHand, IsPaired, program_for}
-use Rattle.nvm_core.specs.nvm_laws.Turns.{hand_by}
-use Rattle.nvm_core.specs.Work.{left_with, IsWithin}
+use Rattle.uds_gateway.specs.memif.Told.{DeviceTold, Fixed, Stand, Open, Ended}
+use Rattle.uds_gateway.specs.block_machine.Words.{Outcome, Configuration}
+use Rattle.uds_gateway.specs.block_machine.State.{State, Job}
+use Rattle.uds_gateway.specs.job_programs.Program.{Program, next_in, is_again, tried, after_by}
+use Rattle.uds_gateway.specs.nv_base.declared.job.Outcome.TheVariants.{First}
+use Rattle.uds_gateway.specs.nvm_device_laws.Outcomes.{outcome_by}
+use Rattle.uds_gateway.specs.nvm_figures.Left.{stack_left, most_turns}
+use Rattle.uds_gateway.specs.job_progress.Hand.{HandState, is_finished, ended}
+use Rattle.uds_gateway.specs.job_progress.JobInHand.{IsInHand, IsPaired, program_for}
+use Rattle.uds_gateway.specs.nvm_laws.Turns.{hand_by}
+use Rattle.uds_gateway.specs.nvm_core.Work.{left_with, IsWithin}
 
 -- THE MOST TURNS OF A JOB
 -- what is done of it doesn't change them

@@ -2,12 +2,12 @@
 use Rattle.std.specs.Prelude.{◌-◌, option_map}
 use Rattle.std.proofs.Common.{◌≡◌, ◌<◌, ◌≤◌, ◌+◌, ◌⊎◌, ℕ, Bool, true, false, List, [], ◌∷◌, ◌++◌, length, Option, Some, None, refl, sym, ap, ◌∙◌, subst, inl, inr, arith, append-nil, length-append}
 use Rattle.std.proofs.lemmas.Bool.Decides.{leb_tells}
-use Rattle.nvm_core.specs.nv_base.Count.{last_count, next_count, Rose, WereCounted}
-use Rattle.nvm_core.specs.nv_base.Plan.{Planning, nearer, IsDue}
-use Rattle.nvm_core.specs.nv_base.declared.plan.Plan.{Plan}
-use Rattle.nvm_core.specs.memif.Told.{PartTold}
-use Rattle.nvm_core.specs.memif.Calls.{PartTurns, PlanStays}
-use Rattle.nvm_core.specs.block_machine.Words.{Off}
+use Rattle.uds_gateway.specs.nv_base.Count.{last_count, next_count, Rose, WereCounted}
+use Rattle.uds_gateway.specs.nv_base.Plan.{Planning, nearer, IsDue}
+use Rattle.uds_gateway.specs.nv_base.declared.plan.Plan.{Plan}
+use Rattle.uds_gateway.specs.memif.Told.{PartTold}
+use Rattle.uds_gateway.specs.memif.Calls.{PartTurns, PlanStays}
+use Rattle.uds_gateway.specs.block_machine.Words.{Off}
 use Rattle.promise_run.specs.Run.{DueCut, Added, CutsAre}
 use Rattle.script_player.specs.Told.{IsNoEarlier}
 use Rattle.script_player.specs.PlainTold.{due_cut, plan_from}

@@ -2,31 +2,31 @@
 use Rattle.std.specs.Prelude.{IfSome, min}
 use Rattle.std.proofs.lemmas.Bool.Decides.{leb_tells}
 use Rattle.std.proofs.Common.{◌≡◌, ◌<◌, ◌≤◌, ◌+◌, ◌⊎◌, ℕ, Bool, true, if◌then◌else◌, List, [], ◌∷◌, ◌++◌, Option, Some, None, refl, sym, ap, ◌∙◌, subst, inl, inr, arith}
-use Rattle.nvm_core.specs.nv_base.Count.{last_count, Rose, WereCounted}
-use Rattle.nvm_core.specs.memif.Told.{DeviceTold, Part, PartTold, faults_of}
-use Rattle.nvm_core.specs.memif.Clock.{Clock}
-use Rattle.nvm_core.specs.memif.Calls.{Arms}
-use Rattle.nvm_core.specs.memif.Trials.{Lasts}
-use Rattle.nvm_core.specs.memif.Marks.{ComesFrom}
-use Rattle.nvm_core.proofs.memif.Turning.{told_before, same_clock, same_told, same_lasts as clock_lasts}
-use Rattle.nvm_core.specs.block_machine.Words.{Entry, Ask, Pick, Wrote, Post, Off, Found}
-use Rattle.nvm_core.specs.block_machine.Prices.{price_in_faults, sum_from}
-use Rattle.nvm_core.specs.promise_blocks.Payment.{IsExcused}
-use Rattle.nvm_core.specs.ram_blocks.declared.plain_block.PlainBlock.{PlainBlock}
-use Rattle.nvm_core.specs.ram_blocks.Told.{Told}
-use Rattle.nvm_core.specs.nv_desk.Desk.{DeskState, state_of}
-use Rattle.nvm_core.specs.job_progress.Hand.{HandState}
-use Rattle.nvm_core.specs.nvm_found.Found.{IsRestarted}
-use Rattle.nvm_core.specs.nvm_device_laws.Turn.{TellsSlots}
-use Rattle.nvm_core.specs.nvm_laws.Keeps.{StaysKept}
-use Rattle.nvm_core.specs.nvm_laws.declared.turned.Turned.{Turned}
-use Rattle.nvm_core.specs.nvm_laws.declared.turned.FoundAnswer.{FoundAnswer}
-use Rattle.nvm_core.specs.nvm_laws.declared.turned.FoundAnswer.TheVariants as found
-use Rattle.nvm_core.specs.Stack.{StackState}
-use Rattle.nvm_core.specs.StartUps.{Restarts}
-use Rattle.nvm_core.specs.Turns as core
-use Rattle.nvm_core.specs.Paying.{OwesSince, PaysSince, TurnPays, worn_so_far}
-use Rattle.nvm_core.proofs.Trying.{since_stays}
+use Rattle.uds_gateway.specs.nv_base.Count.{last_count, Rose, WereCounted}
+use Rattle.uds_gateway.specs.memif.Told.{DeviceTold, Part, PartTold, faults_of}
+use Rattle.uds_gateway.specs.memif.Clock.{Clock}
+use Rattle.uds_gateway.specs.memif.Calls.{Arms}
+use Rattle.uds_gateway.specs.memif.Trials.{Lasts}
+use Rattle.uds_gateway.specs.memif.Marks.{ComesFrom}
+use Rattle.uds_gateway.proofs.Turning.{told_before, same_clock, same_told, same_lasts as clock_lasts}
+use Rattle.uds_gateway.specs.block_machine.Words.{Entry, Ask, Pick, Wrote, Post, Off, Found}
+use Rattle.uds_gateway.specs.block_machine.Prices.{price_in_faults, sum_from}
+use Rattle.uds_gateway.specs.promise_blocks.Payment.{IsExcused}
+use Rattle.uds_gateway.specs.ram_blocks.declared.plain_block.PlainBlock.{PlainBlock}
+use Rattle.uds_gateway.specs.ram_blocks.Told.{Told}
+use Rattle.uds_gateway.specs.nv_desk.Desk.{DeskState, state_of}
+use Rattle.uds_gateway.specs.job_progress.Hand.{HandState}
+use Rattle.uds_gateway.specs.nvm_found.Found.{IsRestarted}
+use Rattle.uds_gateway.specs.nvm_device_laws.Turn.{TellsSlots}
+use Rattle.uds_gateway.specs.nvm_laws.Keeps.{StaysKept}
+use Rattle.uds_gateway.specs.nvm_laws.declared.turned.Turned.{Turned}
+use Rattle.uds_gateway.specs.nvm_laws.declared.turned.FoundAnswer.{FoundAnswer}
+use Rattle.uds_gateway.specs.nvm_laws.declared.turned.FoundAnswer.TheVariants as found
+use Rattle.uds_gateway.specs.nvm_core.Stack.{StackState}
+use Rattle.uds_gateway.specs.nvm_core.StartUps.{Restarts}
+use Rattle.uds_gateway.specs.nvm_core.Turns as core
+use Rattle.uds_gateway.specs.nvm_core.Paying.{OwesSince, PaysSince, TurnPays, worn_so_far}
+use Rattle.uds_gateway.proofs.Trying.{since_stays}
 use Rattle.promise_run.specs.Turns.{entry_list, is_picked}
 use Rattle.script_player.specs.Paying.{StaysWorn, FailsNoMore, PaysTurn, PaysNothing}
 use Rattle.script_player.specs.PlainTold.{told_by}

@@ -1,17 +1,17 @@
 -- What a turn picks, and that none goes by that would.
 use Rattle.std.specs.Prelude.{◌&&◌, not, is_some, is_none, if◌then◌else◌}
 use Rattle.std.proofs.Common.{◌≡◌, ℕ, Bool, true, false, List, [], ◌∷◌, get_or, Option, Some, None, refl, sym, ap, ◌∙◌, subst}
-use Rattle.nvm_core.specs.block_machine.Words.{JobKind, WriteJob, Taken, TookNothing, TookContent, TookRefused, TookStale, BlockDesc, Configuration}
-use Rattle.nvm_core.specs.block_machine.State.{State, BlockState, Job, Sweep}
-use Rattle.nvm_core.specs.block_machine.Blocks.{desc_of, block_at, is_synchronized, names_ram, job_block, kind_of}
-use Rattle.nvm_core.specs.block_machine.Sweeps.{member_job, member_request, is_picked}
-use Rattle.nvm_core.specs.block_machine.Next.{Next, Nothing, PickJob, BeginSweep, PickMember, PostMember, EndSweep, next_of, next_by, next_in, next_in_sweep, next_member}
-use Rattle.nvm_core.specs.block_machine.Legal.{TakesBy, MayPick}
-use Rattle.nvm_core.specs.ram_blocks.Told.{Told}
-use Rattle.nvm_core.specs.nv_desk_copies.Takes.{copies_out_by, copies_out_for, copies_out_next, IsFromCopies, IsCopied}
+use Rattle.uds_gateway.specs.block_machine.Words.{JobKind, WriteJob, Taken, TookNothing, TookContent, TookRefused, TookStale, BlockDesc, Configuration}
+use Rattle.uds_gateway.specs.block_machine.State.{State, BlockState, Job, Sweep}
+use Rattle.uds_gateway.specs.block_machine.Blocks.{desc_of, block_at, is_synchronized, names_ram, job_block, kind_of}
+use Rattle.uds_gateway.specs.block_machine.Sweeps.{member_job, member_request, is_picked}
+use Rattle.uds_gateway.specs.block_machine.Next.{Next, Nothing, PickJob, BeginSweep, PickMember, PostMember, EndSweep, next_of, next_by, next_in, next_in_sweep, next_member}
+use Rattle.uds_gateway.specs.block_machine.Legal.{TakesBy, MayPick}
+use Rattle.uds_gateway.specs.ram_blocks.Told.{Told}
+use Rattle.uds_gateway.specs.nv_desk_copies.Takes.{copies_out_by, copies_out_for, copies_out_next, IsFromCopies, IsCopied}
 use Rattle.script_walks.specs.Walk.{is_due, is_at_rest}
 use Rattle.script_walks.specs.Turn.{copies_next, TakesNewest}
-use Rattle.nvm_core.proofs.block_laws.NextLaws.{none_waits}
+use Rattle.uds_gateway.proofs.NextLaws.{none_waits}
 
 -- WHAT A PICK TOOK
 

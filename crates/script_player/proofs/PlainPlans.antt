@@ -1,12 +1,12 @@
 -- Planned power cuts.
 use Rattle.std.specs.Prelude.{option_map}
 use Rattle.std.proofs.Common.{◌≡◌, ◌≤◌, ℕ, Bool, true, false, List, [], ◌∷◌, Option, Some, None, refl, inl, arith}
-use Rattle.nvm_core.specs.nv_base.Entry.{ops_behind}
-use Rattle.nvm_core.specs.nv_base.declared.plan.Plan.{Plan}
-use Rattle.nvm_core.specs.block_machine.Words.{Entry, Configuration}
-use Rattle.nvm_core.specs.block_machine.State.{State}
-use Rattle.nvm_core.specs.block_machine.Steps.{after, after_from, step}
-use Rattle.nvm_core.specs.block_machine.StartUp.{at_first}
+use Rattle.uds_gateway.specs.nv_base.Entry.{ops_behind}
+use Rattle.uds_gateway.specs.nv_base.declared.plan.Plan.{Plan}
+use Rattle.uds_gateway.specs.block_machine.Words.{Entry, Configuration}
+use Rattle.uds_gateway.specs.block_machine.State.{State}
+use Rattle.uds_gateway.specs.block_machine.Steps.{after, after_from, step}
+use Rattle.uds_gateway.specs.block_machine.StartUp.{at_first}
 use Rattle.promise_run.specs.Run.{DueCut}
 use Rattle.script_player.specs.Told.{IsNoEarlier}
 use Rattle.script_player.specs.PlainTold.{due_cut, plan_from}

@@ -2,19 +2,19 @@
 use Rattle.std.specs.Prelude.{◌==◌, ◌||◌, IsTrue}
 use Rattle.std.proofs.Common.{◌≡◌, ◌<◌, ◌⊎◌, ℕ, Bool, true, false, List, [], ◌∷◌, Option, Some, None, refl, sym, ◌∙◌, subst, inl, inr, arith}
 use Rattle.std.proofs.lemmas.Bool.{eq-eqb}
-use Rattle.nvm_core.specs.nv_base.Count.{Rose}
-use Rattle.nvm_core.specs.memif.Told.{DeviceTold, faults_of}
-use Rattle.nvm_core.specs.block_machine.Words.{ReqResult, JobKind, Taken, Entry, Pick, Post, Configuration}
-use Rattle.nvm_core.specs.block_machine.State.{State, Job}
-use Rattle.nvm_core.specs.block_machine.Blocks.{job_block}
-use Rattle.nvm_core.specs.ram_blocks.declared.plain_block.PlainBlock.{PlainBlock}
-use Rattle.nvm_core.specs.nv_desk.Desk.{state_of}
-use Rattle.nvm_core.specs.job_progress.Hand.{HandState}
-use Rattle.nvm_core.specs.job_progress.JobInHand.{IsPaired}
-use Rattle.nvm_core.specs.nvm_laws.Turns.{hand_by}
-use Rattle.nvm_core.specs.Stack.{StackState}
+use Rattle.uds_gateway.specs.nv_base.Count.{Rose}
+use Rattle.uds_gateway.specs.memif.Told.{DeviceTold, faults_of}
+use Rattle.uds_gateway.specs.block_machine.Words.{ReqResult, JobKind, Taken, Entry, Pick, Post, Configuration}
+use Rattle.uds_gateway.specs.block_machine.State.{State, Job}
+use Rattle.uds_gateway.specs.block_machine.Blocks.{job_block}
+use Rattle.uds_gateway.specs.ram_blocks.declared.plain_block.PlainBlock.{PlainBlock}
+use Rattle.uds_gateway.specs.nv_desk.Desk.{state_of}
+use Rattle.uds_gateway.specs.job_progress.Hand.{HandState}
+use Rattle.uds_gateway.specs.job_progress.JobInHand.{IsPaired}
+use Rattle.uds_gateway.specs.nvm_laws.Turns.{hand_by}
+use Rattle.uds_gateway.specs.nvm_core.Stack.{StackState}
 use Rattle.script_player.specs.Calls.{Serves}
-use Rattle.nvm_core.specs.Work.{left_with, IsWithin, IsFaulty}
+use Rattle.uds_gateway.specs.nvm_core.Work.{left_with, IsWithin, IsFaulty}
 use Rattle.script_player.specs.PlainTold.{told_by}
 use Rattle.script_player.proofs.PlainMostTurns.{within_of, worked_within, stays_held}
 use Rattle.script_player.proofs.PlainRefused.{IsOn}

@@ -4,19 +4,19 @@ use Rattle.std.proofs.Common.{◌≡◌, ◌≢◌, ◌<◌, get_or-set_other, �
 use Rattle.std.proofs.lemmas.Bool.Decides.{eqb_tells, leb_tells}
 use Rattle.std.proofs.lemmas.List.{map-set}
 use Prim.Native.Nat.compare
-use Rattle.nvm_core.specs.nv_base.Count.{last_count}
-use Rattle.nvm_core.specs.nv_base.Entry.{ops_behind}
-use Rattle.nvm_core.specs.nv_base.Plan.{Planning, planned}
-use Rattle.nvm_core.specs.memif.Told.{DeviceTold, armed, ops_of, faults_of, is_off}
-use Rattle.nvm_core.specs.ram_blocks.declared.plain_block.PlainBlock.{PlainBlock}
-use Rattle.nvm_core.specs.ram_blocks.Copies.{next_number}
-use Rattle.nvm_core.specs.ram_blocks.Told.{Told, Synchronized, IsSynchronized, to_refuse_by}
-use Rattle.nvm_core.specs.ram_blocks.Plain.{told_of, store_of, stored, refusing, no_plain}
-use Rattle.nvm_core.specs.nv_desk.Desk.{DeskState, state_of}
-use Rattle.nvm_core.specs.job_progress.Hand.{HandState}
-use Rattle.nvm_core.specs.nvm_laws.Work.{stack_work}
-use Rattle.nvm_core.specs.Work.{left_with}
-use Rattle.nvm_core.specs.Stack.{PowersOff}
+use Rattle.uds_gateway.specs.nv_base.Count.{last_count}
+use Rattle.uds_gateway.specs.nv_base.Entry.{ops_behind}
+use Rattle.uds_gateway.specs.nv_base.Plan.{Planning, planned}
+use Rattle.uds_gateway.specs.memif.Told.{DeviceTold, armed, ops_of, faults_of, is_off}
+use Rattle.uds_gateway.specs.ram_blocks.declared.plain_block.PlainBlock.{PlainBlock}
+use Rattle.uds_gateway.specs.ram_blocks.Copies.{next_number}
+use Rattle.uds_gateway.specs.ram_blocks.Told.{Told, Synchronized, IsSynchronized, to_refuse_by}
+use Rattle.uds_gateway.specs.ram_blocks.Plain.{told_of, store_of, stored, refusing, no_plain}
+use Rattle.uds_gateway.specs.nv_desk.Desk.{DeskState, state_of}
+use Rattle.uds_gateway.specs.job_progress.Hand.{HandState}
+use Rattle.uds_gateway.specs.nvm_laws.Work.{stack_work}
+use Rattle.uds_gateway.specs.nvm_core.Work.{left_with}
+use Rattle.uds_gateway.specs.nvm_core.Stack.{PowersOff}
 use Rattle.script_walks.specs.Words.{Cut, Refuse}
 use Rattle.promise_run.specs.Run.{DueCut, plan_after}
 use Rattle.promise_run.specs.Refusals.{asked_by}

@@ -2,18 +2,18 @@
 use Rattle.std.specs.Prelude.{◌||◌, not, IsTrue, map}
 use Rattle.std.proofs.Common.{◌≡◌, ◌≤◌, ◌+◌, ℕ, suc, Bool, true, false, List, [], ◌∷◌, ◌++◌, length, get_or, Option, None, refl, sym, ap, ◌∙◌, subst, inl, inr, arith, append-nil}
 use Rattle.std.proofs.lemmas.List.{ext_get_or, length-map}
-use Rattle.nvm_core.specs.memif.Told.{DeviceTold, Fixed, is_off}
-use Rattle.nvm_core.specs.block_machine.Words.{Entry, Off, Configuration}
-use Rattle.nvm_core.specs.block_machine.State.{State, Job}
-use Rattle.nvm_core.specs.block_machine.Steps.{step, after}
-use Rattle.nvm_core.specs.ram_blocks.declared.plain_block.PlainBlock.{PlainBlock}
-use Rattle.nvm_core.specs.ram_blocks.Told.{Told, sizes_of}
-use Rattle.nvm_core.specs.ram_blocks.Plain.{told_of, store_of}
-use Rattle.nvm_core.specs.nv_desk.Desk.{DeskState, state_of}
+use Rattle.uds_gateway.specs.memif.Told.{DeviceTold, Fixed, is_off}
+use Rattle.uds_gateway.specs.block_machine.Words.{Entry, Off, Configuration}
+use Rattle.uds_gateway.specs.block_machine.State.{State, Job}
+use Rattle.uds_gateway.specs.block_machine.Steps.{step, after}
+use Rattle.uds_gateway.specs.ram_blocks.declared.plain_block.PlainBlock.{PlainBlock}
+use Rattle.uds_gateway.specs.ram_blocks.Told.{Told, sizes_of}
+use Rattle.uds_gateway.specs.ram_blocks.Plain.{told_of, store_of}
+use Rattle.uds_gateway.specs.nv_desk.Desk.{DeskState, state_of}
 use Rattle.promise_run.specs.Run.{DueCut, Added, CutsAre}
 use Rattle.promise_run.specs.Refusals.{AreAsAsked}
-use Rattle.nvm_core.specs.Stack.{StackState, PowersOff}
-use Rattle.nvm_core.proofs.block_laws.HistoryLaws.{histories_step}
+use Rattle.uds_gateway.specs.nvm_core.Stack.{StackState, PowersOff}
+use Rattle.uds_gateway.proofs.HistoryLaws.{histories_step}
 use Rattle.script_player.specs.Told.{IsGrown, IsNoEarlier, AreCut, plan_behind}
 use Rattle.script_player.specs.Coming.{MissesNone}
 use Rattle.script_player.specs.Calls.{AreExplained, AllTell, MakesOne}

@@ -4,16 +4,16 @@ use Rattle.std.specs.List.{list_all}
 use Rattle.std.proofs.Common.{◌≡◌, ◌≢◌, ◌<◌, ◌≤◌, ◌+◌, ◌*◌, ◌==◌, ◌-◌, length-append, ℕ, Bool, true, false, IsTrue, List, [], ◌∷◌, ◌++◌, length, map, take, drop, get_or, zero, suc, Option, Some, None, Result, Ok, Err, refl, sym, ap, ◌∙◌, subst, inl, inr, arith, append-nil, append_assoc}
 use Rattle.std.proofs.lemmas.List.{map-append, take_more}
 use Rattle.std.proofs.lemmas.List.Folds.{list_all-append}
-use Rattle.nvm_core.specs.nv_desk.Desk.{DeskState}
-use Rattle.nvm_core.specs.nvm_laws.declared.turned.Turned.{Turned}
-use Rattle.nvm_core.specs.nvm_laws.declared.turned.Turned.TheVariants as turned
-use Rattle.nvm_core.specs.block_machine.Words.{Instance, Mark, Request, Read, Write, Reply, Accepted, Refused, Refusal, StatusIs, IndexIs, Entry, Ask, Post, Off, Found, Configuration}
-use Rattle.nvm_core.specs.block_machine.State.{State, Job}
-use Rattle.nvm_core.specs.block_machine.Blocks.{asked_block}
-use Rattle.nvm_core.specs.block_machine.Legal.{HasStore}
-use Rattle.nvm_core.specs.block_machine.Reply.{reply_of, fits}
-use Rattle.nvm_core.specs.block_machine.Steps.{after, step}
-use Rattle.nvm_core.proofs.block_laws.HistoryLaws.{histories_step}
+use Rattle.uds_gateway.specs.nv_desk.Desk.{DeskState}
+use Rattle.uds_gateway.specs.nvm_laws.declared.turned.Turned.{Turned}
+use Rattle.uds_gateway.specs.nvm_laws.declared.turned.Turned.TheVariants as turned
+use Rattle.uds_gateway.specs.block_machine.Words.{Instance, Mark, Request, Read, Write, Reply, Accepted, Refused, Refusal, StatusIs, IndexIs, Entry, Ask, Post, Off, Found, Configuration}
+use Rattle.uds_gateway.specs.block_machine.State.{State, Job}
+use Rattle.uds_gateway.specs.block_machine.Blocks.{asked_block}
+use Rattle.uds_gateway.specs.block_machine.Legal.{HasStore}
+use Rattle.uds_gateway.specs.block_machine.Reply.{reply_of, fits}
+use Rattle.uds_gateway.specs.block_machine.Steps.{after, step}
+use Rattle.uds_gateway.proofs.HistoryLaws.{histories_step}
 use Rattle.uds_gateway.specs.declared.code.NegativeCode.{NegativeCode}
 use Rattle.uds_gateway.specs.declared.stop.ServeStop.{ServeStop}
 use Rattle.uds_gateway.specs.declared.stop.ServeStop.TheVariants as stop

@@ -3,8 +3,8 @@ use Rattle.std.specs.List.{list_all}
 use Rattle.std.proofs.Common.{◌≡◌, ◌≤◌, IsTrue, List, ◌++◌, sym, ◌∙◌, subst}
 use Rattle.std.proofs.lemmas.Bool.{and_parts}
 use Rattle.std.proofs.lemmas.List.Folds.{list_all-append}
-use Rattle.nvm_core.specs.block_machine.Words.{Entry}
-use Rattle.nvm_core.proofs.memif.Turning.{rose_before, rose_since}
+use Rattle.uds_gateway.specs.block_machine.Words.{Entry}
+use Rattle.uds_gateway.proofs.Turning.{rose_before, rose_since}
 use Rattle.promise_run.specs.Completeness.{is_calm_entry}
 use Rattle.script_player.specs.Told.{StackTold}
 use Rattle.script_player.specs.Kept.{StaysCalm}

@@ -4,13 +4,13 @@ use Rattle.std.specs.Option.{option_and_then, unwrap_or}
 use Rattle.std.proofs.Common.{◌≡◌, ◌≢◌, ◌==◌, ◌&&◌, ◌<◌, ◌≤◌, ◌+◌, ◌*◌, ◌⊎◌, ℕ, zero, suc, Bool, true, false, List, [], ◌∷◌, ◌++◌, length, get_or, replicate, refl, sym, ap, ◌∙◌, subst, inl, inr, arith, Option, Some, None, if◌then◌else◌, get_or-set_same, get_or-set_other, length-set}
 use Rattle.std.proofs.lemmas.List.{length-replicate}
 use Rattle.std.proofs.lemmas.Bool.{cases_Bool, eqb-true, eq-eqb}
-use Rattle.nvm_core.specs.block_config.Block.{plain_block}
-use Rattle.nvm_core.specs.block_config.Config.{Configuration, block_of}
-use Rattle.nvm_core.specs.block_config.declared.block.BlockDesc.{BlockDesc}
-use Rattle.nvm_core.specs.block_config.declared.block.RamKind.TheVariants as ram
-use Rattle.nvm_core.specs.block_config.declared.block.RamKind.{RamKind}
+use Rattle.uds_gateway.specs.block_config.Block.{plain_block}
+use Rattle.uds_gateway.specs.block_config.Config.{Configuration, block_of}
+use Rattle.uds_gateway.specs.block_config.declared.block.BlockDesc.{BlockDesc}
+use Rattle.uds_gateway.specs.block_config.declared.block.RamKind.TheVariants as ram
+use Rattle.uds_gateway.specs.block_config.declared.block.RamKind.{RamKind}
 use Rattle.nvm_script.specs.Rules.{length_where_sync, sync_length_of}
-use Rattle.nvm_core.specs.block_machine.Blocks.{desc_of, is_synchronized}
+use Rattle.uds_gateway.specs.block_machine.Blocks.{desc_of, is_synchronized}
 use Rattle.script_walks.specs.Words.{Step, Store}
 use Rattle.script_walks.specs.Walk.{stores_of, last_store}
 use Rattle.script_walks.specs.StoreLaws.{is_store}

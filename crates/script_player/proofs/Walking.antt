@@ -4,17 +4,17 @@ use Rattle.std.proofs.Common.{◌≡◌, ◌<◌, ◌≤◌, ◌+◌, ◌*◌, �
 use Rattle.std.proofs.lemmas.List.{length-map}
 use Rattle.std.proofs.lemmas.List.Sums.{sum_by_push, sum_by-append, sum_by-cons}
 use Rattle.std.proofs.Math.Seq.{get_or-append_seam}
-use Rattle.nvm_core.specs.nv_base.Count.{WereCounted}
-use Rattle.nvm_core.specs.nv_base.Entry.{ops_behind}
-use Rattle.nvm_core.specs.block_machine.Words.{Instance, Mark, Entry, Found, Configuration}
-use Rattle.nvm_core.specs.block_machine.State.{State}
-use Rattle.nvm_core.specs.block_machine.StartUp.{at_first}
-use Rattle.nvm_core.specs.block_machine.Steps.{after, after_from}
+use Rattle.uds_gateway.specs.nv_base.Count.{WereCounted}
+use Rattle.uds_gateway.specs.nv_base.Entry.{ops_behind}
+use Rattle.uds_gateway.specs.block_machine.Words.{Instance, Mark, Entry, Found, Configuration}
+use Rattle.uds_gateway.specs.block_machine.State.{State}
+use Rattle.uds_gateway.specs.block_machine.StartUp.{at_first}
+use Rattle.uds_gateway.specs.block_machine.Steps.{after, after_from}
 use Rattle.script_walks.specs.Words.{Step}
 use Rattle.script_walks.specs.Walk.{IsPiece, IsWalkOf, joined}
 use Rattle.nvm_script.specs.Played.{IsPlayed, ArePlayed}
 use Rattle.script_walks.specs.Stores.{AreNewest, JobsTookStored}
-use Rattle.nvm_core.specs.ram_blocks.Plain.{store_of, plain_blocks_of}
+use Rattle.uds_gateway.specs.ram_blocks.Plain.{store_of, plain_blocks_of}
 use Rattle.promise_run.specs.Run.{Played, EachPiece, HasNoRoom, HadRoom, DueCut, Event, Made, Added, events_of}
 use Rattle.promise_run.specs.Refusals.{AreAsAsked, RefusesAsAsked, asked_by}
 use Rattle.promise_run.specs.InRoom.{is_drain}

@@ -1,20 +1,20 @@
 -- What each call of a stack does.
 use Rattle.std.specs.Prelude.{◌≡◌, ◌⊎◌, ◌<◌, ◌≤◌, ◌+◌, ℕ, not, ◌&&◌, Bool, true, false, IsTrue, List, [], ◌∷◌, ◌++◌, get_or, slice_set, map, is_some, Option, Some, None, Result, Ok, Err}
 use Rattle.std.specs.List.{list_any}
-use Rattle.nvm_core.specs.nv_base.Count.{Rose}
-use Rattle.nvm_core.specs.nv_base.Entry.{ops_of, ops_behind}
-use Rattle.nvm_core.specs.nv_desk.declared.ask.AskFault.{AskFault}
-use Rattle.nvm_core.specs.nv_desk.declared.ask.AskFault.TheVariants as fault
-use Rattle.nvm_core.specs.nvm_laws.declared.turned.Turned.{Turned}
-use Rattle.nvm_core.specs.nvm_laws.declared.turned.Turned.TheVariants as turned
-use Rattle.nvm_core.specs.nvm_laws.declared.turned.FoundAnswer.{FoundAnswer}
-use Rattle.nvm_core.specs.nvm_laws.declared.turned.FoundAnswer.TheVariants as found
-use Rattle.nvm_core.specs.block_machine.Words.{Instance, Mark, Request, Reply, Entry, Ask, Found}
-use Rattle.nvm_core.specs.block_machine.State.{Job}
-use Rattle.nvm_core.specs.block_machine.Blocks.{job_block}
-use Rattle.nvm_core.specs.block_machine.Steps.{after_from}
-use Rattle.nvm_core.specs.block_machine.Reply.{fits}
-use Rattle.nvm_core.specs.ram_blocks.Copies.{next_number}
+use Rattle.uds_gateway.specs.nv_base.Count.{Rose}
+use Rattle.uds_gateway.specs.nv_base.Entry.{ops_of, ops_behind}
+use Rattle.uds_gateway.specs.nv_desk.declared.ask.AskFault.{AskFault}
+use Rattle.uds_gateway.specs.nv_desk.declared.ask.AskFault.TheVariants as fault
+use Rattle.uds_gateway.specs.nvm_laws.declared.turned.Turned.{Turned}
+use Rattle.uds_gateway.specs.nvm_laws.declared.turned.Turned.TheVariants as turned
+use Rattle.uds_gateway.specs.nvm_laws.declared.turned.FoundAnswer.{FoundAnswer}
+use Rattle.uds_gateway.specs.nvm_laws.declared.turned.FoundAnswer.TheVariants as found
+use Rattle.uds_gateway.specs.block_machine.Words.{Instance, Mark, Request, Reply, Entry, Ask, Found}
+use Rattle.uds_gateway.specs.block_machine.State.{Job}
+use Rattle.uds_gateway.specs.block_machine.Blocks.{job_block}
+use Rattle.uds_gateway.specs.block_machine.Steps.{after_from}
+use Rattle.uds_gateway.specs.block_machine.Reply.{fits}
+use Rattle.uds_gateway.specs.ram_blocks.Copies.{next_number}
 use Rattle.script_walks.specs.Words.{Cut, Refuse}
 use Rattle.script_walks.specs.Walk.{is_at_rest}
 use Rattle.script_walks.specs.Turn.{IsTurn}

@@ -1,11 +1,11 @@
 -- Moves, each with what is told before and behind it.
 use Rattle.std.specs.Prelude.{◌≡◌, ◌⊎◌, ◌<◌, ◌≤◌, ◌+◌, ◌||◌, not, ℕ, false, IsTrue, List, [], ◌∷◌, ◌++◌, is_some, Some, None}
 use Rattle.std.specs.List.{list_any}
-use Rattle.nvm_core.specs.nv_base.Count.{Rose}
-use Rattle.nvm_core.specs.block_machine.Words.{Entry, Configuration}
-use Rattle.nvm_core.specs.block_machine.State.{State, Job}
-use Rattle.nvm_core.specs.block_machine.Blocks.{job_block}
-use Rattle.nvm_core.specs.block_machine.Steps.{after}
+use Rattle.uds_gateway.specs.nv_base.Count.{Rose}
+use Rattle.uds_gateway.specs.block_machine.Words.{Entry, Configuration}
+use Rattle.uds_gateway.specs.block_machine.State.{State, Job}
+use Rattle.uds_gateway.specs.block_machine.Blocks.{job_block}
+use Rattle.uds_gateway.specs.block_machine.Steps.{after}
 use Rattle.script_walks.specs.Walk.{is_due, is_at_rest, begins_with_pick_or_post}
 use Rattle.promise_run.specs.Completeness.{ends_job}
 use Rattle.promise_run.specs.Turns.{Moment, Move, entry_list, is_asked, is_found, is_picked, EndsCanceled}

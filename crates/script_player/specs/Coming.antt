@@ -1,6 +1,6 @@
 -- Power cuts that are planned, until they come.
 use Rattle.std.specs.Prelude.{◌≡◌, ◌⊎◌, ◌<◌, ◌≤◌, ◌+◌, true, List, Option, Some, None}
-use Rattle.nvm_core.specs.nv_base.Count.{last_count}
+use Rattle.uds_gateway.specs.nv_base.Count.{last_count}
 use Rattle.script_walks.specs.Words.{StepKind}
 use Rattle.promise_run.specs.Run.{DueCut}
 use Rattle.promise_run.specs.Turns.{Move, Planned, planned_by, AreInTime}

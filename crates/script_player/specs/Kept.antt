@@ -1,8 +1,8 @@
 -- What a stack keeps from step to step.
 use Rattle.std.specs.Prelude.{◌≡◌, ◌+◌, ◌≤◌, ℕ, zero, suc, true, IsTrue, List, [], length}
 use Rattle.std.specs.List.{list_all}
-use Rattle.nvm_core.specs.nv_base.Count.{Rose}
-use Rattle.nvm_core.specs.block_machine.Words.{Entry}
+use Rattle.uds_gateway.specs.nv_base.Count.{Rose}
+use Rattle.uds_gateway.specs.block_machine.Words.{Entry}
 use Rattle.script_walks.specs.Words.{Step}
 use Rattle.script_walks.specs.Walk.{AreTurns, IsDrain}
 use Rattle.script_walks.specs.Stores.{AreNewest, JobsTookStored}

@@ -11,5 +11,5 @@ pub mod Paying
 pub mod PlainTold
 pub mod PlainKept
 pub mod PlainPaying
-pub use Rattle.nvm_core.specs.ram_blocks as ram_blocks
+pub use Rattle.uds_gateway.specs.ram_blocks as ram_blocks
 pub use Rattle.uds_gateway.specs as uds_gateway

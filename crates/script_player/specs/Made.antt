@@ -1,10 +1,10 @@
 -- The steps that were made.
 use Rattle.std.specs.Prelude.{◌≡◌, ◌≤◌, ◌<◌, ◌+◌, ◌^◌, ℕ, true, false, IsTrue, List, [], ◌∷◌, ◌++◌, length, map, take, sum_by, Option, None}
-use Rattle.nvm_core.specs.nv_base.Count.{Rose, WereCounted}
-use Rattle.nvm_core.specs.nv_base.Entry.{ops_behind}
-use Rattle.nvm_core.specs.block_machine.Words.{Instance, Mark, Request, Reply, Entry, Ask, Found}
-use Rattle.nvm_core.specs.block_machine.Steps.{after}
-use Rattle.nvm_core.specs.ram_blocks.Plain.{store_of, plain_blocks_of}
+use Rattle.uds_gateway.specs.nv_base.Count.{Rose, WereCounted}
+use Rattle.uds_gateway.specs.nv_base.Entry.{ops_behind}
+use Rattle.uds_gateway.specs.block_machine.Words.{Instance, Mark, Request, Reply, Entry, Ask, Found}
+use Rattle.uds_gateway.specs.block_machine.Steps.{after}
+use Rattle.uds_gateway.specs.ram_blocks.Plain.{store_of, plain_blocks_of}
 use Rattle.script_walks.specs.Words.{Step, StepKind, Cut, Restart}
 use Rattle.script_walks.specs.Walk.{request_after, is_at_rest, IsPiece, IsWalkOf}
 use Rattle.promise_run.specs.Run.{Played, EachPiece, HasNoRoom, HadRoom, DueCut, Made, Added, CutsExplain}

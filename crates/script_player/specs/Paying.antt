@@ -1,9 +1,9 @@
 -- What calls and moves pay.
 use Rattle.std.specs.Prelude.{◌≡◌, ◌<◌, ◌≤◌, ◌++◌, ◌∷◌, [], ℕ, List, if◌then◌else◌}
-use Rattle.nvm_core.specs.nv_base.Count.{Rose}
-use Rattle.nvm_core.specs.block_machine.Words.{Configuration}
-use Rattle.nvm_core.specs.block_machine.State.{State}
-use Rattle.nvm_core.specs.promise_blocks.Payment.{Worn}
+use Rattle.uds_gateway.specs.nv_base.Count.{Rose}
+use Rattle.uds_gateway.specs.block_machine.Words.{Configuration}
+use Rattle.uds_gateway.specs.block_machine.State.{State}
+use Rattle.uds_gateway.specs.promise_blocks.Payment.{Worn}
 use Rattle.promise_run.specs.Turns.{Moment, Move, entry_list, is_picked, IsPaidSince, ArePaidSince, CountFailed}
 use Rattle.script_player.specs.Told.{StackTold, state_of, moment_of}
 

@@ -1,13 +1,13 @@
 -- What a stack keeps from call to call, as far as its device tells what it holds.
 use Rattle.std.specs.Prelude.{Bool, Option}
-use Rattle.nvm_core.specs.memif.Told.{DeviceTold, IfElse, Part, PartTold}
-use Rattle.nvm_core.specs.memif.Clock.{Clock}
-use Rattle.nvm_core.specs.promise_blocks.OverDevice.{HasStarted}
-use Rattle.nvm_core.specs.job_progress.Hand.{HandState}
-use Rattle.nvm_core.specs.nv_desk.Desk.{DeskState}
-use Rattle.nvm_core.specs.nvm_device_laws.Turn.{TellsSlots}
-use Rattle.nvm_core.specs.nvm_laws.Keeps.{StackKeepsAsTold}
-use Rattle.nvm_core.specs.StartUps.{DownKeepsAsTold}
+use Rattle.uds_gateway.specs.memif.Told.{DeviceTold, IfElse, Part, PartTold}
+use Rattle.uds_gateway.specs.memif.Clock.{Clock}
+use Rattle.uds_gateway.specs.promise_blocks.OverDevice.{HasStarted}
+use Rattle.uds_gateway.specs.job_progress.Hand.{HandState}
+use Rattle.uds_gateway.specs.nv_desk.Desk.{DeskState}
+use Rattle.uds_gateway.specs.nvm_device_laws.Turn.{TellsSlots}
+use Rattle.uds_gateway.specs.nvm_laws.Keeps.{StackKeepsAsTold}
+use Rattle.uds_gateway.specs.nvm_core.StartUps.{DownKeepsAsTold}
 
 -- behind a start-up that failed: a start-up was made before, and a further one has what it needs
 pub record IsDown (before : Part → PartTold) (desk : DeskState) (d : DeviceTold) (clock : Clock) : Type 0 where

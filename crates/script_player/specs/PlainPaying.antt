@@ -1,11 +1,11 @@
 -- What is known of payment, of a stack whose application stores in memory.
 use Rattle.std.specs.Prelude.{◌<◌, List}
-use Rattle.nvm_core.specs.memif.Told.{DeviceTold, Part, PartTold}
-use Rattle.nvm_core.specs.memif.Clock.{Clock}
-use Rattle.nvm_core.specs.nvm_device_laws.Turn.{TellsSlots}
-use Rattle.nvm_core.specs.ram_blocks.declared.plain_block.PlainBlock.{PlainBlock}
-use Rattle.nvm_core.specs.Stack.{StackState}
-use Rattle.nvm_core.specs.Paying.{OwesSince, worn_so_far}
+use Rattle.uds_gateway.specs.memif.Told.{DeviceTold, Part, PartTold}
+use Rattle.uds_gateway.specs.memif.Clock.{Clock}
+use Rattle.uds_gateway.specs.nvm_device_laws.Turn.{TellsSlots}
+use Rattle.uds_gateway.specs.ram_blocks.declared.plain_block.PlainBlock.{PlainBlock}
+use Rattle.uds_gateway.specs.nvm_core.Stack.{StackState}
+use Rattle.uds_gateway.specs.nvm_core.Paying.{OwesSince, worn_so_far}
 use Rattle.script_player.specs.Paying.{Payer}
 use Rattle.script_player.specs.PlainKept.{IsKept}
 

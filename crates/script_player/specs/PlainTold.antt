@@ -1,20 +1,20 @@
 -- What is told of a stack whose application stores in memory.
 use Rattle.std.specs.Prelude.{ℕ, ◌+◌, not, Bool, List, length, map, option_map, unwrap_or, if◌then◌else◌, Option, None}
-use Rattle.nvm_core.specs.nv_base.declared.plan.Plan.{Plan}
+use Rattle.uds_gateway.specs.nv_base.declared.plan.Plan.{Plan}
 use Rattle.promise_run.specs.Run.{DueCut}
-use Rattle.nvm_core.specs.memif.Told.{DeviceTold, Fixed, faults_of, is_off, nothing_open}
-use Rattle.nvm_core.specs.block_machine.Words.{Configuration}
-use Rattle.nvm_core.specs.block_machine.State.{State, Job}
-use Rattle.nvm_core.specs.ram_blocks.declared.plain_block.PlainBlock.{PlainBlock}
-use Rattle.nvm_core.specs.ram_blocks.Told.{Told, to_refuse_of}
-use Rattle.nvm_core.specs.ram_blocks.Plain.{told_of, store_of}
-use Rattle.nvm_core.specs.nv_desk.Desk.{DeskState, state_of}
-use Rattle.nvm_core.specs.job_progress.Hand.{HandState}
-use Rattle.nvm_core.specs.Stack.{StackState}
-use Rattle.nvm_core.specs.Work.{left_with}
-use Rattle.nvm_core.specs.job_progress.JobInHand.{program_for}
-use Rattle.nvm_core.specs.nvm_figures.Left.{most_turns}
-use Rattle.nvm_core.specs.nvm_laws.Work.{stack_work}
+use Rattle.uds_gateway.specs.memif.Told.{DeviceTold, Fixed, faults_of, is_off, nothing_open}
+use Rattle.uds_gateway.specs.block_machine.Words.{Configuration}
+use Rattle.uds_gateway.specs.block_machine.State.{State, Job}
+use Rattle.uds_gateway.specs.ram_blocks.declared.plain_block.PlainBlock.{PlainBlock}
+use Rattle.uds_gateway.specs.ram_blocks.Told.{Told, to_refuse_of}
+use Rattle.uds_gateway.specs.ram_blocks.Plain.{told_of, store_of}
+use Rattle.uds_gateway.specs.nv_desk.Desk.{DeskState, state_of}
+use Rattle.uds_gateway.specs.job_progress.Hand.{HandState}
+use Rattle.uds_gateway.specs.nvm_core.Stack.{StackState}
+use Rattle.uds_gateway.specs.nvm_core.Work.{left_with}
+use Rattle.uds_gateway.specs.job_progress.JobInHand.{program_for}
+use Rattle.uds_gateway.specs.nvm_figures.Left.{most_turns}
+use Rattle.uds_gateway.specs.nvm_laws.Work.{stack_work}
 use Rattle.script_player.specs.Told.{StackTold, Causes}
 
 -- REFUSED COPIES

@@ -1,9 +1,9 @@
 -- Requests of a UDS gateway that are made on a stack, one after another.
 use Rattle.std.specs.Prelude.{◌≡◌, ◌⊎◌, ◌≤◌, ℕ, ◌+◌, ◌*◌, not, Bool, true, false, IsTrue, List, [], ◌∷◌, ◌++◌, length, map, replicate, Result, Ok, Err}
 use Rattle.std.specs.List.{list_all}
-use Rattle.nvm_core.specs.block_machine.Words.{Request, Entry, Configuration}
-use Rattle.nvm_core.specs.block_machine.State.{State}
-use Rattle.nvm_core.specs.block_machine.Reply.{fits}
+use Rattle.uds_gateway.specs.block_machine.Words.{Request, Entry, Configuration}
+use Rattle.uds_gateway.specs.block_machine.State.{State}
+use Rattle.uds_gateway.specs.block_machine.Reply.{fits}
 use Rattle.uds_gateway.specs.declared.stop.ServeStop.{ServeStop}
 use Rattle.uds_gateway.specs.declared.stop.ServeStop.TheVariants.{Off, NoRoom, Memory}
 use Rattle.uds_gateway.specs.Services.{asked_by}

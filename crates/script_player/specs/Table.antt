@@ -1,7 +1,7 @@
 -- The table of last stores.
 use Rattle.std.specs.Prelude.{◌≡◌, ◌≤◌, ◌+◌, ◌*◌, ℕ, false, List, length, get_or, if◌then◌else◌}
-use Rattle.nvm_core.specs.block_machine.Words.{Configuration}
-use Rattle.nvm_core.specs.block_machine.Blocks.{desc_of, is_synchronized}
+use Rattle.uds_gateway.specs.block_machine.Words.{Configuration}
+use Rattle.uds_gateway.specs.block_machine.Blocks.{desc_of, is_synchronized}
 use Rattle.script_walks.specs.Words.{Step}
 use Rattle.script_walks.specs.Walk.{last_store}
 

@@ -1,11 +1,11 @@
 -- What is told of a stack to whoever plays steps on it.
 use Rattle.std.specs.Prelude.{◌≡◌, ◌⊎◌, ◌<◌, ◌≤◌, ℕ, Bool, true, List, [], ◌∷◌, ◌++◌, Option, Some, None}
-use Rattle.nvm_core.specs.nv_base.Count.{last_count, WereCounted}
-use Rattle.nvm_core.specs.nv_base.Entry.{ops_behind}
-use Rattle.nvm_core.specs.block_machine.Words.{Entry, Off, Configuration}
-use Rattle.nvm_core.specs.block_machine.State.{State, Job}
-use Rattle.nvm_core.specs.block_machine.Steps.{after}
-use Rattle.nvm_core.specs.nv_desk.Desk.{DeskState}
+use Rattle.uds_gateway.specs.nv_base.Count.{last_count, WereCounted}
+use Rattle.uds_gateway.specs.nv_base.Entry.{ops_behind}
+use Rattle.uds_gateway.specs.block_machine.Words.{Entry, Off, Configuration}
+use Rattle.uds_gateway.specs.block_machine.State.{State, Job}
+use Rattle.uds_gateway.specs.block_machine.Steps.{after}
+use Rattle.uds_gateway.specs.nv_desk.Desk.{DeskState}
 use Rattle.promise_run.specs.Run.{DueCut, Event, Made, Added, plan_after, CutsAre}
 use Rattle.promise_run.specs.Turns.{Moment}
 

@@ -1,10 +1,10 @@
 -- The steps that are made so far.
 use Rattle.std.specs.Prelude.{◌≡◌, ◌⊎◌, ◌≤◌, ◌<◌, ◌+◌, ◌-◌, ℕ, true, false, IsTrue, List, [], ◌∷◌, ◌++◌, length, sum_by, take, Option, Some, None}
 use Rattle.std.specs.List.{list_any}
-use Rattle.nvm_core.specs.block_machine.Words.{Instance, Mark, Entry, Found}
-use Rattle.nvm_core.specs.block_machine.State.{State, Job}
-use Rattle.nvm_core.specs.block_machine.Blocks.{job_block}
-use Rattle.nvm_core.specs.block_machine.Steps.{after, after_from}
+use Rattle.uds_gateway.specs.block_machine.Words.{Instance, Mark, Entry, Found}
+use Rattle.uds_gateway.specs.block_machine.State.{State, Job}
+use Rattle.uds_gateway.specs.block_machine.Blocks.{job_block}
+use Rattle.uds_gateway.specs.block_machine.Steps.{after, after_from}
 use Rattle.script_walks.specs.Words.{Step}
 use Rattle.script_walks.specs.Walk.{IsWalkOf, joined}
 use Rattle.promise_run.specs.Run.{EachPiece, HadRoom, events_of}

@@ -16,8 +16,6 @@ mod turns;
 
 pub use cuts::cuts_of;
 pub use last_stores::LastStores;
-pub use nvm_core;
-pub use nvm_core::{block_config, memif, nvm_laws, ram_blocks};
 pub use plain_stack::PlainStack;
 pub use played_stack::PlayedStack;
 pub use promise_run;

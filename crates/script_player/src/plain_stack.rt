@@ -2,14 +2,9 @@
 ghost use Rattle.std.specs.Prelude.{◌≡◌};
 
 use crate::PlayedStack;
-use nvm_core::Stack;
-use nvm_core::memif::MemDevice;
-use nvm_core::nv_base::{Reply, Request};
-use nvm_core::nv_desk::AskFault;
-use nvm_core::nvm_laws::{FoundAnswer, Turned};
-use nvm_core::ram_blocks::PlainSync;
 use std::alloc::Global;
 use std::marker::Model;
+use uds_gateway::{AskFault, FoundAnswer, MemDevice, PlainSync, Reply, Request, Stack, Turned};
 
 /// A stack whose application stores in memory. Contracts see the stack.
 #[derive(Drop)]
@@ -19,8 +14,8 @@ pub struct PlainStack<D: MemDevice> {
 
 impl<D: MemDevice> Model for PlainStack<D> {
     ghost use Rattle.std.specs.Prelude.{List};
-    ghost use Rattle.nvm_core.specs.ram_blocks.declared.plain_block.PlainBlock.{PlainBlock};
-    ghost use Rattle.nvm_core.specs.Stack.{StackState};
+    ghost use Rattle.uds_gateway.specs.ram_blocks.declared.plain_block.PlainBlock.{PlainBlock};
+    ghost use Rattle.uds_gateway.specs.nvm_core.Stack.{StackState};
 
     ghost Value = { StackState D (List PlainBlock) };
 

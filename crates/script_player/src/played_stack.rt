@@ -1,9 +1,9 @@
 // A stack, as its player sees it.
 ghost use Rattle.std.specs.Prelude.{◌≡◌, ◌≤◌, true, Some, IsSome, IfOk, length, is_some};
-ghost use Rattle.nvm_core.specs.block_machine.Words.{Request as Asked};
-ghost use Rattle.nvm_core.specs.block_machine.Legal.{HasStore};
-ghost use Rattle.nvm_core.specs.block_machine.Reply.{reply_of};
-ghost use Rattle.nvm_core.specs.memif.Told.{Part, PartTold};
+ghost use Rattle.uds_gateway.specs.block_machine.Words.{Request as Asked};
+ghost use Rattle.uds_gateway.specs.block_machine.Legal.{HasStore};
+ghost use Rattle.uds_gateway.specs.block_machine.Reply.{reply_of};
+ghost use Rattle.uds_gateway.specs.memif.Told.{Part, PartTold};
 ghost use Rattle.nvm_script.specs.Rules.{sync_length_of};
 ghost use Rattle.uds_gateway.specs.Jobs.{HasOne};
 ghost use Rattle.uds_gateway.specs.Turning.{Goes};
@@ -11,10 +11,8 @@ ghost use Rattle.script_player.specs.Told.{StackTold, state_of, desk_of};
 ghost use Rattle.script_player.specs.Calls.{Asks, Turns, Restarts, Arms, Stores, Refuses};
 ghost use Rattle.script_player.specs.Paying.{Payer, PaysTurn, PaysNothing};
 
-use nvm_core::nv_base::{Reply, Request};
-use nvm_core::nv_desk::AskFault;
-use nvm_core::nvm_laws::{FoundAnswer, Turned};
 use std::alloc::Global;
+use uds_gateway::{AskFault, FoundAnswer, Reply, Request, Turned};
 
 /// What a player may do with a stack whose application stores in memory. The calls are the stack's own.
 pub trait PlayedStack {

@@ -1,7 +1,7 @@
 // Requests of a UDS gateway, one after another on a stack.
 ghost use Rattle.std.specs.Prelude.{◌≡◌, ◌<◌, ◌≤◌, ℕ, List, [], All, true, false, length, IfOk, OnOk};
-ghost use Rattle.nvm_core.specs.memif.Told.{Part, PartTold};
-ghost use Rattle.nvm_core.specs.block_machine.Words.{Request as Asked};
+ghost use Rattle.uds_gateway.specs.memif.Told.{Part, PartTold};
+ghost use Rattle.uds_gateway.specs.block_machine.Words.{Request as Asked};
 ghost use Rattle.uds_gateway.specs.Jobs.{HasNone, HasOne, IsOwn};
 ghost use Rattle.uds_gateway.specs.Turning.{HasJob, Goes, is_on_way};
 ghost use Rattle.script_walks.specs.Words.{Step};
@@ -11,12 +11,10 @@ ghost use Rattle.script_player.specs.Made.{IsFresh};
 ghost use Rattle.script_player.specs.Requests.{IsServing, EndsJob, EndsRequest, HasServed};
 
 use crate::PlayedStack;
-use nvm_core::block_config::Config;
-use nvm_core::nv_base::{Bytes, Reply, Request};
-use nvm_core::nv_desk::AskFault;
-use nvm_core::nvm_laws::Turned;
 use std::alloc::Global;
-use uds_gateway::{AskedFault, ServeStop, asked_by};
+use uds_gateway::{
+    AskFault, AskedFault, Bytes, Config, Reply, Request, ServeStop, Turned, asked_by,
+};
 
 /// Serves requests in order on a stack behind its first start-up, of this configuration, as caller 0: each that asks for
 /// something to its Post. Adds the number of its entries for each that has its answer; the memory for it is taken before its Ask.

@@ -1,8 +1,8 @@
 // The steps of a script.
 ghost use Rattle.std.specs.Prelude.{◌≡◌, ◌≤◌, ℕ, List, [], true, length, OnOk, OnErr, IfOk, IfErr};
-ghost use Rattle.nvm_core.specs.memif.Told.{Part, PartTold};
-ghost use Rattle.nvm_core.specs.block_machine.Words.{Configuration};
-ghost use Rattle.nvm_core.specs.block_machine.Legal.{HasStore};
+ghost use Rattle.uds_gateway.specs.memif.Told.{Part, PartTold};
+ghost use Rattle.uds_gateway.specs.block_machine.Words.{Configuration};
+ghost use Rattle.uds_gateway.specs.block_machine.Legal.{HasStore};
 ghost use Rattle.script_walks.specs.Words.{Step as Made, AskStep, Restart};
 ghost use Rattle.script_walks.specs.Walk.{request_after};
 ghost use Rattle.nvm_script.specs.Played.{IsPlayed, ArePlayed, CanBePlayed};
@@ -13,11 +13,9 @@ ghost use Rattle.script_player.specs.Table.{HasLastStores, HoldsSynchronized};
 
 use crate::turns::{drain, make_turns};
 use crate::{LastStores, PlayedStack};
-use nvm_core::nv_base::Request;
-use nvm_core::nv_desk::AskFault;
-use nvm_core::nvm_laws::FoundAnswer;
 use nvm_script::{Step, StepKind, StepList};
 use std::alloc::Global;
+use uds_gateway::{AskFault, FoundAnswer, Request};
 
 /// Why a step isn't made: a fault at a start-up, a history that is full, or want of memory.
 #[derive(Clone, Copy)]

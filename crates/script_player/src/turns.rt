@@ -2,15 +2,15 @@
 ghost use Rattle.std.specs.Prelude.{◌≡◌, ◌<◌, ◌≤◌, ◌||◌, ℕ, List, IsTrue, true, false};
 ghost use Rattle.script_walks.specs.Words.{Step};
 ghost use Rattle.script_walks.specs.Walk.{is_at_rest};
-ghost use Rattle.nvm_core.specs.memif.Told.{Part, PartTold};
-ghost use Rattle.nvm_core.specs.nv_base.Count.{Rose};
+ghost use Rattle.uds_gateway.specs.memif.Told.{Part, PartTold};
+ghost use Rattle.uds_gateway.specs.nv_base.Count.{Rose};
 ghost use Rattle.script_player.specs.Told.{state_of};
 ghost use Rattle.script_player.specs.Calls.{MakesTurn, is_last};
 ghost use Rattle.script_player.specs.Kept.{IsKept, MakesTurns, Drains};
 ghost use Rattle.script_player.specs.Paying.{PaysTurn};
 
 use crate::PlayedStack;
-use nvm_core::nvm_laws::Turned;
+use uds_gateway::Turned;
 
 /// Makes so many turns.
 pub fn make_turns<S: PlayedStack>(stack: &mut S, count: u32)

@@ -5,3 +5,11 @@ pub mod Served
 pub mod Deciding
 pub mod Codes
 pub mod Causes
+pub use Rattle.nvm_core.proofs.Trying as Trying
+pub use Rattle.nvm_core.proofs.block_laws.Along as Along
+pub use Rattle.nvm_core.proofs.block_laws.HistoryLaws as HistoryLaws
+pub use Rattle.nvm_core.proofs.block_laws.NextLaws as NextLaws
+pub use Rattle.nvm_core.proofs.block_laws.WholeContents as WholeContents
+pub use Rattle.nvm_core.proofs.block_laws.WholeSteps as WholeSteps
+pub use Rattle.nvm_core.proofs.memif.Turning as Turning
+pub use Rattle.nvm_core.proofs.ram_blocks.FreshCopies as FreshCopies

@@ -2,18 +2,18 @@
 use Rattle.std.specs.Prelude.{unwrap_or, IsSome, ◌==◌, nat_le, length, drop, get_or}
 use Rattle.std.proofs.Common.{◌≡◌, ◌≢◌, ◌⊎◌, ℕ, Bool, true, false, if◌then◌else◌, List, [], ◌∷◌, ◌++◌, Option, Some, None, Result, Ok, Err, refl, sym, ap, ◌∙◌, subst, inl, inr, append_assoc}
 use Rattle.std.proofs.lemmas.Bool.{cases_Bool}
-use Rattle.nvm_core.specs.block_machine.Words.{Fine, ReadJob, Request, Read, Write, Accepted, Entry, Ask, Post, Found, Configuration}
-use Rattle.nvm_core.specs.block_machine.State.{State, Job}
-use Rattle.nvm_core.specs.block_machine.Blocks.{desc_of, asked_block, job_kind, mark_by, mark_of}
-use Rattle.nvm_core.specs.block_machine.Steps.{step, after, after_from}
-use Rattle.nvm_core.specs.block_machine.Legal.{IsLegalFrom}
-use Rattle.nvm_core.specs.promise_blocks.Payment.{Worn}
+use Rattle.uds_gateway.specs.block_machine.Words.{Fine, ReadJob, Request, Read, Write, Accepted, Entry, Ask, Post, Found, Configuration}
+use Rattle.uds_gateway.specs.block_machine.State.{State, Job}
+use Rattle.uds_gateway.specs.block_machine.Blocks.{desc_of, asked_block, job_kind, mark_by, mark_of}
+use Rattle.uds_gateway.specs.block_machine.Steps.{step, after, after_from}
+use Rattle.uds_gateway.specs.block_machine.Legal.{IsLegalFrom}
+use Rattle.uds_gateway.specs.promise_blocks.Payment.{Worn}
 use Rattle.script_walks.specs.Walk.{joined}
 use Rattle.promise_device.specs.Bridge.{IsWornOut}
 use Rattle.promise_run.specs.Completeness.{EachEntry, PostsWell}
 use Rattle.promise_run.specs.Promise.{making_of}
 use Rattle.promise_run.specs.Run.{cap}
-use Rattle.nvm_core.specs.block_machine.StartUp.{at_first}
+use Rattle.uds_gateway.specs.block_machine.StartUp.{at_first}
 use Rattle.uds_gateway.specs.declared.code.NegativeCode.TheVariants.{ServiceNotSupported, IncorrectLength, ConditionsNotCorrect, OutOfRange, ProgrammingFailure}
 use Rattle.uds_gateway.specs.declared.code.NegativeCode.{NegativeCode}
 use Rattle.uds_gateway.specs.Services.{read_service, write_service, block_by, read_of, write_of, read_by, write_by, service_in, asked_by}

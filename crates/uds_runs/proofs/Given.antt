@@ -5,19 +5,19 @@ use Rattle.std.specs.Str.{bytes_eq}
 use Rattle.std.proofs.Common.{◌≡◌, ℕ, Bool, true, false, if◌then◌else◌, List, [], ◌∷◌, ◌++◌, Option, Some, None, refl, sym, ap, subst, inl, inr, arith}
 use Rattle.std.proofs.lemmas.Bool.{cases_Bool, and_parts, eqb-true}
 use Rattle.std.proofs.lemmas.Slice.Eq.{bytes_eq-Decides}
-use Rattle.nvm_core.specs.block_config.Rules.{IsLegalConfig}
-use Rattle.nvm_core.specs.block_machine.Words.{NotOk, Mark, Content, Invalid, Erased, Accepted, GivenFrom, FromNowhere, FromDevice, FromDefaults, FromRom, Entry, Ask, Post, Configuration}
-use Rattle.nvm_core.specs.block_machine.State.{State, InstanceState, Job}
-use Rattle.nvm_core.specs.block_machine.Blocks.{desc_of, is_in, instance_at, indices_of, settled_at, asked_block, job_block, kind_of}
-use Rattle.nvm_core.specs.block_machine.ResultTable.{table}
-use Rattle.nvm_core.specs.block_machine.Results.{Answer, own_of, outcomes_of, content_of, device_content, given_by, with_content, took_none, checked_id, checks_id, result_of, open_sets, same_answer}
-use Rattle.nvm_core.specs.block_machine.StartUp.{at_first}
-use Rattle.nvm_core.specs.block_machine.Steps.{step, after, after_from}
-use Rattle.nvm_core.specs.block_machine.History.{MayStandIn}
-use Rattle.nvm_core.specs.block_machine.Legal.{IsPost, MayPost, IsLegal, IsLegalFrom}
-use Rattle.nvm_core.proofs.block_laws.HistoryLaws.{histories_go_on}
-use Rattle.nvm_core.proofs.block_laws.WholeContents.{GivesLength, FitsDesc, desc_fits}
-use Rattle.nvm_core.proofs.block_laws.WholeSteps.{marks_are_accepted}
+use Rattle.uds_gateway.specs.block_config.Rules.{IsLegalConfig}
+use Rattle.uds_gateway.specs.block_machine.Words.{NotOk, Mark, Content, Invalid, Erased, Accepted, GivenFrom, FromNowhere, FromDevice, FromDefaults, FromRom, Entry, Ask, Post, Configuration}
+use Rattle.uds_gateway.specs.block_machine.State.{State, InstanceState, Job}
+use Rattle.uds_gateway.specs.block_machine.Blocks.{desc_of, is_in, instance_at, indices_of, settled_at, asked_block, job_block, kind_of}
+use Rattle.uds_gateway.specs.block_machine.ResultTable.{table}
+use Rattle.uds_gateway.specs.block_machine.Results.{Answer, own_of, outcomes_of, content_of, device_content, given_by, with_content, took_none, checked_id, checks_id, result_of, open_sets, same_answer}
+use Rattle.uds_gateway.specs.block_machine.StartUp.{at_first}
+use Rattle.uds_gateway.specs.block_machine.Steps.{step, after, after_from}
+use Rattle.uds_gateway.specs.block_machine.History.{MayStandIn}
+use Rattle.uds_gateway.specs.block_machine.Legal.{IsPost, MayPost, IsLegal, IsLegalFrom}
+use Rattle.uds_gateway.proofs.HistoryLaws.{histories_go_on}
+use Rattle.uds_gateway.proofs.WholeContents.{GivesLength, FitsDesc, desc_fits}
+use Rattle.uds_gateway.proofs.WholeSteps.{marks_are_accepted}
 use Rattle.uds_gateway.specs.Causes.{before_end}
 use Rattle.uds_gateway.proofs.Causes.{legal_parts, posted_hand}
 use Rattle.uds_runs.specs.Given.{PostsGiveLengths, NoneGivesTooMuch}

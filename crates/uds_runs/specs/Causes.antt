@@ -1,11 +1,11 @@
 -- Why requests fail in a history in which nothing fails.
 use Rattle.std.specs.Prelude.{◌≡◌, ◌⊎◌, ℕ, true, false, List, [], ◌∷◌, ◌++◌, Some, Ok}
-use Rattle.nvm_core.specs.block_machine.Words.{Instance, Mark, Request, Entry, Post, Found, Configuration}
-use Rattle.nvm_core.specs.block_machine.State.{State}
-use Rattle.nvm_core.specs.block_machine.Blocks.{asked_block}
-use Rattle.nvm_core.specs.block_machine.Steps.{after, after_from}
-use Rattle.nvm_core.specs.block_machine.Legal.{IsLegal}
-use Rattle.nvm_core.specs.promise_blocks.Payment.{Worn, IsExcused}
+use Rattle.uds_gateway.specs.block_machine.Words.{Instance, Mark, Request, Entry, Post, Found, Configuration}
+use Rattle.uds_gateway.specs.block_machine.State.{State}
+use Rattle.uds_gateway.specs.block_machine.Blocks.{asked_block}
+use Rattle.uds_gateway.specs.block_machine.Steps.{after, after_from}
+use Rattle.uds_gateway.specs.block_machine.Legal.{IsLegal}
+use Rattle.uds_gateway.specs.promise_blocks.Payment.{Worn, IsExcused}
 use Rattle.script_walks.specs.Walk.{joined}
 use Rattle.promise_device.specs.Bridge.{IsWornOut}
 use Rattle.promise_run.specs.Completeness.{PostWell}

@@ -1,10 +1,10 @@
 -- What a Post gives in a legal history.
 use Rattle.std.specs.Prelude.{◌≡◌, ℕ, List, ◌++◌, length, IfSome}
-use Rattle.nvm_core.specs.block_config.Rules.{IsLegalConfig}
-use Rattle.nvm_core.specs.block_machine.Words.{Request, Entry, Configuration}
-use Rattle.nvm_core.specs.block_machine.Blocks.{desc_of, asked_block}
-use Rattle.nvm_core.specs.block_machine.Steps.{after}
-use Rattle.nvm_core.specs.block_machine.Legal.{IsLegal}
+use Rattle.uds_gateway.specs.block_config.Rules.{IsLegalConfig}
+use Rattle.uds_gateway.specs.block_machine.Words.{Request, Entry, Configuration}
+use Rattle.uds_gateway.specs.block_machine.Blocks.{desc_of, asked_block}
+use Rattle.uds_gateway.specs.block_machine.Steps.{after}
+use Rattle.uds_gateway.specs.block_machine.Legal.{IsLegal}
 use Rattle.uds_gateway.specs.Jobs.{HasNone, IsOwn, EndsPosted}
 use Rattle.uds_gateway.specs.Serving.{GivesTooMuch}
 

@@ -1,7 +1,7 @@
 use Rattle.std.specs.Prelude.{Result}
 use Rattle.std.proofs.Common.{◌≡◌, ◌+◌, ◌-◌, ℕ, List, [], ◌∷◌, ◌++◌, length, take, drop, Err, Ok, sym, ap, ◌∙◌, subst, arith}
 use Rattle.std.proofs.lemmas.List.{take_all, take-append-drop}
-use Rattle.nvm_core.specs.block_config.Config.{Configuration}
+use Rattle.uds_gateway.specs.block_config.Config.{Configuration}
 use Rattle.uds_gateway.specs.declared.stop.ServeStop.{ServeStop}
 use Rattle.uds_gateway.specs.declared.stop.ServeStop.TheVariants as stop
 use Rattle.script_player.specs.Requests.{EndsRequest, AreServedSoFar, HasServed}

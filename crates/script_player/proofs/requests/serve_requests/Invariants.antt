@@ -1,5 +1,5 @@
 use Rattle.std.proofs.Common.{◌≡◌, take}
-use Rattle.nvm_core.specs.memif.Told.{Part, PartTold}
+use Rattle.uds_gateway.specs.memif.Told.{Part, PartTold}
 use Rattle.script_player.specs.Requests.{AreServedSoFar}
 use Rattle.script_player.proofs.requests.serve_requests.Given as goal
 

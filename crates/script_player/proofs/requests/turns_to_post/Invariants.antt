@@ -1,6 +1,6 @@
 use Rattle.std.proofs.Common.{◌≡◌, ◌+◌, true, List, if◌then◌else◌}
-use Rattle.nvm_core.specs.block_machine.Words.{Request}
-use Rattle.nvm_core.specs.memif.Told.{Part, PartTold}
+use Rattle.uds_gateway.specs.block_machine.Words.{Request}
+use Rattle.uds_gateway.specs.memif.Told.{Part, PartTold}
 use Rattle.uds_gateway.specs.Jobs.{HasOne}
 use Rattle.uds_gateway.specs.Turning.{Goes, is_on_way}
 use Rattle.script_walks.specs.Words.{Step}

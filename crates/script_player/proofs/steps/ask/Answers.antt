@@ -1,5 +1,5 @@
 use Rattle.std.proofs.Common.{subst}
-use Rattle.nvm_core.specs.block_machine.Words.{Request, Ask}
+use Rattle.uds_gateway.specs.block_machine.Words.{Request, Ask}
 use Rattle.script_player.specs.Calls.{AddsAsk}
 use Rattle.script_player.specs.Made.{IsAsked}
 use Rattle.script_player.proofs.steps.ask.Goals as goal

@@ -1,7 +1,7 @@
 use Rattle.std.proofs.Common.{◌≡◌, ◌++◌, ◌∷◌, [], List, length, sym, ap, ◌∙◌, subst, append_assoc, append-nil, arith, rules}
 use Rattle.std.proofs.lemmas.List.{nil_from_length}
 use Rattle.std.specs.Vec.Iter.{into_iter_items}
-use Rattle.nvm_core.specs.block_config.Config.{Configuration}
+use Rattle.uds_gateway.specs.block_config.Config.{Configuration}
 use Rattle.nvm_script.specs.declared.step.Step.{Step}
 use Rattle.nvm_script.specs.Played.{ArePlayed}
 use Rattle.script_player.proofs.Table.{holds_synchronized}

@@ -1,6 +1,6 @@
 use Rattle.std.proofs.Common.{◌≡◌, ◌++◌, length}
 use Rattle.std.specs.Vec.Iter.{into_iter_items, into_iter_len}
-use Rattle.nvm_core.specs.memif.Told.{Part, PartTold}
+use Rattle.uds_gateway.specs.memif.Told.{Part, PartTold}
 use Rattle.script_player.specs.Walking.{AreUnderWay}
 use Rattle.script_player.proofs.steps.make_steps.Given as goal
 

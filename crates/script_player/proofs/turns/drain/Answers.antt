@@ -1,5 +1,5 @@
 use Rattle.std.proofs.Common.{[], ◌∷◌, ◌++◌, arith}
-use Rattle.nvm_core.proofs.memif.Turning.{rose_since}
+use Rattle.uds_gateway.proofs.Turning.{rose_since}
 use Rattle.script_player.proofs.Grown.{ready_grown}
 use Rattle.script_player.proofs.Moves.{none_moved, made_more, move_to, turn_moved}
 use Rattle.script_player.proofs.Turned.{turn_kept, turned_more, none_turned, drained}

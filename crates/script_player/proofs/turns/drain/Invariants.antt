@@ -1,6 +1,6 @@
 use Rattle.std.proofs.Common.{◌≡◌, ◌≤◌, true, List}
-use Rattle.nvm_core.specs.block_machine.Words.{Entry}
-use Rattle.nvm_core.specs.memif.Told.{Part, PartTold}
+use Rattle.uds_gateway.specs.block_machine.Words.{Entry}
+use Rattle.uds_gateway.specs.memif.Told.{Part, PartTold}
 use Rattle.script_walks.specs.Words.{Step}
 use Rattle.promise_run.specs.Turns.{Move}
 use Rattle.script_player.specs.Kept.{IsKept, HasTurned, AreMade}

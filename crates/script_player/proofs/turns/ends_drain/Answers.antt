@@ -1,5 +1,5 @@
 use Rattle.std.proofs.Common.{◌≤◌, ℕ, sym, ◌∙◌, subst}
-use Rattle.nvm_core.specs.nv_base.Count.{Rose}
+use Rattle.uds_gateway.specs.nv_base.Count.{Rose}
 use Rattle.script_player.proofs.Turned.{last_ends, last_closes, others_lower}
 use Rattle.script_player.proofs.turns.ends_drain.Goals as goal
 

@@ -1,5 +1,5 @@
 use Rattle.std.proofs.Common.{◌≡◌, true, List}
-use Rattle.nvm_core.specs.memif.Told.{Part, PartTold}
+use Rattle.uds_gateway.specs.memif.Told.{Part, PartTold}
 use Rattle.script_walks.specs.Words.{Step}
 use Rattle.script_player.specs.Kept.{IsKept, MakesTurns}
 use Rattle.script_player.proofs.turns.make_turns.Given as goal

@@ -1,7 +1,7 @@
 use Rattle.std.proofs.Common.{◌≡◌, List, sym, subst, ap, ◌∙◌}
-use Rattle.nvm_core.specs.memif.Told.{armed, Part, PartTold}
-use Rattle.nvm_core.specs.ram_blocks.declared.plain_block.PlainBlock.{PlainBlock}
-use Rattle.nvm_core.specs.Stack.{StackState}
+use Rattle.uds_gateway.specs.memif.Told.{armed, Part, PartTold}
+use Rattle.uds_gateway.specs.ram_blocks.declared.plain_block.PlainBlock.{PlainBlock}
+use Rattle.uds_gateway.specs.nvm_core.Stack.{StackState}
 use Rattle.script_player.specs.PlainKept.{IsKept}
 use Rattle.script_player.specs.Told.{StackTold}
 use Rattle.script_player.specs.Calls.{Arms}

@@ -1,12 +1,12 @@
 use Rattle.std.specs.Prelude.{IsErrOf, ◌↔◌}
 use Rattle.std.proofs.Common.{rules, ◌≡◌, Bool, true, false, IsTrue, Result, Ok, refl}
-use Rattle.nvm_core.specs.nv_desk.declared.ask.AskFault.{AskFault}
-use Rattle.nvm_core.specs.nv_desk.declared.ask.AskFault.TheVariants as fault
-use Rattle.nvm_core.specs.nv_desk.Desk.{state_of}
-use Rattle.nvm_core.specs.block_machine.Words.{Reply}
-use Rattle.nvm_core.specs.block_machine.Reply.{fits}
-use Rattle.nvm_core.specs.block_laws.Laws.{HistoriesStep, SumsGrow}
-use Rattle.nvm_core.proofs.block_laws.HistoryLaws.{histories_step, sums_grow}
+use Rattle.uds_gateway.specs.nv_desk.declared.ask.AskFault.{AskFault}
+use Rattle.uds_gateway.specs.nv_desk.declared.ask.AskFault.TheVariants as fault
+use Rattle.uds_gateway.specs.nv_desk.Desk.{state_of}
+use Rattle.uds_gateway.specs.block_machine.Words.{Reply}
+use Rattle.uds_gateway.specs.block_machine.Reply.{fits}
+use Rattle.uds_gateway.specs.block_laws.Laws.{HistoriesStep, SumsGrow}
+use Rattle.uds_gateway.proofs.HistoryLaws.{histories_step, sums_grow}
 use Rattle.script_player.proofs.plain_stack.PlainStackPlayedStack.ask.Goals as goal
 
 -- a request that was answered had room

@@ -1,12 +1,12 @@
 use Rattle.std.specs.Prelude.{map, IsSome}
 use Rattle.std.proofs.Common.{◌≡◌, ℕ, List, sym, subst, get_or, Option, Some, None, refl}
-use Rattle.nvm_core.specs.block_machine.Words.{Configuration}
-use Rattle.nvm_core.specs.ram_blocks.declared.plain_block.PlainBlock.{PlainBlock}
-use Rattle.nvm_core.specs.ram_blocks.Told.{Told, IsSynchronized}
-use Rattle.nvm_core.specs.ram_blocks.Plain.{told_of}
-use Rattle.nvm_core.specs.nv_desk_copies.Front.{AreSynchronized}
+use Rattle.uds_gateway.specs.block_machine.Words.{Configuration}
+use Rattle.uds_gateway.specs.ram_blocks.declared.plain_block.PlainBlock.{PlainBlock}
+use Rattle.uds_gateway.specs.ram_blocks.Told.{Told, IsSynchronized}
+use Rattle.uds_gateway.specs.ram_blocks.Plain.{told_of}
+use Rattle.uds_gateway.specs.nv_desk_copies.Front.{AreSynchronized}
 use Rattle.nvm_script.specs.Rules.{sync_length_of}
-use Rattle.nvm_core.specs.Stack.{StackState}
+use Rattle.uds_gateway.specs.nvm_core.Stack.{StackState}
 use Rattle.script_player.specs.Calls.{Refuses}
 use Rattle.script_player.specs.PlainTold.{told_by}
 use Rattle.script_player.proofs.PlainCopies.{may_store}

@@ -1,18 +1,18 @@
 use Rattle.std.proofs.Common.{rules, ◌≡◌, ℕ, Bool, true, false, List, Option, Some, None, refl, sym, ap, subst, inl}
-use Rattle.nvm_core.specs.memif.Told.{DeviceTold, Part, PartTold}
-use Rattle.nvm_core.specs.memif.Clock.{Clock}
-use Rattle.nvm_core.specs.promise_blocks.OverDevice.{HasStarted}
-use Rattle.nvm_core.specs.job_progress.Hand.{HandState}
-use Rattle.nvm_core.specs.nv_desk.Desk.{DeskState}
-use Rattle.nvm_core.specs.ram_blocks.declared.plain_block.PlainBlock.{PlainBlock}
-use Rattle.nvm_core.specs.nvm_device_laws.Turn.{TellsSlots}
-use Rattle.nvm_core.specs.nvm_laws.Keeps.{StackKeepsAsTold}
-use Rattle.nvm_core.specs.nvm_laws.declared.turned.FoundAnswer.{FoundAnswer}
-use Rattle.nvm_core.specs.nvm_laws.declared.turned.FoundAnswer.TheVariants as found
-use Rattle.nvm_core.specs.Stack.{StackState}
-use Rattle.nvm_core.specs.StartUps.{DownKeepsAsTold, Restarts, StartsKeep}
-use Rattle.nvm_core.specs.block_laws.Laws.{EntriesAreCounted, HistoriesGoOn, HistoriesStep, SumsGrow}
-use Rattle.nvm_core.proofs.block_laws.HistoryLaws.{entries_are_counted, histories_go_on, histories_step, sums_grow}
+use Rattle.uds_gateway.specs.memif.Told.{DeviceTold, Part, PartTold}
+use Rattle.uds_gateway.specs.memif.Clock.{Clock}
+use Rattle.uds_gateway.specs.promise_blocks.OverDevice.{HasStarted}
+use Rattle.uds_gateway.specs.job_progress.Hand.{HandState}
+use Rattle.uds_gateway.specs.nv_desk.Desk.{DeskState}
+use Rattle.uds_gateway.specs.ram_blocks.declared.plain_block.PlainBlock.{PlainBlock}
+use Rattle.uds_gateway.specs.nvm_device_laws.Turn.{TellsSlots}
+use Rattle.uds_gateway.specs.nvm_laws.Keeps.{StackKeepsAsTold}
+use Rattle.uds_gateway.specs.nvm_laws.declared.turned.FoundAnswer.{FoundAnswer}
+use Rattle.uds_gateway.specs.nvm_laws.declared.turned.FoundAnswer.TheVariants as found
+use Rattle.uds_gateway.specs.nvm_core.Stack.{StackState}
+use Rattle.uds_gateway.specs.nvm_core.StartUps.{DownKeepsAsTold, Restarts, StartsKeep}
+use Rattle.uds_gateway.specs.block_laws.Laws.{EntriesAreCounted, HistoriesGoOn, HistoriesStep, SumsGrow}
+use Rattle.uds_gateway.proofs.HistoryLaws.{entries_are_counted, histories_go_on, histories_step, sums_grow}
 use Rattle.script_player.specs.Paying.{PaysNothing}
 use Rattle.script_player.specs.PlainTold.{told_by}
 use Rattle.script_player.specs.PlainKept.{IsKept}

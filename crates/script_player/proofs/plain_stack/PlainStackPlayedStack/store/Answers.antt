@@ -1,9 +1,9 @@
 use Rattle.std.specs.Prelude.{map}
 use Rattle.std.proofs.Common.{◌≡◌, List, length, sym, subst, Some}
-use Rattle.nvm_core.specs.ram_blocks.declared.plain_block.PlainBlock.{PlainBlock}
-use Rattle.nvm_core.specs.ram_blocks.Plain.{told_of}
+use Rattle.uds_gateway.specs.ram_blocks.declared.plain_block.PlainBlock.{PlainBlock}
+use Rattle.uds_gateway.specs.ram_blocks.Plain.{told_of}
 use Rattle.nvm_script.specs.Rules.{sync_length_of}
-use Rattle.nvm_core.specs.Stack.{StackState}
+use Rattle.uds_gateway.specs.nvm_core.Stack.{StackState}
 use Rattle.script_player.specs.Calls.{Stores}
 use Rattle.script_player.specs.PlainTold.{told_by}
 use Rattle.script_player.proofs.PlainCopies.{may_store}

@@ -1,8 +1,8 @@
 use Rattle.std.proofs.Common.{◌≡◌, List, subst, ap, ◌∙◌, inl, inr}
-use Rattle.nvm_core.specs.block_machine.Words.{Request}
-use Rattle.nvm_core.specs.ram_blocks.declared.plain_block.PlainBlock.{PlainBlock}
-use Rattle.nvm_core.specs.memif.Told.{Part, PartTold}
-use Rattle.nvm_core.specs.Stack.{StackState}
+use Rattle.uds_gateway.specs.block_machine.Words.{Request}
+use Rattle.uds_gateway.specs.ram_blocks.declared.plain_block.PlainBlock.{PlainBlock}
+use Rattle.uds_gateway.specs.memif.Told.{Part, PartTold}
+use Rattle.uds_gateway.specs.nvm_core.Stack.{StackState}
 use Rattle.script_player.specs.PlainKept.{IsKept}
 use Rattle.script_player.specs.Calls.{Turns}
 use Rattle.script_player.specs.Paying.{PaysTurn}
