@@ -1,7 +1,7 @@
 -- What any number of a driver's turns adds.
 use Rattle.std.specs.Prelude.{option_to_list}
 use Rattle.std.specs.List.{list_all}
-use Rattle.std.proofs.Common.{◌≡◌, ◌+◌, ◌≤◌, ℕ, zero, suc, not, Bool, true, false, IsTrue, List, [], ◌∷◌, ◌++◌, Option, Some, None, IfSome, refl, sym, ap, ◌∙◌, subst, inl, inr, arith, append_assoc}
+use Rattle.std.proofs.Common.{◌≡◌, ◌+◌, ℕ, zero, suc, not, Bool, true, false, List, [], ◌∷◌, ◌++◌, Option, Some, None, IfSome, refl, sym, ap, ◌∙◌, subst, inl, inr, arith, append_assoc}
 use Rattle.std.proofs.lemmas.Bool.{cases_Bool}
 use Rattle.std.proofs.lemmas.List.{append-nil}
 use Rattle.nvm_core.specs.nv_base.Count.{WereCounted}
@@ -10,17 +10,15 @@ use Rattle.nvm_core.specs.memif.Clock.{Clock}
 use Rattle.nvm_core.specs.block_machine.Words.{Entry, Ask, Pick, Wrote, Post, Off, Found}
 use Rattle.nvm_core.specs.block_machine.Steps.{after}
 use Rattle.nvm_core.specs.ram_blocks.Told.{Told}
-use Rattle.nvm_core.specs.nv_desk.Desk.{state_of}
 use Rattle.nvm_core.specs.nv_desk_copies.Front.{AreSynchronized}
 use Rattle.nvm_core.specs.nvm_laws.declared.turned.Turned.{Turned}
 use Rattle.script_walks.specs.Runs.{is_found}
 use Rattle.nvm_shared.specs.declared.terms.Terms.{Terms}
 use Rattle.nvm_shared.specs.Behind.{AreAsks}
-use Rattle.nvm_shared.specs.Locked.{desk_with}
 use Rattle.nvm_shared.specs.Driving.{DriverState}
 use Rattle.promise_run.specs.RunHalves.{offs_in, tells_no_refusal}
-use Rattle.nvm_callers.specs.Driven.{DrivesBy, DrivesOn, TurnsOn, SeesOn}
-use Rattle.nvm_callers.specs.Added.{RefusesNone, IsUncut, HasAdded, DrivingAdds}
+use Rattle.nvm_callers.specs.Driven.{DrivesBy, DrivesOn, SeesOn}
+use Rattle.nvm_callers.specs.Added.{HasAdded, DrivingAdds}
 use Rattle.nvm_callers.proofs.Keeping.{driving_keeps}
 use Rattle.nvm_callers.proofs.Turning.{TurnAdds, asks_power, turn_adds}
 

@@ -1,26 +1,32 @@
 -- A run of callers over mirrors.
 use Rattle.std.specs.Prelude.{map, IsTrue, All}
-use Rattle.std.proofs.Common.{◌≡◌, ℕ, List, sym, ap, subst}
+use Rattle.std.proofs.Common.{◌≡◌, ℕ, List, [], ◌∷◌, sym, ap, subst}
 use Rattle.nvm_core.specs.memif.Told.{DeviceTold}
 use Rattle.nvm_core.specs.memif.Clock.{Clock}
-use Rattle.nvm_core.specs.block_machine.Words.{Entry}
+use Rattle.nvm_core.specs.block_machine.Words.{Entry, Ask, Found, Instance, Mark}
+use Rattle.nvm_core.specs.block_machine.Legal.{IsLegal}
 use Rattle.nvm_core.specs.ram_blocks.declared.plain_block.PlainBlock.{PlainBlock}
-use Rattle.ram_mirrors_sync.specs.Blocks.{EndList, HasLooked, IsOver, IsStore, Pairs, SyncValue, told_by}
+use Rattle.ram_mirrors_sync.specs.Blocks.{AreClosed, AreMade, EndList, EndsGoOn, HasCameWith, HasLooked, IsOver, IsStore, Pairs, SideList, SyncValue, told_by}
 use Rattle.nvm_core.specs.nv_desk.Desk.{DeskState}
 use Rattle.nvm_core.specs.nv_desk_copies.Front.{AreSynchronized}
 use Rattle.turn_gate.specs.declared.pass.View.{View}
-use Rattle.turn_gate.specs.Entries.{AllAgree, AllHeard}
-use Rattle.turn_gate.specs.Pass.{OwnsAll, knows}
+use Rattle.turn_gate.specs.Pass.{knows}
 use Rattle.script_walks.specs.Words.{Step}
 use Rattle.script_walks.specs.Runs.{has_ended}
 use Rattle.script_callers.specs.declared.program.Program.{Program}
 use Rattle.nvm_shared.specs.declared.terms.Terms.{Terms}
 use Rattle.nvm_shared.specs.Locked.{desk_with}
-use Rattle.nvm_shared.specs.Passes.{PassValue, SharedState}
-use Rattle.nvm_shared.specs.StatusWords.{gives}
+use Rattle.nvm_shared.specs.Passes.{IsEntry, PassValue, SharedState}
+use Rattle.nvm_shared.specs.Noted.{StandsIn}
+use Rattle.nvm_shared.specs.Opening.{IsFirst}
 use Rattle.nvm_shared.specs.Driving.{DriverState, IsDriverOf, driver_of, stack_of}
 use Rattle.nvm_callers.specs.Driven.{HasDriven}
-use Rattle.nvm_callers.specs.Looked.{LooksAreOrdered}
+use Rattle.nvm_callers.specs.Looked.{HasLooked as LooksAre, IsLookOf, LooksAreOrdered}
+use Rattle.nvm_callers.specs.Dealt.{AllDealt, AllGathered}
+use Rattle.nvm_callers.specs.KeptSteps.{IsClosedBy}
+use Rattle.nvm_callers.specs.Shares.{BeginsUnasked}
+use Rattle.nvm_callers.specs.Stores.{Along, SidesValue, bytes_at, stores_at}
+use Rattle.nvm_callers.specs.TakenCopies.{StoresAreTaken}
 use Rattle.nvm_callers.specs.Callers.{HaveRun, MayRun}
 use Rattle.nvm_callers.specs.declared.ending.Ending.{Ending}
 use Rattle.ram_mirrors_sync.proofs.Copies.{looks_go_on}
@@ -28,6 +34,11 @@ use Rattle.nvm_callers.specs.Begun.{AreProgramsOf, IsBegun}
 use Rattle.nvm_callers.specs.Ran.{KeepsOrder, WasRun}
 use Rattle.nvm_callers.proofs.Beginning.{may_drive, may_run}
 use Rattle.nvm_callers.proofs.Finishing.{keeps_order_of, refuse_none, was_run}
+use Rattle.nvm_callers.proofs.Keeping.{driving_keeps}
+use Rattle.nvm_callers.proofs.Owned.{sides_in, still_bytes, were_stored}
+use Rattle.nvm_callers.proofs.StoresTaken.{WereStored, stores_are_taken}
+use Rattle.promise_run.specs.Run.{cap}
+use Rattle.script_callers.specs.Programs.{programs_of}
 
 -- what mirrors showed stays in order
 shown_in_order : {N : Type 0} → LooksAreOrdered (λ (old new : SyncValue N). HasLooked old.ends new.ends) (λ (first now : SyncValue N). IsOver first now)
@@ -63,16 +74,52 @@ module _ {D : Type 0} (told : D → DeviceTold) (clock : D → Clock) (shared : 
           (subst (λ (x : DriverState D (SyncValue N)). HasDriven told clock (λ (s : SyncValue N). map told_by s.ends) (λ (s : SyncValue N). IsStore s.ends) (λ (x y : SyncValue N). HasLooked x.ends y.ends) (λ (x y : SyncValue N). IsOver x y) stands shared.terms (knows p).seen h x last) swapped driven)
           are_synchronized (refuse_none m.ends) ended is_desk is_device
 
-      -- and in order
-      pub keeps_order_on : (programs : List Program) (steps : List Step) → AreProgramsOf shared.terms.config steps programs → (v : View Entry Terms) → HaveRun shared.terms programs e v
-          → OwnsAll v desk.entries → AllAgree gives desk.entries v.notes → AllHeard desk.entries v.heard → KeepsOrder steps e desk
-      keeps_order_on programs steps are v ran all agree heard =
-          let entries = ap (λ (d : DeskState). d.entries) is_desk in
-          keeps_order_of told clock (λ (s : SyncValue N). map told_by s.ends) (λ (s : SyncValue N). IsStore s.ends) (λ (x y : SyncValue N). HasLooked x.ends y.ends) (λ (x y : SyncValue N). IsOver x y) stands shared.terms shown_in_order steps are.run (knows p).seen h begins.first now last driven e v desk begins.most
-          (subst (λ (ps : List Program). HaveRun shared.terms ps e v) are.are ran)
-          (record {
-            all = subst (λ (l : List Entry). OwnsAll v l) entries all;
-            agree = subst (λ (l : List Entry). AllAgree gives l v.notes) entries agree;
-            heard = subst (λ (l : List Entry). AllHeard l v.heard) entries heard;
-          })
-          ended is_desk
+-- WITH WHAT CALLERS STORED
+abbrev S : Type 0
+S = SyncValue Along
+
+abbrev stands_in : S → ℕ → ℕ → List Entry → Type 0
+stands_in s block number entries = HasCameWith (StandsIn entries) s.ends block number
+
+abbrev Drove : {D : Type 0} → (told : D → DeviceTold) → (clock : D → Clock) → Terms → (seen seen_new : List Entry) → (old new : DriverState D S) → Type 0
+Drove told clock t seen seen_new old new =
+    HasDriven told clock (λ (s : S). map told_by s.ends) (λ (s : S). IsStore s.ends) (λ (x y : S). HasLooked x.ends y.ends) (λ (x y : S). IsOver x y) stands_in t seen seen_new old new
+
+-- the driver's copies at the end are those of the same mirrors, and go on from the first ones
+pub still_over : {D : Type 0} (told : D → DeviceTold) (clock : D → Clock) (t : Terms) (seen h : List Entry) (old new : DriverState D S) (m : S) → old.copies ≡ m → Drove told clock t seen h old new → IsOver m new.copies
+still_over told clock t seen h old new m is driven =
+    let kept = driving_keeps told clock (λ (s : S). map told_by s.ends) (λ (s : S). IsStore s.ends) (λ (x y : S). HasLooked x.ends y.ends) (λ (x y : S). IsOver x y) stands_in t seen h old new driven in
+    let laws = looks_go_on {N = Along} in
+    kept.stays_over m (subst (λ (s : S). IsOver m s) (sym is) (laws.itself m))
+
+module _ {D : Type 0} (told : D → DeviceTold) (clock : D → Clock) (t : Terms) (steps : List Step) (programs : List Program) (are : AreProgramsOf t.config steps programs) (mirrors : Pairs) (ends : EndList Along) (sides left all : SideList Along) (made : AreMade t.config mirrors ends sides)
+    (firsts nows : List SidesValue) (dealt : AllDealt programs sides (map sides_in firsts) left) (back : AllGathered (map sides_in nows) left all) where
+  -- and in order
+  pub keeps_order_on : (seen h : List Entry) → IsFirst seen → (old new : DriverState D S) → Drove told clock t seen h old new → EndsGoOn ends new.copies.ends → AreClosed new.copies.ends all
+      → (e : Ending) (v : View Entry Terms) (desk : DeskState) → t.cap ≡ cap
+      → HaveRun (λ (s : SidesValue). bytes_at s.sides) (λ (s : SidesValue). stores_at s.sides) (λ (s : SidesValue). s.mirrors) t programs firsts nows e v → IsClosedBy v desk.entries
+      → IsTrue (has_ended t.config h) → desk ≡ desk_with t h → KeepsOrder steps e desk
+  keeps_order_on seen h (marks, ops, one) old new driven on shut e v desk most ran closed ended is_desk =
+      let entries = ap (λ (d : DeskState). d.entries) is_desk in
+      let own = subst (λ (l : List Entry). Drove told clock t l h old new) one driven in
+      let ran_own = subst (λ (ps : List Program). HaveRun (λ (s : SidesValue). bytes_at s.sides) (λ (s : SidesValue). stores_at s.sides) (λ (s : SidesValue). s.mirrors) t ps firsts nows e v) are.are ran in
+      let dealt_own = subst (λ (ps : List Program). AllDealt ps sides (map sides_in firsts) left) are.are dealt in
+      let closed_own = subst (λ (l : List Entry). IsClosedBy v l) entries closed in
+      keeps_order_of told clock (λ (s : S). map told_by s.ends) (λ (s : S). IsStore s.ends) (λ (x y : S). HasLooked x.ends y.ends) (λ (x y : S). IsOver x y) stands_in t
+      (λ (s : SidesValue). bytes_at s.sides) (λ (s : SidesValue). stores_at s.sides) (λ (s : SidesValue). s.mirrors) shown_in_order steps are.run marks ops h old new own firsts nows e v desk most ran_own closed_own ended
+      (λ looks legal.
+      let were = were_stored t steps are.run mirrors ends sides left all made firsts nows e v h dealt_own ran_own closed_own (unasked marks ops looks.more h looks.grows) new.copies.ends on back (still_bytes t (programs_of t.config steps) mirrors ends sides left made firsts nows e v dealt_own ran_own) shut in
+      taken_of marks ops h old new looks legal were) is_desk
+    where
+      unasked : (marks : List (Instance × Mark)) (ops : ℕ) (more h : List Entry) → h ≡ Found marks ops ∷ more → BeginsUnasked h
+      unasked marks ops more h is caller r reply = subst (λ (l : List Entry). ¬ IsEntry l 0 (Ask caller r reply)) (sym is) (λ is_ask. cc is_ask)
+
+      taken_of : (marks : List (Instance × Mark)) (ops : ℕ) (h : List Entry) (old new : DriverState D S)
+          → (looks : LooksAre told clock (λ (s : S). map told_by s.ends) (λ (s : S). IsStore s.ends) (λ (x y : S). HasLooked x.ends y.ends) (λ (x y : S). IsOver x y) stands_in t (Found marks ops ∷ []) h old new)
+          → IsLegal t.config t.cap h → WereStored t.config t.cap h steps new.copies.ends → StoresAreTaken t.config steps looks.looks h
+      taken_of marks ops h old new looks legal were =
+          let grown : h ≡ Found marks ops ∷ looks.more = looks.grows in
+          subst (λ (l : List Entry). StoresAreTaken t.config steps looks.looks l) (sym grown)
+          (stores_are_taken told clock t steps are.run are.few marks ops looks.more (subst (λ (l : List Entry). IsLegal t.config t.cap l) grown legal) old.copies new.copies
+          (subst (λ (l : List Entry). WereStored t.config t.cap l steps new.copies.ends) grown were) looks.looks
+          (λ l within. subst (λ (k : List Entry). IsLookOf told clock (λ (s : S). map told_by s.ends) (λ (s : S). IsStore s.ends) (λ (x y : S). HasLooked x.ends y.ends) (λ (x y : S). IsOver x y) stands_in t k old.copies new.copies l) grown (looks.are l within)) looks.took)

@@ -1,21 +1,17 @@
 -- What the driver did beside the callers, call by call.
-use Rattle.std.proofs.Common.{◌≡◌, inl, inr, ℕ, zero, suc, true, List, [], refl, sym, ap, subst, ◌∙◌}
-use Rattle.nvm_core.specs.memif.Told.{DeviceTold, faults_of}
+use Rattle.std.proofs.Common.{◌≡◌, inl, inr, ℕ, true, List, refl, ◌∙◌}
+use Rattle.nvm_core.specs.memif.Told.{DeviceTold}
 use Rattle.nvm_core.specs.memif.Clock.{Clock}
-use Rattle.nvm_core.specs.memif.Trials.{Lasts}
 use Rattle.nvm_core.specs.block_machine.Words.{Entry}
 use Rattle.nvm_core.specs.ram_blocks.Told.{Told}
 use Rattle.turn_gate.specs.declared.pass.View.{View}
-use Rattle.turn_gate.specs.Pass.{both}
 use Rattle.nvm_shared.specs.declared.terms.Terms.{Terms}
 use Rattle.nvm_shared.specs.Passes.{LearnsMore, LearnsTurn}
 use Rattle.nvm_shared.specs.Driving.{DriverState}
-use Rattle.nvm_callers.specs.Driven.{HasDriven, SeesOn, StaysKeptOver, TurnsOn}
+use Rattle.nvm_callers.specs.Driven.{StaysKeptOver, TurnsOn}
 use Rattle.nvm_callers.proofs.Following.{drives_follow}
-use Rattle.nvm_callers.specs.Shares.{Share}
-use Rattle.nvm_callers.specs.Joins.{Collects}
 use Rattle.nvm_callers.proofs.JoinedPasses.{turns_collect}
-use Rattle.nvm_callers.specs.Steering.{HasSteered, KeepsShares}
+use Rattle.nvm_callers.specs.Steering.{HasSteered}
 
 abbrev V : Type 0
 V = View Entry Terms

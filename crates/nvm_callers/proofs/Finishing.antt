@@ -1,27 +1,24 @@
 -- A run of callers at its end.
-use Rattle.std.specs.Prelude.{map, IsTrue, IfSome, drop, take, Contains}
+use Rattle.std.specs.Prelude.{map, IsTrue, drop}
 use Rattle.std.specs.List.{list_all}
-use Rattle.std.proofs.Common.{◌≡◌, ◌≢◌, ℕ, zero, suc, not, Bool, true, false, List, [], ◌∷◌, ◌++◌, Option, Some, None, refl, sym, ap, ◌∙◌, subst}
+use Rattle.std.proofs.Common.{◌≡◌, ℕ, zero, suc, not, List, [], ◌∷◌, Option, Some, None, refl, sym, ap, ◌∙◌, subst}
 use Rattle.nvm_core.specs.memif.Told.{DeviceTold}
 use Rattle.nvm_core.specs.memif.Clock.{Clock}
-use Rattle.nvm_core.specs.block_machine.Words.{Entry, Ask, Found, Instance, Mark, Configuration}
+use Rattle.nvm_core.specs.block_machine.Words.{Entry, Ask, Found, Instance, Mark}
 use Rattle.nvm_core.specs.block_machine.Legal.{IsLegal}
-use Rattle.nvm_core.specs.block_machine.StartUp.{at_first}
-use Rattle.nvm_core.specs.ram_blocks.Told.{Told, told_at}
+use Rattle.nvm_core.specs.ram_blocks.Told.{Told}
 use Rattle.nvm_core.specs.ram_blocks.declared.plain_block.PlainBlock.{PlainBlock}
-use Rattle.ram_mirrors_sync.specs.Blocks.{EndList, told_by}
+use Rattle.ram_mirrors_sync.specs.Blocks.{EndList, Pairs, told_by}
 use Rattle.nvm_core.specs.nv_desk.Desk.{DeskState}
 use Rattle.nvm_core.specs.nv_desk_copies.Front.{AreSynchronized}
 use Rattle.turn_gate.specs.declared.pass.View.{View}
 use Rattle.script_walks.specs.Words.{Step}
-use Rattle.script_walks.specs.Looks.{Look}
 use Rattle.script_walks.specs.Callers.{IsInOrder, program_of}
 use Rattle.script_walks.specs.Runs.{IsRun, has_ended, is_found}
 use Rattle.script_callers.specs.Programs.{programs_of}
 use Rattle.script_callers.specs.RunScripts.{AreRun}
 use Rattle.nvm_shared.specs.declared.terms.Terms.{Terms}
 use Rattle.nvm_shared.specs.Locked.{desk_with}
-use Rattle.nvm_shared.specs.Opening.{IsFirst}
 use Rattle.nvm_shared.specs.Passes.{IsEntry}
 use Rattle.nvm_shared.specs.Driving.{DriverState, driver_of, stack_of}
 use Rattle.nvm_callers.specs.Driven.{HasDriven}
@@ -29,6 +26,7 @@ use Rattle.nvm_callers.specs.Added.{RefusesNone}
 use Rattle.nvm_callers.specs.Looked.{HasLooked, LooksAreOrdered}
 use Rattle.nvm_callers.specs.Shares.{BeginsUnasked}
 use Rattle.promise_run.specs.Run.{RunsBy, cap}
+use Rattle.nvm_callers.specs.Stored.{Stored}
 use Rattle.nvm_callers.specs.Callers.{HaveRun}
 use Rattle.nvm_callers.specs.KeptSteps.{EndSo, IsClosedBy}
 use Rattle.nvm_callers.specs.declared.ending.Ending.{Ending}
@@ -37,7 +35,8 @@ use Rattle.nvm_callers.proofs.Keeping.{driving_keeps}
 use Rattle.nvm_callers.proofs.Adding.{driving_adds}
 use Rattle.nvm_callers.proofs.Looking.{driving_looks}
 use Rattle.nvm_callers.proofs.KeptSteps.{callers_ask, callers_keep_steps}
-use Rattle.nvm_callers.specs.Ran.{KeepsOrder, StoresAreTaken, WasRun, end_of}
+use Rattle.nvm_callers.specs.TakenCopies.{StoresAreTaken}
+use Rattle.nvm_callers.specs.Ran.{KeepsOrder, WasRun, end_of}
 
 -- mirrors refuse no copy
 pub refuse_none : {N : Type 0} (es : EndList N) → RefusesNone (map told_by es)
@@ -77,7 +76,7 @@ module _ {D C : Type 0} (told : D → DeviceTold) (clock : D → Clock) (copies 
     unasked : BeginsUnasked h
     unasked caller r reply = subst (λ (l : List Entry). ¬ IsEntry l 0 (Ask caller r reply)) (sym grown) (λ is. cc is)
 
-    is_run : ((caller : ℕ) → IsInOrder t.config caller (program_of caller steps) h) → StoresAreTaken steps looks.looks (desk_with t h) → IsRun t.config steps looks.looks h
+    is_run : ((caller : ℕ) → IsInOrder t.config caller (program_of caller steps) h) → StoresAreTaken t.config steps looks.looks h → IsRun t.config steps looks.looks h
     is_run order taken = record {
       one_start = subst (λ (l : List Entry). IsTrue (list_all (λ e. not (is_found e)) (drop 1 l))) (sym grown) no_start;
       order = order;
@@ -91,28 +90,33 @@ module _ {D C : Type 0} (told : D → DeviceTold) (clock : D → Clock) (copies 
     runs_by ending.NoRoom is ends ended = record { order = is; caller = ends.0; full = ends.1; others = ends.2; ends = ended }
     runs_by ending.Memory is ends ended = is
 
-    pub keeps_order : (e : Ending) (v : View Entry Terms) (desk : DeskState) → t.cap ≡ cap → HaveRun t (programs_of t.config steps) e v → IsClosedBy v h → IsTrue (has_ended t.config h)
-        → desk ≡ desk_with t h → KeepsOrder steps e desk
-    keeps_order e v desk most ran closed ended is_desk =
-        let asked = callers_ask t steps e v h run ran closed unasked in
-        let keeps : KeepsOrder steps e (desk_with t h) = record {
-          asks = asked.asks;
-          all = asked.all;
-          looks = looks.looks;
-          in_order = looks.in_order;
-          order = λ legal taken.
-              let kept = callers_keep_steps t steps e v h run ran closed legal in
-              runs_by e (is_run kept.order taken) (subst (λ (n : ℕ). EndSo t.config n steps h e) most kept.ends) ended;
-        } in
-        subst (λ (y : DeskState). KeepsOrder steps e y) (sym is_desk) keeps
+    module _ {S : Type 0} (bytes : S → ℕ → Option ℕ) (stored : S → ℕ → List Stored) (mirrors : S → Pairs) where
+      pub keeps_order : (firsts nows : List S) (e : Ending) (v : View Entry Terms) (desk : DeskState) → t.cap ≡ cap → HaveRun bytes stored mirrors t (programs_of t.config steps) firsts nows e v → IsClosedBy v h
+          → IsTrue (has_ended t.config h) → (IsLegal t.config t.cap h → StoresAreTaken t.config steps looks.looks h) → desk ≡ desk_with t h → KeepsOrder steps e desk
+      keeps_order firsts nows e v desk most ran closed ended taken is_desk =
+          let asked = callers_ask bytes stored mirrors t steps firsts nows e v h run ran closed unasked in
+          let keeps : KeepsOrder steps e (desk_with t h) = record {
+            asks = asked.asks;
+            all = asked.all;
+            looks = looks.looks;
+            in_order = looks.in_order;
+            order = λ legal.
+                let kept = callers_keep_steps bytes stored mirrors t steps firsts nows e v h run ran closed legal in
+                runs_by e (is_run kept.order (taken legal)) (subst (λ (n : ℕ). EndSo t.config n steps h e) most kept.ends) ended;
+          } in
+          subst (λ (y : DeskState). KeepsOrder steps e y) (sym is_desk) keeps
 
   -- behind one start-up
-  pub keeps_order_of : LooksAreOrdered looked over → (steps : List Step) → AreRun t.config steps → (begin h : List Entry) → IsFirst begin → (old new : DriverState D C) → HasDriven told clock copies is_store looked over stands t begin h old new
-      → (e : Ending) (v : View Entry Terms) (desk : DeskState) → t.cap ≡ cap → HaveRun t (programs_of t.config steps) e v → IsClosedBy v h → IsTrue (has_ended t.config h) → desk ≡ desk_with t h → KeepsOrder steps e desk
-  keeps_order_of ordered steps run begin h (marks, ops, one) old new driven e v desk most ran closed ended is_desk =
-      let first = Found marks ops ∷ [] in
-      let own = subst (λ (l : List Entry). HasDriven told clock copies is_store looked over stands t l h old new) one driven in
-      let looks = driving_looks told clock copies is_store looked over stands t ordered first h old new own in
-      let added = driving_adds told clock copies is_store looked over stands t first h old new own in
-      let same : added.more ≡ looks.more = ap (drop 1) (sym added.grows ∙ looks.grows) in
-      keeps_order steps run marks ops h old new looks (subst (λ (l : List Entry). IsTrue (list_all (λ x. not (is_found x)) l)) same added.no_start) e v desk most ran closed ended is_desk
+  module _ {S : Type 0} (bytes : S → ℕ → Option ℕ) (stored : S → ℕ → List Stored) (mirrors : S → Pairs) where
+    pub keeps_order_of : LooksAreOrdered looked over → (steps : List Step) → AreRun t.config steps → (marks : List (Instance × Mark)) (ops : ℕ) (h : List Entry) (old new : DriverState D C)
+        → HasDriven told clock copies is_store looked over stands t (Found marks ops ∷ []) h old new → (firsts nows : List S) (e : Ending) (v : View Entry Terms) (desk : DeskState) → t.cap ≡ cap
+        → HaveRun bytes stored mirrors t (programs_of t.config steps) firsts nows e v → IsClosedBy v h → IsTrue (has_ended t.config h)
+        → ((looks : HasLooked told clock copies is_store looked over stands t (Found marks ops ∷ []) h old new) → IsLegal t.config t.cap h → StoresAreTaken t.config steps looks.looks h)
+        → desk ≡ desk_with t h → KeepsOrder steps e desk
+    keeps_order_of ordered steps run marks ops h old new driven firsts nows e v desk most ran closed ended taken is_desk =
+        let first = Found marks ops ∷ [] in
+        let looks = driving_looks told clock copies is_store looked over stands t ordered first h old new driven in
+        let added = driving_adds told clock copies is_store looked over stands t first h old new driven in
+        let same : added.more ≡ looks.more = ap (drop 1) (sym added.grows ∙ looks.grows) in
+        keeps_order steps run marks ops h old new looks (subst (λ (l : List Entry). IsTrue (list_all (λ x. not (is_found x)) l)) same added.no_start) bytes stored mirrors firsts nows e v desk most ran closed ended
+        (taken looks) is_desk

@@ -1,5 +1,5 @@
 -- What a driver's turns did, one behind another.
-use Rattle.std.proofs.Common.{◌≡◌, ℕ, zero, suc, List, sym, subst}
+use Rattle.std.proofs.Common.{ℕ, zero, suc, List, sym, subst}
 use Rattle.nvm_core.specs.memif.Told.{DeviceTold}
 use Rattle.nvm_core.specs.memif.Clock.{Clock}
 use Rattle.nvm_core.specs.block_machine.Words.{Entry}

@@ -1,5 +1,5 @@
 -- What any number of a driver's turns keeps.
-use Rattle.std.proofs.Common.{◌≡◌, ℕ, zero, suc, List, ◌++◌, refl, sym, ap, ◌∙◌, subst, inl, inr}
+use Rattle.std.proofs.Common.{ℕ, zero, suc, List, refl, sym, subst, inl, inr}
 use Rattle.nvm_core.specs.memif.Told.{DeviceTold}
 use Rattle.nvm_core.specs.memif.Clock.{Clock, SameClock}
 use Rattle.nvm_core.specs.memif.Trials.{Lasts}

@@ -18,8 +18,12 @@ mod Making
 mod Driving
 mod Working
 mod Passing
+mod Rounds
 pub mod KeptSteps
 mod Beginning
 mod Finishing
 mod Closing
 mod Moving
+mod DealtSides
+mod StoresTaken
+mod Owned

@@ -1,6 +1,6 @@
 -- What a driver's looks showed in any number of its turns.
 use Rattle.std.specs.Prelude.{option_to_list, slice_get, take, Contains}
-use Rattle.std.proofs.Common.{◌≡◌, ◌+◌, ◌<◌, ◌≤◌, ◌⊎◌, ℕ, zero, suc, Bool, true, false, List, [], ◌∷◌, ◌++◌, length, Option, Some, None, IfSome, refl, sym, ap, ◌∙◌, subst, inl, inr, arith, append_assoc, length-append}
+use Rattle.std.proofs.Common.{◌≡◌, ◌+◌, ◌≤◌, ◌⊎◌, ℕ, zero, suc, Bool, true, false, List, [], ◌∷◌, ◌++◌, length, Option, Some, None, IfSome, refl, sym, ap, ◌∙◌, subst, inl, inr, arith, append_assoc, length-append}
 use Rattle.std.proofs.lemmas.List.{append-nil, take-append-le}
 use Rattle.std.proofs.lemmas.List.Elements.{Contains-append_left, Contains-append_right, Contains-append_cases}
 use Rattle.std.proofs.Math.Seq.{take-append_seam}
@@ -10,18 +10,17 @@ use Rattle.nvm_core.specs.block_machine.Words.{JobKind, Taken, TookNothing, Took
 use Rattle.nvm_core.specs.block_machine.Next.{next_of}
 use Rattle.nvm_core.specs.block_machine.Steps.{after}
 use Rattle.nvm_core.specs.ram_blocks.Told.{Told}
-use Rattle.nvm_core.specs.nvm_laws.declared.turned.Turned.{Turned}
 use Rattle.nvm_core.specs.nvm_laws.declared.turned.Turned.TheVariants as turned
 use Rattle.script_walks.specs.Looks.{Look, AreInOrder}
 use Rattle.script_walks.specs.Turn.{copies_next}
 use Rattle.nvm_shared.specs.declared.terms.Terms.{Terms}
 use Rattle.nvm_shared.specs.Behind.{AreAsks}
 use Rattle.nvm_shared.specs.Driving.{DriverState}
-use Rattle.nvm_shared.specs.Noted.{IsPickShown, PickIsShown}
+use Rattle.nvm_shared.specs.Noted.{IsPickShown}
 use Rattle.nvm_callers.specs.Driven.{DrivesBy, DrivesOn, TurnsOn, SeesOn}
 use Rattle.nvm_callers.specs.Looked.{LooksAreOrdered, look_behind, TookShown, AllTookShown, IsLookOf, HasLooked, DrivingLooks}
 use Rattle.nvm_callers.proofs.Keeping.{driving_keeps}
-use Rattle.nvm_callers.proofs.Turning.{IsPick, TurnAdds, turn_adds}
+use Rattle.nvm_callers.proofs.Turning.{IsPick, turn_adds}
 
 -- WHAT WAS TAKEN
 module _ (looks more : List Look) (P Q : (block number : ℕ) → List ℕ → Type 0) (so : (b n : ℕ) (x : List ℕ) → P b n x → Q b n x) where

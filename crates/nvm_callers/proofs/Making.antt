@@ -17,8 +17,8 @@ use Rattle.nvm_callers.specs.Stored.{Stored, HasStored, AreAsMany, StoredOne}
 use Rattle.nvm_callers.proofs.Doing.{asks_are_done, deeds_last, none_is_done, stores_are_done, waits_are_done}
 use Rattle.nvm_callers.proofs.Storing.{asks_stay_stored, none_as_many, none_is_stored, one_as_many, stores_are_stored, stores_last}
 use Rattle.nvm_callers.proofs.Waiting.{off_ends_waits, polls_end_waits}
-use Rattle.nvm_callers.specs.Calls.{Did, HasPolled, IsAsk, IsOver, KeepsPass, MayStore}
-use Rattle.nvm_callers.specs.Endings.{FindsNoRoom}
+use Rattle.nvm_callers.specs.Calls.{Did, HasPolled, IsAsk, IsAwait, IsOver, KeepsPass, MayStore}
+use Rattle.nvm_callers.specs.Endings.{FindsNoRoom, WaitsNext}
 
 -- POLLS
 pub poll_ends : (t : Terms) (block : ℕ) (v w : View Entry Terms) (entry status : ℕ) → block ≤ length t.config.blocks → block < off_word → status ≢ code_of Pending
@@ -92,6 +92,20 @@ did_wait t caller ds bytes began made line block v w (more, is) over did =
       none_as_many ds (Await line block) made (λ id. refl) before.many,
     ))
 
+-- none more: a wait goes on
+pub did_poll : (t : Terms) (caller : ℕ) (ds : List Deed) (bytes : ℕ → Option ℕ) (began made : ℕ → List Stored) (v w : View Entry Terms) → HasPolled v w
+    → Did t caller ds v bytes began made → Did t caller ds w bytes began made
+did_poll t caller ds bytes began made v w (more, is) did =
+    did_with t caller ds w v.own v.seen (v.notes ++ more) bytes began made
+    (ap (λ (z : View Entry Terms). z.own) is) (ap (λ (z : View Entry Terms). z.seen) is) (ap (λ (z : View Entry Terms). z.notes) is)
+    (deeds_last t.config t.cap v.own v.seen v.seen v.notes more caller ds did.done ([], sym (append-nil v.seen)))
+    (λ none may.
+    let before = did.stored none may in (
+      subst (λ (l : List Deed). HasStored t.config t.cap v.own v.seen (v.notes ++ more) caller l made) (append-nil ds)
+          (stores_last t.config t.cap v.own v.seen v.seen v.notes more caller ds [] made before.each ([], sym (append-nil v.seen))),
+      before.many,
+    ))
+
 -- a store more
 pub did_store : (t : Terms) (caller : ℕ) (ds : List Deed) (line block number : ℕ) (content : List ℕ) (v w : View Entry Terms) (bytes now : ℕ → Option ℕ) (began made made_new : ℕ → List Stored) → w ≡ v
     → ((id : ℕ) → now id ≡ bytes id) → (now block ≡ Some (length content) → StoredOne block content (copied v) made made_new)
@@ -129,3 +143,9 @@ pub found_full : (t : Terms) (w : View Entry Terms) (ds : List Deed) (place : �
 found_full t w ds place (AskDeed line r) full is at = (full, (line, r, at))
 found_full t w ds place (StoreDeed line block number content) full is at = elim is [ ]
 found_full t w ds place (Await line block) full is at = elim is [ ]
+
+-- a wait that goes on is the deed at its place
+pub found_wait : (ds : List Deed) (place : ℕ) (d : Deed) → IsAwait d → slice_get ds place ≡ Some d → WaitsNext ds place
+found_wait ds place (Await line block) is at = (line, block, at)
+found_wait ds place (AskDeed line r) is at = elim is [ ]
+found_wait ds place (StoreDeed line block number content) is at = elim is [ ]

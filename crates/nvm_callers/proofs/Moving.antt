@@ -1,12 +1,12 @@
 -- Sides go over to callers.
-use Rattle.std.specs.Prelude.{◌==◌, ◌||◌, take}
-use Rattle.std.proofs.Common.{◌≡◌, ◌≢◌, ◌<◌, ℕ, Bool, true, false, if◌then◌else◌, List, [], ◌∷◌, ◌++◌, length, set, Option, Some, None, IfSome, refl, sym, ap, ◌∙◌, subst, inl, inr, arith}
+use Rattle.std.specs.Prelude.{◌==◌, ◌||◌}
+use Rattle.std.proofs.Common.{◌≡◌, ◌≢◌, ◌<◌, ℕ, Bool, true, false, List, [], ◌∷◌, ◌++◌, length, set, Option, Some, None, IfSome, refl, sym, ap, ◌∙◌, subst, inl, inr, arith}
 use Rattle.std.proofs.lemmas.Bool.Decides.{eqb_tells}
 use Rattle.std.proofs.lemmas.Bool.{cases_lt}
 use Rattle.std.proofs.lemmas.List.{get_or-set_same, get_or-set_other, get_or_past, length-set}
 use Rattle.ram_mirrors_sync.specs.Blocks.{SideList, SideValue, side_at}
 use Rattle.script_callers.specs.declared.deed.Deed.{Deed}
-use Rattle.script_callers.specs.declared.deed.Deed.TheVariants.{Ask, Store, Await}
+use Rattle.script_callers.specs.declared.deed.Deed.TheVariants.{Store}
 use Rattle.nvm_callers.specs.Dealt.{is_store_into, store_into, moved, kept, IsDealt, HasPlaces, IsFree, GoesOver}
 
 not_same : (b block : ℕ) → (b == block) ≡ false → b ≢ block
@@ -31,6 +31,7 @@ goes_over {N} block from to from_new to_new side taken left put own place here =
             ap (λ (l : SideList N). side_at l block) left ∙ get_or-set_same from block None None here,
           );
       places = ap length put_at ∙ length-set to block (Some side);
+      left_places = ap length left ∙ length-set from block None;
     }
 
 pub stays_over : {N : Type 0} (block : ℕ) (from to : SideList N) → side_at from block ≡ None → GoesOver block from to from to
@@ -39,6 +40,7 @@ stays_over block from to none = record {
   none = λ is. (refl, is);
   some = λ s is. let no_ : None ≡ Some s = sym none ∙ is in absurd (cc no_);
   places = refl;
+  left_places = refl;
 }
 
 -- DEEDS
@@ -73,6 +75,7 @@ module _ {N : Type 0} (ds : List Deed) (first own left : SideList N) (dealt : Is
       record {
         own_at = λ block. subst (λ (b : Bool). side_at own block ≡ moved b (side_at first block)) (sym (same block)) (dealt.own_at block);
         left_at = λ block. subst (λ (b : Bool). side_at left block ≡ kept b (side_at first block)) (sym (same block)) (dealt.left_at block);
+        places = dealt.places;
       }
 
   -- one that stores into this block
@@ -114,6 +117,7 @@ module _ {N : Type 0} (ds : List Deed) (first own left : SideList N) (dealt : Is
     dealt_more line number content = record {
       own_at = λ b. subst (λ (t : Bool). side_at own_new b ≡ moved t (side_at first b)) (sym (store_more b ds (Store line block number content))) (at b).0;
       left_at = λ b. subst (λ (t : Bool). side_at left_new b ≡ kept t (side_at first b)) (sym (store_more b ds (Store line block number content))) (at b).1;
+      places = over.left_places ∙ dealt.places;
     }
 
     -- places stay

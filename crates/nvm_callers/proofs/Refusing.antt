@@ -1,8 +1,8 @@
 -- No copy is refused where none is to be.
-use Rattle.std.specs.Prelude.{◌&&◌, ◌-◌, ◌==◌, nat_le, is_some}
-use Rattle.std.proofs.Common.{◌≡◌, ◌≢◌, ◌+◌, ◌⊎◌, ℕ, Bool, true, false, List, Option, Some, None, option_map, IfSome, refl, sym, ap, ◌∙◌, subst, inl, inr, arith}
+use Rattle.std.specs.Prelude.{◌&&◌, ◌-◌, nat_le, is_some}
+use Rattle.std.proofs.Common.{◌≡◌, ◌+◌, ◌⊎◌, ℕ, Bool, true, false, List, Option, Some, None, option_map, IfSome, refl, sym, ap, ◌∙◌, subst, inl, inr, arith}
 use Rattle.std.proofs.lemmas.Bool.Decides.{eqb_tells, leb_tells}
-use Rattle.nvm_core.specs.block_machine.Words.{ReqResult, JobKind, WriteJob, Taken, TookNothing, TookContent, TookRefused, TookStale, Pick, Post, BlockDesc, Configuration}
+use Rattle.nvm_core.specs.block_machine.Words.{JobKind, WriteJob, Taken, TookNothing, TookContent, TookRefused, TookStale, Pick, Post, BlockDesc, Configuration}
 use Rattle.nvm_core.specs.block_machine.State.{State, BlockState, Job}
 use Rattle.nvm_core.specs.block_machine.Blocks.{desc_of, block_at, is_synchronized, job_block, kind_of}
 use Rattle.nvm_core.specs.block_machine.Sweeps.{member_job}

@@ -4,7 +4,7 @@ use mathlib.Core.Option.{some-ne-none, some-injective}
 use Rattle.atomic_table.proofs.Lists.{at_longer}
 use Rattle.nvm_core.specs.block_machine.Words.{Request, Reply, Entry, Ask, Configuration}
 use Rattle.nvm_core.specs.block_machine.StartUp.{at_first}
-use Rattle.nvm_core.specs.block_machine.Legal.{IsAllowed, IsLegal}
+use Rattle.nvm_core.specs.block_machine.Legal.{IsAllowed}
 use Rattle.turn_gate.specs.Pass.{Has}
 use Rattle.nvm_shared.specs.StatusWords.{is_ask}
 use Rattle.nvm_shared.specs.Numbers.{IsEntry, AreAt, AreAll}

@@ -1,7 +1,7 @@
 -- What the driver may conclude from what came along with a store.
-use Rattle.std.specs.Prelude.{slice_get, filter, if◌then◌else◌}
-use Rattle.std.proofs.Common.{◌≡◌, ◌⊎◌, ◌==◌, inl, inr, ℕ, zero, suc, ◌+◌, ◌<◌, ◌≤◌, ◌∙◌, Bool, true, false, List, [], ◌∷◌, ◌++◌, length, take, drop, Option, Some, None, refl, sym, ap, subst, arith, length-take, lt_of_not-le}
-use Rattle.std.proofs.lemmas.Bool.{cases_Bool, eqb-true}
+use Rattle.std.specs.Prelude.{slice_get, if◌then◌else◌}
+use Rattle.std.proofs.Common.{◌≡◌, ◌⊎◌, ◌==◌, inl, inr, ℕ, zero, suc, ◌+◌, ◌<◌, ◌≤◌, ◌∙◌, Bool, true, false, List, [], ◌∷◌, ◌++◌, length, take, drop, Some, refl, sym, ap, subst, arith, length-take, lt_of_not-le}
+use Rattle.std.proofs.lemmas.Bool.{eqb-true}
 use Rattle.std.proofs.Math.Seq.{take-append_seam}
 use mathlib.Core.Logic.{dite}
 use mathlib.Core.Option.{some}
@@ -19,7 +19,7 @@ use Rattle.script_callers.specs.declared.deed.Deed.{Deed}
 use Rattle.script_callers.specs.declared.deed.Deed.TheVariants.{Ask as AskDeed, Store as StoreDeed, Await}
 use Rattle.script_callers.specs.Deeds.{requests_in, deeds_by, deeds_from, deeds_of}
 use Rattle.nvm_callers.specs.Deeds.{HasWaitedAll}
-use Rattle.nvm_callers.specs.Shown.{NotesTellMade, IsStoreStep, DeedsAreSteps}
+use Rattle.nvm_callers.specs.Shown.{NotesTellMade, DeedsAreSteps}
 use Rattle.nvm_callers.proofs.Waiting.{inside_length}
 use Rattle.nvm_callers.proofs.Doing.{each_on, each_take, ascend_take, has_first, are_longer, are_below, are_as_many, are_first, were_over}
 use Rattle.nvm_callers.proofs.Ordering.{deeds_made_by}

@@ -1,6 +1,6 @@
 -- Which stores the driver was shown, and what it took.
-use Rattle.std.specs.Prelude.{slice_get, is_some, IsSome, unwrap_or, option_map, filter_map, if◌then◌else◌}
-use Rattle.std.proofs.Common.{◌≡◌, ◌⊎◌, ◌==◌, inl, inr, ℕ, zero, suc, ◌+◌, ◌<◌, ◌≤◌, ◌^◌, ◌∙◌, Bool, true, false, List, [], ◌∷◌, ◌++◌, length, map, take, get_or, Option, Some, None, refl, sym, ap, subst, arith, append_assoc, length-append, length-take}
+use Rattle.std.specs.Prelude.{slice_get, is_some, IsSome, unwrap_or, option_map, filter_map}
+use Rattle.std.proofs.Common.{◌≡◌, ◌⊎◌, ◌==◌, inl, inr, ℕ, zero, suc, ◌+◌, ◌<◌, ◌≤◌, ◌^◌, ◌∙◌, true, false, List, [], ◌∷◌, ◌++◌, length, map, take, get_or, Option, Some, None, refl, sym, ap, subst, arith, append_assoc, length-append, length-take}
 use Rattle.std.proofs.lemmas.Bool.{cases_Bool, eqb-true, eq-eqb}
 use Rattle.std.proofs.lemmas.List.Elements.{filter_map-append}
 use Rattle.std.proofs.lemmas.Option.{get_or_from_slice_get, slice_get_within}
@@ -11,22 +11,22 @@ use Rattle.nvm_script.specs.Rules.{sync_length_of}
 use Rattle.nvm_core.specs.block_machine.Words.{Entry, Configuration}
 use Rattle.nvm_core.specs.block_machine.Legal.{IsLegal}
 use Rattle.turn_gate.specs.declared.pass.View.{View}
-use Rattle.turn_gate.specs.Entries.{Note, StartsWith}
+use Rattle.turn_gate.specs.Entries.{StartsWith}
 use Rattle.turn_gate.specs.Pass.{IsWithin}
 use Rattle.nvm_shared.specs.declared.terms.Terms.{Terms}
 use Rattle.nvm_shared.specs.StatusWords.{gives}
 use Rattle.nvm_shared.specs.Noted.{StandsIn}
-use Rattle.ram_mirrors.specs.Stores.{IsStore, store_number, store_of}
+use Rattle.ram_mirrors.specs.Stores.{store_number, store_of}
 use Rattle.script_walks.specs.Words.{Step, StepKind, AskStep, Store as StoreStep, Turn, Drain, Restart, Cut, Refuse, Await as AwaitStep}
 use Rattle.script_walks.specs.Walk.{store_by, store_content, stores_of}
 use Rattle.script_walks.specs.Callers.{program_of}
 use Rattle.script_walks.specs.Looks.{CanBeMade, CanBeStored}
 use Rattle.script_callers.specs.declared.deed.Deed.{Deed}
-use Rattle.script_callers.specs.declared.deed.Deed.TheVariants.{Ask as AskDeed, Store as StoreDeed, Await}
-use Rattle.script_callers.specs.Deeds.{deeds_by, deeds_from, deeds_of}
+use Rattle.script_callers.specs.declared.deed.Deed.TheVariants.{Store as StoreDeed}
+use Rattle.script_callers.specs.Deeds.{deeds_by, deeds_from}
 use Rattle.script_callers.specs.RunScripts.{AreRun, CanBeRun}
 use Rattle.script_callers.proofs.Owning.{stores_are_of_one}
-use Rattle.look_laws.specs.Shown.{HasOneOwner, IsStoreAt, KnowsMade}
+use Rattle.look_laws.specs.Shown.{HasOneOwner, IsStoreAt}
 use Rattle.look_laws.proofs.Shown.{shown_can_be_stored}
 use Rattle.nvm_callers.specs.Stored.{Stored, TellsDone, IsStoreOf, stores_in}
 use Rattle.nvm_callers.specs.Shown.{HasStoredIn, IsStoreStep, ShownAreStored, TakenAreStored}
@@ -66,7 +66,7 @@ length_map [] = refl
 length_map (x ∷ xs) = ap suc (length_map xs)
 
 -- ONE OWNER
-kind_at : (c : Configuration) (steps : List Step) (place : ℕ) (x : Step) → AreRun c steps → slice_get steps place ≡ Some x → CanBeRun c x.kind
+pub kind_at : (c : Configuration) (steps : List Step) (place : ℕ) (x : Step) → AreRun c steps → slice_get steps place ≡ Some x → CanBeRun c x.kind
 kind_at c steps place x run at =
     let is : get_or steps place x ≡ x = get_or_from_slice_get steps place x x at in
     subst (λ (y : Step). CanBeRun c y.kind) is (run.each place x (slice_get_within steps place x at)).kind

@@ -1,12 +1,12 @@
 -- What a caller stored, as it goes on.
-use Rattle.std.proofs.Common.{◌≡◌, ◌≢◌, ◌⊎◌, ◌==◌, ℕ, zero, suc, ◌+◌, ◌<◌, ◌≤◌, ◌∙◌, Bool, true, false, List, [], ◌∷◌, ◌++◌, length, take, drop, if◌then◌else◌, Option, Some, None, inl, inr, refl, sym, ap, subst, arith, length-append}
+use Rattle.std.proofs.Common.{◌≡◌, ◌≢◌, ◌⊎◌, ◌==◌, ℕ, zero, suc, ◌+◌, ◌<◌, ◌≤◌, ◌∙◌, Bool, true, false, List, [], ◌∷◌, ◌++◌, length, take, drop, if◌then◌else◌, Some, inl, inr, refl, sym, ap, subst, arith, length-append}
 use Rattle.std.proofs.lemmas.Bool.{eq-eqb, ne_eqb}
 use Rattle.std.proofs.lemmas.List.{append-nil, append_assoc, take-append-le, drop-append-le, take_all}
 use mathlib.Core.Option.{some, some-ne-none, some-injective}
 use mathlib.Core.Logic.{dite}
 use native.Mathlib.Decide.{ℕ_discrete}
 use lib.ListN.{get_elem?}
-use Rattle.nvm_core.specs.block_machine.Words.{Request, Entry, Configuration}
+use Rattle.nvm_core.specs.block_machine.Words.{Entry, Configuration}
 use Rattle.nvm_shared.specs.declared.terms.Terms.{Terms}
 use Rattle.ram_mirrors.specs.Stores.{store_of}
 use Rattle.nvm_shared.specs.StatusWords.{gives}
@@ -17,9 +17,9 @@ use Rattle.turn_gate.specs.Entries.{Note, StartsWith, AllAgree}
 use Rattle.script_callers.specs.declared.deed.Deed.{Deed}
 use Rattle.script_callers.specs.declared.deed.Deed.TheVariants.{Ask as AskDeed, Store as StoreDeed, Await}
 use Rattle.script_callers.specs.Deeds.{requests_in}
-use Rattle.nvm_callers.specs.Deeds.{HasDone, HasWaited}
-use Rattle.nvm_callers.specs.Stored.{Stored, TellsDone, IsStoreOf, HasStored, AreAsMany, StoredOne, stores_in, NoneIsStored, AsksStayStored, StoresLast, StoresAreStored}
-use Rattle.nvm_callers.proofs.Waiting.{agree_before, starts_again}
+use Rattle.nvm_callers.specs.Deeds.{HasDone}
+use Rattle.nvm_callers.specs.Stored.{Stored, TellsDone, IsStoreOf, AreAsMany, StoredOne, stores_in, NoneIsStored, AsksStayStored, StoresLast, StoresAreStored}
+use Rattle.nvm_callers.proofs.Waiting.{agree_before}
 use Rattle.nvm_callers.proofs.Doing.{are_as_many, each_last, waits_on}
 
 no_entry : {A : Type 0} (xs : List A) (i : ℕ) (x : A) → xs ≡ [] → get_elem? xs i ≡ some x → ⊥

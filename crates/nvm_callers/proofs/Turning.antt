@@ -1,6 +1,6 @@
 -- What one turn of a driver adds.
 use Rattle.std.specs.Prelude.{option_to_list}
-use Rattle.std.proofs.Common.{◌≡◌, ◌≢◌, ◌+◌, ◌<◌, ℕ, Bool, true, false, List, [], ◌∷◌, ◌++◌, Option, Some, None, IfSome, refl, sym, ap, ◌∙◌, subst, inl, inr, arith, append_assoc}
+use Rattle.std.proofs.Common.{◌≡◌, ℕ, Bool, true, false, List, [], ◌∷◌, ◌++◌, Option, Some, None, IfSome, refl, sym, ap, ◌∙◌, subst, inl, inr, arith, append_assoc}
 use Rattle.std.proofs.lemmas.Bool.{cases_Bool}
 use Rattle.std.proofs.lemmas.List.{append-nil}
 use Rattle.nvm_core.specs.nv_base.Count.{WereCounted}
@@ -21,7 +21,6 @@ use Rattle.nvm_core.specs.nv_desk_copies.Front.{AreSynchronized}
 use Rattle.nvm_core.specs.nv_desk_copies.Posts.{IsPosted, IsPostedNext}
 use Rattle.nvm_core.specs.job_progress.Asks.{is_of_jobs}
 use Rattle.nvm_core.specs.nvm_device_laws.Turn.{settled_by, wrote_by}
-use Rattle.nvm_core.specs.nvm_laws.Halves.{AddsPost}
 use Rattle.nvm_core.specs.nvm_laws.Turns.{AddsBy}
 use Rattle.nvm_core.specs.nvm_laws.declared.turned.Turned.{Turned}
 use Rattle.nvm_core.specs.nvm_laws.declared.turned.Turned.TheVariants as turned

@@ -1,22 +1,22 @@
 -- What a worker made of its program.
-use Rattle.std.proofs.Common.{◌≡◌, ℕ, List, [], ◌∷◌, length, take, Option, refl, sym, subst}
+use Rattle.std.proofs.Common.{◌≡◌, ℕ, List, [], length, take, Option, Some, None, refl, sym, subst, ◌∙◌}
+use Rattle.std.specs.Prelude.{IfSome}
 use Rattle.turn_gate.specs.declared.pass.View.{View}
 use Rattle.turn_gate.specs.Entries.{Note, AllAgree}
 use Rattle.nvm_core.specs.block_machine.Words.{Entry}
 use Rattle.nvm_shared.specs.declared.terms.Terms.{Terms}
 use Rattle.nvm_shared.specs.StatusWords.{gives}
 use Rattle.nvm_shared.specs.Passes.{LearnsMore}
-use Rattle.script_callers.specs.declared.deed.Deed.{Deed}
+use Rattle.ram_mirrors_sync.specs.Blocks.{Pairs}
 use Rattle.script_callers.specs.declared.program.Program.{Program}
 use Rattle.nvm_callers.specs.Deeds.{HasDone}
 use Rattle.nvm_callers.specs.Stored.{Stored}
-use Rattle.nvm_callers.proofs.Doing.{none_is_done}
 use Rattle.nvm_callers.specs.Calls.{Did}
-use Rattle.nvm_callers.specs.Endings.{EndsBy}
-use Rattle.nvm_callers.specs.Callers.{EndsAt, HasMade, HadFull, share_of}
+use Rattle.nvm_callers.specs.Endings.{EndsBy, StopsBy}
+use Rattle.nvm_callers.specs.Callers.{EndsAt, HasBegun, HasMade, share_of}
 use Rattle.nvm_callers.specs.declared.ending.Ending.{Ending}
 use Rattle.nvm_callers.specs.declared.ending.Ending.TheVariants.{All as EndsAll, NoRoom, Memory}
-use Rattle.nvm_callers.proofs.Making.{did_see}
+use Rattle.nvm_callers.proofs.Making.{did_none, did_see}
 
 module _ (t : Terms) (p : Program) (made : ℕ) (v w : View Entry Terms) (bytes : ℕ → Option ℕ) (began stored : ℕ → List Stored) (did : Did t p.caller (take made p.deeds) v bytes began stored) (more : LearnsMore v w) where
   done_then : HasDone t.config t.cap w.own v.seen w.notes p.caller (take made p.deeds)
@@ -36,12 +36,54 @@ module _ (t : Terms) (p : Program) (made : ℕ) (v w : View Entry Terms) (bytes 
   )
   ends_then Memory is = tt
 
-  -- its share, once it has seen all then
-  pub worker_made : (ending : Ending) → EndsBy t p.deeds made v ending → HasMade t p (share_of p made w) ending
-  worker_made ending ends = record {
-    made = made;
-    caller = refl;
-    deeds = refl;
-    done = (did_see t p.caller (take made p.deeds) bytes began stored v w more.own more.notes more.starts did).done;
-    ends = ends_then ending ends;
+  -- how it ended, if it did, once it has seen all then
+  stops_then : (ending : Option Ending) (seen : ℕ) → seen ≡ length w.seen → StopsBy t p.deeds made v ending
+      → IfSome ending (λ e. EndsAt t p.deeds made (share_of p made w) e × (seen ≡ length w.seen))
+  stops_then (Some e) seen saw is = (ends_then e is, saw)
+  stops_then None seen saw is = tt
+
+module _ {S : Type 0} (bytes : S → ℕ → Option ℕ) (stored : S → ℕ → List Stored) (mirrors : S → Pairs) (t : Terms) (p : Program) where
+  -- at first it made nothing
+  pub none_begun : (v : View Entry Terms) (made : ℕ) (ending : Option Ending) (seen : ℕ) (first now : S) → v.own ≡ [] → made ≡ 0 → ending ≡ None → now ≡ first
+      → HasBegun bytes stored mirrors t p v made ending seen first now
+  none_begun v made ending seen first now none zero goes_on same = record {
+    did =
+        let d1 = subst (λ (s : S). Did t p.caller [] v (bytes first) (stored first) (stored s)) (sym same) (did_none t p.caller v (bytes first) (stored first) none) in
+        subst (λ (n : ℕ). Did t p.caller (take n p.deeds) v (bytes first) (stored first) (stored now)) (sym zero) d1;
+    same_bytes = λ block. subst (λ (s : S). bytes s block ≡ bytes first block) (sym same) refl;
+    same_mirrors = subst (λ (s : S). mirrors s ≡ mirrors first) (sym same) refl;
+    ended = subst (λ (o : Option Ending). IfSome o (λ e. EndsAt t p.deeds made (share_of p made v) e × (seen ≡ length v.seen))) (sym goes_on) tt;
   }
+
+  -- and then more
+  pub more_begun : (v u w : View Entry Terms) (made made_new seen seen_new : ℕ) (ending ending_new : Option Ending) (first old now : S)
+      → HasBegun bytes stored mirrors t p v made ending seen first old
+      → (Did t p.caller (take made p.deeds) v (bytes first) (stored first) (stored old) → Did t p.caller (take made_new p.deeds) u (bytes first) (stored first) (stored now))
+      → LearnsMore u w → ((block : ℕ) → bytes now block ≡ bytes old block) → mirrors now ≡ mirrors old
+      → StopsBy t p.deeds made_new u ending_new → seen_new ≡ length w.seen → HasBegun bytes stored mirrors t p w made_new ending_new seen_new first now
+  more_begun v u w made made_new seen seen_new ending ending_new first old now begun goes_on more same_bytes same_mirrors stops saw =
+      let did = goes_on begun.did in
+      record {
+        did = did_see t p.caller (take made_new p.deeds) (bytes first) (stored first) (stored now) u w more.own more.notes more.starts did;
+        same_bytes = λ block. same_bytes block ∙ begun.same_bytes block;
+        same_mirrors = same_mirrors ∙ begun.same_mirrors;
+        ended = stops_then t p made_new u w (bytes first) (stored first) (stored now) did more ending_new seen_new saw stops;
+      }
+
+  -- where its caller ended, that is its share
+  pub begun_ended : (v : View Entry Terms) (made : ℕ) (ending : Option Ending) (seen : ℕ) (first now : S) (e : Ending) → HasBegun bytes stored mirrors t p v made ending seen first now → ending ≡ Some e
+      → HasMade bytes stored mirrors t p (share_of p made v) e first now × (seen ≡ length v.seen)
+  begun_ended v made ending seen first now e begun same =
+      let ended = subst (λ (o : Option Ending). IfSome o (λ x. EndsAt t p.deeds made (share_of p made v) x × (seen ≡ length v.seen))) same begun.ended in (
+        record {
+          made = made;
+          caller = refl;
+          deeds = refl;
+          done = begun.did.done;
+          ends = ended.0;
+          stores = λ none may. let is = begun.did.stored none may in (is.each, is.many);
+          same_bytes = begun.same_bytes;
+          same_mirrors = begun.same_mirrors;
+        },
+        ended.1,
+      )

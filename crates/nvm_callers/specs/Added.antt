@@ -1,5 +1,5 @@
 -- What any number of a driver's turns adds to the history, with requests of others between them.
-use Rattle.std.specs.Prelude.{◌≡◌, ℕ, not, Bool, true, false, IsTrue, List, ◌++◌, IfSome, Some}
+use Rattle.std.specs.Prelude.{◌≡◌, ℕ, not, true, false, IsTrue, List, ◌++◌, IfSome, Some}
 use Rattle.std.specs.List.{list_all}
 use Rattle.nvm_core.specs.nv_base.Count.{WereCounted}
 use Rattle.nvm_core.specs.memif.Told.{DeviceTold}

@@ -1,5 +1,5 @@
 -- A stack that is shared for a run of callers.
-use Rattle.std.specs.Prelude.{◌≡◌, ◌≤◌, false, List, length}
+use Rattle.std.specs.Prelude.{◌≡◌, ◌≤◌, ◌<◌, ◌^◌, false, List, length}
 use Rattle.nvm_core.specs.memif.Told.{DeviceTold}
 use Rattle.nvm_core.specs.block_machine.Words.{Configuration}
 use Rattle.nvm_core.specs.ram_blocks.declared.plain_block.PlainBlock.{PlainBlock}
@@ -18,9 +18,10 @@ use Rattle.script_callers.specs.Programs.{programs_of}
 use Rattle.script_callers.specs.RunScripts.{AreRun}
 use Rattle.promise_run.specs.Run.{cap}
 
--- these programs are those of the callers of a script
+-- these programs are those of the callers of a script, whose stores can be counted
 pub record AreProgramsOf (c : Configuration) (steps : List Step) (programs : List Program) : Type 0 where
   pub run : AreRun c steps
+  pub few : length steps < 2 ^ 60
   pub are : programs ≡ programs_of c steps
 
 -- The first pass of a stack of this configuration behind its one start-up, with its driver's parts. That the device tells what it

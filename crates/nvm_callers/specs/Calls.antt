@@ -35,6 +35,10 @@ abbrev pub IsAsk : Deed → Type 0
 IsAsk (Ask line r) = Unit {0}
 IsAsk d = ⊥
 
+abbrev pub IsAwait : Deed → Type 0
+IsAwait (Await line block) = Unit {0}
+IsAwait d = ⊥
+
 -- these are its stores, each with what it knew then, and no more
 pub record DidStore (t : Terms) (caller : ℕ) (deeds : List Deed) (v : View Entry Terms) (made : ℕ → List Stored) : Type 0 where
   pub each : HasStored t.config t.cap v.own v.seen v.notes caller deeds made

@@ -1,5 +1,5 @@
 -- What a history tells of callers that ran.
-use Rattle.std.specs.Prelude.{◌≡◌, ◌⊎◌, ℕ, List, length, take}
+use Rattle.std.specs.Prelude.{◌≡◌, ◌⊎◌, ℕ, List, length, take, Option}
 use Rattle.turn_gate.specs.declared.pass.View.{View}
 use Rattle.turn_gate.specs.Entries.{AllAgree, AllHeard}
 use Rattle.turn_gate.specs.Pass.{OwnsAll}
@@ -13,7 +13,9 @@ use Rattle.nvm_shared.specs.StatusWords.{gives}
 use Rattle.script_callers.specs.Programs.{programs_of}
 use Rattle.script_callers.specs.RunScripts.{AreRun}
 use Rattle.nvm_callers.specs.Shares.{BeginsUnasked}
+use Rattle.nvm_callers.specs.Stored.{Stored}
 use Rattle.nvm_callers.specs.Callers.{HaveRun}
+use Rattle.ram_mirrors_sync.specs.Blocks.{Pairs}
 use Rattle.nvm_callers.specs.declared.ending.Ending.{Ending}
 use Rattle.nvm_callers.specs.declared.ending.Ending.TheVariants.{All as EndsAll, NoRoom, Memory}
 
@@ -29,9 +31,10 @@ pub record HaveAsked (c : Configuration) (steps : List Step) (ending : Ending) (
   pub all : ending ≡ EndsAll → (caller : ℕ) → AskedAll c steps h caller
 
 -- so it is over any device, legal or not
-abbrev pub CallersAsk : Type 0
-CallersAsk =
-    (t : Terms) (steps : List Step) (ending : Ending) (v : View Entry Terms) (h : List Entry) → AreRun t.config steps → HaveRun t (programs_of t.config steps) ending v
+abbrev pub CallersAsk : {S : Type 0} → (bytes : S → ℕ → Option ℕ) → (stored : S → ℕ → List Stored) → (mirrors : S → Pairs) → Type 0
+CallersAsk {S} bytes stored mirrors =
+    (t : Terms) (steps : List Step) (firsts nows : List S) (ending : Ending) (v : View Entry Terms) (h : List Entry) → AreRun t.config steps
+    → HaveRun bytes stored mirrors t (programs_of t.config steps) firsts nows ending v
     → IsClosedBy v h → BeginsUnasked h → HaveAsked t.config steps ending h
 
 -- how callers ended who asked so: each for all of its requests; or one met a full history, and each other one too or it asked for all
@@ -46,7 +49,8 @@ pub record KeepSteps (c : Configuration) (cap : ℕ) (steps : List Step) (ending
   pub ends : EndSo c cap steps h ending
 
 -- so it is where the history is legal
-abbrev pub CallersKeepSteps : Type 0
-CallersKeepSteps =
-    (t : Terms) (steps : List Step) (ending : Ending) (v : View Entry Terms) (h : List Entry) → AreRun t.config steps → HaveRun t (programs_of t.config steps) ending v
+abbrev pub CallersKeepSteps : {S : Type 0} → (bytes : S → ℕ → Option ℕ) → (stored : S → ℕ → List Stored) → (mirrors : S → Pairs) → Type 0
+CallersKeepSteps {S} bytes stored mirrors =
+    (t : Terms) (steps : List Step) (firsts nows : List S) (ending : Ending) (v : View Entry Terms) (h : List Entry) → AreRun t.config steps
+    → HaveRun bytes stored mirrors t (programs_of t.config steps) firsts nows ending v
     → IsClosedBy v h → IsLegal t.config t.cap h → KeepSteps t.config t.cap steps ending h

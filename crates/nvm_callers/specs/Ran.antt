@@ -1,12 +1,11 @@
 -- What a run of callers comes to.
-use Rattle.std.specs.Prelude.{◌≡◌, ◌≢◌, ℕ, not, IsTrue, List, [], ◌++◌, length, take, Option}
+use Rattle.std.specs.Prelude.{◌≡◌, ◌≢◌, ℕ, not, IsTrue, List, ◌++◌, length, take, Option}
 use Rattle.std.specs.List.{list_all}
 use Rattle.nvm_core.specs.nv_base.Count.{WereCounted}
 use Rattle.nvm_core.specs.memif.Told.{DeviceTold}
 use Rattle.nvm_core.specs.memif.Clock.{Clock}
 use Rattle.nvm_core.specs.block_machine.Words.{Entry}
 use Rattle.nvm_core.specs.block_machine.Legal.{IsLegal}
-use Rattle.nvm_core.specs.block_machine.StartUp.{at_first}
 use Rattle.nvm_core.specs.ram_blocks.declared.plain_block.PlainBlock.{PlainBlock}
 use Rattle.nvm_core.specs.nv_desk.Desk.{DeskState}
 use Rattle.nvm_core.specs.job_progress.Hand.{HandState}
@@ -14,8 +13,7 @@ use Rattle.nvm_core.specs.nvm_laws.Keeps.{StaysKept}
 use Rattle.nvm_core.specs.Stack.{StackState}
 use Rattle.script_walks.specs.Words.{Step}
 use Rattle.script_walks.specs.Callers.{program_of, requests_of, asks_of}
-use Rattle.script_walks.specs.Walk.{TakesStores}
-use Rattle.script_walks.specs.Looks.{AreInOrder, CopiesAreShown, Look}
+use Rattle.script_walks.specs.Looks.{AreInOrder, Look}
 use Rattle.script_walks.specs.Runs.{AskedAll, has_ended, is_found}
 use Rattle.promise_run.specs.Run.{End, Whole, HistoryFull, Memory, RunsBy}
 use Rattle.promise_run.specs.RunHalves.{offs_in, tells_no_refusal}
@@ -50,16 +48,11 @@ abbrev pub AskInOrder : List Step → DeskState → Type 0
 AskInOrder steps desk =
     (caller : ℕ) → asks_of caller desk.entries ≡ take (length (asks_of caller desk.entries)) (requests_of desk.config (program_of caller steps))
 
--- what was taken of synchronized RAM was stored by then, as these looks showed it
-pub record StoresAreTaken (steps : List Step) (looks : List Look) (desk : DeskState) : Type 0 where
-  pub stores : TakesStores desk.config steps at_first desk.entries
-  pub shown : CopiesAreShown desk.config steps looks [] desk.entries
-
 -- The callers kept to the steps of a script, whatever the device tells in the order of their requests; and in all where the history is
--- legal and takes what was stored, with these looks of the driver, which are in order.
+-- legal, with these looks of the driver, which are in order.
 pub record KeepsOrder (steps : List Step) (e : Ending) (desk : DeskState) : Type 0 where
   pub asks : AskInOrder steps desk
   pub all : e ≡ ending.All → (caller : ℕ) → AskedAll desk.config steps desk.entries caller
   pub looks : List Look
   pub in_order : AreInOrder looks
-  pub order : IsLegal desk.config desk.cap desk.entries → StoresAreTaken steps looks desk → RunsBy desk.config steps looks (end_of e) desk.entries
+  pub order : IsLegal desk.config desk.cap desk.entries → RunsBy desk.config steps looks (end_of e) desk.entries

@@ -1,8 +1,8 @@
 -- What a caller stored into synchronized RAM, and what it handed along.
-use Rattle.std.specs.Prelude.{◌≡◌, ◌≢◌, ◌==◌, ℕ, List, [], ◌∷◌, ◌++◌, length, take, if◌then◌else◌, Option, Some, None}
+use Rattle.std.specs.Prelude.{◌≡◌, ◌≢◌, ◌==◌, ℕ, List, [], ◌∷◌, ◌++◌, length, take, if◌then◌else◌, Some}
 use mathlib.Core.Option.{some}
 use lib.ListN.{get_elem?}
-use Rattle.nvm_core.specs.block_machine.Words.{Request, Reply, Entry, Ask, Configuration}
+use Rattle.nvm_core.specs.block_machine.Words.{Request, Entry, Configuration}
 use Rattle.nvm_shared.specs.declared.terms.Terms.{Terms}
 use Rattle.ram_mirrors.specs.declared.view.Store.{Store}
 use Rattle.ram_mirrors.specs.Stores.{store_of}

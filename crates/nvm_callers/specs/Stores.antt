@@ -1,5 +1,5 @@
 -- A caller's sides of synchronized blocks.
-use Rattle.std.specs.Prelude.{◌≡◌, ℕ, List, [], option_map, Option, Some, None}
+use Rattle.std.specs.Prelude.{ℕ, List, [], option_map, Option, Some, None}
 use Rattle.turn_gate.specs.declared.pass.View.{View}
 use Rattle.nvm_core.specs.block_machine.Words.{Entry}
 use Rattle.nvm_shared.specs.declared.terms.Terms.{Terms}

@@ -22,3 +22,8 @@ CopiesHaveLooks =
     (c : Configuration) (steps : List Step) (looks : List Look) (IsStore : (block number : ℕ) → List ℕ → Type 0) (marks : List (Instance × Mark)) (ops : ℕ) (more : List Entry)
     → ((l : Look) → Contains looks l → CanBeStored c steps l.block l.shown (take l.entry (Found marks ops ∷ more)))
     → AllTookShown looks IsStore c (Found marks ops ∷ []) more → CopiesAreShown c steps looks [] (Found marks ops ∷ more)
+
+-- What was taken of synchronized RAM was stored by then, as these looks showed it.
+pub record StoresAreTaken (c : Configuration) (steps : List Step) (looks : List Look) (h : List Entry) : Type 0 where
+  pub stores : TakesStores c steps at_first h
+  pub shown : CopiesAreShown c steps looks [] h

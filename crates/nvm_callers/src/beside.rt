@@ -1,24 +1,24 @@
 // Workers in threads of their own, and a driver beside them in this one, all over one shared thing.
-ghost use Rattle.std.specs.Prelude.{◌≡◌, ◌<◌, ℕ, length, All};
-ghost use Rattle.nvm_callers.specs.Placed.{AllPlaced};
+ghost use Rattle.std.specs.Prelude.{◌≡◌, ◌<◌, ℕ, length};
+ghost use Rattle.nvm_callers.specs.Placed.{AllChanged, AllPlaced};
 
 use std::sync::Wait;
 use std::thread;
 use std::thread::{Threads, join_mut};
 
-/// What each worker does in its thread, by its place. `ready` holds of each before, and `done` behind. A worker is a bare type
-/// parameter: a closure that is lent to a thread holds no `&mut` to a type that names a parameter inside.
+/// What each worker does in its thread, by its place. `ready` holds of each before, and `done` of it before and behind. A worker is a
+/// bare type parameter: a closure that is lent to a thread holds no `&mut` to a type that names a parameter inside.
 pub trait Work<G, P> {
-    ghost ready: { Self → G → P → Type 0 };
+    ghost ready: { Self → G → ℕ → P → Type 0 };
 
-    ghost done: { Self → G → ℕ → P → Type 0 };
+    ghost done: { Self → G → ℕ → P → P → Type 0 };
 
     ghost count: { Self → ℕ };
 
     fn work<W: Wait>(&self, rt: &W, shared: &G, place: usize, worker: &mut P)
         requires place { place < count self.now }
-        requires ready { ready self.now shared.now worker.old }
-        ensures { done self.now shared.now place worker.new };
+        requires ready { ready self.now shared.now place worker.old }
+        ensures { done self.now shared.now place worker.old worker.new };
 }
 
 /// What the driver does beside them. `ready` holds of it before, and `done` of it before and behind.
@@ -34,8 +34,8 @@ pub trait Drive<G> {
 
 fn work_at<W: Wait, G, P, J: Work<G, P>>(rt: &W, shared: &G, job: &J, place: usize, worker: &mut P)
     requires place { place < J.count job.now }
-    requires ready { J.ready job.now shared.now worker.old }
-    ensures { J.done job.now shared.now place worker.new }
+    requires ready { J.ready job.now shared.now place worker.old }
+    ensures { J.done job.now shared.now place worker.old worker.new }
 {
     job.work(rt, shared, place, worker);
 }
@@ -56,9 +56,9 @@ fn run_each<R: Threads + Wait + Sync, G: Sync, P: Send, J: Work<G, P> + Sync>(
 )
     requires some { 0 < length workers.old }
     requires count { length workers.old ≡ J.count job.now }
-    requires each { All (λ w. J.ready job.now shared.now w) workers.old }
+    requires each { AllPlaced (J.ready job.now shared.now) workers.old }
     ensures count { length workers.new ≡ length workers.old }
-    ensures each { AllPlaced (J.done job.now shared.now) workers.new }
+    ensures each { AllChanged (J.done job.now shared.now) workers.old workers.new }
 {
     let count = workers.len();
     thread::for_each_mut(
@@ -69,7 +69,8 @@ fn run_each<R: Threads + Wait + Sync, G: Sync, P: Send, J: Work<G, P> + Sync>(
     );
 }
 
-/// Each worker in a thread of its own, and beside them the driver, in this one.
+/// Each worker in a thread of its own, and beside them the driver, in this one. Where no thread can be made the driver comes first, and
+/// the workers behind it.
 pub fn run_beside<R: Threads + Wait + Sync, G: Sync, P: Send, J: Work<G, P> + Sync, K: Drive<G>>(
     rt: &R,
     shared: &G,
@@ -79,17 +80,17 @@ pub fn run_beside<R: Threads + Wait + Sync, G: Sync, P: Send, J: Work<G, P> + Sy
 )
     requires some { 0 < length workers.old }
     requires count { length workers.old ≡ J.count job.now }
-    requires each { All (λ w. J.ready job.now shared.now w) workers.old }
+    requires each { AllPlaced (J.ready job.now shared.now) workers.old }
     requires ready { K.ready driver.old shared.now }
     ensures count { length workers.new ≡ length workers.old }
-    ensures each { AllPlaced (J.done job.now shared.now) workers.new }
+    ensures each { AllChanged (J.done job.now shared.now) workers.old workers.new }
     ensures done { K.done driver.old driver.new shared.now }
 {
     join_mut(
         rt,
         &mut ||
-            requires { (0 < length workers.now) × (length workers.now ≡ J.count job.now) × All (λ w. J.ready job.now shared.now w) workers.now }
-            ensures { (length workers.exit.now ≡ length workers.entry.now) × AllPlaced (J.done job.entry.now shared.entry.now) workers.exit.now }
+            requires { (0 < length workers.now) × (length workers.now ≡ J.count job.now) × AllPlaced (J.ready job.now shared.now) workers.now }
+            ensures { (length workers.exit.now ≡ length workers.entry.now) × AllChanged (J.done job.entry.now shared.entry.now) workers.entry.now workers.exit.now }
         { run_each(rt, shared, job, workers) },
         &mut ||
             requires { K.ready driver.now shared.now }

@@ -1,5 +1,5 @@
 // What a caller does.
-ghost use Rattle.std.specs.Prelude.{◌≡◌, ◌≤◌, ◌++◌, ◌∷◌, [], ℕ, List, Option, length, take, All, IfOk, OnOk, OnErr, IsErrOf};
+ghost use Rattle.std.specs.Prelude.{◌≡◌, ◌≤◌, ◌++◌, ◌∷◌, [], ℕ, List, Option, true, false, length, take, All, IfOk, OnOk, OnErr, IsErrOf};
 ghost use Rattle.turn_gate.specs.Pass.{knows};
 ghost use Rattle.nvm_core.specs.block_machine.Legal.{HasStore};
 ghost use Rattle.nvm_core.specs.nv_desk.declared.ask.AskFault.TheVariants as fault;
@@ -7,11 +7,13 @@ ghost use Rattle.script_callers.specs.declared.deed.Deed.{Deed as Deeds};
 ghost use Rattle.script_callers.specs.declared.deed.Deed.TheVariants as deed_of;
 ghost use Rattle.nvm_shared.specs.Passes.{IsUserOf};
 ghost use Rattle.nvm_callers.specs.Stored.{Stored};
-ghost use Rattle.nvm_callers.specs.Calls.{Did, IsAsk, KeepsPass, MayMake};
-ghost use Rattle.nvm_callers.specs.Endings.{EndsBy, FindsNoRoom};
+ghost use Rattle.nvm_callers.specs.Calls.{Did, IsAsk, IsAwait, KeepsPass, MayMake};
+ghost use Rattle.nvm_callers.specs.Endings.{FindsNoRoom, StopsBy};
+ghost use Rattle.nvm_callers.specs.declared.caller.Stop.TheVariants as stop;
 
 use crate::ending::Ending;
 use crate::hold::Hold;
+use crate::round::Round;
 use crate::stores::Stores;
 use crate::wait::await_end;
 use nvm_core::nv_base::Request;
@@ -21,12 +23,21 @@ use script_callers::Deed;
 use std::alloc::{AllocError, Global};
 use std::sync::Wait;
 
-/// A caller, 0 to 15, with what stands round each of its requests.
+/// A caller, 0 to 15, with what stands round each of its requests, and the round that it is in.
 #[derive(Drop)]
 pub struct Caller<'a, H> {
     pub number: u8,
     pub alloc: Global,
     pub hold: &'a H,
+    pub round: &'a Round,
+}
+
+// What keeps a caller from its next deed: a request has no room, there is no memory, or a wait goes on.
+#[derive(Clone, Copy)]
+enum Stop {
+    NoRoom,
+    Memory,
+    Wait,
 }
 
 fn copy_of(request: &Request) -> Result<Request, AllocError>
@@ -66,16 +77,24 @@ impl<'a, H: Hold> Caller<'a, H> {
         }
     }
 
-    // One wait.
-    fn wait<W: Wait>(&self, rt: &W, shared: &Shared, pass: &mut StackPass, line: u32, block: u16)
+    // One wait: whether it is over.
+    fn wait<W: Wait>(
+        &self,
+        rt: &W,
+        shared: &Shared,
+        pass: &mut StackPass,
+        line: u32,
+        block: u16,
+    ) -> bool
         requires own { IsUserOf shared.now pass.old }
         requires block { block ≤ 512 }
         requires configured { block ≤ length shared.now.terms.config.blocks }
         ensures own { IsUserOf shared.now pass.new }
         ensures keeps { KeepsPass (knows pass.old) (knows pass.new) }
-        ensures done { (ds : List Deeds) (bytes : ℕ → Option ℕ) (began made : ℕ → List Stored) → Did shared.now.terms self.now.number ds (knows pass.old) bytes began made → Did shared.now.terms self.now.number (ds ++ deed_of.Await line block ∷ []) (knows pass.new) bytes began made }
+        ensures done { (ds : List Deeds) (bytes : ℕ → Option ℕ) (began made : ℕ → List Stored) → Did shared.now.terms self.now.number ds (knows pass.old) bytes began made → result ≡ true → Did shared.now.terms self.now.number (ds ++ deed_of.Await line block ∷ []) (knows pass.new) bytes began made }
+        ensures left { (ds : List Deeds) (bytes : ℕ → Option ℕ) (began made : ℕ → List Stored) → Did shared.now.terms self.now.number ds (knows pass.old) bytes began made → result ≡ false → Did shared.now.terms self.now.number ds (knows pass.new) bytes began made }
     {
-        await_end(rt, shared, pass, block);
+        await_end(rt, shared, pass, block, self.round)
     }
 
     // One store.
@@ -92,6 +111,7 @@ impl<'a, H: Hold> Caller<'a, H> {
         ensures own { IsUserOf shared.now pass.new }
         ensures keeps { KeepsPass (knows pass.old) (knows pass.new) }
         ensures bytes { (block : ℕ) → S.bytes stores.new block ≡ S.bytes stores.old block }
+        ensures mirrors { S.mirrors stores.new ≡ S.mirrors stores.old }
         ensures done { (ds : List Deeds) (bytes : ℕ → Option ℕ) (began : ℕ → List Stored) → ((block : ℕ) → S.bytes stores.old block ≡ bytes block) → Did shared.now.terms self.now.number ds (knows pass.old) bytes began (S.made stores.old) → Did shared.now.terms self.now.number (ds ++ deed_of.Store deed.0 deed.1 deed.2 content.now ∷ []) (knows pass.new) bytes began (S.made stores.new) }
     {
         let (_line, block, _number) = deed;
@@ -106,7 +126,7 @@ impl<'a, H: Hold> Caller<'a, H> {
         pass: &mut StackPass,
         stores: &mut S,
         deed: &Deed,
-    ) -> Result<(), AskFault>
+    ) -> Result<(), Stop>
         requires lock { S.is_of shared.now.gate }
         requires own { IsUserOf shared.now pass.old }
         requires caller { self.now.number ≤ 15 }
@@ -114,15 +134,24 @@ impl<'a, H: Hold> Caller<'a, H> {
         ensures own { IsUserOf shared.now pass.new }
         ensures keeps { KeepsPass (knows pass.old) (knows pass.new) }
         ensures bytes { (block : ℕ) → S.bytes stores.new block ≡ S.bytes stores.old block }
+        ensures mirrors { S.mirrors stores.new ≡ S.mirrors stores.old }
         ensures done { (ds : List Deeds) (bytes : ℕ → Option ℕ) (began : ℕ → List Stored) → ((block : ℕ) → S.bytes stores.old block ≡ bytes block) → Did shared.now.terms self.now.number ds (knows pass.old) bytes began (S.made stores.old) → OnOk result (Did shared.now.terms self.now.number (ds ++ deed.now ∷ []) (knows pass.new) bytes began (S.made stores.new)) }
         ensures left { (ds : List Deeds) (bytes : ℕ → Option ℕ) (began : ℕ → List Stored) → ((block : ℕ) → S.bytes stores.old block ≡ bytes block) → Did shared.now.terms self.now.number ds (knows pass.old) bytes began (S.made stores.old) → OnErr result (Did shared.now.terms self.now.number ds (knows pass.new) bytes began (S.made stores.new)) }
-        ensures full { IsErrOf result fault.NoRoom → FindsNoRoom shared.now.terms (knows pass.new) × IsAsk deed.now }
+        ensures full { IsErrOf result stop.NoRoom → FindsNoRoom shared.now.terms (knows pass.new) × IsAsk deed.now }
+        ensures waits { IsErrOf result stop.Wait → IsAwait deed.now }
     {
         match deed {
-            Deed::Ask { line, request } => self.ask(rt, shared, pass, *line, request),
+            Deed::Ask { line, request } => match self.ask(rt, shared, pass, *line, request) {
+                Ok(()) => Ok(()),
+                Err(AskFault::NoRoom) => Err(Stop::NoRoom),
+                Err(AskFault::Memory) => Err(Stop::Memory),
+            },
             Deed::Await { line, block } => {
-                self.wait(rt, shared, pass, *line, *block);
-                Ok(())
+                if self.wait(rt, shared, pass, *line, *block) {
+                    Ok(())
+                } else {
+                    Err(Stop::Wait)
+                }
             }
             Deed::Store {
                 line,
@@ -142,8 +171,8 @@ impl<'a, H: Hold> Caller<'a, H> {
         }
     }
 
-    /// All of them in order, up to a request that finds no room or no memory. It answers how many were made, and how it
-    /// ended.
+    /// All of them in order from a place on, up to a request that finds no room or no memory, or to a wait that goes on. It answers
+    /// how many were made, those before the place among them, and how it ended; None where its next deed is a wait.
     pub fn make_all<W: Wait, S: Stores>(
         &self,
         rt: &W,
@@ -151,26 +180,29 @@ impl<'a, H: Hold> Caller<'a, H> {
         pass: &mut StackPass,
         stores: &mut S,
         deeds: &[Deed],
-    ) -> (usize, Ending)
+        begin: usize,
+    ) -> (usize, Option<Ending>)
         requires lock { S.is_of shared.now.gate }
         requires own { IsUserOf shared.now pass.old }
         requires caller { self.now.number ≤ 15 }
         requires may { All (MayMake shared.now.terms.config) deeds.now }
-        requires first { Did shared.now.terms self.now.number [] (knows pass.old) (S.bytes stores.old) (S.made stores.old) (S.made stores.old) }
+        requires begin { begin ≤ length deeds.now }
         ensures own { IsUserOf shared.now pass.new }
         ensures keeps { KeepsPass (knows pass.old) (knows pass.new) }
-        ensures count { result.0 ≤ length deeds.now }
+        ensures count { (begin ≤ result.0) × (result.0 ≤ length deeds.now) }
         ensures bytes { (block : ℕ) → S.bytes stores.new block ≡ S.bytes stores.old block }
-        ensures done { Did shared.now.terms self.now.number (take result.0 deeds.now) (knows pass.new) (S.bytes stores.old) (S.made stores.old) (S.made stores.new) }
-        ensures ends { EndsBy shared.now.terms deeds.now result.0 (knows pass.new) result.1 }
+        ensures mirrors { S.mirrors stores.new ≡ S.mirrors stores.old }
+        ensures done { (bytes : ℕ → Option ℕ) (began : ℕ → List Stored) → ((block : ℕ) → S.bytes stores.old block ≡ bytes block) → Did shared.now.terms self.now.number (take begin deeds.now) (knows pass.old) bytes began (S.made stores.old) → Did shared.now.terms self.now.number (take result.0 deeds.now) (knows pass.new) bytes began (S.made stores.new) }
+        ensures stops { StopsBy shared.now.terms deeds.now result.0 (knows pass.new) result.1 }
     {
-        for place in 0..deeds.len() {
+        for place in begin..deeds.len() {
             match self.make(rt, shared, pass, stores, &deeds[place]) {
                 Ok(()) => {}
-                Err(AskFault::NoRoom) => return (place, Ending::NoRoom),
-                Err(AskFault::Memory) => return (place, Ending::Memory),
+                Err(Stop::NoRoom) => return (place, Some(Ending::NoRoom)),
+                Err(Stop::Memory) => return (place, Some(Ending::Memory)),
+                Err(Stop::Wait) => return (place, None),
             }
         }
-        (deeds.len(), Ending::All)
+        (deeds.len(), Some(Ending::All))
     }
 }

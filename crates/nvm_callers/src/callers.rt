@@ -1,18 +1,20 @@
 // Callers beside each other, with a driver beside them.
-ghost use Rattle.std.specs.Prelude.{◌≡◌, ◌≤◌, ◌^◌, [], ℕ, length, vec_len, vec_capacity, false, All, IsTrue};
+ghost use Rattle.std.specs.Prelude.{◌≡◌, ◌≤◌, ◌^◌, ◌+◌, [], ℕ, length, slice_index_or, vec_len, vec_capacity, true, false, All, IsSome, IsTrue};
 ghost use Rattle.turn_gate.specs.Pass.{Has, knows};
 ghost use Rattle.script_walks.specs.Runs.{has_ended};
 ghost use Rattle.nvm_shared.specs.Driving.{IsDriverOf};
 ghost use Rattle.nvm_shared.specs.Passes.{IsDriven};
 ghost use Rattle.nvm_callers.specs.Driven.{HasDriven};
-ghost use Rattle.nvm_callers.specs.Callers.{HasWorked, HaveRun, IsFresh, MayRun};
-ghost use Rattle.nvm_callers.specs.Placed.{AllPlaced};
+ghost use Rattle.nvm_callers.specs.Joins.{Collects};
+ghost use Rattle.nvm_callers.specs.Callers.{GoesOn, HasWorked, HaveRun, MayGoOn, MayRun};
+ghost use Rattle.nvm_callers.specs.Placed.{AllChanged, AllPlaced};
 ghost use Rattle.nvm_callers.specs.Steering.{HasSteered};
 
 use crate::ending::Ending;
 use crate::hold::Hold;
 use crate::joining::{join_all, most_seen};
 use crate::programs::Programs;
+use crate::round::Round;
 use crate::splitting::split_all;
 use crate::steering::{Steering, SteeringOf, come_to_rest, see};
 use crate::stores::Stores;
@@ -21,13 +23,15 @@ use nvm_core::memif::MemDevice;
 use nvm_shared::{Driver, NotedCopies, Shared, StackPass};
 use script_callers::Program;
 use std::alloc::{AllocError, Global};
+use std::snapshot::Snapshot;
 use std::sync::Wait;
-use std::sync::atomic::AtomicU64;
 use std::thread::Threads;
 
 /// Makes these programs, each in a thread of its own where one can be made, with the driver beside them, and then the driver's
-/// turns until none need follow. The stores of each go where its place says. Behind it the pass has all parts again. It answers the pass, the driver, and how the callers
-/// ended: where memory is wanting before the threads, no deed is made.
+/// turns until none need follow. The stores of each go where its place says. Where a wait goes on for long its caller comes back, and
+/// once all have, the driver makes its turns alone, and those that aren't at their ends go on: so no caller needs a thread. Behind it
+/// the pass has all parts again. It answers the pass, the driver, and how the callers ended: where memory is wanting before the
+/// threads, no deed is made.
 pub fn run_callers<
     R: Threads + Wait + Sync,
     D: MemDevice,
@@ -43,7 +47,7 @@ pub fn run_callers<
     stores: Vec<S>,
     programs: &[Program],
     hold: &H,
-) -> (StackPass, Driver<D, C>, Ending)
+) -> (StackPass, Driver<D, C>, Ending, Vec<S>)
     requires driver { IsDriverOf D.told D.clock C.told shared.now pass driver }
     requires alone { (knows pass).parts ≡ 2 ^ 64 }
     requires own { (k : ℕ) → Has (knows pass).own k → IsDriven (knows pass).seen k }
@@ -54,7 +58,7 @@ pub fn run_callers<
     ensures driver { IsDriverOf D.told D.clock C.told shared.now result.0 result.1 }
     ensures alone { (knows result.0).parts ≡ 2 ^ 64 }
     ensures driven { HasDriven D.told D.clock C.told C.is_store C.looked C.over C.stands shared.now.terms (knows pass).seen (knows result.0).seen driver result.1 }
-    ensures ran { HaveRun shared.now.terms programs.now result.2 (knows result.0) }
+    ensures ran { HaveRun S.bytes S.made S.mirrors shared.now.terms programs.now stores.items result.3.items result.2 (knows result.0) }
     ensures ends { IsTrue (has_ended shared.now.terms.config (knows result.0).seen) }
 {
     match Vec::with_capacity(alloc, programs.len()) {
@@ -63,7 +67,7 @@ pub fn run_callers<
         ),
         Err(AllocError) => {
             come_to_rest(rt, shared, &mut pass, &mut driver);
-            (pass, driver, Ending::Memory)
+            (pass, driver, Ending::Memory, stores)
         }
     }
 }
@@ -81,11 +85,11 @@ fn run_all<
     shared: &Shared,
     mut pass: StackPass,
     driver: Driver<D, C>,
-    stores: Vec<S>,
+    mut stores: Vec<S>,
     programs: &[Program],
     hold: &H,
     mut workers: Vec<Worker<S>>,
-) -> (StackPass, Driver<D, C>, Ending)
+) -> (StackPass, Driver<D, C>, Ending, Vec<S>)
     requires driver { IsDriverOf D.told D.clock C.told shared.now pass driver }
     requires alone { (knows pass).parts ≡ 2 ^ 64 }
     requires own { (k : ℕ) → Has (knows pass).own k → IsDriven (knows pass).seen k }
@@ -98,44 +102,31 @@ fn run_all<
     ensures driver { IsDriverOf D.told D.clock C.told shared.now result.0 result.1 }
     ensures alone { (knows result.0).parts ≡ 2 ^ 64 }
     ensures driven { HasDriven D.told D.clock C.told C.is_store C.looked C.over C.stands shared.now.terms (knows pass).seen (knows result.0).seen driver result.1 }
-    ensures ran { HaveRun shared.now.terms programs.now result.2 (knows result.0) }
+    ensures ran { HaveRun S.bytes S.made S.mirrors shared.now.terms programs.now stores.items result.3.items result.2 (knows result.0) }
     ensures ends { IsTrue (has_ended shared.now.terms.config (knows result.0).seen) }
 {
-    let callers = programs.len();
-    split_all(shared, &mut pass, &mut workers, stores, programs);
-    let ended = AtomicU64::new(0);
+    let firsts = Snapshot::of(&stores);
+    split_all(shared, &mut pass, &mut workers, &mut stores, programs);
+    let round = Round::new();
     let job = Programs {
         alloc,
         programs,
         hold,
-        ended: &ended,
+        round: &round,
     };
     let mut steering = SteeringOf {
         pass,
         driver,
-        ended: &ended,
-        callers: callers as u64,
+        round: &round,
+        callers: programs.len() as u64,
     };
-    serve(rt, shared, &job, workers.as_mut_slice(), &mut steering);
-    let SteeringOf {
-        mut pass,
-        mut driver,
-        ..
-    } = steering;
-    see(
-        rt,
-        shared,
-        &mut pass,
-        &driver,
-        most_seen(workers.as_slice()),
-    );
-    let ending = join_all(shared, &mut pass, &driver, workers, programs);
-    come_to_rest(rt, shared, &mut pass, &mut driver);
-    (pass, driver, ending)
+    make_rounds(rt, shared, &job, workers.as_mut_slice(), &mut steering);
+    let SteeringOf { pass, driver, .. } = steering;
+    finish(rt, shared, pass, driver, workers, stores, &firsts, programs)
 }
 
-// The threads, where there is a caller.
-fn serve<
+// Rounds, until all callers are at their ends.
+fn make_rounds<
     R: Threads + Wait + Sync,
     D: MemDevice,
     C: NotedCopies + Drop,
@@ -150,15 +141,108 @@ fn serve<
 )
     requires driver { IsDriverOf D.told D.clock C.told shared.now steering.old.pass steering.old.driver }
     requires untold { shared.now.terms.tells ≡ false }
-    requires lock { C.is_of shared.now.gate }
+    requires lock { C.is_of shared.now.gate × S.is_of shared.now.gate }
     requires count { length workers.old ≡ length job.now.programs.now }
-    requires each { All (λ w. IsFresh shared.now job.now.programs.now w.pass × S.is_of shared.now.gate) workers.old }
+    requires may { All (MayRun shared.now.terms.config) job.now.programs.now }
+    requires each { AllPlaced (λ place w. MayGoOn shared.now job.now.programs.now place w.pass w.made) workers.old }
     ensures driver { IsDriverOf D.told D.clock C.told shared.now steering.new.pass steering.new.driver }
     ensures steers { HasSteered D.told D.clock C.told C.is_store C.looked C.over C.stands shared.now.terms (knows steering.old.pass) (knows steering.new.pass) steering.old.driver steering.new.driver }
     ensures count { length workers.new ≡ length workers.old }
-    ensures each { AllPlaced (λ place w. HasWorked shared.now job.now.programs.now place w.pass w.made w.ending w.seen) workers.new }
+    ensures each { AllPlaced (λ place w. MayGoOn shared.now job.now.programs.now place w.pass w.made) workers.new }
+    ensures on { AllChanged (GoesOn S.bytes S.made S.mirrors shared.now job.now.programs.now) workers.old workers.new }
+    ensures ended { All (λ w. IsSome w.ending) workers.new }
+{
+    for _ in rt.forever() {
+        make_round(rt, shared, job, workers, steering);
+        if have_ended(workers) {
+            return;
+        }
+        come_to_rest(rt, shared, &mut steering.pass, &mut steering.driver);
+    }
+    unreachable!()
+}
+
+// A round: each caller goes on in a thread of its own where one can be made, with the driver beside them. Where none can be made the
+// driver gives up, and they go on one behind another, each up to a wait.
+fn make_round<
+    R: Threads + Wait + Sync,
+    D: MemDevice,
+    C: NotedCopies + Drop,
+    S: Stores + Send,
+    H: Hold + Sync,
+>(
+    rt: &R,
+    shared: &Shared,
+    job: &Programs<'_, H>,
+    workers: &mut [Worker<S>],
+    steering: &mut Steering<D, C>,
+)
+    requires driver { IsDriverOf D.told D.clock C.told shared.now steering.old.pass steering.old.driver }
+    requires untold { shared.now.terms.tells ≡ false }
+    requires lock { C.is_of shared.now.gate × S.is_of shared.now.gate }
+    requires count { length workers.old ≡ length job.now.programs.now }
+    requires may { All (MayRun shared.now.terms.config) job.now.programs.now }
+    requires each { AllPlaced (λ place w. MayGoOn shared.now job.now.programs.now place w.pass w.made) workers.old }
+    ensures driver { IsDriverOf D.told D.clock C.told shared.now steering.new.pass steering.new.driver }
+    ensures steers { HasSteered D.told D.clock C.told C.is_store C.looked C.over C.stands shared.now.terms (knows steering.old.pass) (knows steering.new.pass) steering.old.driver steering.new.driver }
+    ensures count { length workers.new ≡ length workers.old }
+    ensures each { AllPlaced (λ place w. MayGoOn shared.now job.now.programs.now place w.pass w.made) workers.new }
+    ensures on { AllChanged (GoesOn S.bytes S.made S.mirrors shared.now job.now.programs.now) workers.old workers.new }
 {
     if !workers.is_empty() {
+        job.round.restart();
         run_shared(rt, shared, job, workers, steering);
     }
+}
+
+// Whether all callers are at their ends.
+fn have_ended<S>(workers: &[Worker<S>]) -> bool
+    ensures { result ≡ true → All (λ w. IsSome w.ending) workers.now }
+{
+    for worker in workers {
+        if worker.ending.is_none() {
+            return false;
+        }
+    }
+    true
+}
+
+// Joins what the callers' passes know behind the last round, and comes to rest.
+fn finish<W: Wait, D: MemDevice, C: NotedCopies + Drop, S: Stores + Drop>(
+    rt: &W,
+    shared: &Shared,
+    mut pass: StackPass,
+    mut driver: Driver<D, C>,
+    workers: Vec<Worker<S>>,
+    stores: Vec<S>,
+    firsts: &Snapshot<Vec<S>>,
+    programs: &[Program],
+) -> (StackPass, Driver<D, C>, Ending, Vec<S>)
+    requires driver { IsDriverOf D.told D.clock C.told shared.now pass driver }
+    requires untold { shared.now.terms.tells ≡ false }
+    requires lock { C.is_of shared.now.gate }
+    requires first { Collects [] (knows pass) }
+    requires parts { (knows pass).parts + vec_len workers ≡ 2 ^ 64 }
+    requires count { (vec_len workers ≡ length programs.now) × (vec_len firsts.now.value ≡ length programs.now) }
+    requires each { AllPlaced (λ place w. HasWorked S.bytes S.made S.mirrors shared.now programs.now place w.pass w.made w.ending w.seen (slice_index_or firsts.now.value.items place w.stores) w.stores) workers.items }
+    requires none { stores.items ≡ [] }
+    requires room { length programs.now ≤ vec_capacity stores }
+    ensures driver { IsDriverOf D.told D.clock C.told shared.now result.0 result.1 }
+    ensures alone { (knows result.0).parts ≡ 2 ^ 64 }
+    ensures driven { HasDriven D.told D.clock C.told C.is_store C.looked C.over C.stands shared.now.terms (knows pass).seen (knows result.0).seen driver result.1 }
+    ensures ran { HaveRun S.bytes S.made S.mirrors shared.now.terms programs.now firsts.now.value.items result.3.items result.2 (knows result.0) }
+    ensures ends { IsTrue (has_ended shared.now.terms.config (knows result.0).seen) }
+{
+    see(
+        rt,
+        shared,
+        &mut pass,
+        &driver,
+        most_seen(workers.as_slice()),
+    );
+    let (ending, stores) = join_all(
+        shared, &mut pass, &driver, workers, stores, firsts, programs,
+    );
+    come_to_rest(rt, shared, &mut pass, &mut driver);
+    (pass, driver, ending, stores)
 }

@@ -1,8 +1,8 @@
 // The application's sides of synchronized blocks, dealt to the callers that store into them.
-ghost use Rattle.std.specs.Prelude.{◌≡◌, ◌++◌, ◌∷◌, [], ℕ, List, length, vec_len, None, IfOk};
+ghost use Rattle.std.specs.Prelude.{◌≡◌, ◌++◌, ◌∷◌, [], ℕ, List, length, map, vec_len, None, All, IfOk};
 ghost use Rattle.ram_mirrors_sync.specs.Blocks.{AreSidesOf, Pairs, SideList, side_at};
 ghost use Rattle.script_callers.specs.declared.deed.Deed.{Deed as Deeds};
-ghost use Rattle.nvm_callers.specs.Dealt.{GoesOver, HasPlaces, IsDealt, IsFree};
+ghost use Rattle.nvm_callers.specs.Dealt.{AllDealt, GoesOver, HasPlaces, IsDealt, IsFree};
 
 use crate::SidesIn;
 use nvm_shared::{Known, Naming};
@@ -11,7 +11,7 @@ use script_callers::{Deed, Program};
 use std::alloc::{AllocError, Global};
 
 // One side goes over, where it is in.
-fn go_over<N: Drop>(from: &mut Sides<N>, to: &mut Sides<N>, block: u16)
+pub(crate) fn go_over<N: Drop>(from: &mut Sides<N>, to: &mut Sides<N>, block: u16)
     requires sides { (ps : Pairs) × AreSidesOf ps from.old }
     requires places { HasPlaces from.old to.old }
     requires free { IsFree from.old to.old }
@@ -53,7 +53,7 @@ fn deal_one<N: Drop>(from: &mut Sides<N>, own: &mut Sides<N>, deeds: &[Deed])
     }
 }
 
-/// Deals to each program the sides of the blocks that it stores into.
+/// Deals to each program the sides of the blocks that it stores into, from those that the programs before it left.
 pub fn deal<'a, J: Naming>(
     alloc: Global,
     mirrors: &'a Mirrors<Known<J>>,
@@ -62,6 +62,9 @@ pub fn deal<'a, J: Naming>(
 ) -> Result<Vec<SidesIn<'a, J>>, AllocError>
     requires own { AreSidesOf mirrors.now sides.old }
     ensures count { IfOk result (λ v. vec_len v ≡ length programs.now) }
+    ensures dealt { IfOk result (λ v. AllDealt programs.now sides.old (map (λ s. s.sides) v.items) sides.new) }
+    ensures mirrors { IfOk result (λ v. All (λ s. s.mirrors ≡ mirrors.now) v.items) }
+    ensures own { AreSidesOf mirrors.now sides.new }
 {
     let mut dealt = Vec::with_capacity(alloc, programs.len())?;
     for place in 0..programs.len() {

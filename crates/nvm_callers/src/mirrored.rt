@@ -1,15 +1,16 @@
 // Callers over mirrors of their synchronized blocks.
-ghost use Rattle.std.specs.Prelude.{◌≡◌, List, map, IfErr, IfOk};
+ghost use Rattle.std.specs.Prelude.{◌≡◌, ◌+◌, List, length, map, IfErr, IfOk};
 ghost use Rattle.turn_gate.specs.Pass.{knows};
 ghost use Rattle.script_walks.specs.Words.{Step};
 ghost use Rattle.nvm_core.specs.nv_desk_copies.Front.{AreSynchronized};
 ghost use Rattle.nvm_shared.specs.Driving.{stack_of};
 ghost use Rattle.nvm_shared.specs.Locked.{desk_with};
-ghost use Rattle.ram_mirrors_sync.specs.Blocks.{AreEndsOf, AreSidesOf, told_by};
+ghost use Rattle.ram_mirrors_sync.specs.Blocks.{AreEndsOf, AreIn, AreMade, AreSidesOf, told_by};
 ghost use Rattle.nvm_callers.specs.Begun.{AreProgramsOf, IsBegun};
 ghost use Rattle.nvm_callers.specs.Ran.{KeepsOrder, WasRun};
 
 use crate::dealing::deal;
+use crate::gathering::gather;
 use crate::player::Ran;
 use crate::{NoHold, run_callers};
 use nvm_core::block_config::Config;
@@ -17,7 +18,7 @@ use nvm_core::memif::MemDevice;
 use nvm_core::nv_desk_copies::Front;
 use nvm_core::ram_blocks::PlainSync;
 use nvm_shared::{Driver, Known, Naming, Shared, StackPass};
-use ram_mirrors_sync::{Ends, MirrorSync, Mirrors, Sides, make};
+use ram_mirrors_sync::{Ends, MirrorSync, Mirrors, Sides, close, make};
 use script_callers::Program;
 use std::alloc::Global;
 use std::sync::Wait;
@@ -42,7 +43,16 @@ pub fn run_over<R: Threads + Wait + Sync, D: MemDevice, J: Naming + Send>(
 {
     match make::<Known<J>>(alloc, config) {
         Ok((mirrors, ends, sides)) => run_mirrored(
-            rt, alloc, shared, pass, driver, programs, mirrors, ends, sides,
+            rt,
+            alloc,
+            config.blocks() + 1,
+            shared,
+            pass,
+            driver,
+            programs,
+            mirrors,
+            ends,
+            sides,
         ),
         Err(_) => {
             let (device, _copies, _hand) = driver.into_parts();
@@ -51,10 +61,12 @@ pub fn run_over<R: Threads + Wait + Sync, D: MemDevice, J: Naming + Send>(
     }
 }
 
-// With mirrors before the first store, of which each program has the sides of the blocks that it stores into.
+// With mirrors before the first store, of which each program has the sides of the blocks that it stores into. The blocks are below
+// `places`.
 fn run_mirrored<R: Threads + Wait + Sync, D: MemDevice, J: Naming + Send>(
     rt: &R,
     alloc: Global,
+    places: u16,
     shared: Shared,
     pass: StackPass,
     driver: Driver<D, PlainSync>,
@@ -66,30 +78,31 @@ fn run_mirrored<R: Threads + Wait + Sync, D: MemDevice, J: Naming + Send>(
     requires gate { shared.gate ≡ J.gate }
     requires begun { IsBegun D.told shared.terms.config shared pass driver }
     requires programs { (steps : List Step) × AreProgramsOf shared.terms.config steps programs.now }
+    requires places { places ≡ length shared.terms.config.blocks + 1 }
+    requires made { AreMade shared.terms.config mirrors ends sides }
     requires ends { AreEndsOf mirrors ends }
-    requires sides { AreSidesOf mirrors sides }
+    requires sides { AreSidesOf mirrors sides × AreIn mirrors sides }
     requires synchronized { AreSynchronized shared.terms.config (map told_by ends) }
     ensures memory { IfErr result (λ device. device ≡ driver.device) }
     ensures ran { IfOk result (λ r. WasRun D.told D.clock (stack_of (desk_with shared.terms (knows pass).seen) driver) r.ending r.desk r.device) }
     ensures order { IfOk result (λ r. (steps : List Step) → AreProgramsOf shared.terms.config steps programs.now → KeepsOrder steps r.ending r.desk) }
 {
-    match deal(alloc, &mirrors, &mut sides, programs) {
-        Ok(stores) => {
-            let (driver, _copies) = driver.with_copies(MirrorSync::of(&mirrors, ends));
-            let (pass, driver, ending) = run_callers(
-                rt, alloc, &shared, pass, driver, stores, programs, &NoHold,
-            );
-            let (device, _copies, _hand) = driver.into_parts();
-            let Front { desk, .. } = shared.close(pass);
-            Ok(Ran {
-                ending,
-                desk,
-                device,
-            })
-        }
-        Err(_) => {
-            let (device, _copies, _hand) = driver.into_parts();
-            Err(device)
-        }
-    }
+    let Ok(stores) = deal(alloc, &mirrors, &mut sides, programs) else {
+        let (device, _copies, _hand) = driver.into_parts();
+        return Err(device);
+    };
+    let (driver, _copies) = driver.with_copies(MirrorSync::of(&mirrors, ends));
+    let (pass, driver, ending, stores) = run_callers(
+        rt, alloc, &shared, pass, driver, stores, programs, &NoHold,
+    );
+    let (device, copies, _hand) = driver.into_parts();
+    gather(&mut sides, stores, places);
+    let ends = copies.into_ends();
+    close(mirrors, ends, sides);
+    let Front { desk, .. } = shared.close(pass);
+    Ok(Ran {
+        ending,
+        desk,
+        device,
+    })
 }

@@ -50,6 +50,7 @@ pub fn play_callers<R: Threads + Wait + Sync, D: MemDevice>(
         return Err(stack.into_device());
     };
     let _device = stack.device();
+    let _few = steps.len();
     match share(alloc, stack) {
         Ok((shared, pass, driver)) => {
             run_over::<R, D, Brand>(rt, alloc, config, shared, pass, driver, programs.as_slice())

@@ -7,19 +7,19 @@ ghost use Rattle.nvm_shared.specs.Driving.{IsDriverOf, NeedsNoMore};
 ghost use Rattle.nvm_callers.specs.Steering.{HasSteered};
 
 use crate::beside::Drive;
+use crate::round::{MOST_LOOKS, Round};
 use nvm_core::memif::MemDevice;
 use nvm_core::nvm_laws::Turned;
 use nvm_shared::{Driver, NotedCopies, Shared, StackPass};
 use std::sync::Wait;
-use std::sync::atomic::{AtomicU64, Ordering};
 use std::thread;
 
-/// A driver with its pass, which makes turns until so many callers have ended.
+/// A driver with its pass, which makes turns in a round until so many callers are back.
 #[derive(Drop)]
 pub struct SteeringOf<'a, P, T> {
     pub pass: P,
     pub driver: T,
-    pub ended: &'a AtomicU64,
+    pub round: &'a Round,
     pub callers: u64,
 }
 
@@ -50,13 +50,13 @@ fn give_way(turned: Turned) {
     }
 }
 
-// Turns until so many callers have ended.
+// Turns until so many callers are back. Where none begins, since none has a thread, it gives up after so many looks.
 fn steer<W: Wait, D: MemDevice, C: NotedCopies + Drop>(
     rt: &W,
     shared: &Shared,
     pass: &mut StackPass,
     driver: &mut Driver<D, C>,
-    ended: &AtomicU64,
+    round: &Round,
     callers: u64,
 )
     requires driver { IsDriverOf D.told D.clock C.told shared.now pass.old driver.old }
@@ -65,9 +65,13 @@ fn steer<W: Wait, D: MemDevice, C: NotedCopies + Drop>(
     ensures driver { IsDriverOf D.told D.clock C.told shared.now pass.new driver.new }
     ensures steers { HasSteered D.told D.clock C.told C.is_store C.looked C.over C.stands shared.now.terms (knows pass.old) (knows pass.new) driver.old driver.new }
 {
+    let mut left = MOST_LOOKS;
     for _ in rt.forever() {
-        if callers <= ended.load(Ordering::SeqCst) {
+        if left == 0 || round.are_back(callers) {
             return;
+        }
+        if !round.has_begun() {
+            left -= 1;
         }
         make_turn(rt, shared, pass, driver);
     }
@@ -85,14 +89,16 @@ impl<'a, D: MemDevice, C: NotedCopies + Drop> Drive<Shared> for Steering<'a, D, 
     ghost done = { λ old new g. IsDriverOf D.told D.clock C.told g new.pass new.driver × HasSteered D.told D.clock C.told C.is_store C.looked C.over C.stands g.terms (knows old.pass) (knows new.pass) old.driver new.driver };
 
     fn drive<W: Wait>(&mut self, rt: &W, shared: &Shared) {
+        self.round.set_driven(true);
         steer(
             rt,
             shared,
             &mut self.pass,
             &mut self.driver,
-            self.ended,
+            self.round,
             self.callers,
         );
+        self.round.set_driven(false);
     }
 }
 
@@ -118,7 +124,8 @@ pub(crate) fn see<W: Wait, D: MemDevice, C: NotedCopies + Drop>(
     unreachable!()
 }
 
-/// Turns until one that is idle or finds the power off, or that without a job in hand counts a fault.
+/// Turns until one that is idle or finds the power off, or that without a job in hand counts a fault. Where no other pass is out,
+/// nothing is pending then, or the power is off.
 pub(crate) fn come_to_rest<W: Wait, D: MemDevice, C: NotedCopies + Drop>(
     rt: &W,
     shared: &Shared,
@@ -128,10 +135,9 @@ pub(crate) fn come_to_rest<W: Wait, D: MemDevice, C: NotedCopies + Drop>(
     requires driver { IsDriverOf D.told D.clock C.told shared.now pass.old driver.old }
     requires untold { shared.now.terms.tells ≡ false }
     requires lock { C.is_of shared.now.gate }
-    requires alone { (knows pass.old).parts ≡ 2 ^ 64 }
     ensures driver { IsDriverOf D.told D.clock C.told shared.now pass.new driver.new }
     ensures steers { HasSteered D.told D.clock C.told C.is_store C.looked C.over C.stands shared.now.terms (knows pass.old) (knows pass.new) driver.old driver.new }
-    ensures ends { IsTrue (has_ended shared.now.terms.config (knows pass.new).seen) }
+    ensures ends { (knows pass.old).parts ≡ 2 ^ 64 → IsTrue (has_ended shared.now.terms.config (knows pass.new).seen) }
 {
     for _ in rt.forever() {
         if ends_turns(rt, shared, pass, driver) {
@@ -151,10 +157,9 @@ fn ends_turns<W: Wait, D: MemDevice, C: NotedCopies + Drop>(
     requires driver { IsDriverOf D.told D.clock C.told shared.now pass.old driver.old }
     requires untold { shared.now.terms.tells ≡ false }
     requires lock { C.is_of shared.now.gate }
-    requires alone { (knows pass.old).parts ≡ 2 ^ 64 }
     ensures driver { IsDriverOf D.told D.clock C.told shared.now pass.new driver.new }
     ensures steers { HasSteered D.told D.clock C.told C.is_store C.looked C.over C.stands shared.now.terms (knows pass.old) (knows pass.new) driver.old driver.new }
-    ensures ends { result ≡ true → IsTrue (has_ended shared.now.terms.config (knows pass.new).seen) }
+    ensures ends { result ≡ true → (knows pass.old).parts ≡ 2 ^ 64 → IsTrue (has_ended shared.now.terms.config (knows pass.new).seen) }
 {
     let busy = driver.is_busy();
     let faults = driver.faults();

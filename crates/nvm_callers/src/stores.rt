@@ -14,6 +14,7 @@ use std::marker::Model;
 pub trait Stores {
     ghost use Rattle.std.specs.Prelude.{ℕ, List, Option};
     ghost use Rattle.turn_gate.specs.Pass.{GateValue};
+    ghost use Rattle.ram_mirrors_sync.specs.Blocks.{Pairs};
     ghost use Rattle.nvm_callers.specs.Stored.{Stored};
 
     /// Whether it takes what passes of this lock know.
@@ -25,6 +26,9 @@ pub trait Stores {
     /// How many bytes a store of a block has, where it may store into that.
     ghost bytes: { Self → ℕ → Option ℕ };
 
+    /// The mirrors that they go into, if there are any.
+    ghost mirrors: { Self → Pairs };
+
     /// Stores a content into a block, if it may, and hands along what the pass knows. The pass stays as it is, and nobody is waited
     /// for.
     fn store(&mut self, shared: &Shared, pass: &mut StackPass, block: u16, content: &[u8])
@@ -33,7 +37,8 @@ pub trait Stores {
         ensures own { IsUserOf shared.now pass.new }
         ensures same { knows pass.new ≡ knows pass.old }
         ensures stored { bytes self.old block ≡ Some (length content.now) → StoredOne block content.now (copied (knows pass.old)) (made self.old) (made self.new) }
-        ensures bytes { (other : ℕ) → bytes self.new other ≡ bytes self.old other };
+        ensures bytes { (other : ℕ) → bytes self.new other ≡ bytes self.old other }
+        ensures mirrors { mirrors self.new ≡ mirrors self.old };
 }
 
 /// Nothing is stored.
@@ -46,6 +51,8 @@ impl Stores for NoStores {
     ghost made = { λ _ _. [] };
 
     ghost bytes = { λ _ _. None };
+
+    ghost mirrors = { λ _. [] };
 
     fn store(&mut self, _shared: &Shared, _pass: &mut StackPass, _block: u16, _content: &[u8]) {}
 }
@@ -117,6 +124,8 @@ impl<'a, J: Naming> Stores for SidesIn<'a, J> {
     ghost made = { λ s. stores_at s.sides };
 
     ghost bytes = { λ s. bytes_at s.sides };
+
+    ghost mirrors = { λ s. s.mirrors };
 
     fn store(&mut self, shared: &Shared, pass: &mut StackPass, block: u16, content: &[u8]) {
         let known = Known::of(shared, pass);

@@ -1,6 +1,6 @@
 // The callers' threads, with the driver beside them.
-ghost use Rattle.std.specs.Prelude.{◌≡◌, ◌<◌, ℕ, length, All};
-ghost use Rattle.nvm_callers.specs.Placed.{AllPlaced};
+ghost use Rattle.std.specs.Prelude.{◌≡◌, ◌<◌, length};
+ghost use Rattle.nvm_callers.specs.Placed.{AllChanged, AllPlaced};
 
 use crate::beside::{Drive, Work, run_beside};
 use crate::ending::Ending;
@@ -10,14 +10,14 @@ use std::sync::Wait;
 use std::thread::Threads;
 use turn_gate::{Gate, Kept, Pass};
 
-/// A pass, and where its stores go, with what its caller came to: how many deeds it made, how it ended, and how many entries it saw
-/// then.
+/// A pass, and where its stores go, with how far its caller came: how many deeds it made, how it ended, if it did, and how many
+/// entries it saw then.
 #[derive(Drop)]
 pub struct WorkerOf<P, S> {
     pub pass: P,
     pub stores: S,
     pub made: usize,
-    pub ending: Ending,
+    pub ending: Option<Ending>,
     pub seen: u32,
 }
 
@@ -35,10 +35,10 @@ fn run_of<
 >(rt: &R, shared: &SharedOf<G, T>, job: &J, workers: &mut [P], driver: &mut K)
     requires some { 0 < length workers.old }
     requires count { length workers.old ≡ J.count job.now }
-    requires each { All (λ w. J.ready job.now shared.now w) workers.old }
+    requires each { AllPlaced (J.ready job.now shared.now) workers.old }
     requires ready { K.ready driver.old shared.now }
     ensures count { length workers.new ≡ length workers.old }
-    ensures each { AllPlaced (J.done job.now shared.now) workers.new }
+    ensures each { AllChanged (J.done job.now shared.now) workers.old workers.new }
     ensures done { K.done driver.old driver.new shared.now }
 {
     run_beside::<R, SharedOf<G, T>, P, J, K>(rt, shared, job, workers, driver);
@@ -60,10 +60,10 @@ fn run_at<
 )
     requires some { 0 < length workers.old }
     requires count { length workers.old ≡ J.count job.now }
-    requires each { All (λ w. J.ready job.now shared.now w) workers.old }
+    requires each { AllPlaced (J.ready job.now shared.now) workers.old }
     requires ready { K.ready driver.old shared.now }
     ensures count { length workers.new ≡ length workers.old }
-    ensures each { AllPlaced (J.done job.now shared.now) workers.new }
+    ensures each { AllChanged (J.done job.now shared.now) workers.old workers.new }
     ensures done { K.done driver.old driver.new shared.now }
 {
     run_of::<R, Gate<V>, T, WorkerOf<Pass<V>, S>, J, K>(rt, shared, job, workers, driver);
@@ -78,10 +78,10 @@ pub fn run_shared<
 >(rt: &R, shared: &Shared, job: &J, workers: &mut [Worker<S>], driver: &mut K)
     requires some { 0 < length workers.old }
     requires count { length workers.old ≡ J.count job.now }
-    requires each { All (λ w. J.ready job.now shared.now w) workers.old }
+    requires each { AllPlaced (J.ready job.now shared.now) workers.old }
     requires ready { K.ready driver.old shared.now }
     ensures count { length workers.new ≡ length workers.old }
-    ensures each { AllPlaced (J.done job.now shared.now) workers.new }
+    ensures each { AllChanged (J.done job.now shared.now) workers.old workers.new }
     ensures done { K.done driver.old driver.new shared.now }
 {
     run_at::<R, Locked, Snapshot<Locked>, S, J, K>(rt, shared, job, workers, driver);

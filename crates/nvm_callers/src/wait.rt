@@ -1,9 +1,10 @@
 // The wait for the end of a job.
-ghost use Rattle.std.specs.Prelude.{◌≤◌, length};
+ghost use Rattle.std.specs.Prelude.{◌≡◌, ◌≤◌, true, length};
 ghost use Rattle.turn_gate.specs.Pass.{knows};
 ghost use Rattle.nvm_shared.specs.Passes.{IsUserOf};
 ghost use Rattle.nvm_callers.specs.Calls.{HasPolled, IsOver};
 
+use crate::round::{MOST_LOOKS, Round};
 use nvm_core::nv_base::{ReqResult, result_code};
 use nvm_shared::{Shared, StackPass};
 use std::sync::Wait;
@@ -12,27 +13,51 @@ use std::thread;
 // The status of the power's word from an Off on.
 const POWER_IS_OFF: u8 = 1;
 
-/// Polls until the block isn't PENDING, and answers its status, or None where the power is off. It never takes the lock.
-
-pub fn await_end<W: Wait>(rt: &W, shared: &Shared, pass: &mut StackPass, block: u16) -> Option<u8>
+/// Polls until the block isn't PENDING or the power is off. While nobody makes turns it gives up after so many looks. It tells whether
+/// the wait is over. It never takes the lock.
+pub fn await_end<W: Wait>(
+    rt: &W,
+    shared: &Shared,
+    pass: &mut StackPass,
+    block: u16,
+    round: &Round,
+) -> bool
     requires own { IsUserOf shared.now pass.old }
     requires block { block ≤ 512 }
     requires configured { block ≤ length shared.now.terms.config.blocks }
     ensures own { IsUserOf shared.now pass.new }
     ensures polled { HasPolled (knows pass.old) (knows pass.new) }
-    ensures over { IsOver shared.now.terms block (knows pass.new) }
+    ensures over { result ≡ true → IsOver shared.now.terms block (knows pass.new) }
 {
-    let pending = result_code(ReqResult::Pending);
+    let mut left = MOST_LOOKS;
     for _ in rt.forever() {
-        let polled = shared.poll(pass, block);
-        if polled.status != pending {
-            return Some(polled.status);
+        if look(shared, pass, block) {
+            return true;
         }
-        let power = shared.poll_off(pass);
-        if power.status == POWER_IS_OFF {
-            return None;
+        if left == 0 {
+            return false;
+        }
+        if !round.is_driven() {
+            left -= 1;
         }
         thread::yield_now();
     }
     unreachable!()
+}
+
+// One look: whether the block isn't PENDING, or the power is off.
+fn look(shared: &Shared, pass: &mut StackPass, block: u16) -> bool
+    requires own { IsUserOf shared.now pass.old }
+    requires block { block ≤ 512 }
+    requires configured { block ≤ length shared.now.terms.config.blocks }
+    ensures own { IsUserOf shared.now pass.new }
+    ensures polled { HasPolled (knows pass.old) (knows pass.new) }
+    ensures over { result ≡ true → IsOver shared.now.terms block (knows pass.new) }
+{
+    let polled = shared.poll(pass, block);
+    if polled.status != result_code(ReqResult::Pending) {
+        return true;
+    }
+    let power = shared.poll_off(pass);
+    power.status == POWER_IS_OFF
 }

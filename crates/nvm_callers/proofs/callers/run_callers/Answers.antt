@@ -13,5 +13,5 @@ some_of (suc n) none = omega arith
 
 pub returns-in-Err-clause-ran : goal.returns-in-Err-clause-ran
 returns-in-Err-clause-ran g c =
-    memory_is_wanting c.args.shared.now.terms c.args.programs.now (knows c.come_to_rest.new.pass) (some_of (length c.args.programs.now) c.in-Err.ensures.succeeds)
+    memory_is_wanting g.S.Stores.bytes g.S.Stores.made g.S.Stores.mirrors c.args.shared.now.terms c.args.programs.now c.args.stores.items (knows c.come_to_rest.new.pass) (omega arith) (some_of (length c.args.programs.now) c.in-Err.ensures.succeeds)
     (c.come_to_rest.ensures.steers.shares [] (none_is_joined (knows c.args.pass) c.requires.own))

@@ -1,5 +1,5 @@
 use Rattle.std.proofs.Common.{◌≡◌, ◌≤◌, ◌+◌, ◌^◌, length, drop}
-use Rattle.std.specs.Prelude.{All, vec_len}
+use Rattle.std.specs.Prelude.{All, slice_index_or, vec_len, vec_capacity}
 use Rattle.turn_gate.specs.Pass.{knows}
 use Rattle.nvm_shared.specs.Driving.{IsDriverOf}
 use Rattle.nvm_callers.specs.Placed.{AllPlaced}
@@ -10,6 +10,7 @@ abbrev pub invariant-loop-joined : goal.invariant-loop-joined
 invariant-loop-joined g l =
     IsDriverOf g.D.MemDevice.told g.D.MemDevice.clock g.C.SyncCalls.told l.shared l.pass l.driver × (vec_len l.workers + l._joined ≡ length l.programs)
     × ((knows l.pass).seen ≡ (knows l.initial.pass).seen) × ((knows l.pass).parts + vec_len l.workers ≡ 2 ^ 64)
-    × AllPlaced (λ place w. HasWorked l.shared l.programs place w.pass w.made w.ending w.seen) l.workers.items
+    × AllPlaced (λ place w. HasWorked g.S.Stores.bytes g.S.Stores.made g.S.Stores.mirrors l.shared l.programs place w.pass w.made w.ending w.seen (slice_index_or l.firsts.value.items place w.stores) w.stores) l.workers.items
     × All (λ w. w.seen ≤ length (knows l.pass).seen) l.workers.items
-    × HaveRun l.shared.terms (drop (vec_len l.workers) l.programs) l.ending (knows l.pass)
+    × (vec_len l.workers + vec_len l.stores ≤ vec_capacity l.stores)
+    × HaveRun g.S.Stores.bytes g.S.Stores.made g.S.Stores.mirrors l.shared.terms (drop (vec_len l.workers) l.programs) (drop (vec_len l.workers) l.firsts.value.items) l.stores.items l.ending (knows l.pass)

@@ -1,25 +1,25 @@
-use Rattle.std.proofs.Common.{List, subst, take}
+use Rattle.std.proofs.Common.{List, take, sym, subst}
 use Rattle.turn_gate.specs.Pass.{knows}
 use Rattle.script_callers.specs.declared.deed.Deed.{Deed}
 use Rattle.nvm_callers.specs.Calls.{Did}
-use Rattle.nvm_callers.specs.Endings.{EndsBy}
-use Rattle.nvm_callers.proofs.Making.{did_none}
-use Rattle.nvm_callers.proofs.Working.{worker_made}
+use Rattle.nvm_callers.specs.Endings.{StopsBy}
+use Rattle.nvm_callers.proofs.Working.{more_begun}
 use Rattle.nvm_callers.proofs.programs.make_program.Goals as goal
 
-pub returns-clause-made : goal.returns-clause-made
-returns-clause-made g c =
+pub returns-clause-begun : goal.returns-clause-begun
+returns-clause-begun g c = λ first begun.
     let t = c.args.shared.now.terms in
     let program = c.args.program.now in
+    let old = c.args.worker.now in
     let made = c.make_all-made.result.0 in
-    let v = knows c.make_all-made.new.pass in
+    let u = knows c.make_all-made.new.pass in
     let is = c.make_all-made.ensures in
-    let bytes = g.S.Stores.bytes c.args.worker.now.stores in
-    let began = g.S.Stores.made c.args.worker.now.stores in
     let stored = g.S.Stores.made c.make_all-made.new.stores in
-    worker_made t program made v (knows c.count-worker.new.pass) bytes began stored
-    (subst (λ (ds : List Deed). Did t program.caller (take made ds) v bytes began stored) c.as_slice.ensures.items is.done) c.count-worker.ensures.learns c.make_all-made.result.1
-    (subst (λ (ds : List Deed). EndsBy t ds made v c.make_all-made.result.1) c.as_slice.ensures.items is.ends)
-
-pub make_all-made-requires-clause-first : goal.make_all-made-requires-clause-first
-make_all-made-requires-clause-first g c = did_none c.args.shared.now.terms c.args.program.now.caller (knows c.args.worker.now.pass) _ _ c.requires.fresh
+    more_begun g.S.Stores.bytes g.S.Stores.made g.S.Stores.mirrors t program (knows old.pass) u (knows c.count-worker.new.pass) old.made made old.seen c.count-worker.result old.ending c.make_all-made.result.1 first old.stores c.make_all-made.new.stores
+    begun
+    (λ did.
+    subst (λ (ds : List Deed). Did t program.caller (take made ds) u (g.S.Stores.bytes first) (g.S.Stores.made first) stored) c.as_slice.ensures.items
+    (is.done (g.S.Stores.bytes first) (g.S.Stores.made first) begun.same_bytes
+    (subst (λ (ds : List Deed). Did t program.caller (take old.made ds) (knows old.pass) (g.S.Stores.bytes first) (g.S.Stores.made first) (g.S.Stores.made old.stores)) (sym c.as_slice.ensures.items) did)))
+    c.count-worker.ensures.learns is.bytes is.mirrors
+    (subst (λ (ds : List Deed). StopsBy t ds made u c.make_all-made.result.1) c.as_slice.ensures.items is.stops) c.count-worker.ensures.count

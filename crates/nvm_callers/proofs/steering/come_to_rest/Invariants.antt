@@ -1,4 +1,3 @@
-use Rattle.std.proofs.Common.{◌≡◌, ◌^◌}
 use Rattle.turn_gate.specs.Pass.{knows}
 use Rattle.nvm_shared.specs.Driving.{IsDriverOf}
 use Rattle.nvm_callers.specs.Steering.{HasSteered}
@@ -6,6 +5,6 @@ use Rattle.nvm_callers.proofs.steering.come_to_rest.Given as goal
 
 abbrev pub invariant-loop : goal.invariant-loop
 invariant-loop g l =
-    IsDriverOf g.D.MemDevice.told g.D.MemDevice.clock g.C.SyncCalls.told l.shared l.pass l.driver × ((knows l.pass).parts ≡ 2 ^ 64)
+    IsDriverOf g.D.MemDevice.told g.D.MemDevice.clock g.C.SyncCalls.told l.shared l.pass l.driver
     × HasSteered g.D.MemDevice.told g.D.MemDevice.clock g.C.SyncCalls.told g.C.SyncCalls.is_store g.C.SyncCalls.looked g.C.SyncCalls.over g.C.NotedCopies.stands l.shared.terms
     (knows l.initial.pass) (knows l.pass) l.initial.driver l.driver

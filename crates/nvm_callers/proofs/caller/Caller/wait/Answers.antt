@@ -1,7 +1,11 @@
 use Rattle.turn_gate.specs.Pass.{knows}
-use Rattle.nvm_callers.proofs.Making.{did_wait}
+use Rattle.nvm_callers.proofs.Making.{did_poll, did_wait}
 use Rattle.nvm_callers.proofs.caller.Caller.wait.Goals as goal
 
 pub returns-clause-done : goal.returns-clause-done
-returns-clause-done g c = λ ds bytes began made did.
-    did_wait c.args.shared.now.terms c.args.self.now.number ds bytes began made c.args.line c.args.block (knows c.args.pass.now) (knows c.await_end.new.pass) c.await_end.ensures.polled c.await_end.ensures.over did
+returns-clause-done g c = λ ds bytes began made did over.
+    did_wait c.args.shared.now.terms c.args.self.now.number ds bytes began made c.args.line c.args.block (knows c.args.pass.now) (knows c.await_end.new.pass) c.await_end.ensures.polled (c.await_end.ensures.over over) did
+
+pub returns-clause-left : goal.returns-clause-left
+returns-clause-left g c = λ ds bytes began made did goes_on.
+    did_poll c.args.shared.now.terms c.args.self.now.number ds bytes began made (knows c.args.pass.now) (knows c.await_end.new.pass) c.await_end.ensures.polled did

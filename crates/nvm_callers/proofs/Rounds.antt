@@ -1,0 +1,69 @@
+-- What rounds leave of the workers.
+use Rattle.std.specs.Prelude.{slice_get, slice_index_or, All, IsSome}
+use Rattle.std.proofs.Common.{◌≡◌, ◌<◌, ℕ, List, length, Option, Some, None, true, false, refl, arith, ◌∙◌}
+use Rattle.std.proofs.lemmas.List.{get_or_default}
+use Rattle.turn_gate.specs.Pass.{knows}
+use Rattle.nvm_shared.specs.Passes.{PassValue, SharedState}
+use Rattle.ram_mirrors_sync.specs.Blocks.{Pairs}
+use Rattle.script_callers.specs.declared.program.Program.{Program}
+use Rattle.nvm_callers.specs.Stored.{Stored}
+use Rattle.nvm_callers.specs.Placed.{AllChanged, AllPlaced}
+use Rattle.nvm_callers.specs.Callers.{GoesOn, HasMade, HasWorked, IsFresh, MayGoOn, share_of}
+use Rattle.nvm_callers.specs.declared.threads.WorkerOf.{WorkerOf as Worker}
+use Rattle.nvm_callers.specs.declared.ending.Ending.{Ending}
+use Rattle.nvm_callers.proofs.Passing.{program_before}
+use Rattle.nvm_callers.proofs.Working.{begun_ended, none_begun}
+
+-- BY PLACE
+-- nothing changed
+pub none_changed : {P : Type 0} (changes : ℕ → P → P → Type 0) (xs : List P) → ((place : ℕ) (x : P) → changes place x x) → AllChanged changes xs xs
+none_changed changes xs stays = λ place d low. stays place (slice_index_or xs place d)
+
+-- one change behind another
+pub changed_more : {P : Type 0} (changes : ℕ → P → P → Type 0) (xs ys zs : List P) → ((place : ℕ) (x y z : P) → changes place x y → changes place y z → changes place x z) → length ys ≡ length xs
+    → AllChanged changes xs ys → AllChanged changes ys zs → AllChanged changes xs zs
+changed_more changes xs ys zs follow same one two = λ place d low.
+    follow place (slice_index_or xs place d) (slice_index_or ys place d) (slice_index_or zs place d) (one place d low) (two place d (omega (arith, low, same)))
+
+-- ENDINGS
+never : false ≡ true → ⊥
+never is = cc
+
+ended_of : (o : Option Ending) → IsSome o → (e : Ending) × (o ≡ Some e)
+ended_of (Some e) some = (e, refl)
+ended_of None some = absurd (never some)
+
+module _ {S : Type 0} (bytes : S → ℕ → Option ℕ) (stored : S → ℕ → List Stored) (mirrors : S → Pairs) (g : SharedState) (programs : List Program) where
+  abbrev W : Type 0
+  W = Worker PassValue S
+
+  -- a worker that went on from nothing, and ended
+  worked_at : (place : ℕ) (old new : W) (first : S) → place < length programs → IsFresh g old.pass old.made old.ending → old.stores ≡ first → GoesOn bytes stored mirrors g programs place old new
+      → MayGoOn g programs place new.pass new.made → IsSome new.ending → HasWorked bytes stored mirrors g programs place new.pass new.made new.ending new.seen first new.stores
+  worked_at place old new first low fresh same goes_on may some =
+      let (ended, is) = ended_of new.ending some in
+      let worked : (p : Program) → slice_get programs place ≡ Some p → HasMade bytes stored mirrors g.terms p (share_of p new.made (knows new.pass)) ended first new.stores × (new.seen ≡ length (knows new.pass).seen) =
+      λ p at.
+      begun_ended bytes stored mirrors g.terms p (knows new.pass) new.made new.ending new.seen first new.stores ended
+      (goes_on p first at (none_begun bytes stored mirrors g.terms p (knows old.pass) old.made old.ending old.seen first old.stores fresh.none fresh.first fresh.goes_on same)) is in
+      let (program, at, _rest) = program_before programs place low in
+      record {
+        own = may.own;
+        part = may.part;
+        ended = ended;
+        is = is;
+        made_it = λ p there. (worked p there).0;
+        saw = (worked program at).1;
+      }
+
+  -- so did all
+  pub all_worked : (firsts : List S) (olds news : List W) → length firsts ≡ length programs → length olds ≡ length programs → length news ≡ length olds
+      → AllPlaced (λ place w. IsFresh g w.pass w.made w.ending × (w.stores ≡ slice_index_or firsts place w.stores)) olds → AllChanged (GoesOn bytes stored mirrors g programs) olds news
+      → AllPlaced (λ place w. MayGoOn g programs place w.pass w.made) news → All (λ w. IsSome w.ending) news
+      → AllPlaced (λ place w. HasWorked bytes stored mirrors g programs place w.pass w.made w.ending w.seen (slice_index_or firsts place w.stores) w.stores) news
+  all_worked firsts olds news one two three fresh goes_on may ended = λ place d low.
+      let old = slice_index_or olds place d in
+      let new = slice_index_or news place d in
+      let is = fresh place d (omega (arith, low, three)) in
+      worked_at place old new (slice_index_or firsts place new.stores) (omega (arith, low, two, three)) is.0
+      (is.1 ∙ get_or_default firsts place old.stores new.stores (omega (arith, low, one, two, three))) (goes_on place d (omega (arith, low, three))) (may place d low) (ended place d low)

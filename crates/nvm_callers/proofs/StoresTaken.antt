@@ -1,0 +1,141 @@
+-- What was taken of synchronized RAM was stored by then.
+use Rattle.std.specs.Prelude.{map, take, drop, is_some, Contains, IfSome}
+use Rattle.std.proofs.Common.{◌≡◌, ◌⊎◌, inl, inr, ℕ, ◌<◌, ◌^◌, Bool, true, false, List, [], ◌∷◌, ◌++◌, length, Option, Some, None, refl, sym, ap, subst, arith, ◌∙◌}
+use Rattle.std.proofs.lemmas.List.{take-append-drop}
+use mathlib.Core.Option.{some, some-ne-none}
+use lib.ListN.{get_elem?}
+use Rattle.nvm_core.specs.memif.Told.{DeviceTold}
+use Rattle.nvm_core.specs.memif.Clock.{Clock}
+use Rattle.nvm_core.specs.block_machine.Words.{TookNothing, TookContent, TookRefused, TookStale, Entry, Ask, Pick, Wrote, Post, Off, Found, Instance, Mark, Configuration}
+use Rattle.nvm_core.specs.block_machine.Next.{next_of}
+use Rattle.nvm_core.specs.block_machine.Steps.{after}
+use Rattle.nvm_core.specs.block_machine.Legal.{IsLegal}
+use Rattle.turn_gate.specs.Entries.{StartsWith}
+use Rattle.ram_mirrors.specs.Stores.{AllStored}
+use Rattle.ram_mirrors_sync.specs.Ends.{EndValue, GoesOn, IsTaken}
+use Rattle.ram_mirrors_sync.specs.Blocks.{CameWith, EndGoesOn, EndList, HasCameWith, HasLooked, IsOver, IsStore, SyncValue, WasShown, end_at, told_by}
+use Rattle.script_walks.specs.Words.{Step}
+use Rattle.script_walks.specs.Turn.{copies_next}
+use Rattle.script_walks.specs.Walk.{store_content}
+use Rattle.script_walks.specs.Looks.{CanBeStored, Look}
+use Rattle.script_callers.specs.RunScripts.{AreRun}
+use Rattle.nvm_shared.specs.declared.terms.Terms.{Terms}
+use Rattle.nvm_shared.specs.Noted.{StandsIn}
+use Rattle.nvm_callers.specs.Stored.{Stored}
+use Rattle.nvm_callers.specs.Stores.{Along}
+use Rattle.nvm_callers.specs.Shown.{HasStoredIn}
+use Rattle.nvm_callers.specs.Looked.{AllTookShown, IsLookOf, TookShown, look_behind}
+use Rattle.nvm_callers.specs.TakenCopies.{StoresAreTaken}
+use Rattle.nvm_callers.proofs.Waiting.{beginning}
+use Rattle.nvm_callers.proofs.TakenCopies.{copies_are_stores}
+use Rattle.nvm_callers.proofs.Showing.{copies_have_looks}
+use Rattle.nvm_callers.proofs.StoresShown.{shown_are_stored, taken_are_stored}
+
+-- What the driver's end of a block took was stored by one caller, as the history tells, or nothing was stored.
+pub record WasStored (c : Configuration) (cap : ℕ) (h : List Entry) (steps : List Step) (block : ℕ) (e : EndValue Along) : Type 0 where
+  pub stores : List Stored
+  pub got : AllStored stores e.up.got
+  pub first : store_content c steps block 0 ≡ Some e.first
+  pub by : (stores ≡ []) ⊎ ((caller : ℕ) × (made : ℕ → List Stored) × HasStoredIn c cap h steps caller made × (made block ≡ stores))
+
+-- so of each block
+abbrev pub WereStored : Configuration → (cap : ℕ) → List Entry → List Step → EndList Along → Type 0
+WereStored c cap h steps ends = (block : ℕ) → IfSome (end_at ends block) (WasStored c cap h steps block)
+
+-- a store of a block that has an end
+abbrev pub IsStoreThere : EndList Along → (block number : ℕ) → List ℕ → Type 0
+IsStoreThere ends block number x = IsStore ends block number x × (is_some (end_at ends block) ≡ true)
+
+-- where looks are at blocks that have ends, so are the stores that Picks took
+module _ (looks : List Look) (ends : EndList Along) (there : (l : Look) → Contains looks l → is_some (end_at ends l.block) ≡ true) where
+  one_there : (before : List Entry) (e : Entry) (copies : Bool) → TookShown looks (IsStore ends) before e copies → TookShown looks (IsStoreThere ends) before e copies
+  one_there before (Pick block kind (TookStale asked got count) ops) copies took = took
+  one_there before (Pick block kind (TookContent bytes number) ops) true took = (took.0, (took.1, there (look_behind before block number) took.0))
+  one_there before (Pick block kind (TookContent bytes number) ops) false took = tt
+  one_there before (Pick block kind (TookRefused count) ops) copies took = tt
+  one_there before (Pick block kind TookNothing ops) copies took = tt
+  one_there before (Ask caller r reply) copies took = tt
+  one_there before (Wrote i mark ops) copies took = tt
+  one_there before (Post block r given refused ops) copies took = tt
+  one_there before (Off ops) copies took = tt
+  one_there before (Found marks ops) copies took = tt
+
+  all_there : (c : Configuration) (before more : List Entry) → AllTookShown looks (IsStore ends) c before more → AllTookShown looks (IsStoreThere ends) c before more
+  all_there c before [] took = tt
+  all_there c before (e ∷ es) took = (one_there before e (copies_next c (next_of c (after c before))) took.0, all_there c (before ++ e ∷ []) es took.1)
+
+was_there : (a e : Option (EndValue Along)) (n : ℕ) → WasShown a e n → is_some e ≡ true
+was_there (Some a) (Some e) n shown = refl
+was_there (Some a) None n shown = absurd shown
+was_there None e n shown = absurd shown
+
+-- nothing is taken of none
+none_got : (stores : List Stored) (k : ℕ) (x : Stored) (X : Type 0) → stores ≡ [] → get_elem? stores k ≡ some x → X
+none_got stores k x X none at = absurd (some-ne-none x (sym at ∙ ap (λ (l : List Stored). get_elem? l k) none))
+
+module _ (c : Configuration) (cap : ℕ) (h : List Entry) (steps : List Step) (run : AreRun c steps) where
+  -- A STORE THAT WAS TAKEN
+  of_end : (block number : ℕ) (x : List ℕ) (e : EndValue Along) → length steps < 2 ^ 60 → WasStored c cap h steps block e → IsTaken e number x → store_content c steps block number ≡ Some x
+  of_end block number x e few was taken = by was.by taken
+    where
+      by : (was.stores ≡ []) ⊎ ((caller : ℕ) × (made : ℕ → List Stored) × HasStoredIn c cap h steps caller made × (made block ≡ was.stores)) → IsTaken e number x
+          → store_content c steps block number ≡ Some x
+      by (inr (caller, made, has, same)) it =
+          taken_are_stored c cap h steps caller block number made e x run few has (subst (λ (l : List Stored). AllStored l e.up.got) (sym same) was.got) was.first it
+      by (inl none) (inl (zeroth, same)) =
+          subst (λ (n : ℕ). store_content c steps block n ≡ Some x) (sym zeroth) (was.first ∙ ap (λ (l : List ℕ). Some l) (sym same))
+      by (inl none) (inr (i, along, at)) = let (k, is, here) = was.got i _ at in none_got was.stores k _ (store_content c steps block number ≡ Some x) none here
+
+  of_ends : (ends : EndList Along) → length steps < 2 ^ 60 → WereStored c cap h steps ends → (block number : ℕ) (x : List ℕ) → IsStoreThere ends block number x
+      → store_content c steps block number ≡ Some x
+  of_ends ends few were block number x is = by (end_at ends block) (were block) is.0 is.1
+    where
+      by : (o : Option (EndValue Along)) → IfSome o (WasStored c cap h steps block) → IfSome o (λ e. IsTaken e number x) → is_some o ≡ true → store_content c steps block number ≡ Some x
+      by (Some e) was taken there = of_end block number x e few was taken
+      by None was taken there = absurd (cc there)
+
+  -- A STORE THAT A LOOK SHOWED
+  came_later : (holds : Option Along → Type 0) (old new : EndValue Along) (n : ℕ) → GoesOn old new → CameWith holds old n → CameWith holds new n
+  came_later holds old new n on (inl none) = inl none
+  came_later holds old new n on (inr (i, m, x, at, few, is)) = inr (i, m, x, on.took i (m, x) at, few, is)
+
+  of_shown : (block number : ℕ) (e : EndValue Along) (entry : ℕ) → IsLegal c cap h → WasStored c cap h steps block e → CameWith (StandsIn (take entry h)) e number
+      → CanBeStored c steps block number (take entry h)
+  of_shown block number e entry legal was came = by was.by came
+    where
+      begins : StartsWith h (take entry h)
+      begins = (drop entry h, sym (take-append-drop entry h))
+
+      by : (was.stores ≡ []) ⊎ ((caller : ℕ) × (made : ℕ → List Stored) × HasStoredIn c cap h steps caller made × (made block ≡ was.stores)) → CameWith (StandsIn (take entry h)) e number
+          → CanBeStored c steps block number (take entry h)
+      by (inr (caller, made, has, same)) it =
+          shown_are_stored c cap h steps caller block number made e (take entry h) run has (subst (λ (l : List Stored). AllStored l e.up.got) (sym same) was.got) (beginning c cap entry h legal) begins it
+      by (inl none) (inl zeroth) = λ place x at some numbered. absurd (omega (arith, zeroth, numbered))
+      by (inl none) (inr (i, m, x, at, few, is)) = let (k, one, here) = was.got i (m, x) at in none_got was.stores k x (CanBeStored c steps block number (take entry h)) none here
+
+  of_look : (old by_then new : EndList Along) (block number entry : ℕ) → IsLegal c cap h → WereStored c cap h steps new → HasLooked old new block number
+      → EndGoesOn (end_at by_then block) (end_at new block) → HasCameWith (StandsIn (take entry h)) by_then block number → CanBeStored c steps block number (take entry h)
+  of_look old by_then new block number entry legal were between on came = by (end_at old block) (end_at by_then block) (end_at new block) between on came (were block)
+    where
+      by : (a b e : Option (EndValue Along)) → WasShown a e number → EndGoesOn b e → IfSome b (λ y. CameWith (StandsIn (take entry h)) y number)
+          → IfSome e (WasStored c cap h steps block) → CanBeStored c steps block number (take entry h)
+      by (Some a) (Some b) (Some e) shown goes with was = of_shown block number e entry legal was (came_later (StandsIn (take entry h)) b e number goes with)
+      by (Some a) None (Some e) shown goes with was = absurd goes
+      by (Some a) b None shown goes with was = absurd shown
+      by None b e shown goes with was = absurd shown
+
+-- ALL OF THEM
+module _ {D : Type 0} (told : D → DeviceTold) (clock : D → Clock) (t : Terms) (steps : List Step) (run : AreRun t.config steps) (few : length steps < 2 ^ 60) (marks : List (Instance × Mark)) (ops : ℕ) (more : List Entry)
+    (legal : IsLegal t.config t.cap (Found marks ops ∷ more)) (old new : SyncValue Along) (were : WereStored t.config t.cap (Found marks ops ∷ more) steps new.ends) where
+  pub stores_are_taken : (looks : List Look)
+      → ((l : Look) → Contains looks l → IsLookOf told clock (λ (s : SyncValue Along). map told_by s.ends) (λ (s : SyncValue Along). IsStore s.ends) (λ (x y : SyncValue Along). HasLooked x.ends y.ends) (λ (x y : SyncValue Along). IsOver x y) (λ (s : SyncValue Along) (block number : ℕ) (entries : List Entry). HasCameWith (StandsIn entries) s.ends block number) t (Found marks ops ∷ more) old new l)
+      → AllTookShown looks (IsStore new.ends) t.config (Found marks ops ∷ []) more → StoresAreTaken t.config steps looks (Found marks ops ∷ more)
+  stores_are_taken looks are took = record {
+    stores = copies_are_stores t.config t.cap steps looks (IsStoreThere new.ends) marks ops more (of_ends t.config t.cap (Found marks ops ∷ more) steps run new.ends few were) legal
+        (all_there looks new.ends (λ l within. was_there (end_at old.ends l.block) (end_at new.ends l.block) l.shown (are l within).between) t.config (Found marks ops ∷ []) more took);
+    shown = copies_have_looks t.config steps looks (IsStore new.ends) marks ops more
+        (λ l within.
+        let is = are l within in
+        of_look t.config t.cap (Found marks ops ∷ more) steps run old.ends is.by_then.ends new.ends l.block l.shown l.entry legal were is.between (is.since.ends l.block) is.stands_in)
+        took;
+  }
