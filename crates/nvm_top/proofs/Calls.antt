@@ -1,14 +1,15 @@
 -- A call of the program that calls no command, or one that has a run.
-use Rattle.std.proofs.Common.{◌≡◌, ℕ, Bool, List, Option, Some, None, inr, refl, sym, subst}
+use Rattle.std.proofs.Common.{◌≡◌, ◌∙◌, ℕ, Bool, true, false, List, Option, Some, None, inr, refl, sym, ap, subst}
 use Rattle.nv_streams.specs.Sink.{Written}
 use Rattle.nvm_flash.specs.fls_model.Told.{Told}
+use Rattle.nvm_words.specs.Words.{is_run}
 use Rattle.nvm_words.specs.declared.words.CommandKind.{CommandKind}
 use Rattle.nvm_words.specs.declared.words.CommandKind.TheVariants.{Play, Run, Dump, Check, Soak, Uds}
 use Rattle.nvm_top.specs.declared.status.Status.TheVariants as status
 use Rattle.nvm_top.specs.Causes.{HasCauses}
-use Rattle.nvm_top.specs.Commands.{Ended, ended, KeepsCommand, KeepsOnly, KeepsPlay, KeepsUds}
+use Rattle.nvm_top.specs.Commands.{Ended, ended, KeepsCommand, KeepsOnly, KeepsPlay, KeepsRunCommand, KeepsUds}
 use Rattle.nvm_top.proofs.Images.{kept-same}
-use Rattle.nvm_top.proofs.Promised.{alone}
+use Rattle.nvm_top.proofs.WholeCalls.{alone}
 
 -- WANT OF MEMORY
 
@@ -18,10 +19,10 @@ no_cause reads writes left = record { read_fault = λ is. cc; write_fault = λ i
 -- before any command nothing was read, written or changed
 pub wanting : (k : Option CommandKind) (left : Option (List ℕ)) (reads : ℕ) (written : Written) (writes : ℕ) (told : Told) → KeepsCommand k (ended status.Memory left left reads reads written written writes writes told told)
 wanting None left reads written writes told = record { line = refl; unread = refl; untouched = refl; causes = no_cause reads writes left }
-wanting (Some Run) left reads written writes told = record { line = refl; unread = refl; untouched = refl; causes = no_cause reads writes left }
 wanting (Some Check) left reads written writes told = record { by_input = refl; untouched = refl; causes = no_cause reads writes left }
 wanting (Some Dump) left reads written writes told = record { by_input = refl; kept = kept-same told; untouched = λ is. refl; causes = no_cause reads writes left }
 wanting (Some Play) left reads written writes told = record { promise = inr (record { line = refl; alone = alone told }); untouched = λ is. refl; causes = no_cause reads writes left }
+wanting (Some Run) left reads written writes told = record { promise = inr (record { line = refl; alone = alone told }); untouched = λ is. refl; causes = no_cause reads writes left }
 wanting (Some (Soak seed count)) left reads written writes told = record { promise = inr (record { line = refl; alone = alone told }); untouched = λ is. refl; causes = no_cause reads writes left }
 wanting (Some Uds) left reads written writes told = record { promise = inr (record { line = refl; alone = alone told }); untouched = λ is. refl; causes = no_cause reads writes left }
 
@@ -32,6 +33,12 @@ wanting_only is_served k left reads written writes told = record { served = λ _
 
 pub keeps_as_play : (k : Option CommandKind) (e : Ended) → k ≡ Some Play → KeepsPlay e → KeepsCommand k e
 keeps_as_play k e is keeps = subst (λ (x : Option CommandKind). KeepsCommand x e) (sym is) keeps
+
+pub keeps_as_run : (k : Option CommandKind) (e : Ended) → k ≡ Some Run → KeepsRunCommand e → KeepsCommand k e
+keeps_as_run k e is keeps = subst (λ (x : Option CommandKind). KeepsCommand x e) (sym is) keeps
+
+pub run_only : (k : Option CommandKind) (e : Ended) → k ≡ Some Run → KeepsRunCommand e → KeepsOnly is_run k e
+run_only k e is keeps = record { served = λ _. keeps_as_run k e is keeps; refused = λ other. absurd (let wrong : false ≡ true = sym other ∙ ap is_run is in cc wrong) }
 
 pub keeps_as_uds : (k : Option CommandKind) (e : Ended) → k ≡ Some Uds → KeepsUds e → KeepsCommand k e
 keeps_as_uds k e is keeps = subst (λ (x : Option CommandKind). KeepsCommand x e) (sym is) keeps

@@ -207,7 +207,7 @@ early_of true before desk hand d keeps tells = keeps.early tells
 early_of false before desk hand d keeps tells = keeps.keeps.early tells
 
 -- what the device told of its operations, by the clock that it tells
-told_bridge : (r : Reading) (inner exit : Told) (operations : List Change) (before : PartTold) (d : Device) → Bridges r true (record { entry = inner; exit = exit; operations = operations }) before (told_of d) (clock_of d)
+pub told_bridge : (r : Reading) (inner exit : Told) (operations : List Change) (before : PartTold) (d : Device) → Bridges r true (record { entry = inner; exit = exit; operations = operations }) before (told_of d) (clock_of d)
     → Bridges r true (record { entry = inner; exit = exit; operations = operations }) before (told_of d) (beyond_end (told_clock d))
 told_bridge r inner exit operations before d b = record {
   after = b.after;

@@ -10,6 +10,7 @@ use Rattle.nvm_flash.specs.fls_model.Memory.{in_memory}
 use Rattle.nvm_flash.specs.promise_device.FlashRun.{TellsBytes, StartsSound}
 use Rattle.nvm_flash.specs.promise_device.Image.{IsSoundFlash}
 use Rattle.nvm_flash.specs.promise_run.Call.{Call}
+use Rattle.nvm_flash.specs.promise_run.Run.{Run}
 use Rattle.nvm_flash.specs.promise_run.JobTurns.{job_turns}
 use Rattle.nvm_flash.specs.promise_run.Promise.{making_of}
 use Rattle.nvm_flash.proofs.fee_image.Soundness.{blank_is_sound}
@@ -17,7 +18,8 @@ use Rattle.nvm_flash.proofs.promise_run.InRoom.{room_suffices, turns_make_few}
 use Rattle.nvm_top.specs.declared.status.Status.{Status}
 use Rattle.nvm_top.specs.declared.status.Status.TheVariants as status
 use Rattle.nvm_top.specs.Commands.{Ended, KeepsCommand, KeepsPlay}
-use Rattle.nvm_top.specs.Play.{PlayStopsBy}
+use Rattle.nvm_script.specs.declared.script.Mode.TheVariants as mode
+use Rattle.nvm_top.specs.Play.{StepsStopBy}
 use Rattle.nvm_top.specs.Promised.{HasPromise, HasNoRun}
 use Rattle.nvm_top.specs.Worked.{HasCuts, CutsLeaveAt}
 
@@ -31,7 +33,7 @@ play_kept (Some RunWord) e is keeps = cc is
 play_kept None e is keeps = cc is
 
 has_cuts : (operations : ℕ) (call : Call) (last : List ℕ) → call.entry ≡ (in_memory [] operations).told → bytes_now call.exit ≡ Some last → operations < last_count → HasPromise call → HasCuts operations call
-has_cuts operations call last at_entry at_exit small (r, is, short, keeps) = (r, is, λ turns. turns_make_few operations (job_turns r.configuration) r is.beside (keeps.promise tells sound) keeps.turns turns small, λ few. room_suffices r is.beside (keeps.promise tells sound) (record { bytes = tells; room = room few }) sound)
+has_cuts operations call last at_entry at_exit small (r, is, course, short, keeps) = (r, is, λ turns. turns_make_few operations (job_turns r.configuration) r is.beside (keeps.promise tells sound) keeps.turns turns small, λ few. room_suffices r is.beside (keeps.promise tells sound) (record { bytes = tells; room = room few }) sound)
   where
     entry : r.flash.entry ≡ (in_memory [] operations).told
     entry = is.entry ∙ at_entry
@@ -47,7 +49,7 @@ has_cuts operations call last at_entry at_exit small (r, is, short, keeps) = (r,
 
 -- at these statuses a run was begun
 abbrev EndsPlay : Call → ℕ → ℕ → Option ToldBytes → Status → Type 0
-EndsPlay call reads reads' bytes x = HasPromise call ⊎ HasNoRun (PlayStopsBy call.input reads reads' bytes) call.written call.written_after x call.entry call.exit
+EndsPlay call reads reads' bytes x = HasPromise call ⊎ HasNoRun (StepsStopBy mode.Play call.input reads reads' bytes) call.written call.written_after x call.entry call.exit
 
 pub cuts_leave : (x : Status) (operations reads reads' : ℕ) (bytes : Option ToldBytes) (call : Call) (last : List ℕ) → call.entry ≡ (in_memory [] operations).told → bytes_now call.exit ≡ Some last → operations < last_count
     → EndsPlay call reads reads' bytes x → CutsLeaveAt x operations call

@@ -3,6 +3,8 @@ pub mod Calls
 pub mod Complete
 pub mod Driven
 pub mod Dumps
+pub mod Early
+pub mod EndsTold
 pub mod Images
 pub mod InMemory
 pub mod Outputs
@@ -10,7 +12,10 @@ pub mod PlayLemmas
 pub mod Printing
 pub mod Promised
 pub mod RunLines
+pub mod Running
+pub mod Scripts
 pub mod ServedCuts
 pub mod Serving
 pub mod Soaks
 pub mod Texts
+pub mod WholeCalls

@@ -1,34 +1,27 @@
--- A run keeps the promise, by the course of its steps and by what its stack vouches for.
-use Rattle.std.specs.Prelude.{OnOk, IfErr, IfSome, take}
-use Rattle.std.specs.List.{Contains}
-use Rattle.std.proofs.Common.{◌≡◌, ◌≢◌, ◌≤◌, ◌+◌, ◌⊎◌, ℕ, false, List, [], ◌∷◌, ◌++◌, length, Option, Some, None, Result, Ok, Err, refl, sym, ap, ◌∙◌, subst, inl, inr, arith, append-nil}
+-- A run of `play` keeps the promise, by the course of its steps and by what its stack vouches for.
+use Rattle.std.specs.Prelude.{OnOk, IfErr, take}
+use Rattle.std.proofs.Common.{◌≡◌, ◌≤◌, ◌+◌, ℕ, List, [], ◌∷◌, ◌++◌, Option, Some, None, Result, Ok, Err, refl, sym, ap, ◌∙◌, subst, inl, inr, arith, append-nil}
 use Rattle.nv_streams.specs.Sink.{Written}
 use Rattle.nvm_flash.specs.nv_base.Count.{Rose, WereCounted}
 use Rattle.nvm_flash.specs.nv_base.Geometry.{size_of}
 use Rattle.nvm_flash.specs.block_config.Config.{Configuration}
 use Rattle.nvm_flash.specs.memif.Told.{PartTold}
-use Rattle.nvm_flash.specs.fls_model.Told.{Told, ToldBytes, Change}
+use Rattle.nvm_flash.specs.fls_model.Told.{Told, Change}
 use Rattle.nvm_flash.specs.promise_device.FlashRun.{FlashRun, TellsBytes, StartsSound, HasFailed}
-use Rattle.nvm_script.specs.Printed.{history_lines}
 use Rattle.script_walks.specs.Words.{Step}
 use Rattle.script_walks.specs.Walk.{IsWalkOf}
 use Rattle.nvm_flash.specs.block_machine.Words.{Entry, Found}
 use Rattle.nvm_flash.specs.block_machine.State.{State, Job}
 use Rattle.nvm_flash.specs.block_machine.Steps.{after}
 use Rattle.nvm_flash.specs.promise_run.Beside.{Beside}
-use Rattle.nvm_flash.specs.promise_run.Run.{Run, Played, End, Whole, cap, FaultWasCounted, HasOrder, LeavesFor, EndsAtStart, EachPiece, HasNoRoom, HadRoom, CutsAre, CutsExplain, events_of}
+use Rattle.nvm_flash.specs.promise_run.Run.{Run, Played, End, Whole, cap, FaultWasCounted, HasOrder, LeavesFor, EachPiece, HasNoRoom, HadRoom, CutsAre, CutsExplain, events_of}
 use Rattle.nvm_flash.specs.promise_run.Refusals.{RefusesAsAsked}
-use Rattle.nvm_flash.specs.promise_run.Run.{FlashFault, HistoryFull, LeavesAlone, Memory}
-use Rattle.nvm_flash.specs.promise_run.Promise.{Promise, making_of}
-use Rattle.nvm_flash.specs.promise_run.Call.{EndsWith, IsCourseOf, IsInputOf}
-use Rattle.nvm_script.specs.Script.{IsScript, later_lines}
+use Rattle.nvm_flash.specs.promise_run.Run.{Memory}
+use Rattle.nvm_flash.specs.promise_run.Promise.{making_of}
 use Rattle.nvm_script.specs.declared.script.Mode.TheVariants as mode
 use Rattle.nvm_flash.specs.promise_run.JobTurns.{job_turns}
-use Rattle.nvm_top.specs.Ends.{HasPlayable, HasStepsOf, HasWrongLine}
-use Rattle.nvm_top.specs.Play.{IsAttachStop, IsBeforeAttach, IsRightSize, IsSizeStop, PlayStopsBy, StopsBy}
-use Rattle.nvm_top.specs.Reading.{IsReadStop}
-use Rattle.nvm_flash.specs.promise_run.Turns.{Moment, moment_behind, BeginsAt, EndsBy, ArePaidSince, HasTurns, EachMove, ServesTurn, StaysAtRest, all_moves, CutsCome}
-use Rattle.nvm_top.specs.Input.{input_limit}
+use Rattle.nvm_top.specs.Play.{IsRightSize}
+use Rattle.nvm_flash.specs.promise_run.Turns.{Moment, moment_behind, BeginsAt, EndsBy, ArePaidSince, EachMove, ServesTurn, StaysAtRest, all_moves, CutsCome}
 use Rattle.nvm_flash.proofs.promise_run.Paid.{since_too}
 use Rattle.nvm_flash.proofs.promise_run.CalmPosts.{calm_posts}
 use Rattle.nvm_flash.proofs.promise_run.Counted.{all_behind, counted_by}
@@ -44,152 +37,12 @@ use Rattle.nvm_top.specs.declared.status.Status.TheVariants as status
 use Rattle.nvm_top.specs.declared.runs.RunText.{RunText}
 use Rattle.nvm_top.specs.declared.runs.RunText.TheVariants.{History, Summary}
 use Rattle.nvm_top.specs.declared.stop.Stop.{Stop}
-use Rattle.nvm_top.specs.declared.stop.Stop.TheVariants as stop
-use Rattle.nvm_top.specs.Stack.{IsStarted, StopsAtStart, Vouches, run_of}
-use Rattle.nvm_top.specs.Output.{Writes, IsReport}
-use Rattle.nvm_top.specs.Promised.{played_call, HasNoRun, HasRun, WritesText, HasPromise, EndsIn, entries_in, lines_in}
+use Rattle.nvm_top.specs.Stack.{IsStarted, Vouches, run_of}
+use Rattle.nvm_top.specs.Promised.{call_by, HasRun, WritesText, EndsIn, entries_in, lines_in}
 use Rattle.nvm_top.specs.Runs as ends
-use Rattle.nvm_top.specs.Stop.{status_of, line_of, IsStop}
-use Rattle.nvm_top.proofs.PlayLemmas.{Rose-after, report-by}
-use Rattle.nvm_top.proofs.Complete.{early_complete, walked_complete}
-use Rattle.nvm_top.proofs.RunLines.{Writes-as, by_stop, read_line}
-use Rattle.nvm_top.proofs.Texts.{stop_alone}
-
--- A RUN WITHOUT A START-UP
-
-not_there : (h : Entry) → Contains [] h → ⊥
-not_there h is = let few = is.1 in omega (arith, few)
-
-pub early_promise : (c : Configuration) (steps : List Step) (entry exit : Told) (stop : Stop) (end : End) → StopsAtStart c entry exit stop → EndsAtStart (record { entry = entry; exit = exit; operations = [] }) end
-    → Promise (run_of c [] entry exit [] [] (Played [] [] steps) end)
-early_promise c steps entry exit stop end stops ends = record {
-  order = (ends, (refl, refl), stops.flash);
-  power_cut = λ tells sound k image few is. absurd (let none = is.1 in cc none);
-  counts = λ tells sound k ops image few is last. absurd (let none = is.1 in cc none);
-  found = λ tells sound marks ops has few. absurd (not_there (Found marks ops) has);
-  at_exit = λ tells sound started few. absurd started;
-  block_machine = tt;
-  faults = record { faults = 0; counted = inl (let more = stops.faults in omega (arith, more)); pay = tt };
-  wear = λ tells sound. refl;
-  refusals = λ id. (0, refl);
-  off = (0, (refl, refl), inl (let more = stops.cuts in omega (arith, more)));
-  operations = λ started. absurd started;
-  begins = tt;
-  counted = λ e ops has is. absurd (not_there e has);
-}
-
--- it failed by a fault of its own
-one_fault : (f : FlashRun) (end : End) → EndsAtStart f end → EndsBy (record { faults = 0; ops = 0; busy = false }) f end
-one_fault f FlashFault (inl rose) = inl (omega (arith, rose))
-one_fault f FlashFault (inr (full, more)) = inr (omega (arith, full, more))
-one_fault f Memory ends = tt
-one_fault f Whole ends = tt
-one_fault f HistoryFull ends = tt
-
--- no step was made
-early_turns : (c : Configuration) (steps : List Step) (entry exit : Told) (end : End) → entry.faults ≤ exit.faults → EndsAtStart (record { entry = entry; exit = exit; operations = [] }) end → HasTurns (job_turns c) (run_of c [] entry exit [] [] (Played [] [] steps) end) (Played [] [] steps)
-early_turns c steps entry exit end more ends = record {
-  first = record { faults = 0; ops = 0; busy = false };
-  last = record { faults = 0; ops = 0; busy = false };
-  moves = record { moves = []; are = tt; tell = refl; behind = refl };
-  begins = tt;
-  operations = refl;
-  failed = tt;
-  counted = inl (omega (arith, more));
-  ends = one_fault (record { entry = entry; exit = exit; operations = [] }) end ends;
-  serves = tt;
-  rests = tt;
-  drains = λ calm. tt;
-  cuts = tt;
-  paid = λ told sound. tt;
-}
-
-pub early_has : (c : Configuration) (steps : List Step) (Tells : Run → Type 0) (entry exit : Told) (stop : Stop) (end : End) → StopsAtStart c entry exit stop → EndsAtStart (record { entry = entry; exit = exit; operations = [] }) end
-    → Tells (run_of c [] entry exit [] [] (Played [] [] steps) end) → HasRun c steps Tells entry exit
-early_has c steps Tells entry exit stop end stops ends tells = record {
-  run = run_of c [] entry exit [] [] (Played [] [] steps) end;
-  configuration = refl;
-  course = refl;
-  at_entry = refl;
-  at_exit = refl;
-  beside = refl;
-  ends = tells;
-  keeps =
-      let promise = early_promise c steps entry exit stop end stops ends in
-      record { order = promise.order; size = λ started. absurd started; refusals = promise.refusals; off = promise.off; counted = inl (let same = stops.flash.ops in omega (arith, same)); complete = early_complete c steps entry exit end promise.order; exit = λ started. absurd started; turns = early_turns c steps entry exit end stops.faults ends; values = tt; early = λ told. record { found = λ marks has. absurd (omega (arith, has.1)); legal = tt }; promise = λ told sound. promise };
-}
-
--- WHAT IS TOLD OF A RUN
-
--- the status of an end
-abbrev pub status_at : End → Status
-status_at Whole = status.Ok
-status_at FlashFault = status.FlashFault
-status_at HistoryFull = status.HistoryFull
-status_at Memory = status.Memory
-
--- at want of memory a run is one that ended so
-abbrev pub end_at : Status → End → End
-end_at status.Memory end = Memory
-end_at x end = end
-
--- a call ends as its output was written
-pub ends_told : (input : Option (List ℕ)) (entry exit : Told) (w w' : Written) (entries : List Entry) (lines : End → List (List ℕ)) (end : End) (x : Status) → WritesText (status_at end) entries (lines end) w w' x
-    → EndsWith entries (history_lines entries ++ lines (end_at x end)) (played_call input x entry exit w w') (end_at x end)
-ends_told input entry exit w w' entries lines end status.Memory is = (refl, is)
-ends_told input entry exit w w' entries lines Memory status.WriteFault is = absurd (is.0 refl)
-ends_told input entry exit w w' entries lines Whole status.WriteFault is = inr (refl, is.1)
-ends_told input entry exit w w' entries lines FlashFault status.WriteFault is = inr (refl, is.1)
-ends_told input entry exit w w' entries lines HistoryFull status.WriteFault is = inr (refl, is.1)
-ends_told input entry exit w w' entries lines Whole status.Ok is = inl (refl, is.1)
-ends_told input entry exit w w' entries lines FlashFault status.FlashFault is = inl (refl, is.1)
-ends_told input entry exit w w' entries lines HistoryFull status.HistoryFull is = inl (refl, is.1)
-ends_told input entry exit w w' entries lines Whole _ is = absurd (let same = is.0 in cc same)
-ends_told input entry exit w w' entries lines FlashFault _ is = absurd (let same = is.0 in cc same)
-ends_told input entry exit w w' entries lines HistoryFull _ is = absurd (let same = is.0 in cc same)
-ends_told input entry exit w w' entries lines Memory _ is = absurd (let same = is.0 in cc same)
-
--- WHERE NO START-UP WAS MADE
-
-early_end : (text : RunText) (c : Configuration) (steps : List Step) (entry exit : Told) (why : Stop) (end : End) (x : Status) (w w' : Written) (input : Option (List ℕ)) → StopsAtStart c entry exit why → EndsAtStart (record { entry = entry; exit = exit; operations = [] }) end
-    → WritesText (status_at end) (entries_in text []) (lines_in text end []) w w' x → HasRun c steps (EndsIn text (played_call input x entry exit w w')) entry exit
-early_end text c steps entry exit why end status.Memory w w' input stops ends is =
-    early_has c steps (EndsIn text (played_call input status.Memory entry exit w w')) entry exit why Memory stops tt (ends_told input entry exit w w' (entries_in text []) (λ e. lines_in text e []) end status.Memory is)
-early_end text c steps entry exit why end x w w' input stops ends is =
-    early_has c steps (EndsIn text (played_call input x entry exit w w')) entry exit why end stops ends (ends_told input entry exit w w' (entries_in text []) (λ e. lines_in text e []) end x is)
-
--- its line stands alone
-early_line : (why : Stop) (meant : Status) (lines : List (List ℕ)) (text : RunText) (w w' : Written) (x : Status) → meant ≡ status_of why → lines ≡ line_of why ∷ [] → Writes (IsStop why) w w' x → WritesText meant (entries_in text []) lines w w' x
-early_line why meant lines History w w' x one two is = stop_alone why meant lines w w' x one two is
-early_line why meant lines Summary w w' x one two is = stop_alone why meant lines w w' x one two is
-
--- the flash isn't attached for its size
-pub wrong_size : (c : Configuration) (entry exit : Told) (found needed : ℕ) (x : Status) (w w' : Written) → StopsAtStart c entry exit (stop.WrongSize found needed) → Writes (IsStop (stop.WrongSize found needed)) w w' x → HasNoRun (IsSizeStop (size_of c.geometry) entry.bytes) w w' x entry exit
-wrong_size c entry exit found needed x w w' stops is = record {
-  line = Writes-as (IsStop (stop.WrongSize found needed)) (IsSizeStop (size_of c.geometry) entry.bytes) w w' x
-      (λ y lines at. by_stop (IsSizeStop (size_of c.geometry) entry.bytes) (stop.WrongSize found needed) y lines (λ other. (stops.end.0, (found, stops.why.0, ap (λ n. line_of (stop.WrongSize found n) ∷ []) stops.why.1))) at) is;
-  alone = stops.end.1;
-}
-
--- or there is a run without a start-up
-pub early_in : (text : RunText) (c : Configuration) (steps : List Step) (entry exit : Told) (why : Stop) (x : Status) (w w' : Written) (input : Option (List ℕ)) → StopsAtStart c entry exit why → Writes (IsStop why) w w' x
-    → HasRun c steps (EndsIn text (played_call input x entry exit w w')) entry exit ⊎ HasNoRun (IsSizeStop (size_of c.geometry) entry.bytes) w w' x entry exit
-early_in text c steps entry exit (stop.WrongSize found needed) x w w' input stops is = inr (wrong_size c entry exit found needed x w w' stops is)
-early_in text c steps entry exit stop.FlashFault x w w' input stops is =
-    inl (early_end text c steps entry exit stop.FlashFault FlashFault x w w' input stops stops.end (early_line stop.FlashFault status.FlashFault (lines_in text FlashFault []) text w w' x refl (fault_line text) is))
-  where
-    fault_line : (t : RunText) → lines_in t FlashFault [] ≡ line_of stop.FlashFault ∷ []
-    fault_line History = refl
-    fault_line Summary = refl
-early_in text c steps entry exit stop.Memory x w w' input stops is =
-    inl (early_end text c steps entry exit stop.Memory Memory x w w' input stops tt (early_line stop.Memory status.Memory (lines_in text Memory []) text w w' x refl (no_line text) is))
-  where
-    no_line : (t : RunText) → lines_in t Memory [] ≡ [] ∷ []
-    no_line History = refl
-    no_line Summary = refl
-early_in text c steps entry exit _ x w w' input stops is = absurd stops.why
-
--- THE COURSE OF THE STEPS
+use Rattle.nvm_top.proofs.PlayLemmas.{Rose-after}
+use Rattle.nvm_top.proofs.Complete.{walked_complete}
+use Rattle.nvm_top.proofs.EndsTold.{status_at, ends_told}
 
 -- a fact on the state behind a whole history, by the configuration and the cap of the first moment
 behind_all : (P : Configuration → ℕ → State → Type 0) (c : Configuration) (h : List Entry) (old t : StackTold) → old.configuration ≡ c → old.cap ≡ cap → t.entries ≡ h → P old.configuration old.cap (after old.configuration t.entries) → P c cap (after c h)
@@ -244,7 +97,7 @@ ordered made left end old t entry exit operations fresh walked same most leaves 
       subst (λ (h : List Entry). LeavesFor r (after t.configuration h) end left) is leaves,
     )
 
-counted_from : (n a b d : ℕ) → a ≤ b → WereCounted n b d → WereCounted n a d
+pub counted_from : (n a b d : ℕ) → a ≤ b → WereCounted n b d → WereCounted n a d
 counted_from n a b d less (inl is) = inl (omega (arith, less, is))
 counted_from n a b d less (inr full) = inr full
 
@@ -253,7 +106,7 @@ pub has_run : (Kept : Type 0) (p q : Payer) (c : Configuration) (cuts : ℕ) (al
     → t.configuration ≡ old.configuration → Kept → p.owes old.faults → (v : Vouches Kept q before t entry exit) → made ++ left ≡ all
     → LeavesFor (run_of t.configuration t.entries entry exit v.operations t.causes.came (Played made walked.pieces left) end) (after t.configuration t.entries) end left
     → EndsBy walked.last (record { entry = entry; exit = exit; operations = v.operations }) end
-    → Tells (run_of t.configuration t.entries entry exit v.operations t.causes.came (Played made walked.pieces left) end) → IsRightSize (size_of c.geometry) entry.bytes → HasRun c all Tells entry exit
+    → Tells (run_of t.configuration t.entries entry exit v.operations t.causes.came (Played made walked.pieces left) end) → IsRightSize (size_of c.geometry) entry.bytes → HasRun mode.Play c all Tells entry exit
 has_run Kept p q c cuts all made left end before old t entry exit Tells started walked same keeps owes v parts leaves own tells size = record {
   run = run_of t.configuration t.entries entry exit v.operations t.causes.came (Played made walked.pieces left) end;
   configuration = of;
@@ -357,13 +210,13 @@ end_runs : (text : RunText) (Kept : Type 0) (p q : Payer) (c : Configuration) (c
     → IsStarted c cuts before old → (walked : HasWalked p q made old t) → t.configuration ≡ old.configuration → Kept → p.owes old.faults → (v : Vouches Kept q before t entry exit) → made ++ left ≡ all
     → LeavesFor (run_of t.configuration t.entries entry exit v.operations t.causes.came (Played made walked.pieces left) end) (after t.configuration t.entries) end left
     → EndsBy walked.last (record { entry = entry; exit = exit; operations = v.operations }) end → IsRightSize (size_of c.geometry) entry.bytes → WritesText (status_at end) (entries_in text t.entries) (lines_in text end t.entries) w w' x
-    → HasRun c all (EndsIn text (played_call input x entry exit w w')) entry exit
+    → HasRun mode.Play c all (EndsIn text (call_by mode.Play input x entry exit w w')) entry exit
 end_runs text Kept p q c cuts all made left end before old t entry exit status.Memory w w' input started walked same keeps owes v parts leaves own size is =
-    has_run Kept p q c cuts all made left Memory before old t entry exit (EndsIn text (played_call input status.Memory entry exit w w')) started walked same keeps owes v parts tt tt
-    (ends_told input entry exit w w' (entries_in text t.entries) (λ e. lines_in text e t.entries) end status.Memory is) size
+    has_run Kept p q c cuts all made left Memory before old t entry exit (EndsIn text (call_by mode.Play input status.Memory entry exit w w')) started walked same keeps owes v parts tt tt
+    (ends_told mode.Play input entry exit w w' (entries_in text t.entries) (λ e. lines_in text e t.entries) end status.Memory is) size
 end_runs text Kept p q c cuts all made left end before old t entry exit x w w' input started walked same keeps owes v parts leaves own size is =
-    has_run Kept p q c cuts all made left end before old t entry exit (EndsIn text (played_call input x entry exit w w')) started walked same keeps owes v parts leaves own
-    (ends_told input entry exit w w' (entries_in text t.entries) (λ e. lines_in text e t.entries) end x is) size
+    has_run Kept p q c cuts all made left end before old t entry exit (EndsIn text (call_by mode.Play input x entry exit w w')) started walked same keeps owes v parts leaves own
+    (ends_told mode.Play input entry exit w w' (entries_in text t.entries) (λ e. lines_in text e t.entries) end x is) size
 
 -- the end of steps that were made, or left
 abbrev pub end_by : Result (Unit {0}) StepFault → End
@@ -372,7 +225,7 @@ end_by (Err why) = ends.end_of why
 
 runs_by : (text : RunText) (Kept : Type 0) (p q : Payer) (c : Configuration) (cuts : ℕ) (all : List Step) (before : PartTold) (old t : StackTold) (entry exit : Told) (x : Status) (w w' : Written) (input : Option (List ℕ)) (result : Result (Unit {0}) StepFault)
     → IsStarted c cuts before old → OnOk result (HasWalked p q all old t) → IfErr result (λ why. WasBroken p q why all old t) → t.configuration ≡ old.configuration → Kept → p.owes old.faults → Vouches Kept q before t entry exit
-    → IsRightSize (size_of c.geometry) entry.bytes → WritesText (status_at (end_by result)) (entries_in text t.entries) (lines_in text (end_by result) t.entries) w w' x → HasRun c all (EndsIn text (played_call input x entry exit w w')) entry exit
+    → IsRightSize (size_of c.geometry) entry.bytes → WritesText (status_at (end_by result)) (entries_in text t.entries) (lines_in text (end_by result) t.entries) w w' x → HasRun mode.Play c all (EndsIn text (call_by mode.Play input x entry exit w w')) entry exit
 runs_by text Kept p q c cuts all before old t entry exit x w w' input (Ok done) started walked broken same keeps owes v size is =
     end_runs text Kept p q c cuts all all [] Whole before old t entry exit x w w' input started walked same keeps owes v (append-nil all) refl tt size is
 runs_by text Kept p q c cuts all before old t entry exit x w w' input (Err why) started walked broken same keeps owes v size is =
@@ -398,106 +251,9 @@ in_text Summary (Err fault.Memory) h w w' x is = is
 -- with the history and the run as they were written
 pub ran_in : (text : RunText) (Kept : Type 0) (p q : Payer) (c : Configuration) (cuts : ℕ) (all : List Step) (before : PartTold) (old t : StackTold) (entry exit : Told) (x : Status) (w w' : Written) (input : Option (List ℕ)) (result : Result (Unit {0}) StepFault) (run : Result (Unit {0}) Stop) (h : List Entry) → IsStarted c cuts before old
     → OnOk result (HasWalked p q all old t) → IfErr result (λ why. WasBroken p q why all old t) → t.configuration ≡ old.configuration → Kept → p.owes old.faults → Vouches Kept q before t entry exit → run ≡ ends.run_of result → h ≡ t.entries
-    → IsRightSize (size_of c.geometry) entry.bytes → WritesText (ends.status_of_run run) (entries_in text h) (ends.lines_written text run h) w w' x → HasRun c all (EndsIn text (played_call input x entry exit w w')) entry exit
+    → IsRightSize (size_of c.geometry) entry.bytes → WritesText (ends.status_of_run run) (entries_in text h) (ends.lines_written text run h) w w' x → HasRun mode.Play c all (EndsIn text (call_by mode.Play input x entry exit w w')) entry exit
 ran_in text Kept p q c cuts all before old t entry exit x w w' input result run h started walked broken same keeps owes v is_run is_history size is =
     runs_by text Kept p q c cuts all before old t entry exit x w w' input result started walked broken same keeps owes v size
     (in_text text result t.entries w w' x
     (subst (λ (r : Result (Unit {0}) Stop). WritesText (ends.status_of_run r) (entries_in text t.entries) (ends.lines_written text r t.entries) w w' x) is_run
     (subst (λ (es : List Entry). WritesText (ends.status_of_run run) (entries_in text es) (ends.lines_written text run es) w w' x) is_history is)))
-
--- HOW IT ENDS
--- at none of the statuses before the attach
-
-run_late : (result : Result (Unit {0}) StepFault) → IsBeforeAttach (ends.status_of_run (ends.run_of result)) → ⊥
-run_late (Ok done) is = is
-run_late (Err fault.Flash) is = is
-run_late (Err fault.HistoryFull) is = is
-run_late (Err fault.Memory) is = is
-
-written_late : (meant x : Status) (entries : List Entry) (lines : List (List ℕ)) (w w' : Written) → (IsBeforeAttach meant → ⊥) → WritesText meant entries lines w w' x → IsBeforeAttach x → ⊥
-written_late meant status.Memory entries lines w w' late is early = early
-written_late meant status.WriteFault entries lines w w' late is early = early
-written_late meant x entries lines w w' late is early = late (subst (λ (y : Status). IsBeforeAttach y) is.0 early)
-
-pub ran_late : (result : Result (Unit {0}) StepFault) (run : Result (Unit {0}) Stop) (x : Status) (entries : List Entry) (lines : List (List ℕ)) (w w' : Written) → run ≡ ends.run_of result → WritesText (ends.status_of_run run) entries lines w w' x → IsBeforeAttach x → ⊥
-ran_late result run x entries lines w w' is_run is =
-    written_late (ends.status_of_run run) x entries lines w w' (subst (λ (r : Result (Unit {0}) Stop). IsBeforeAttach (ends.status_of_run r) → ⊥) (sym is_run) (run_late result)) is
-
-attach_late : (need : ℕ) (bytes : Option ToldBytes) (why : Stop) → IsAttachStop need bytes why → IsBeforeAttach (status_of why) → ⊥
-attach_late need bytes (stop.WrongSize found needed) is early = early
-attach_late need bytes stop.FlashFault is early = early
-attach_late need bytes stop.Memory is early = early
-attach_late need bytes _ is early = absurd is
-
-pub stopped_late : (need : ℕ) (bytes : Option ToldBytes) (why : Stop) (x : Status) → IsAttachStop need bytes why → IsReport (status_of why) x → IsBeforeAttach x → ⊥
-stopped_late need bytes why x is reports = report-by (λ y. IsBeforeAttach y → ⊥) (status_of why) x (attach_late need bytes why is) (λ early. early) (λ early. early) reports
-
--- OF THE WHOLE CALL
-
-input_of : (left : Option (List ℕ)) (c : Configuration) (steps : List Step) (r : Run) → r.configuration ≡ c → IsCourseOf mode.Play steps r.course → IfSome left (λ bytes. HasPlayable bytes c steps) → IfSome left (IsInputOf mode.Play r)
-input_of None c steps r same course has = tt
-input_of (Some bytes) c steps r same course has = record {
-  configuration = has.config.config ∙ ap Ok (sym same);
-  steps = steps;
-  script = subst (λ (x : Configuration). IsScript x mode.Play 2 [] (later_lines bytes) steps) (sym same) has.script;
-  course = course;
-}
-
-short_input : (left : Option (List ℕ)) (c : Configuration) (steps : List Step) → IfSome left (λ bytes. HasPlayable bytes c steps) → IfSome left (λ bytes. length bytes ≤ input_limit)
-short_input None c steps has = tt
-short_input (Some bytes) c steps has = has.config.short
-
--- a run's promise is the call's
-has_promise : (left : Option (List ℕ)) (x : Status) (c : Configuration) (steps : List Step) (entry exit : Told) (w w' : Written) → IfSome left (λ bytes. HasPlayable bytes c steps)
-    → HasRun c steps (EndsIn History (played_call left x entry exit w w')) entry exit → HasPromise (played_call left x entry exit w w')
-has_promise left x c steps entry exit w w' has run = (
-  run.run,
-  record { input = input_of left c steps run.run run.configuration run.course has; entry = run.at_entry; exit = run.at_exit; beside = run.beside; ends = run.ends },
-  short_input left c steps has,
-  run.keeps,
-)
-
--- a call that stops early leaves the flash as it was
-pub alone : (told : Told) → LeavesAlone told told
-alone told = record { geometry = refl; off = λ off. off; bytes = refl; ops = refl; faults = refl; cuts = refl }
-
--- WHERE NO RUN IS BEGUN
-
--- the flash has a wrong size
-sized_line : (IsWrong : List ℕ → ℕ → Type 0) (Has : Configuration → List ℕ → Type 0) (left : Option (List ℕ)) (reads reads' : ℕ) (bytes : Option ToldBytes) (c : Configuration) (y : Status) (lines : List (List ℕ)) → IfSome left (Has c) → IsSizeStop (size_of c.geometry) bytes y lines
-    → StopsBy IsWrong Has left reads reads' bytes y lines
-sized_line IsWrong Has left reads reads' bytes c status.WrongSize lines has is = (c, has, is)
-sized_line IsWrong Has left reads reads' bytes c _ lines has is = absurd is
-
-pub sized : (IsWrong : List ℕ → ℕ → Type 0) (Has : Configuration → List ℕ → Type 0) (left : Option (List ℕ)) (reads reads' : ℕ) (c : Configuration) (w w' : Written) (x : Status) (entry exit : Told) → IfSome left (Has c) → HasNoRun (IsSizeStop (size_of c.geometry) entry.bytes) w w' x entry exit
-    → HasNoRun (StopsBy IsWrong Has left reads reads' entry.bytes) w w' x entry exit
-sized IsWrong Has left reads reads' c w w' x entry exit has none = record {
-  line = Writes-as (IsSizeStop (size_of c.geometry) entry.bytes) (StopsBy IsWrong Has left reads reads' entry.bytes) w w' x (λ y lines at. sized_line IsWrong Has left reads reads' entry.bytes c y lines has at) none.line;
-  alone = none.alone;
-}
-
--- the input isn't read, or a line of it is wrong
-unread_line : (IsWrong : List ℕ → ℕ → Type 0) (Has : Configuration → List ℕ → Type 0) (left : Option (List ℕ)) (reads reads' : ℕ) (bytes : Option ToldBytes) (why : Stop) → (why ≡ stop.ReadFault → Rose reads reads') → IsReadStop IsWrong left why → why ≢ stop.Memory
-    → StopsBy IsWrong Has left reads reads' bytes (status_of why) (line_of why ∷ [])
-unread_line IsWrong Has left reads reads' bytes (stop.BadScript number) fault is other = (number, is, refl)
-unread_line IsWrong Has left reads reads' bytes (stop.WrongSize found need) fault is other = absurd is
-unread_line IsWrong Has left reads reads' bytes why fault is other = read_line left reads reads' why fault is other
-
-pub unread : (IsWrong : List ℕ → ℕ → Type 0) (Has : Configuration → List ℕ → Type 0) (left : Option (List ℕ)) (reads reads' : ℕ) (why : Stop) (w w' : Written) (x : Status) (told : Told) → (why ≡ stop.ReadFault → Rose reads reads') → IsReadStop IsWrong left why → Writes (IsStop why) w w' x
-    → HasNoRun (StopsBy IsWrong Has left reads reads' told.bytes) w w' x told told
-unread IsWrong Has left reads reads' why w w' x told fault stops is = record {
-  line = Writes-as (IsStop why) (StopsBy IsWrong Has left reads reads' told.bytes) w w' x (λ y lines at. by_stop (StopsBy IsWrong Has left reads reads' told.bytes) why y lines (unread_line IsWrong Has left reads reads' told.bytes why fault stops) at) is;
-  alone = alone told;
-}
-
--- `PLAY`
-
-has_steps : (left : Option (List ℕ)) (c : Configuration) (steps : List Step) → IfSome left (λ bytes. HasPlayable bytes c steps) → IfSome left (HasStepsOf c)
-has_steps None c steps has = tt
-has_steps (Some bytes) c steps has = (has.config, steps, has.script)
-
-pub played : (left : Option (List ℕ)) (reads reads' : ℕ) (x : Status) (c : Configuration) (steps : List Step) (entry exit : Told) (w w' : Written) → IfSome left (λ bytes. HasPlayable bytes c steps)
-    → HasRun c steps (EndsIn History (played_call left x entry exit w w')) entry exit ⊎ HasNoRun (IsSizeStop (size_of c.geometry) entry.bytes) w w' x entry exit
-    → HasPromise (played_call left x entry exit w w') ⊎ HasNoRun (PlayStopsBy left reads reads' entry.bytes) w w' x entry exit
-played left reads reads' x c steps entry exit w w' has (inl run) = inl (has_promise left x c steps entry exit w w' has run)
-played left reads reads' x c steps entry exit w w' has (inr none) = inr (sized HasWrongLine HasStepsOf left reads reads' c w w' x entry exit (has_steps left c steps has) none)

@@ -36,7 +36,11 @@ use Rattle.nvm_top.specs.Stack.{IsStarted, StopsAtStart, Vouches, run_of}
 use Rattle.nvm_top.specs.Stop.{IsStop}
 use Rattle.nvm_top.specs.Uds.{lines_by, lines_of_history, lines_served, HasPieces, HasRequests, HasRequestsOf, HasWrongRequest, UdsStopsBy, WritesLines, status_served, line_served, end_served, TellsServed, TellsRequests, HasServing, HasAnswered}
 use Rattle.nvm_top.proofs.AnswerLines.{has_pieces, lines_of_pieces}
-use Rattle.nvm_top.proofs.Promised.{early_has, ends_told, has_run, sized, status_at, wrong_size}
+use Rattle.nvm_script.specs.declared.script.Mode.TheVariants as mode
+use Rattle.nvm_top.proofs.Early.{early_has, wrong_size}
+use Rattle.nvm_top.proofs.EndsTold.{ends_told, status_at}
+use Rattle.nvm_top.proofs.Promised.{has_run}
+use Rattle.nvm_top.proofs.WholeCalls.{sized}
 use Rattle.nvm_top.proofs.ServedCuts.{is_off, rest_off, parts_off, off_is_another, one_counted}
 use Rattle.nvm_top.proofs.Texts.{stop_alone}
 
@@ -170,9 +174,9 @@ module _ {p q : Payer} (requests : List (List ℕ)) (counts : List ℕ) (end : R
 none_end : (c : Configuration) (requests : List (List ℕ)) (entry exit : Told) (why : Stop) (end : End) (x : Status) (w w' : Written) (input : Option (List ℕ)) → StopsAtStart c entry exit why → EndsAtStart (record { entry = entry; exit = exit; operations = [] }) end
     → WritesText (status_at end) [] (last_line end [] ∷ []) w w' x → HasServing c requests (played_call input x entry exit w w') x
 none_end c requests entry exit why end status.Memory w w' input stops ends is =
-    ([], refl, early_has c [] (TellsRequests c requests (played_call input status.Memory entry exit w w') status.Memory) entry exit why Memory stops tt (inl (refl, ends_told input entry exit w w' [] (λ e. last_line e [] ∷ []) end status.Memory is)))
+    ([], refl, early_has mode.Play c [] (TellsRequests c requests (played_call input status.Memory entry exit w w') status.Memory) entry exit why Memory stops tt (inl (refl, ends_told mode.Play input entry exit w w' [] (λ e. last_line e [] ∷ []) end status.Memory is)))
 none_end c requests entry exit why end x w w' input stops ends is =
-    ([], refl, early_has c [] (TellsRequests c requests (played_call input x entry exit w w') x) entry exit why end stops ends (inl (refl, ends_told input entry exit w w' [] (λ e. last_line e [] ∷ []) end x is)))
+    ([], refl, early_has mode.Play c [] (TellsRequests c requests (played_call input x entry exit w w') x) entry exit why end stops ends (inl (refl, ends_told mode.Play input entry exit w w' [] (λ e. last_line e [] ∷ []) end x is)))
 
 -- the flash isn't attached for its size, or there is a run without a start-up
 pub serving_none : (c : Configuration) (requests : List (List ℕ)) (entry exit : Told) (why : Stop) (x : Status) (w w' : Written) (input : Option (List ℕ)) → StopsAtStart c entry exit why → Writes (IsStop why) w w' x

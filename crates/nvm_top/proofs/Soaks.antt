@@ -12,14 +12,15 @@ use Rattle.nvm_words.specs.Words.{are_words, command_named, soak_of, command_wit
 use Rattle.nvm_words.specs.Fields.{Places, places_of}
 use Rattle.nvm_words.specs.declared.words.CommandKind.{CommandKind}
 use Rattle.nvm_words.specs.declared.words.CommandKind.TheVariants.{Play, Run, Dump, Check, Soak, Uds}
+use Rattle.nvm_script.specs.declared.script.Mode.TheVariants as mode
 use Rattle.nvm_script.specs.declared.step.Step.{Step}
 use Rattle.nvm_top.specs.declared.runs.RunText.TheVariants.{Summary}
 use Rattle.nvm_top.specs.declared.status.Status.{Status}
-use Rattle.nvm_top.specs.Ends.{HasPlayable}
+use Rattle.nvm_top.specs.Ends.{HasScript}
 use Rattle.nvm_top.specs.Play.{IsSizeStop}
 use Rattle.nvm_top.specs.Promised.{played_call, EndsIn, HasNoRun, HasRun, HasSoaked}
 use Rattle.nvm_top.specs.Soak.{HasStepAt, SoakStopsBy}
-use Rattle.nvm_top.proofs.Promised.{sized}
+use Rattle.nvm_top.proofs.WholeCalls.{sized}
 
 -- FEW ROUNDS
 
@@ -69,7 +70,7 @@ few_rounds words s n is = in_few (places_of words) s n (soak_if (are_words words
 -- A CALL
 
 -- the first step stands in this line
-pub step_stops : (left : Option (List ℕ)) (c : Configuration) (steps : List Step) (x : Step) → slice_get steps 0 ≡ Some x → IfSome left (λ bytes. HasPlayable bytes c steps) → IfSome left (λ bytes. HasStepAt bytes x.line)
+pub step_stops : (left : Option (List ℕ)) (c : Configuration) (steps : List Step) (x : Step) → slice_get steps 0 ≡ Some x → IfSome left (λ bytes. HasScript mode.Play bytes c steps) → IfSome left (λ bytes. HasStepAt bytes x.line)
 step_stops None c steps x at has = tt
 step_stops (Some bytes) c [] x at has = absurd (cc at)
 step_stops (Some bytes) c (y ∷ ys) x at has = inr (c, y, ys, has, ap (λ (s : Step). s.line) (same_step y x at))
@@ -78,8 +79,8 @@ step_stops (Some bytes) c (y ∷ ys) x at has = inr (c, y, ys, has, ap (λ (s : 
     same_step a b is = cc
 
 -- a run's promise is the call's
-pub soaked : (left : Option (List ℕ)) (reads reads' : ℕ) (x : Status) (c : Configuration) (made : List Step) (steps : Configuration → List Step) (entry exit : Told) (w w' : Written) → IfSome left (λ bytes. HasPlayable bytes c []) → made ≡ steps c
-    → HasRun c made (EndsIn Summary (played_call left x entry exit w w')) entry exit ⊎ HasNoRun (IsSizeStop (size_of c.geometry) entry.bytes) w w' x entry exit
+pub soaked : (left : Option (List ℕ)) (reads reads' : ℕ) (x : Status) (c : Configuration) (made : List Step) (steps : Configuration → List Step) (entry exit : Told) (w w' : Written) → IfSome left (λ bytes. HasScript mode.Play bytes c []) → made ≡ steps c
+    → HasRun mode.Play c made (EndsIn Summary (played_call left x entry exit w w')) entry exit ⊎ HasNoRun (IsSizeStop (size_of c.geometry) entry.bytes) w w' x entry exit
     → HasSoaked left steps (played_call left x entry exit w w') ⊎ HasNoRun (SoakStopsBy left reads reads' entry.bytes) w w' x entry exit
-soaked left reads reads' x c made steps entry exit w w' has drawn (inl run) = inl (c, has, subst (λ (xs : List Step). HasRun c xs (EndsIn Summary (played_call left x entry exit w w')) entry exit) drawn run)
-soaked left reads reads' x c made steps entry exit w w' has drawn (inr none) = inr (sized HasStepAt (λ d bytes. HasPlayable bytes d []) left reads reads' c w w' x entry exit has none)
+soaked left reads reads' x c made steps entry exit w w' has drawn (inl run) = inl (c, has, subst (λ (xs : List Step). HasRun mode.Play c xs (EndsIn Summary (played_call left x entry exit w w')) entry exit) drawn run)
+soaked left reads reads' x c made steps entry exit w w' has drawn (inr none) = inr (sized HasStepAt (λ d bytes. HasScript mode.Play bytes d []) left reads reads' c w w' x entry exit has none)

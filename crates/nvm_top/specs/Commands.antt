@@ -4,6 +4,8 @@ use Rattle.nv_streams.specs.Sink.{Written}
 use Rattle.nvm_flash.specs.block_config.Config.{Configuration}
 use Rattle.nvm_flash.specs.fls_model.Told.{Told, ToldBytes}
 use Rattle.nvm_flash.specs.promise_run.Call.{Call}
+use Rattle.nvm_script.specs.declared.script.Mode.{Mode}
+use Rattle.nvm_script.specs.declared.script.Mode.TheVariants as mode
 use Rattle.nvm_script.specs.declared.step.Step.{Step}
 use Rattle.nvm_words.specs.declared.words.CommandKind.{CommandKind}
 use Rattle.nvm_words.specs.declared.words.CommandKind.TheVariants.{Play, Run, Dump, Check, Soak, Uds}
@@ -15,8 +17,8 @@ use Rattle.nvm_top.specs.Causes.{HasCauses}
 use Rattle.nvm_top.specs.Dump.{DumpsBy, KeepsFlash}
 use Rattle.nvm_top.specs.Ends.{ChecksBy}
 use Rattle.nvm_top.specs.Output.{Writes}
-use Rattle.nvm_top.specs.Play.{IsBeforeAttach, IsBeforeStart, PlayStopsBy}
-use Rattle.nvm_top.specs.Promised.{HasNoRun, HasPromise, HasSoaked, played_call}
+use Rattle.nvm_top.specs.Play.{IsBeforeAttach, IsBeforeStart, StepsStopBy}
+use Rattle.nvm_top.specs.Promised.{HasNoRun, HasPromise, HasSoaked, call_by}
 use Rattle.nvm_top.specs.Soak.{SoakStopsBy}
 use Rattle.nvm_top.specs.Stop.{IsStop}
 use Rattle.nvm_top.specs.Uds.{HasAnswered, UdsStopsBy}
@@ -41,8 +43,11 @@ ended x left left' reads reads' written written' writes writes' entry exit =
     record { status = x; left = left; left_after = left'; read_faults = reads; read_faults_after = reads'; written = written; written_after = written'; write_faults = writes; write_faults_after = writes'; entry = entry; exit = exit }
 
 -- as a call of the promise
+abbrev pub call_in : Mode → Ended → Call
+call_in m e = call_by m e.left e.status e.entry e.exit e.written e.written_after
+
 abbrev pub call_of : Ended → Call
-call_of e = played_call e.left e.status e.entry e.exit e.written e.written_after
+call_of = call_in mode.Play
 
 abbrev pub IsCaused : Ended → Type 0
 IsCaused e = HasCauses e.status e.read_faults e.read_faults_after e.write_faults e.write_faults_after e.left_after
@@ -56,10 +61,17 @@ WritesBy IsEnd e = Writes IsEnd e.written e.written_after e.status
 abbrev pub StopsFor : (Option (List ℕ) → ℕ → ℕ → Option ToldBytes → Status → List (List ℕ) → Type 0) → Ended → Type 0
 StopsFor IsEnd e = HasNoRun (IsEnd e.left e.read_faults e.read_faults_after e.entry.bytes) e.written e.written_after e.status e.entry e.exit
 
-pub record KeepsPlay (e : Ended) : Type 0 where
-  pub promise : HasPromise (call_of e) ⊎ StopsFor PlayStopsBy e
+-- `play`, or `run`
+pub record KeepsSteps (m : Mode) (e : Ended) : Type 0 where
+  pub promise : HasPromise (call_in m e) ⊎ StopsFor (StepsStopBy m) e
   pub untouched : IsBeforeAttach e.status → e.exit ≡ e.entry
   pub causes : IsCaused e
+
+abbrev pub KeepsPlay : Ended → Type 0
+KeepsPlay = KeepsSteps mode.Play
+
+abbrev pub KeepsRunCommand : Ended → Type 0
+KeepsRunCommand = KeepsSteps mode.Run
 
 -- with the steps that are drawn for a configuration
 pub record KeepsSoak (steps : Configuration → List Step) (e : Ended) : Type 0 where
@@ -92,15 +104,15 @@ pub record IsRefused (why : Stop) (e : Ended) : Type 0 where
   pub causes : IsCaused e
 
 -- THE PROGRAM
--- words of no command, or of one that isn't served, call none
+-- words of no command call none
 abbrev pub KeepsCommand : Option CommandKind → Ended → Type 0
 KeepsCommand None e = IsRefused stop.BadWords e
 KeepsCommand (Some Play) e = KeepsPlay e
+KeepsCommand (Some Run) e = KeepsRunCommand e
 KeepsCommand (Some (Soak seed count)) e = KeepsSoak (λ c. soak c seed count) e
 KeepsCommand (Some Uds) e = KeepsUds e
 KeepsCommand (Some Check) e = KeepsCheck e
 KeepsCommand (Some Dump) e = KeepsDump e
-KeepsCommand (Some Run) e = IsRefused (stop.Unbuilt 0) e
 
 -- A CALL OF ONE COMMAND
 -- it serves these words alone, and refuses all others, as words of no command are

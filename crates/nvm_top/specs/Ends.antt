@@ -7,7 +7,7 @@ use Rattle.nvm_flash.specs.block_config.Reading.{meaning_of}
 use Rattle.nvm_flash.specs.block_config.declared.fault.ConfigFault.TheVariants.{Broken}
 use Rattle.nvm_script.specs.Script.{IsScript, IsFirstWrong, first_line, later_lines}
 use Rattle.nvm_script.specs.declared.step.Step.{Step}
-use Rattle.nvm_script.specs.declared.script.Mode.TheVariants.{Play}
+use Rattle.nvm_script.specs.declared.script.Mode.{Mode}
 use Rattle.nvm_top.specs.Input.{IsLonger, input_limit}
 use Rattle.nvm_top.specs.declared.status.Status.{Status}
 use Rattle.nvm_top.specs.declared.status.Status.TheVariants as status
@@ -25,18 +25,18 @@ pub record BreaksRule (bytes : List ℕ) (rule block : ℕ) : Type 0 where
   pub short : length bytes ≤ input_limit
   pub broken : meaning_of (first_line bytes) ≡ Err (Broken rule block)
 
--- and its later lines are steps
-abbrev pub HasStepsOf : Configuration → List ℕ → Type 0
-HasStepsOf c bytes = HasConfig bytes c × (steps : List Step) × IsScript c Play 2 [] (later_lines bytes) steps
+-- and its later lines are steps of this mode
+abbrev pub HasStepsOf : Mode → Configuration → List ℕ → Type 0
+HasStepsOf m c bytes = HasConfig bytes c × (steps : List Step) × IsScript c m 2 [] (later_lines bytes) steps
 
 -- this configuration, and these steps
-pub record HasPlayable (bytes : List ℕ) (c : Configuration) (steps : List Step) : Type 0 where
+pub record HasScript (m : Mode) (bytes : List ℕ) (c : Configuration) (steps : List Step) : Type 0 where
   pub config : HasConfig bytes c
-  pub script : IsScript c Play 2 [] (later_lines bytes) steps
+  pub script : IsScript c m 2 [] (later_lines bytes) steps
 
 -- and of its later lines this is the first that is wrong
-abbrev pub HasWrongLine : List ℕ → ℕ → Type 0
-HasWrongLine bytes number = (c : Configuration) × HasConfig bytes c × IsFirstWrong c Play 2 [] (later_lines bytes) number
+abbrev pub HasWrongLine : Mode → List ℕ → ℕ → Type 0
+HasWrongLine m bytes number = (c : Configuration) × HasConfig bytes c × IsFirstWrong c m 2 [] (later_lines bytes) number
 
 -- why the input isn't read, with its bytes, where they are told, with its faults before and after, and with the line of it: the
 -- first broken rule with its first block, a read that failed, or too many bytes

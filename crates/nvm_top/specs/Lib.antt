@@ -13,8 +13,10 @@ pub mod Status
 pub mod Stop
 pub mod Runs
 pub mod Promised
+pub mod Running
 pub mod Soak
 pub mod Stack
 pub mod Uds
 pub mod Worked
 pub use Rattle.nvm_flash.specs as nvm_flash
+pub use Rattle.nvm_script.specs as nvm_script

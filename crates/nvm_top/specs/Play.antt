@@ -1,10 +1,11 @@
--- How a run of `play` or `soak` stops before its start-up, each stop with its cause.
+-- How a call that works on a flash stops before its start-up, each stop with its cause.
 use Rattle.std.specs.Prelude.{◌≡◌, ◌≢◌, ◌⊎◌, ℕ, List, [], ◌∷◌, length, Option, IfSome}
 use Rattle.nvm_flash.specs.nv_base.Count.{Rose}
 use Rattle.nvm_flash.specs.nv_base.Geometry.{size_of}
 use Rattle.nvm_flash.specs.block_config.Config.{Configuration}
 use Rattle.nvm_flash.specs.fls_model.Told.{Told, ToldBytes}
 use Rattle.nvm_flash.specs.promise_run.Run.{LeavesAlone}
+use Rattle.nvm_script.specs.declared.script.Mode.{Mode}
 use Rattle.nvm_top.specs.declared.status.Status.{Status}
 use Rattle.nvm_top.specs.declared.status.Status.TheVariants as status
 use Rattle.nvm_top.specs.declared.stop.Stop.{Stop}
@@ -34,7 +35,6 @@ IsBeforeAttach status.BadConfig = Unit {0}
 IsBeforeAttach status.BadScript = Unit {0}
 IsBeforeAttach status.ReadFault = Unit {0}
 IsBeforeAttach status.TooLong = Unit {0}
-IsBeforeAttach status.Unbuilt = Unit {0}
 IsBeforeAttach _ = ⊥
 
 -- and before start-up
@@ -76,6 +76,6 @@ StopsBy IsWrong Has left reads reads' bytes status.BadScript lines = (number : �
 StopsBy IsWrong Has left reads reads' bytes status.WrongSize lines = (c : Configuration) × IfSome left (Has c) × NamesSize (size_of c.geometry) bytes lines
 StopsBy IsWrong Has left reads reads' bytes x lines = ReadsBy left reads reads' x lines
 
--- of `play`
-abbrev pub PlayStopsBy : (left : Option (List ℕ)) (reads reads' : ℕ) → Option ToldBytes → Status → List (List ℕ) → Type 0
-PlayStopsBy = StopsBy HasWrongLine HasStepsOf
+-- of `play`, or of `run`
+abbrev pub StepsStopBy : Mode → (left : Option (List ℕ)) (reads reads' : ℕ) → Option ToldBytes → Status → List (List ℕ) → Type 0
+StepsStopBy m = StopsBy (HasWrongLine m) (HasStepsOf m)

@@ -1,23 +1,26 @@
 -- The promise of a whole run, as a command keeps it.
-use Rattle.std.specs.Prelude.{◌≡◌, ◌≢◌, ◌≤◌, ◌++◌, ℕ, true, false, List, [], length, take, Option, None, IfSome, ◌∷◌}
+use Rattle.std.specs.Prelude.{◌≡◌, ◌≢◌, ◌≤◌, ◌++◌, ℕ, not, true, false, IsTrue, List, [], length, take, drop, Option, None, IfSome, ◌∷◌}
+use Rattle.std.specs.List.{list_all}
 use Rattle.nv_streams.specs.Sink.{Written, Puts, PutsPart}
 use Rattle.nvm_flash.specs.nv_base.Geometry.{size_of}
 use Rattle.nvm_flash.specs.block_config.Config.{Configuration}
 use Rattle.nvm_flash.specs.fls_model.Told.{Told}
+use Rattle.nvm_script.specs.declared.script.Mode.{Mode}
 use Rattle.nvm_script.specs.declared.script.Mode.TheVariants as mode
 use Rattle.nvm_script.specs.Cut.{cut_lines}
 use Rattle.nvm_script.specs.Printed.{history_lines}
 use Rattle.nvm_script.specs.Summary.{summary}
 use Rattle.script_walks.specs.Words.{Step}
+use Rattle.script_walks.specs.Callers.{asks_of, program_of, requests_of}
+use Rattle.script_walks.specs.Runs.{AskedAll, has_ended, is_found}
 use Rattle.script_walks.specs.Texts.{AreValues}
 use Rattle.nvm_flash.specs.block_machine.Words.{Entry}
 use Rattle.nvm_flash.specs.promise_blocks.OverDevice.{HasStarted}
-use Rattle.nvm_flash.specs.promise_run.Run.{Run, End, Whole, HasOrder, LeavesAlone, CutsExplain}
+use Rattle.nvm_flash.specs.promise_run.Run.{Run, Course, Played, Ran, End, Whole, FlashFault, Memory, HasOrder, LeavesAlone, CutsExplain}
 use Rattle.nvm_flash.specs.promise_run.Refusals.{RefusesAsAsked}
 use Rattle.nvm_flash.specs.block_machine.Steps.{after}
 use Rattle.nvm_flash.specs.promise_device.FlashRun.{TellsBytes, StartsSound, CountsAll}
 use Rattle.nvm_flash.specs.promise_run.Promise.{BeginsWell, Promise, making_of}
-use Rattle.nvm_flash.specs.promise_blocks.OverDevice.{HasStarted}
 use Rattle.nvm_flash.specs.promise_run.Completeness.{Completeness}
 use Rattle.nvm_flash.specs.promise_run.JobTurns.{job_turns}
 use Rattle.nvm_flash.specs.promise_run.Turns.{HasTurns}
@@ -26,16 +29,20 @@ use Rattle.nvm_top.specs.declared.status.Status.{Status}
 use Rattle.nvm_top.specs.declared.status.Status.TheVariants as status
 use Rattle.nvm_top.specs.declared.runs.RunText.{RunText}
 use Rattle.nvm_top.specs.declared.runs.RunText.TheVariants.{History, Summary}
-use Rattle.nvm_top.specs.Ends.{HasPlayable}
+use Rattle.nvm_top.specs.Ends.{HasScript}
 use Rattle.nvm_top.specs.Input.{input_limit}
 use Rattle.nvm_top.specs.Output.{Writes}
 use Rattle.nvm_top.specs.Play.{IsRightSize}
 use Rattle.nvm_top.specs.Status.{code_of_status}
 
--- a call of `play`
+-- a call of `play`, or of `run`
+abbrev pub call_by : Mode → Option (List ℕ) → Status → Told → Told → Written → Written → Call
+call_by m input x entry exit written written' =
+    record { mode = m; input = input; status = code_of_status x; entry = entry; exit = exit; written = written; written_after = written' }
+
+-- of `play`
 abbrev pub played_call : Option (List ℕ) → Status → Told → Told → Written → Written → Call
-played_call input x entry exit written written' =
-    record { mode = mode.Play; input = input; status = code_of_status x; entry = entry; exit = exit; written = written; written_after = written' }
+played_call = call_by mode.Play
 
 -- A RUN
 
@@ -46,6 +53,22 @@ pub record EndsAt (r : Run) : Type 0 where
   pub off : r.flash.exit.off ≡ true → (after r.configuration r.history).off ≡ true
   pub plan : r.flash.exit.off ≡ false → r.flash.exit.planning.plan ≡ None
 
+-- Behind one start-up each caller asked for what its program says, from its first request on, and at the end of the script for all
+-- of it. Then nothing is pending or the power is off, unless memory was wanting; and no start-up failed.
+pub record FollowsCallers (r : Run) (steps : List Step) : Type 0 where
+  pub one_start : IsTrue (list_all (λ e. not (is_found e)) (drop 1 r.history))
+  pub asks : (caller : ℕ) → asks_of caller r.history ≡ take (length (asks_of caller r.history)) (requests_of r.configuration (program_of caller steps))
+  pub all : r.end ≡ Whole → (caller : ℕ) → AskedAll r.configuration steps r.history caller
+  pub ends : r.end ≢ Memory → IsTrue (has_ended r.configuration r.history)
+  pub no_fault : r.end ≢ FlashFault
+
+-- A run follows its script over any flash: its history is a walk of the steps of `play`. What the waits and the stores of callers came
+-- to is known where the flash tells its bytes: the promise says it.
+abbrev pub FollowsScript : Run → Course → List Entry → Type 0
+FollowsScript r (Played made pieces left) h = HasOrder r h
+FollowsScript r (Ran steps looks) [] = HasOrder r []
+FollowsScript r (Ran steps looks) (e ∷ es) = FollowsCallers r steps
+
 -- What a run keeps over any flash: it follows its script, which explains its refused copies and its power cuts, of each of which
 -- so much was done as was planned; the flash counted its operations, but those of which a planned cut let nothing be done; it
 -- had a size that it may have, and ends as it should, but where no start-up was made; and where nothing fails the run ends well.
@@ -54,7 +77,7 @@ pub record EndsAt (r : Run) : Type 0 where
 -- The numbers and bytes of its history are those of a program, as its text needs them. Over a flash that tells its bytes it begins
 -- well, whatever its image; and from a sound image on each Post is paid by its faults since its Pick, and the run keeps the promise.
 pub record KeepsRun (r : Run) : Type 0 where
-  pub order : HasOrder r r.history
+  pub order : FollowsScript r r.course r.history
   pub size : HasStarted r.history → IsRightSize (size_of r.configuration.geometry) r.flash.entry.bytes
   pub refusals : (id : ℕ) → RefusesAsAsked r.configuration r.course r.history id
   pub off : CutsExplain r.course r.history r.cuts r.flash.entry.cuts r.flash.exit.cuts
@@ -68,9 +91,15 @@ pub record KeepsRun (r : Run) : Type 0 where
 
 -- THE WHOLE CALL
 
+-- one player made the steps of `play`, and callers those of `run`
+abbrev pub IsCourseIn : Mode → Course → Type 0
+IsCourseIn mode.Play (Played made pieces left) = Unit {0}
+IsCourseIn mode.Run (Ran steps looks) = Unit {0}
+IsCourseIn m course = ⊥
+
 -- there is a run that is this call's, of an input that isn't too long, and it keeps that
 abbrev pub HasPromise : Call → Type 0
-HasPromise call = (r : Run) × IsRunOf call r × IfSome call.input (λ bytes. length bytes ≤ input_limit) × KeepsRun r
+HasPromise call = (r : Run) × IsRunOf call r × IsCourseIn call.mode r.course × IfSome call.input (λ bytes. length bytes ≤ input_limit) × KeepsRun r
 
 -- no run was begun: the line of a stop was written, at want of memory none, and the flash is left alone
 pub record HasNoRun (IsEnd : Status → List (List ℕ) → Type 0) (written written' : Written) (x : Status) (entry exit : Told) : Type 0 where
@@ -79,11 +108,11 @@ pub record HasNoRun (IsEnd : Status → List (List ℕ) → Type 0) (written wri
 
 -- FROM THE ATTACH ON
 
--- a run of these steps over one flash, from its attach on, which ends as a command tells it
-pub record HasRun (c : Configuration) (steps : List Step) (Tells : Run → Type 0) (entry exit : Told) : Type 0 where
+-- a run of these steps in this mode over one flash, from its attach on, which ends as a command tells it
+pub record HasRun (m : Mode) (c : Configuration) (steps : List Step) (Tells : Run → Type 0) (entry exit : Told) : Type 0 where
   pub run : Run
   pub configuration : run.configuration ≡ c
-  pub course : IsCourseOf mode.Play steps run.course
+  pub course : IsCourseOf m steps run.course
   pub at_entry : run.flash.entry ≡ entry
   pub at_exit : run.flash.exit ≡ exit
   pub beside : run.beside ≡ None
@@ -122,4 +151,4 @@ WritesText meant entries lines written written' x = (x ≡ meant) × Puts writte
 
 -- there is a run of these steps that is this call's, and it keeps the promise
 abbrev pub HasSoaked : Option (List ℕ) → (Configuration → List Step) → Call → Type 0
-HasSoaked left steps call = (c : Configuration) × IfSome left (λ bytes. HasPlayable bytes c []) × HasRun c (steps c) (λ r. EndsWith [] (soak_lines r.end r.history) call r.end) call.entry call.exit
+HasSoaked left steps call = (c : Configuration) × IfSome left (λ bytes. HasScript mode.Play bytes c []) × HasRun mode.Play c (steps c) (λ r. EndsWith [] (soak_lines r.end r.history) call r.end) call.entry call.exit

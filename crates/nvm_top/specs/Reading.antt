@@ -6,11 +6,15 @@ use Rattle.nvm_flash.specs.block_config.Reading.{meaning_of}
 use Rattle.nvm_flash.specs.block_config.declared.fault.ConfigFault.TheVariants.{Broken}
 use Rattle.nvm_flash.specs.fls_model.Told.{Told}
 use Rattle.nvm_script.specs.Script.{IsFirstWrong}
-use Rattle.nvm_script.specs.declared.script.Mode.TheVariants.{Play}
+use Rattle.nvm_script.specs.Played.{ArePlayed}
+use Rattle.nvm_script.specs.declared.script.Mode.{Mode}
+use Rattle.nvm_script.specs.declared.script.Mode.TheVariants as mode
+use Rattle.nvm_script.specs.declared.step.Step.{Step}
+use Rattle.script_callers.specs.RunScripts.{AreRun}
 use Rattle.nvm_top.specs.Ends.{HasWrongLine, BreaksRule}
 use Rattle.nvm_top.specs.Input.{IsLonger, input_limit}
 use Rattle.nvm_top.specs.declared.stop.Stop.{Stop}
-use Rattle.nvm_top.specs.declared.stop.Stop.TheVariants.{BadWords, BadConfig, BadScript, ReadFault, TooLong, Unbuilt, FlashFault, Memory}
+use Rattle.nvm_top.specs.declared.stop.Stop.TheVariants.{BadWords, BadConfig, BadScript, ReadFault, TooLong, FlashFault, Memory}
 
 -- why the input isn't read to its end, with its bytes and with its faults before and after
 abbrev pub IsInputStop : Option (List ℕ) → ℕ → ℕ → Stop → Type 0
@@ -25,18 +29,23 @@ IsConfigStop line (BadConfig rule block) = meaning_of line ≡ Err (Broken rule 
 IsConfigStop line Memory = Unit {0}
 IsConfigStop line _ = ⊥
 
--- why the later lines are no steps: the first wrong line
-abbrev pub IsLineStop : Configuration → List (List ℕ) → Stop → Type 0
-IsLineStop c lines (BadScript line) = IsFirstWrong c Play 2 [] lines line
-IsLineStop c lines Memory = Unit {0}
-IsLineStop c lines _ = ⊥
+-- the steps of a script of this mode: one player can make them, or callers beside each other can
+abbrev pub AreMadeIn : Mode → Configuration → List Step → Type 0
+AreMadeIn mode.Play c steps = ArePlayed c steps
+AreMadeIn mode.Run c steps = AreRun c steps
 
--- why an input isn't played
-abbrev pub IsPlayableStop : List ℕ → Stop → Type 0
-IsPlayableStop bytes (BadConfig rule block) = BreaksRule bytes rule block
-IsPlayableStop bytes (BadScript line) = HasWrongLine bytes line
-IsPlayableStop bytes Memory = Unit {0}
-IsPlayableStop bytes _ = ⊥
+-- why the later lines are no steps of this mode: the first wrong line
+abbrev pub IsLineStop : Mode → Configuration → List (List ℕ) → Stop → Type 0
+IsLineStop m c lines (BadScript line) = IsFirstWrong c m 2 [] lines line
+IsLineStop m c lines Memory = Unit {0}
+IsLineStop m c lines _ = ⊥
+
+-- why an input is no script of this mode
+abbrev pub IsScriptStop : Mode → List ℕ → Stop → Type 0
+IsScriptStop m bytes (BadConfig rule block) = BreaksRule bytes rule block
+IsScriptStop m bytes (BadScript line) = HasWrongLine m bytes line
+IsScriptStop m bytes Memory = Unit {0}
+IsScriptStop m bytes _ = ⊥
 
 -- why `check` stops, with the bytes of its input, where they are told
 abbrev pub IsCheckStop : Option (List ℕ) → Stop → Type 0
@@ -52,9 +61,9 @@ abbrev pub IsReadStop : (List ℕ → ℕ → Type 0) → Option (List ℕ) → 
 IsReadStop IsWrong left (BadScript line) = IfSome left (λ bytes. IsWrong bytes line)
 IsReadStop IsWrong left why = IsCheckStop left why
 
--- of `play`
-abbrev pub IsPlayStop : Option (List ℕ) → Stop → Type 0
-IsPlayStop = IsReadStop HasWrongLine
+-- of `play`, or of `run`
+abbrev pub IsStepsStop : Mode → Option (List ℕ) → Stop → Type 0
+IsStepsStop m = IsReadStop (HasWrongLine m)
 
 -- a call stops before its flash is attached
 abbrev pub IsEarly : Stop → Type 0
@@ -63,7 +72,6 @@ IsEarly (BadConfig rule block) = Unit {0}
 IsEarly (BadScript line) = Unit {0}
 IsEarly ReadFault = Unit {0}
 IsEarly TooLong = Unit {0}
-IsEarly (Unbuilt line) = Unit {0}
 IsEarly Memory = Unit {0}
 IsEarly _ = ⊥
 

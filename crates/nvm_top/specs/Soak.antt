@@ -4,8 +4,9 @@ use Rattle.nvm_flash.specs.block_config.Config.{Configuration}
 use Rattle.nvm_flash.specs.fls_model.Told.{ToldBytes}
 use Rattle.nvm_words.specs.declared.words.CommandKind.{CommandKind}
 use Rattle.nvm_words.specs.declared.words.CommandKind.TheVariants.{Soak}
+use Rattle.nvm_script.specs.declared.script.Mode.TheVariants as mode
 use Rattle.nvm_script.specs.declared.step.Step.{Step}
-use Rattle.nvm_top.specs.Ends.{HasPlayable, HasWrongLine}
+use Rattle.nvm_top.specs.Ends.{HasScript, HasWrongLine}
 use Rattle.nvm_top.specs.Play.{StopsBy}
 use Rattle.nvm_top.specs.Reading.{IsReadStop}
 use Rattle.nvm_top.specs.declared.status.Status.{Status}
@@ -21,7 +22,7 @@ is_soak _ = false
 
 -- of its later lines this is the first that is wrong; or none is, and this is the first that is a step
 abbrev pub HasStepAt : List ℕ → ℕ → Type 0
-HasStepAt bytes number = HasWrongLine bytes number ⊎ ((c : Configuration) × (x : Step) × (xs : List Step) × HasPlayable bytes c (x ∷ xs) × (x.line ≡ number))
+HasStepAt bytes number = HasWrongLine mode.Play bytes number ⊎ ((c : Configuration) × (x : Step) × (xs : List Step) × HasScript mode.Play bytes c (x ∷ xs) × (x.line ≡ number))
 
 -- why it stops before its flash is attached, with the bytes of its input, where they are told
 abbrev pub IsSoakStop : Option (List ℕ) → Stop → Type 0
@@ -31,4 +32,4 @@ IsSoakStop = IsReadStop HasStepAt
 
 -- why it begins no run
 abbrev pub SoakStopsBy : (left : Option (List ℕ)) (reads reads' : ℕ) → Option ToldBytes → Status → List (List ℕ) → Type 0
-SoakStopsBy = StopsBy HasStepAt (λ c bytes. HasPlayable bytes c [])
+SoakStopsBy = StopsBy HasStepAt (λ c bytes. HasScript mode.Play bytes c [])

@@ -4,7 +4,7 @@ use Rattle.std.specs.Fmt.{decimal}
 use Rattle.nvm_top.specs.declared.status.Status.{Status}
 use Rattle.nvm_top.specs.declared.status.Status.TheVariants as status
 use Rattle.nvm_top.specs.declared.stop.Stop.{Stop}
-use Rattle.nvm_top.specs.declared.stop.Stop.TheVariants.{BadWords, BadConfig, BadScript, ReadFault, TooLong, Unbuilt, WrongSize, FlashFault, HistoryFull, Memory, PowerOff}
+use Rattle.nvm_top.specs.declared.stop.Stop.TheVariants.{BadWords, BadConfig, BadScript, ReadFault, TooLong, WrongSize, FlashFault, HistoryFull, Memory, PowerOff}
 
 abbrev pub status_of : Stop → Status
 status_of BadWords = status.BadWords
@@ -12,7 +12,6 @@ status_of (BadConfig rule block) = status.BadConfig
 status_of (BadScript line) = status.BadScript
 status_of ReadFault = status.ReadFault
 status_of TooLong = status.TooLong
-status_of (Unbuilt line) = status.Unbuilt
 status_of (WrongSize found need) = status.WrongSize
 status_of FlashFault = status.FlashFault
 status_of HistoryFull = status.HistoryFull
@@ -26,7 +25,6 @@ line_of (BadConfig rule block) = codes "config rule " ++ (decimal rule ++ (codes
 line_of (BadScript line) = codes "script " ++ (decimal line ++ codes "\n")
 line_of ReadFault = codes "input fault\n"
 line_of TooLong = codes "input too long\n"
-line_of (Unbuilt line) = codes "unbuilt " ++ (decimal line ++ codes "\n")
 line_of (WrongSize found need) = codes "size " ++ (decimal found ++ (codes " " ++ (decimal need ++ codes "\n")))
 line_of FlashFault = codes "flash fault\n"
 line_of HistoryFull = codes "history full\n"

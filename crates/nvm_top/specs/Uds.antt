@@ -11,6 +11,7 @@ use Rattle.nvm_flash.specs.promise_run.Run.{Run, End, Whole, HistoryFull, Memory
 use Rattle.nvm_script.specs.Lines.{entry_line, end_line}
 use Rattle.nvm_script.specs.Printed.{history_lines}
 use Rattle.nvm_script.specs.Script.{later_lines}
+use Rattle.nvm_script.specs.declared.script.Mode.TheVariants as mode
 use Rattle.script_player.specs.Requests.{AreOfRequests, ServesRequests}
 use Rattle.script_player.specs.uds_gateway.Answers.{uds}
 use Rattle.script_player.specs.uds_gateway.declared.stop.ServeStop.{ServeStop}
@@ -160,7 +161,7 @@ TellsRequests c requests call x r = TellsNone call r ⊎ TellsServed c requests 
 
 -- a run of steps that ask for requests and make turns, which the call tells
 abbrev pub HasServing : Configuration → List (List ℕ) → Call → Status → Type 0
-HasServing c requests call x = (steps : List Step) × AreOfRequests steps × HasRun c steps (TellsRequests c requests call x) call.entry call.exit
+HasServing c requests call x = (steps : List Step) × AreOfRequests steps × HasRun mode.Play c steps (TellsRequests c requests call x) call.entry call.exit
 
 -- THE WHOLE CALL
 

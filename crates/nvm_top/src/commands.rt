@@ -2,13 +2,14 @@
 ghost use Rattle.std.specs.Prelude.{map, string_bytes};
 ghost use Rattle.nvm_top.specs.Commands.{ended, KeepsCommand, KeepsOnly};
 ghost use Rattle.nvm_top.specs.Soak.{is_soak};
-ghost use Rattle.nvm_words.specs.Words.{command_of, is_check, is_dump, is_play, is_uds};
+ghost use Rattle.nvm_words.specs.Words.{command_of, is_check, is_dump, is_play, is_run, is_uds};
 
 use crate::Status;
 use crate::check::check;
 use crate::dump::dump;
 use crate::output::report;
 use crate::play::play;
+use crate::run::run;
 use crate::soak::soak;
 use crate::stop::Stop;
 use crate::uds::uds;
@@ -19,10 +20,10 @@ use std::alloc::{AllocError, Global};
 use std::sync::Wait;
 use std::thread::Threads;
 
-/// Runs the command that the words name over the input, the output and the flash, and gives the flash back. It serves `play`,
-/// `soak`, `check`, `dump` and `uds`; of `run` the answer is `Unbuilt`, and no input is read.
+/// Runs the command that the words name over the input, the output and the flash, and gives the flash back. `run` may wait, and
+/// so this call may too.
 pub fn command<R: Threads + Wait + Sync, S: Source, K: Sink, F: Flash>(
-    _rt: &R,
+    rt: &R,
     alloc: Global,
     words: &[String],
     input: &mut S,
@@ -34,13 +35,13 @@ pub fn command<R: Threads + Wait + Sync, S: Source, K: Sink, F: Flash>(
     match command_of(alloc, words) {
         Ok(None) => (report(alloc, Stop::BadWords, output), flash),
         Ok(Some(CommandKind::Play)) => play(alloc, input, output, flash),
+        Ok(Some(CommandKind::Run)) => run(rt, alloc, input, output, flash),
         Ok(Some(CommandKind::Soak { seed, count })) => {
             soak(alloc, seed, count, input, output, flash)
         }
         Ok(Some(CommandKind::Check)) => (check(alloc, input, output), flash),
         Ok(Some(CommandKind::Dump)) => dump(alloc, input, output, flash),
         Ok(Some(CommandKind::Uds)) => uds(alloc, input, output, flash),
-        Ok(Some(_)) => (report(alloc, Stop::Unbuilt { line: 0 }, output), flash),
         Err(AllocError) => (Status::Memory, flash),
     }
 }
@@ -57,6 +58,25 @@ pub fn play_command<S: Source, K: Sink, F: Flash>(
 {
     match command_of(alloc, words) {
         Ok(Some(CommandKind::Play)) => play(alloc, input, output, flash),
+        Ok(_) => (report(alloc, Stop::BadWords, output), flash),
+        Err(AllocError) => (Status::Memory, flash),
+    }
+}
+
+/// Runs the callers of the input beside each other on the flash, each in a thread of its own, and writes their one history. It
+/// waits for them.
+pub fn run_command<R: Threads + Wait + Sync, S: Source, K: Sink, F: Flash>(
+    rt: &R,
+    alloc: Global,
+    words: &[String],
+    input: &mut S,
+    output: &mut K,
+    flash: F,
+) -> (Status, F)
+    ensures { KeepsOnly is_run (command_of (map string_bytes words.now)) (ended result.0 (S.left input.old) (S.left input.new) (S.faults input.old) (S.faults input.new) (K.written output.old) (K.written output.new) (K.faults output.old) (K.faults output.new) (F.told flash) (F.told result.1)) }
+{
+    match command_of(alloc, words) {
+        Ok(Some(CommandKind::Run)) => run(rt, alloc, input, output, flash),
         Ok(_) => (report(alloc, Stop::BadWords, output), flash),
         Err(AllocError) => (Status::Memory, flash),
     }

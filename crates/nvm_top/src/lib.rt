@@ -7,6 +7,7 @@
 
 mod answers;
 mod attach;
+mod callers;
 mod check;
 mod commands;
 mod configuration;
@@ -19,8 +20,9 @@ mod made;
 mod measures;
 mod output;
 mod play;
-mod playable;
+mod run;
 mod runs;
+mod script;
 mod served;
 mod soak;
 mod stack;
@@ -30,7 +32,9 @@ mod uds;
 mod values;
 mod worked;
 
-pub use commands::{check_command, command, dump_command, play_command, soak_command, uds_command};
+pub use commands::{
+    check_command, command, dump_command, play_command, run_command, soak_command, uds_command,
+};
 pub use nvm_flash;
 pub use status::Status;
 pub use worked::play_with_room;

@@ -7,7 +7,7 @@ ghost use Rattle.nvm_top.specs.Flashes.{WereMade};
 ghost use Rattle.nvm_top.specs.Play.{IsRightSize};
 
 use crate::flashes::Flashes;
-use crate::playable::Playable;
+use crate::script::Script;
 use crate::stop::Stop;
 use nvm_flash::memif::MemDevice;
 use script_player::{PlainStack, StepFault, cuts_of, make_steps};
@@ -23,16 +23,16 @@ pub struct Made<D: MemDevice> {
 /// Makes steps on the stack of a configuration, from its first start-up on.
 pub fn make_run<P: Flashes>(
     alloc: Global,
-    playable: Playable,
+    script: Script,
     handed: P,
 ) -> Result<Made<P::Device>, (Stop, P)>
-    requires origin { P.is_origin playable.config (P.told handed) (cuts_of playable.steps) }
-    requires played { ArePlayed playable.config playable.steps }
-    ensures made { IfOk result (λ m. WereMade P.Device.told P.Device.clock P.before playable.config (cuts_of playable.steps) playable.steps m.end m.stack) }
-    ensures size { IfOk result (λ _. IsRightSize (size_of playable.config.geometry) (P.told handed).flash.bytes) }
-    ensures stopped { IfErr result (λ e. P.stops playable.config (P.told handed) (P.told e.1) e.0) }
+    requires origin { P.is_origin script.config (P.told handed) (cuts_of script.steps) }
+    requires played { ArePlayed script.config script.steps }
+    ensures made { IfOk result (λ m. WereMade P.Device.told P.Device.clock P.before script.config (cuts_of script.steps) script.steps m.end m.stack) }
+    ensures size { IfOk result (λ _. IsRightSize (size_of script.config.geometry) (P.told handed).flash.bytes) }
+    ensures stopped { IfErr result (λ e. P.stops script.config (P.told handed) (P.told e.1) e.0) }
 {
-    let Playable { config, steps } = playable;
+    let Script { config, steps } = script;
     let blocks = config.blocks();
     match handed.start(alloc, config, cuts_of(&steps)) {
         Ok(stack) => {

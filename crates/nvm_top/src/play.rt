@@ -6,20 +6,21 @@ ghost use Rattle.nvm_flash.specs.Made.{IsOrigin};
 ghost use Rattle.nvm_script.specs.Played.{ArePlayed};
 ghost use Rattle.script_player.specs.Made.{cuts_of};
 ghost use Rattle.nvm_top.specs.Causes.{HasCauses};
-ghost use Rattle.nvm_top.specs.Play.{IsBeforeAttach, IsSizeStop, PlayStopsBy};
+ghost use Rattle.nvm_top.specs.Play.{IsBeforeAttach, IsSizeStop, StepsStopBy};
 ghost use Rattle.nvm_top.specs.Promised.{EndsIn, HasNoRun, HasPromise, HasRun, played_call};
 
 use crate::Status;
 use crate::flashes::Flashes;
 use crate::made::{Made, make_run};
 use crate::output::report;
-use crate::playable::{Playable, read_playable};
 use crate::runs::{RunText, stop_of, write_text};
+use crate::script::{Script, take_script};
 use crate::stack::OneFlash;
 use crate::values::history_values;
 use nv_streams::{Sink, Source};
 use nvm_flash::fee_core::Origin;
 use nvm_flash::fls_model::Flash;
+use nvm_script::Mode;
 use std::alloc::Global;
 use std::marker::{Brand, PhantomData};
 
@@ -31,12 +32,12 @@ pub(crate) fn play<S: Source, K: Sink, F: Flash>(
     flash: F,
 ) -> (Status, F)
     ensures promise { HasPromise (played_call (S.left input.old) result.0 (F.told flash) (F.told result.1) (K.written output.old) (K.written output.new))
-        ⊎ HasNoRun (PlayStopsBy (S.left input.old) (S.faults input.old) (S.faults input.new) (F.told flash).bytes) (K.written output.old) (K.written output.new) result.0 (F.told flash) (F.told result.1) }
+        ⊎ HasNoRun (StepsStopBy Mode.Play (S.left input.old) (S.faults input.old) (S.faults input.new) (F.told flash).bytes) (K.written output.old) (K.written output.new) result.0 (F.told flash) (F.told result.1) }
     ensures causes { HasCauses result.0 (S.faults input.old) (S.faults input.new) (K.faults output.old) (K.faults output.new) (S.left input.new) }
     ensures untouched { IsBeforeAttach result.0 → F.told result.1 ≡ F.told flash }
 {
-    match read_playable(alloc, input) {
-        Ok(playable) => play_flash(alloc, RunText::History, playable, output, flash),
+    match take_script(alloc, Mode::Play, input) {
+        Ok(script) => play_flash(alloc, RunText::History, script, output, flash),
         Err(stop) => (report(alloc, stop, output), flash),
     }
 }
@@ -45,33 +46,33 @@ pub(crate) fn play<S: Source, K: Sink, F: Flash>(
 pub(crate) fn play_flash<K: Sink, F: Flash>(
     alloc: Global,
     text: RunText,
-    playable: Playable,
+    script: Script,
     output: &mut K,
     flash: F,
 ) -> (Status, F)
-    requires played { ArePlayed playable.config playable.steps }
+    requires played { ArePlayed script.config script.steps }
     ensures promise { (input : Option (List ℕ))
-        → HasRun playable.config playable.steps (EndsIn text (played_call input result.0 (F.told flash) (F.told result.1) (K.written output.old) (K.written output.new))) (F.told flash) (F.told result.1)
-        ⊎ HasNoRun (IsSizeStop (size_of playable.config.geometry) (F.told flash).bytes) (K.written output.old) (K.written output.new) result.0 (F.told flash) (F.told result.1) }
+        → HasRun Mode.Play script.config script.steps (EndsIn text (played_call input result.0 (F.told flash) (F.told result.1) (K.written output.old) (K.written output.new))) (F.told flash) (F.told result.1)
+        ⊎ HasNoRun (IsSizeStop (size_of script.config.geometry) (F.told flash).bytes) (K.written output.old) (K.written output.new) result.0 (F.told flash) (F.told result.1) }
     ensures late { IsBeforeAttach result.0 → ⊥ }
     ensures write_fault { result.0 ≡ Status.WriteFault → Rose (K.faults output.old) (K.faults output.new) }
 {
-    play_steps::<K, F, Brand>(alloc, text, playable, output, flash)
+    play_steps::<K, F, Brand>(alloc, text, script, output, flash)
 }
 
 // So over the stack of a device of this origin.
 fn play_steps<K: Sink, F: Flash, O: Origin>(
     alloc: Global,
     text: RunText,
-    playable: Playable,
+    script: Script,
     output: &mut K,
     flash: F,
 ) -> (Status, F)
-    requires origin { IsOrigin playable.config (F.told flash) (cuts_of playable.steps) O.making O.entry }
-    requires played { ArePlayed playable.config playable.steps }
+    requires origin { IsOrigin script.config (F.told flash) (cuts_of script.steps) O.making O.entry }
+    requires played { ArePlayed script.config script.steps }
     ensures promise { (input : Option (List ℕ))
-        → HasRun playable.config playable.steps (EndsIn text (played_call input result.0 (F.told flash) (F.told result.1) (K.written output.old) (K.written output.new))) (F.told flash) (F.told result.1)
-        ⊎ HasNoRun (IsSizeStop (size_of playable.config.geometry) (F.told flash).bytes) (K.written output.old) (K.written output.new) result.0 (F.told flash) (F.told result.1) }
+        → HasRun Mode.Play script.config script.steps (EndsIn text (played_call input result.0 (F.told flash) (F.told result.1) (K.written output.old) (K.written output.new))) (F.told flash) (F.told result.1)
+        ⊎ HasNoRun (IsSizeStop (size_of script.config.geometry) (F.told flash).bytes) (K.written output.old) (K.written output.new) result.0 (F.told flash) (F.told result.1) }
     ensures late { IsBeforeAttach result.0 → ⊥ }
     ensures write_fault { result.0 ≡ Status.WriteFault → Rose (K.faults output.old) (K.faults output.new) }
 {
@@ -79,7 +80,7 @@ fn play_steps<K: Sink, F: Flash, O: Origin>(
         flash,
         origin: PhantomData,
     };
-    match make_run(alloc, playable, handed) {
+    match make_run(alloc, script, handed) {
         Ok(Made { end, stack }) => {
             let history = stack.stack().history();
             history_values(history);

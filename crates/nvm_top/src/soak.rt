@@ -5,7 +5,7 @@ ghost use Rattle.nvm_flash.specs.nv_base.Count.{Rose};
 ghost use Rattle.nvm_script.specs.Played.{ArePlayed};
 ghost use Rattle.script_soak.specs.Soak.{soak};
 ghost use Rattle.nvm_top.specs.Causes.{HasCauses};
-ghost use Rattle.nvm_top.specs.Ends.{HasPlayable};
+ghost use Rattle.nvm_top.specs.Ends.{HasScript};
 ghost use Rattle.nvm_top.specs.Play.{IsBeforeAttach};
 ghost use Rattle.nvm_top.specs.Promised.{HasNoRun, HasSoaked, played_call};
 ghost use Rattle.nvm_top.specs.Reading.{IsEarly};
@@ -14,11 +14,12 @@ ghost use Rattle.nvm_top.specs.Soak.{IsSoakStop, SoakStopsBy};
 use crate::Status;
 use crate::output::report;
 use crate::play::play_flash;
-use crate::playable::{Playable, read_playable};
 use crate::runs::RunText;
+use crate::script::{Script, take_script};
 use crate::stop::Stop;
 use nv_streams::{Sink, Source};
 use nvm_flash::fls_model::Flash;
+use nvm_script::Mode;
 use script_soak::soak_steps;
 use std::alloc::{AllocError, Global};
 
@@ -38,7 +39,7 @@ pub(crate) fn soak<S: Source, K: Sink, F: Flash>(
     ensures untouched { IsBeforeAttach result.0 → F.told result.1 ≡ F.told flash }
 {
     match read_soaked(alloc, seed, count, input) {
-        Ok(playable) => play_flash(alloc, RunText::Summary, playable, output, flash),
+        Ok(script) => play_flash(alloc, RunText::Summary, script, output, flash),
         Err(stop) => (report(alloc, stop, output), flash),
     }
 }
@@ -50,9 +51,9 @@ fn read_soaked<S: Source>(
     seed: u32,
     count: u32,
     input: &mut S,
-) -> Result<Playable, Stop>
+) -> Result<Script, Stop>
     requires { count < u32.MAX }
-    ensures config { IfOk result (λ p. IfSome (S.left input.old) (λ bytes. HasPlayable bytes p.config [])) }
+    ensures config { IfOk result (λ p. IfSome (S.left input.old) (λ bytes. HasScript Mode.Play bytes p.config [])) }
     ensures steps { IfOk result (λ p. p.steps ≡ soak p.config seed count) }
     ensures played { IfOk result (λ p. ArePlayed p.config p.steps) }
     ensures end { OnOk result (IsAtEnd (S.left input.new)) }
@@ -60,12 +61,12 @@ fn read_soaked<S: Source>(
     ensures early { IfErr result IsEarly }
     ensures read_fault { result ≡ Err Stop.ReadFault → Rose (S.faults input.old) (S.faults input.new) }
 {
-    let Playable { config, steps } = read_playable(alloc, input)?;
+    let Script { config, steps } = take_script(alloc, Mode::Play, input)?;
     if let Some(step) = steps.get(0) {
         return Err(Stop::BadScript { line: step.line });
     }
     match soak_steps(alloc, &config, seed, count) {
-        Ok(steps) => Ok(Playable { config, steps }),
+        Ok(steps) => Ok(Script { config, steps }),
         Err(AllocError) => Err(Stop::Memory),
     }
 }

@@ -2,7 +2,7 @@
 ghost use Rattle.std.specs.Prelude.{◌≡◌};
 ghost use Rattle.nvm_top.specs.Status.{code_of_status};
 
-/// How a command ends. `Unbuilt` is temporary: words that this program doesn't serve yet.
+/// How a command ends.
 #[derive(Clone, Copy)]
 pub enum Status {
     Ok,
@@ -16,12 +16,11 @@ pub enum Status {
     WrongSize,
     TooLong,
     HistoryFull,
-    Unbuilt,
     PowerOff,
 }
 
 impl Status {
-    /// The exit status of the program: 0 for Ok, 15 for PowerOff, and 2 to 12 for the others.
+    /// The exit status of the program: 0 for Ok, 15 for PowerOff, and 2 to 11 for the others.
     pub fn code(self) -> u8
         ensures { result ≡ code_of_status self }
     {

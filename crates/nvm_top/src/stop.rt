@@ -6,7 +6,7 @@ use crate::Status;
 use std::alloc::{AllocError, Global};
 
 /// Why a command stops: its words are of no command, its first line breaks a rule, a line is no step, its input failed
-/// or is too long or isn't served, the flash failed or has a wrong size, the history has no room, want of memory, or the
+/// or is too long, the flash failed or has a wrong size, the history has no room, want of memory, or the
 /// power went off.
 #[derive(Clone, Copy, PartialEq, Eq)]
 pub enum Stop {
@@ -15,7 +15,6 @@ pub enum Stop {
     BadScript { line: u32 },
     ReadFault,
     TooLong,
-    Unbuilt { line: u32 },
     WrongSize { found: u64, need: u64 },
     FlashFault,
     HistoryFull,
@@ -44,7 +43,6 @@ impl Stop {
             Stop::BadScript { .. } => Status::BadScript,
             Stop::ReadFault => Status::ReadFault,
             Stop::TooLong => Status::TooLong,
-            Stop::Unbuilt { .. } => Status::Unbuilt,
             Stop::WrongSize { .. } => Status::WrongSize,
             Stop::FlashFault => Status::FlashFault,
             Stop::HistoryFull => Status::HistoryFull,
@@ -65,7 +63,6 @@ impl Stop {
             Stop::BadScript { line } => format!(in alloc; "script {line}\n"),
             Stop::ReadFault => String::from_str(alloc, "input fault\n"),
             Stop::TooLong => String::from_str(alloc, "input too long\n"),
-            Stop::Unbuilt { line } => format!(in alloc; "unbuilt {line}\n"),
             Stop::WrongSize { found, need } => format!(in alloc; "size {found} {need}\n"),
             Stop::FlashFault => String::from_str(alloc, "flash fault\n"),
             Stop::HistoryFull => String::from_str(alloc, "history full\n"),

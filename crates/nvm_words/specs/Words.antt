@@ -47,6 +47,10 @@ abbrev pub is_play : Option CommandKind → Bool
 is_play (Some Play) = true
 is_play _ = false
 
+abbrev pub is_run : Option CommandKind → Bool
+is_run (Some Run) = true
+is_run _ = false
+
 abbrev pub is_check : Option CommandKind → Bool
 is_check (Some Check) = true
 is_check _ = false

@@ -11,6 +11,7 @@ use Rattle.nvm_top.specs.nvm_flash.promise_run.Completeness.{IsCalm}
 use Rattle.nvm_top.specs.nvm_flash.promise_run.Promise.{making_of}
 use Rattle.nvm_top.specs.nvm_flash.promise_run.Run.{Run}
 use Rattle.script_walks.specs.Words.{Step}
+use Rattle.nvm_script.specs.declared.script.Mode.TheVariants as mode
 use Rattle.nvm_top.specs.declared.status.Status.{Status}
 use Rattle.nvm_top.specs.Promised.{HasRun}
 use Rattle.nvm_top.specs.Uds.{TellsServed, TellsRequests}
@@ -24,6 +25,6 @@ HaveCausesIn r start requests pieces = EachHasCauses r.configuration (IsWornOut 
 -- image on, each of their answers has its cause.
 abbrev pub CallsHaveCauses : Type 0
 CallsHaveCauses =
-    (c : Configuration) (requests : List (List ℕ)) (steps : List Step) (call : Call) (x : Status) (told : HasRun c steps (TellsRequests c requests call x) call.entry call.exit)
+    (c : Configuration) (requests : List (List ℕ)) (steps : List Step) (call : Call) (x : Status) (told : HasRun mode.Play c steps (TellsRequests c requests call x) call.entry call.exit)
     → (served : TellsServed c requests call x told.run) → IsCalm told.run → TellsBytes told.run.flash → StartsSound (making_of told.run.configuration) told.run.flash
     → HaveCausesIn told.run (after told.run.configuration (Found served.marks served.ops ∷ [])) served.serves.first served.serves.pieces

@@ -18,8 +18,8 @@ returns-in-Ok-clause-made g c =
     record {
       first = c.over-stack.result;
       started =
-          subst (λ (s : StackState g.row.P-Device.Denot (List PlainBlock)). IsStarted c.args.playable.config (cuts_of c.args.playable.steps) (before First) (told_by told s)) (sym same)
-          (subst (λ (n : ℕ). IsStarted c.args.playable.config n (before First) (told_by told c.in-Ok.stack)) c.cuts_of.ensures c.in-Ok.ensures.started);
+          subst (λ (s : StackState g.row.P-Device.Denot (List PlainBlock)). IsStarted c.args.script.config (cuts_of c.args.script.steps) (before First) (told_by told s)) (sym same)
+          (subst (λ (n : ℕ). IsStarted c.args.script.config n (before First) (told_by told c.in-Ok.stack)) c.cuts_of.ensures c.in-Ok.ensures.started);
       all = c.make_steps-end.ensures.all;
       some = c.make_steps-end.ensures.some;
       configuration = c.make_steps-end.ensures.configuration;

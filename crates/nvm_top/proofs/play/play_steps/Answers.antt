@@ -13,7 +13,10 @@ use Rattle.nvm_top.specs.Promised.{entries_in}
 use Rattle.nvm_top.specs.Runs.{lines_written}
 use Rattle.nvm_top.specs.Stack.{one_part}
 use Rattle.nvm_top.proofs.Driven.{vouched}
-use Rattle.nvm_top.proofs.Promised.{early_in, ran_in, ran_late, stopped_late}
+use Rattle.nvm_script.specs.declared.script.Mode.TheVariants as mode
+use Rattle.nvm_top.proofs.Early.{early_in}
+use Rattle.nvm_top.proofs.Promised.{ran_in}
+use Rattle.nvm_top.proofs.WholeCalls.{ran_late, stopped_late}
 use Rattle.nvm_top.proofs.play.play_steps.Goals as goal
 
 pub returns-in-Ok-clause-promise : goal.returns-in-Ok-clause-promise
@@ -22,15 +25,15 @@ returns-in-Ok-clause-promise g c input =
     let made = c.in-Ok.ensures.made in
     let device = c.into_device-device.result in
     let values = subst (λ (h : List Entry). AreValues h) (c.history-history.ensures.entries ∙ ap (λ x. x.desk.entries) c.stack.ensures) c.history_values.ensures in
-    let v = vouched c.args.playable.config (g.F.Flash.told c.args.flash) _ g.O.Origin.making g.O.Origin.entry (g.F.Flash.told c.back-flash.result.flash) s device (c.into_device-device.ensures ∙ ap (λ x. x.device) c.into_stack.ensures) (halves_make_the_promise (told_clock device)) values c.requires.origin (made.configuration ∙ made.started.configuration) (made.most ∙ made.started.most) (c.back-flash.ensures c.args.playable.config (one_flash (g.F.Flash.told c.args.flash)) _ c.requires.origin) in
-    inl (ran_in c.args.text (IsKept s.ready (one_part (part_at g.O.Origin.entry)) s.desk s.hand (told_of s.device) (told_clock s.device)) (payer_by told_of told_clock made.first) (payer_by told_of told_clock s) c.args.playable.config _ c.args.playable.steps (part_at g.O.Origin.entry) (told_by told_of made.first) (told_by told_of s)
+    let v = vouched c.args.script.config (g.F.Flash.told c.args.flash) _ g.O.Origin.making g.O.Origin.entry (g.F.Flash.told c.back-flash.result.flash) s device (c.into_device-device.ensures ∙ ap (λ x. x.device) c.into_stack.ensures) (halves_make_the_promise (told_clock device)) values c.requires.origin (made.configuration ∙ made.started.configuration) (made.most ∙ made.started.most) (c.back-flash.ensures c.args.script.config (one_flash (g.F.Flash.told c.args.flash)) _ c.requires.origin) in
+    inl (ran_in c.args.text (IsKept s.ready (one_part (part_at g.O.Origin.entry)) s.desk s.hand (told_of s.device) (told_clock s.device)) (payer_by told_of told_clock made.first) (payer_by told_of told_clock s) c.args.script.config _ c.args.script.steps (part_at g.O.Origin.entry) (told_by told_of made.first) (told_by told_of s)
     (g.F.Flash.told c.args.flash) (g.F.Flash.told c.back-flash.result.flash) c.write_text-status.result _ _ input c.in-Ok.field-0.end c.stop_of.result c.history-history.result.now.entries made.started
     made.all made.some made.configuration made.keeps made.owes v c.stop_of.ensures
     (c.history-history.ensures.entries ∙ ap (λ x. x.desk.entries) c.stack.ensures) c.in-Ok.ensures.size c.write_text-status.ensures.text)
 
 pub returns-in-Err-clause-promise : goal.returns-in-Err-clause-promise
 returns-in-Err-clause-promise g c input =
-    early_in c.args.text c.args.playable.config c.args.playable.steps (g.F.Flash.told c.args.flash) (g.F.Flash.told c.in-Err.field-0-1.flash) c.in-Err.stop c.report.result _ _ input c.in-Err.ensures.stopped c.report.ensures.line
+    early_in c.args.text mode.Play c.args.script.config c.args.script.steps (g.F.Flash.told c.args.flash) (g.F.Flash.told c.in-Err.field-0-1.flash) c.in-Err.stop c.report.result _ _ input c.in-Err.ensures.stopped c.report.ensures.line
 
 pub returns-in-Ok-clause-late : goal.returns-in-Ok-clause-late
 returns-in-Ok-clause-late g c early =

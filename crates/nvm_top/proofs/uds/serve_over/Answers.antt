@@ -12,7 +12,7 @@ use Rattle.nvm_top.specs.Flashes.{one_flash}
 use Rattle.nvm_top.specs.Stack.{one_part}
 use Rattle.nvm_top.specs.Uds.{HasPieces, WritesLines, lines_of_history, line_served, status_served}
 use Rattle.nvm_top.proofs.Driven.{vouched}
-use Rattle.nvm_top.proofs.Promised.{stopped_late}
+use Rattle.nvm_top.proofs.WholeCalls.{stopped_late}
 use Rattle.nvm_top.proofs.Serving.{served_late, served_pieces, serving_has, serving_none}
 use Rattle.nvm_top.proofs.uds.serve_over.Goals as goal
 

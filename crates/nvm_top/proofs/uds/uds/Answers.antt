@@ -1,6 +1,6 @@
 use Rattle.std.proofs.Common.{Err, ap, inr}
 use Rattle.nvm_top.specs.Uds.{HasRequestsOf, HasWrongRequest}
-use Rattle.nvm_top.proofs.Promised.{unread}
+use Rattle.nvm_top.proofs.WholeCalls.{unread}
 use Rattle.nvm_top.proofs.Serving.{answered}
 use Rattle.nvm_top.proofs.uds.uds.Goals as goal
 

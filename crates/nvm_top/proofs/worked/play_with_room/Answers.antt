@@ -2,7 +2,8 @@ use Rattle.std.proofs.Common.{◌⊎◌, ◌<◌, [], refl, ap, subst, arith}
 use Rattle.nvm_flash.specs.nv_base.Count.{last_count}
 use Rattle.nvm_flash.specs.fls_model.Told.{Told}
 use Rattle.nvm_flash.specs.fls_model.Memory.{InMemory, in_memory}
-use Rattle.nvm_top.specs.Play.{PlayStopsBy}
+use Rattle.nvm_script.specs.declared.script.Mode.TheVariants as mode
+use Rattle.nvm_top.specs.Play.{StepsStopBy}
 use Rattle.nvm_top.specs.Promised.{HasPromise, HasNoRun, played_call}
 use Rattle.nvm_top.specs.Worked.{memory_call}
 use Rattle.nvm_top.proofs.InMemory.{play_kept, cuts_leave}
@@ -20,4 +21,4 @@ returns g c served =
     let plays = play_kept _ _ served (c.play_command-status.ensures.served served) in
     let small : c.args.operations < last_count = omega arith in
     cuts_leave status c.args.operations reads reads' (in_memory [] c.args.operations).told.bytes (memory_call c.args.operations left status exit written written') c.bytes.result.now refl c.bytes.ensures small
-    (subst (λ (e : Told). HasPromise (played_call left status e exit written written') ⊎ HasNoRun (PlayStopsBy left reads reads' e.bytes) written written' status e exit) (ap (λ (m : InMemory). m.told) c.in_ok-flash.ensures) plays.promise)
+    (subst (λ (e : Told). HasPromise (played_call left status e exit written written') ⊎ HasNoRun (StepsStopBy mode.Play left reads reads' e.bytes) written written' status e exit) (ap (λ (m : InMemory). m.told) c.in_ok-flash.ensures) plays.promise)

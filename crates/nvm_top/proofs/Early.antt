@@ -1,0 +1,175 @@
+-- A run without a start-up.
+use Rattle.std.specs.List.{Contains}
+use Rattle.std.proofs.Common.{◌≡◌, ◌≤◌, ◌⊎◌, ℕ, false, List, [], ◌∷◌, Option, None, refl, ap, inl, inr, arith}
+use Rattle.nv_streams.specs.Sink.{Written}
+use Rattle.nvm_flash.specs.nv_base.Geometry.{size_of}
+use Rattle.nvm_flash.specs.block_config.Config.{Configuration}
+use Rattle.nvm_flash.specs.fls_model.Told.{Told}
+use Rattle.nvm_flash.specs.promise_device.FlashRun.{FlashRun}
+use Rattle.script_walks.specs.Words.{Step}
+use Rattle.nvm_flash.specs.block_machine.Words.{Entry, Found}
+use Rattle.nvm_flash.specs.promise_run.Run.{Run, Course, Played, Ran, End, Whole, HasOrder, EndsAtStart, MadeNothing, CutsAre, events_in}
+use Rattle.nvm_flash.specs.promise_run.Refusals.{RefusesAsAsked}
+use Rattle.nvm_flash.specs.promise_run.Run.{FlashFault, HistoryFull, Memory}
+use Rattle.nvm_flash.specs.promise_run.Promise.{Promise}
+use Rattle.nvm_flash.specs.promise_run.Call.{IsCourseOf}
+use Rattle.nvm_script.specs.declared.script.Mode.{Mode}
+use Rattle.nvm_script.specs.declared.script.Mode.TheVariants as mode
+use Rattle.nvm_flash.specs.promise_run.Completeness.{Completeness}
+use Rattle.nvm_flash.specs.promise_run.JobTurns.{job_turns}
+use Rattle.nvm_top.specs.Play.{IsSizeStop}
+use Rattle.nvm_flash.specs.promise_run.Turns.{EndsBy, HasTurns}
+use Rattle.nvm_flash.proofs.promise_run.Callers.{callers_are_served}
+use Rattle.nvm_top.specs.declared.status.Status.{Status}
+use Rattle.nvm_top.specs.declared.status.Status.TheVariants as status
+use Rattle.nvm_top.specs.declared.runs.RunText.{RunText}
+use Rattle.nvm_top.specs.declared.runs.RunText.TheVariants.{History, Summary}
+use Rattle.nvm_top.specs.declared.stop.Stop.{Stop}
+use Rattle.nvm_top.specs.declared.stop.Stop.TheVariants as stop
+use Rattle.nvm_top.specs.Stack.{StopsAtStart, run_of}
+use Rattle.nvm_top.specs.Output.{Writes}
+use Rattle.nvm_top.specs.Promised.{call_by, FollowsScript, HasNoRun, HasRun, WritesText, EndsIn, entries_in, lines_in}
+use Rattle.nvm_top.specs.Stop.{status_of, line_of, IsStop}
+use Rattle.nvm_top.proofs.Complete.{early_complete}
+use Rattle.nvm_top.proofs.RunLines.{Writes-as, by_stop}
+use Rattle.nvm_top.proofs.Texts.{stop_alone}
+use Rattle.nvm_top.proofs.EndsTold.{status_at, ends_told}
+
+-- THE RUN
+
+not_there : (h : Entry) → Contains [] h → ⊥
+not_there h is = let few = is.1 in omega (arith, few)
+
+-- the course of these steps, of which none was made
+abbrev pub nothing : Mode → List Step → Course
+nothing mode.Play steps = Played [] [] steps
+nothing mode.Run steps = Ran steps []
+
+nothing_is : (m : Mode) (steps : List Step) → IsCourseOf m steps (nothing m steps)
+nothing_is mode.Play steps = refl
+nothing_is mode.Run steps = refl
+
+nothing_made : (m : Mode) (steps : List Step) → MadeNothing (nothing m steps)
+nothing_made mode.Play steps = (refl, refl)
+nothing_made mode.Run steps = refl
+
+nothing_refused : (m : Mode) (c : Configuration) (steps : List Step) (id : ℕ) → RefusesAsAsked c (nothing m steps) [] id
+nothing_refused mode.Play c steps id = (0, refl)
+nothing_refused mode.Run c steps id = refl
+
+nothing_cut : (m : Mode) (steps : List Step) → CutsAre None 0 (events_in (nothing m steps) []) [] 0
+nothing_cut mode.Play steps = (refl, refl)
+nothing_cut mode.Run steps = (refl, refl)
+
+early_promise : (m : Mode) (c : Configuration) (steps : List Step) (entry exit : Told) (stop : Stop) (end : End) → StopsAtStart c entry exit stop → EndsAtStart (record { entry = entry; exit = exit; operations = [] }) end
+    → Promise (run_of c [] entry exit [] [] (nothing m steps) end)
+early_promise m c steps entry exit stop end stops ends = record {
+  order = (ends, nothing_made m steps, stops.flash);
+  power_cut = λ tells sound k image few is. absurd (let none = is.1 in cc none);
+  counts = λ tells sound k ops image few is last. absurd (let none = is.1 in cc none);
+  found = λ tells sound marks ops has few. absurd (not_there (Found marks ops) has);
+  at_exit = λ tells sound started few. absurd started;
+  block_machine = tt;
+  faults = record { faults = 0; counted = inl (let more = stops.faults in omega (arith, more)); pay = tt };
+  wear = λ tells sound. refl;
+  refusals = λ id. nothing_refused m c steps id;
+  off = (0, nothing_cut m steps, inl (let more = stops.cuts in omega (arith, more)));
+  operations = λ started. absurd started;
+  begins = tt;
+  counted = λ e ops has is. absurd (not_there e has);
+}
+
+-- it failed by a fault of its own
+one_fault : (f : FlashRun) (end : End) → EndsAtStart f end → EndsBy (record { faults = 0; ops = 0; busy = false }) f end
+one_fault f FlashFault (inl rose) = inl (omega (arith, rose))
+one_fault f FlashFault (inr (full, more)) = inr (omega (arith, full, more))
+one_fault f Memory ends = tt
+one_fault f Whole ends = tt
+one_fault f HistoryFull ends = tt
+
+-- no step was made
+early_turns : (c : Configuration) (steps : List Step) (entry exit : Told) (end : End) → entry.faults ≤ exit.faults → EndsAtStart (record { entry = entry; exit = exit; operations = [] }) end → HasTurns (job_turns c) (run_of c [] entry exit [] [] (Played [] [] steps) end) (Played [] [] steps)
+early_turns c steps entry exit end more ends = record {
+  first = record { faults = 0; ops = 0; busy = false };
+  last = record { faults = 0; ops = 0; busy = false };
+  moves = record { moves = []; are = tt; tell = refl; behind = refl };
+  begins = tt;
+  operations = refl;
+  failed = tt;
+  counted = inl (omega (arith, more));
+  ends = one_fault (record { entry = entry; exit = exit; operations = [] }) end ends;
+  serves = tt;
+  rests = tt;
+  drains = λ calm. tt;
+  cuts = tt;
+  paid = λ told sound. tt;
+}
+
+-- as it follows its script, ends, and has its turns
+early_order : (m : Mode) (c : Configuration) (steps : List Step) (entry exit : Told) (end : End) → HasOrder (run_of c [] entry exit [] [] (nothing m steps) end) [] → FollowsScript (run_of c [] entry exit [] [] (nothing m steps) end) (nothing m steps) []
+early_order mode.Play c steps entry exit end order = order
+early_order mode.Run c steps entry exit end order = order
+
+early_ends : (m : Mode) (c : Configuration) (steps : List Step) (entry exit : Told) (end : End) → HasOrder (run_of c [] entry exit [] [] (nothing m steps) end) [] → Completeness (run_of c [] entry exit [] [] (nothing m steps) end) (nothing m steps)
+early_ends mode.Play c steps entry exit end order = early_complete c steps entry exit end order
+early_ends mode.Run c steps entry exit end order = callers_are_served (run_of c [] entry exit [] [] (Ran steps []) end) steps [] refl refl order
+
+early_moves : (m : Mode) (c : Configuration) (steps : List Step) (entry exit : Told) (end : End) → entry.faults ≤ exit.faults → EndsAtStart (record { entry = entry; exit = exit; operations = [] }) end
+    → HasTurns (job_turns c) (run_of c [] entry exit [] [] (nothing m steps) end) (nothing m steps)
+early_moves mode.Play c steps entry exit end more ends = early_turns c steps entry exit end more ends
+early_moves mode.Run c steps entry exit end more ends = tt
+
+pub early_has : (m : Mode) (c : Configuration) (steps : List Step) (Tells : Run → Type 0) (entry exit : Told) (stop : Stop) (end : End) → StopsAtStart c entry exit stop → EndsAtStart (record { entry = entry; exit = exit; operations = [] }) end
+    → Tells (run_of c [] entry exit [] [] (nothing m steps) end) → HasRun m c steps Tells entry exit
+early_has m c steps Tells entry exit stop end stops ends tells = record {
+  run = run_of c [] entry exit [] [] (nothing m steps) end;
+  configuration = refl;
+  course = nothing_is m steps;
+  at_entry = refl;
+  at_exit = refl;
+  beside = refl;
+  ends = tells;
+  keeps =
+      let promise = early_promise m c steps entry exit stop end stops ends in
+      record { order = early_order m c steps entry exit end promise.order; size = λ started. absurd started; refusals = promise.refusals; off = promise.off; counted = inl (let same = stops.flash.ops in omega (arith, same)); complete = early_ends m c steps entry exit end promise.order; exit = λ started. absurd started; turns = early_moves m c steps entry exit end stops.faults ends; values = tt; early = λ told. record { found = λ marks has. absurd (omega (arith, has.1)); legal = tt }; promise = λ told sound. promise };
+}
+
+-- AND ITS CALL
+
+early_end : (text : RunText) (m : Mode) (c : Configuration) (steps : List Step) (entry exit : Told) (why : Stop) (end : End) (x : Status) (w w' : Written) (input : Option (List ℕ)) → StopsAtStart c entry exit why → EndsAtStart (record { entry = entry; exit = exit; operations = [] }) end
+    → WritesText (status_at end) (entries_in text []) (lines_in text end []) w w' x → HasRun m c steps (EndsIn text (call_by m input x entry exit w w')) entry exit
+early_end text m c steps entry exit why end status.Memory w w' input stops ends is =
+    early_has m c steps (EndsIn text (call_by m input status.Memory entry exit w w')) entry exit why Memory stops tt (ends_told m input entry exit w w' (entries_in text []) (λ e. lines_in text e []) end status.Memory is)
+early_end text m c steps entry exit why end x w w' input stops ends is =
+    early_has m c steps (EndsIn text (call_by m input x entry exit w w')) entry exit why end stops ends (ends_told m input entry exit w w' (entries_in text []) (λ e. lines_in text e []) end x is)
+
+-- its line stands alone
+early_line : (why : Stop) (meant : Status) (lines : List (List ℕ)) (text : RunText) (w w' : Written) (x : Status) → meant ≡ status_of why → lines ≡ line_of why ∷ [] → Writes (IsStop why) w w' x → WritesText meant (entries_in text []) lines w w' x
+early_line why meant lines History w w' x one two is = stop_alone why meant lines w w' x one two is
+early_line why meant lines Summary w w' x one two is = stop_alone why meant lines w w' x one two is
+
+-- the flash isn't attached for its size
+pub wrong_size : (c : Configuration) (entry exit : Told) (found needed : ℕ) (x : Status) (w w' : Written) → StopsAtStart c entry exit (stop.WrongSize found needed) → Writes (IsStop (stop.WrongSize found needed)) w w' x → HasNoRun (IsSizeStop (size_of c.geometry) entry.bytes) w w' x entry exit
+wrong_size c entry exit found needed x w w' stops is = record {
+  line = Writes-as (IsStop (stop.WrongSize found needed)) (IsSizeStop (size_of c.geometry) entry.bytes) w w' x
+      (λ y lines at. by_stop (IsSizeStop (size_of c.geometry) entry.bytes) (stop.WrongSize found needed) y lines (λ other. (stops.end.0, (found, stops.why.0, ap (λ n. line_of (stop.WrongSize found n) ∷ []) stops.why.1))) at) is;
+  alone = stops.end.1;
+}
+
+-- or there is a run without a start-up
+pub early_in : (text : RunText) (m : Mode) (c : Configuration) (steps : List Step) (entry exit : Told) (why : Stop) (x : Status) (w w' : Written) (input : Option (List ℕ)) → StopsAtStart c entry exit why → Writes (IsStop why) w w' x
+    → HasRun m c steps (EndsIn text (call_by m input x entry exit w w')) entry exit ⊎ HasNoRun (IsSizeStop (size_of c.geometry) entry.bytes) w w' x entry exit
+early_in text m c steps entry exit (stop.WrongSize found needed) x w w' input stops is = inr (wrong_size c entry exit found needed x w w' stops is)
+early_in text m c steps entry exit stop.FlashFault x w w' input stops is =
+    inl (early_end text m c steps entry exit stop.FlashFault FlashFault x w w' input stops stops.end (early_line stop.FlashFault status.FlashFault (lines_in text FlashFault []) text w w' x refl (fault_line text) is))
+  where
+    fault_line : (t : RunText) → lines_in t FlashFault [] ≡ line_of stop.FlashFault ∷ []
+    fault_line History = refl
+    fault_line Summary = refl
+early_in text m c steps entry exit stop.Memory x w w' input stops is =
+    inl (early_end text m c steps entry exit stop.Memory Memory x w w' input stops tt (early_line stop.Memory status.Memory (lines_in text Memory []) text w w' x refl (no_line text) is))
+  where
+    no_line : (t : RunText) → lines_in t Memory [] ≡ [] ∷ []
+    no_line History = refl
+    no_line Summary = refl
+early_in text m c steps entry exit _ x w w' input stops is = absurd stops.why
