@@ -5,10 +5,11 @@ use script_soak::Draws;
 use std::alloc::{AllocError, Global};
 
 /// One call of the program: its name, its words, its input, the flash at the start, and what fails. Then what else is shown:
-/// whether the bytes of the flash at the end aren't; whether the call is made twice; whether the steps of its `soak` are
+/// whether the bytes of the flash at the end aren't; whether the lines are shown by caller; whether the call is made twice; whether the steps of its `soak` are
 /// made on a stack; whether the script is also run with a cut and a fault everywhere, and with a fault at each call of its
 /// last drain; the steps that are tried at each turn of that drain; and, where it is also played over a device in memory,
-/// the numbers of turns there.
+/// the numbers of turns there. Where it has a history that was printed elsewhere, nothing is called, and that is judged with
+/// what a further start-up printed.
 #[derive(Drop)]
 pub struct Case {
     pub name: String,
@@ -17,12 +18,15 @@ pub struct Case {
     pub flash: Vec<u8>,
     pub faults: Faults,
     pub quiet: bool,
+    pub callers: bool,
     pub again: bool,
     pub stack: bool,
     pub everywhere: bool,
     pub each_fault: bool,
     pub between: Vec<String>,
     pub plain: Option<Vec<u64>>,
+    pub printed: Vec<u8>,
+    pub further: Vec<u8>,
 }
 
 impl Case {
@@ -35,12 +39,15 @@ impl Case {
             flash: Vec::new(alloc),
             faults: Faults::none(alloc),
             quiet: false,
+            callers: false,
             again: false,
             stack: false,
             everywhere: false,
             each_fault: false,
             between: Vec::new(alloc),
             plain: None,
+            printed: Vec::new(alloc),
+            further: Vec::new(alloc),
         })
     }
 
@@ -49,6 +56,7 @@ impl Case {
         let (key, rest) = line.split_once(' ').unwrap_or((line, ""));
         match key {
             "quiet" => self.quiet = true,
+            "callers" => self.callers = true,
             "again" => self.again = true,
             "stack" => self.stack = true,
             "everywhere" => self.everywhere = true,
@@ -57,6 +65,8 @@ impl Case {
             "words" => add_words(alloc, &mut self.words, rest)?,
             "between" => self.between.push(String::from_str(alloc, rest)?)?,
             "<" | "<." | "fill" => self.add_input(key, rest)?,
+            "printed" => add_line(&mut self.printed, rest)?,
+            "further" => add_line(&mut self.further, rest)?,
             "flash" | "draw" | "at" => self.add_flash(alloc, key, rest)?,
             _ => self.add_fault(key, rest)?,
         }
@@ -66,10 +76,8 @@ impl Case {
     fn add_input(&mut self, key: &str, rest: &str) -> anyhow::Result<()> {
         match key {
             "fill" => fill(&mut self.input, rest)?,
+            "<" => add_line(&mut self.input, rest)?,
             _ => self.input.extend_from_slice(rest.as_bytes())?,
-        }
-        if key == "<" {
-            self.input.push(b'\n')?;
         }
         Ok(())
     }
@@ -96,6 +104,12 @@ impl Case {
         }
         Ok(())
     }
+}
+
+fn add_line(text: &mut Vec<u8>, line: &str) -> Result<(), AllocError> {
+    text.extend_from_slice(line.as_bytes())?;
+    text.push(b'\n')?;
+    Ok(())
 }
 
 fn add_words(alloc: Global, words: &mut Vec<String>, rest: &str) -> Result<(), AllocError> {

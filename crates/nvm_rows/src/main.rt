@@ -9,10 +9,12 @@
 
 mod between;
 mod call;
+mod callers;
 mod case;
 mod counted;
 mod everywhere;
 mod faults;
+mod judged;
 mod lines;
 mod memory;
 mod plain;
@@ -25,8 +27,10 @@ mod trials;
 use anyhow::Context;
 use between::{try_between, try_faults};
 use call::{Called, call};
+use callers::show_by_caller;
 use case::Case;
 use everywhere::try_everywhere;
+use judged::show_judged;
 use plain::show_plain;
 use show::{show_flash, show_text};
 use stack::show_stack;
@@ -36,6 +40,9 @@ use std::thread::Threads;
 
 /// Runs a case, and prints what came of it.
 fn run<R: Print + AllocGlobal + Threads + Wait + Sync>(rt: &R, case: &Case) -> anyhow::Result<()> {
+    if !case.printed.is_empty() {
+        return show_judged(rt, case);
+    }
     let called = call(rt, &case.words, &case.input, &case.flash, &case.faults)?;
     show_call(rt, case, &called)?;
     if case.again {
@@ -65,7 +72,11 @@ fn show_call<R: Print + AllocGlobal>(rt: &R, case: &Case, called: &Called) -> an
     let name = &case.name;
     let status = called.status;
     println!(rt; "case {name}")?;
-    show_text(rt, &called.output)?;
+    if case.callers {
+        show_by_caller(rt, &called.output)?;
+    } else {
+        show_text(rt, &called.output)?;
+    }
     println!(rt; "status {status}")?;
     if !case.quiet {
         show_flash(rt, &called.flash)?;

@@ -8,12 +8,12 @@ ghost use Rattle.script_player.specs.ram_blocks.Plain.{plain_blocks_of};
 use anyhow::bail;
 use nv_base::History;
 use nvm_script::{Mode, StepList, entry_text, first_line, read_script};
-use script_player::block_config::{Config, read};
-use script_player::memif::PlainStore;
-use script_player::nvm_core::Stack;
-use script_player::nvm_laws::FoundAnswer;
+use nvm_top::nvm_flash::block_config::{Config, read};
+use nvm_top::nvm_flash::memif::PlainStore;
+use nvm_top::nvm_flash::nvm_core::Stack;
+use nvm_top::nvm_flash::nvm_laws::FoundAnswer;
+use nvm_top::nvm_flash::ram_blocks::PlainSync;
 use script_player::promise_run::CAP;
-use script_player::ram_blocks::PlainSync;
 use script_player::{PlainStack, cuts_of, make_steps};
 use std::alloc::{AllocError, Global};
 

@@ -2,11 +2,12 @@
 use crate::call::{Called, call};
 use crate::case::Case;
 use crate::faults::{Fault, Faults};
+use crate::judged::{show_tally, show_wrong};
 use crate::lines::{entries_in, words_from};
 use crate::ranges::Ranges;
 use anyhow::bail;
 use nvm_script::first_line;
-use rows_histories::{Tally, Wrong, judge};
+use rows_histories::{Tally, judge};
 use std::alloc::{AllocError, AllocGlobal, Global};
 use std::sync::Wait;
 use std::thread::Threads;
@@ -96,13 +97,8 @@ impl<'a> Trials<'a> {
         let Ok(wrong) = judge(rt.alloc(), line, run, further, &mut self.tally) else {
             bail!("{what} {number}: no history");
         };
-        for Wrong { instance, behind } in wrong.iter() {
-            let block = instance.block;
-            let index = instance.index;
-            println!(rt;
-                "{what} {number}: the mark in {block}.{index} isn't allowed behind {behind} entries"
-            )?;
-        }
+        let title = format!(in rt.alloc(); "{what} {number}")?;
+        show_wrong(rt, title.as_str(), &wrong)?;
         if entries_in(run) == 0 && !is_untouched(&self.case.flash, &called.flash) {
             println!(rt; "{what} {number}: the flash changed without a start-up")?;
         }
@@ -111,18 +107,7 @@ impl<'a> Trials<'a> {
 
     /// Prints what was counted over all runs.
     pub fn show<R: Print + AllocGlobal>(&self, rt: &R) -> anyhow::Result<()> {
-        let Tally {
-            runs,
-            cuts,
-            start_ups,
-            contents,
-            invalid,
-            erased,
-        } = self.tally;
-        println!(rt;
-            "runs {runs} cuts {cuts} start-ups {start_ups} contents {contents} invalid {invalid} erased {erased}"
-        )?;
-        Ok(())
+        show_tally(rt, self.tally)
     }
 }
 
