@@ -7,6 +7,8 @@
 #![tactic(auto)]
 
 #[cfg(test)]
+mod callers;
+#[cfg(test)]
 mod devices;
 #[cfg(test)]
 mod driver;
@@ -16,6 +18,10 @@ mod failing;
 mod faults;
 #[cfg(test)]
 mod figures;
+#[cfg(test)]
+mod flagged_device;
+#[cfg(test)]
+mod flags;
 #[cfg(test)]
 mod floor;
 #[cfg(test)]
@@ -31,8 +37,12 @@ mod queues;
 #[cfg(test)]
 mod ram;
 #[cfg(test)]
+mod shared;
+#[cfg(test)]
 mod sides;
 #[cfg(test)]
 mod streams;
 #[cfg(test)]
 mod texts;
+#[cfg(test)]
+mod untold;

@@ -127,3 +127,22 @@ fn are_closed(alloc: Global) -> bool {
 fn mirrors_end_with_all_their_sides(rt: HostRuntime) {
     assert!(rt; are_closed(rt.alloc()));
 }
+
+// Whether sides of nobody have no block's side in.
+fn nobody_has(alloc: Global) -> bool {
+    let Ok(config) = read(alloc, BLOCKS.as_bytes()) else {
+        return false;
+    };
+    let Ok((mirrors, _ends, sides)) = make::<()>(alloc, &config) else {
+        return false;
+    };
+    match Sides::none(alloc, &sides) {
+        Ok(none) => sides.has(2) && !none.has(2) && !none.has(3) && !none.are_in(&mirrors),
+        Err(_) => false,
+    }
+}
+
+#[test]
+fn sides_of_nobody_have_no_block(rt: HostRuntime) {
+    assert!(rt; nobody_has(rt.alloc()));
+}
