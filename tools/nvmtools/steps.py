@@ -5,11 +5,13 @@ from nvmtools.contents import read_content
 
 # what follows a step's word: B a block, C a content, I an index, F a flag, N a count, K bytes
 FORMS = {"write": "BC", "ram": "BC", "setindex": "BI", "protect": "BF", "lock": "BF", "setram": "BF", "turn": "N", "cut": "NK",
-         "refuse": "BN",
+         "refuse": "BN", "await": "B",
          **dict.fromkeys("read readram writeram restore restoreram erase invalidate getindex status".split(), "B"),
          **dict.fromkeys("readall writeall cancel drain restart".split(), "")}
 NAMES = {"B": "BLOCK", "C": "CONTENT", "I": "INDEX", "F": "0|1", "N": "COUNT", "K": "BYTES"}
 WITHOUT_CALLER = ("turn", "drain", "restart", "cut", "refuse")
+# the steps of one command alone
+OF_PLAY, OF_RUN = WITHOUT_CALLER, ("await",)
 COUNTS = {"turn": 100_000, "cut": 1_000_000, "refuse": 1_000}
 LIMITS = {"B": (0, 65535), "I": (0, 255), "F": (0, 1), "K": (0, 256)}
 MOST_CALLERS = 15
@@ -35,8 +37,15 @@ def fields(line):
     return re.sub(r"^\d+: ", "", without_return(line)).split(" ")
 
 
-def why_no_step(unit, line, near):
-    """Why a line is no step, or None."""
+def caller_of(line):
+    """The caller of a step: 0 where it names none."""
+    named = re.match(r"(\d+): ", line)
+    return int(named[1]) if named else 0
+
+
+def why_no_step(unit, line, near, command="play", owners=None):
+    """Why a line is no step of `play`, or of `run`, or None. Of `run` the owners of synchronized RAM are those of the lines before,
+    by block, and this line's is noted."""
     if is_idle(line):
         return None
     text = without_return(line)
@@ -53,11 +62,13 @@ def why_no_step(unit, line, near):
     if not words or words[0] not in FORMS:
         word = words[0] if words else ""
         return f'no step "{word[:20]}"; {near(word, list(FORMS))}'
+    if words[0] in (OF_PLAY if command == "run" else OF_RUN):
+        return f'"{words[0]}" stands in {"play" if command == "run" else "run"} alone'
     form = FORMS[words[0]]
     if len(words) - 1 != len(form):
         return f'it is written: {" ".join([words[0], *(NAMES[kind] for kind in form)])}'
     wrong = next((why for kind, word in zip(form, words[1:]) for why in [why_no_field(words[0], kind, word)] if why), None)
-    return wrong or why_not_of_block(unit, words)
+    return wrong or why_not_of_block(unit, words) or (why_not_owner(unit, words, caller_of(text), owners) if command == "run" else None)
 
 
 def why_no_field(step, kind, word):
@@ -70,8 +81,18 @@ def why_no_field(step, kind, word):
     return None if least <= int(word) <= most else f"{word} is out of range: {least} to {most}"
 
 
+def why_not_owner(unit, words, caller, owners):
+    """What the program refuses as a step of `run` since another caller owns the synchronized block's RAM."""
+    if words[0] not in ("ram", "writeram") or unit.blocks.get(int(words[1]), {}).get("ram") != "sync":
+        return None
+    owner = owners.setdefault(int(words[1]), caller)
+    return None if owner == caller else f"{unit.called(int(words[1]))} is synchronized, and its RAM is caller {owner}'s, not {caller}'s"
+
+
 def why_not_of_block(unit, words):
     """What the program refuses as a step since the block isn't of that kind."""
+    if words[0] == "await" and int(words[1]) > max(unit.blocks):
+        return f"there is no block {words[1]}; the last one is {max(unit.blocks)}"
     if words[0] not in ("refuse", "ram"):
         return None
     block = unit.blocks.get(int(words[1]), {})
