@@ -37,14 +37,14 @@ use nvm_core::nv_desk_copies::Front;
 use nvm_core::nvm_laws::{Act, Turned};
 use nvm_core::ram_blocks::SyncCalls;
 use nvm_core::{first_half, second_half};
-use std::alloc::Global;
+use std::alloc::{AllocError, Global};
 use std::marker::Model;
 use turn_gate::Kept;
 
-/// The desk, with the memory of its copies. Contracts see the desk, and whether the device tells what it holds.
+/// The desk, with the memory of its copies, on the heap. Contracts see the desk, and whether the device tells what it holds.
 #[derive(Drop)]
 pub struct LockedOf<P: Tells + Drop> {
-    front: Front,
+    front: Box<Front>,
     tells: P,
 }
 
@@ -53,9 +53,9 @@ impl<P: Tells + Drop> Model for LockedOf<P> {
 
     ghost Value = { LockedState };
 
-    ghost view = { λ l. record { desk = l.front.desk; tells = P.tells l.tells } };
+    ghost view = { λ l. record { desk = l.front.value.desk; tells = P.tells l.tells } };
 
-    ghost invariant = { λ l. IsLocked l.front.desk l.front.staging (P.tells l.tells) };
+    ghost invariant = { λ l. IsLocked l.front.value.desk l.front.value.staging (P.tells l.tells) };
 }
 
 /// The desk under the lock. It is an alias, since threads take a struct whose parameters stand bare.
@@ -83,18 +83,19 @@ impl Kept for Locked {
 }
 
 impl Locked {
-    // The desk behind a start-up, with the memory of its copies.
-    pub(crate) fn of(front: Front) -> Locked
+    // The desk behind a start-up, with the memory of its copies, in a place of its own: it stays there when the lock is passed on.
+    pub(crate) fn of(alloc: Global, front: Front) -> Result<Locked, AllocError>
         ghost tells: { Bool }
         requires stages { StagesAll front.desk.config front.staging }
         requires started { IsTrue (state_of front.desk).started }
         requires written { AreWritten tells front.desk.config front.desk.cap at_first front.desk.entries }
-        ensures { result ≡ record { desk = front.desk; tells = tells } }
+        ensures { IfOk result (λ l. l ≡ record { desk = front.desk; tells = tells }) }
     {
-        LockedOf {
+        let front = Box::new(alloc, front)?;
+        Ok(LockedOf {
             front,
             tells: Telling::picked(),
-        }
+        })
     }
 
     // Gives the desk.
@@ -104,7 +105,7 @@ impl Locked {
         ensures started { IsTrue (state_of self.desk).started }
     {
         let LockedOf { front, .. } = self;
-        front
+        Box::into_inner(front)
     }
 
     /// How many entries there are, at most the cap. A start-up stands, they are written as they may be, and the blocks of
@@ -177,7 +178,7 @@ impl Locked {
         ensures clock { SameClock (D.clock device.old) (D.clock device.new) }
         ensures keeps { StaysKept self.old.desk hand.old (D.told device.old) (D.clock device.old) self.new.desk hand.new (D.told device.new) (D.clock device.new) }
     {
-        first_half(&mut self.front, hand, device, copies)
+        first_half(&mut *self.front, hand, device, copies)
     }
 
     /// The second half of a turn: what the device's turn came to.

@@ -106,7 +106,12 @@ pub fn share<D: MemDevice, C: SyncCalls + Drop>(
     ensures fault { IfErr result (λ f. (f.fault ≡ ShareFault.Memory) × (f.device ≡ stack.device)) }
 {
     let (front, device, copies, hand) = stack.into_parts();
-    let value = Locked::of(front);
+    let Ok(value) = Locked::of(alloc, front) else {
+        return Err(NotShared {
+            fault: ShareFault::Memory,
+            device,
+        });
+    };
     let _len = value.len();
     let first = Snapshot::of(&value);
     match turn_gate::make(alloc, value, WORD_COUNT) {
