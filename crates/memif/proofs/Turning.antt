@@ -65,7 +65,7 @@ lasts_more a ca b cb c ct one two = record {
   past = record {
     after = λ k m le finds. one.past.after k m le (two.past.after k m (omega (arith, le, one.ops)) finds);
     cut = λ k m lt finds. one.past.cut k m lt (two.past.cut k m (omega (arith, lt, one.ops)) finds);
-    worn = λ k n le is. two.past.worn k n (omega (arith, le, one.ops)) (one.past.worn k n le is);
+    worn = λ k n urgent le is. two.past.worn k n urgent (omega (arith, le, one.ops)) (one.past.worn k n urgent le is);
     of_second = λ k lt.
         let first = one.past.of_second k lt in
         let second = two.past.of_second k (omega (arith, lt, one.ops)) in
@@ -74,6 +74,7 @@ lasts_more a ca b cb c ct one two = record {
         let first = one.past.failed k lt in
         let second = two.past.failed k (omega (arith, lt, one.ops)) in
         (λ is. first.0 (second.0 is), λ is. second.1 (first.1 is));
+    spare = λ k s le free. one.past.spare k s le (two.past.spare k s (omega (arith, le, one.ops)) free);
   };
   faults = (omega (arith, one.faults.0, two.faults.0), omega (arith, one.faults.1, two.faults.1));
   failed = failed_more a ca b cb c ct one two;
@@ -84,8 +85,9 @@ same_clock c = record {
   may_find = λ w m. (λ h. h, λ h. h);
   off_in = λ k. (λ h. h, λ h. h);
   failed = λ k. (λ h. h, λ h. h);
-  worn = λ k n. (λ h. h, λ h. h);
+  worn = λ k n urgent. (λ h. h, λ h. h);
   of_second = λ k. (λ h. h, λ h. h);
+  spare = λ k s. (λ h. h, λ h. h);
 }
 
 pub past_same : (ops : ℕ) (old new : Clock) → SameClock old new → Past ops old new
@@ -93,8 +95,9 @@ past_same ops old new same = record {
   after = λ k m le finds. (same.may_find (After k) m).0 finds;
   cut = λ k m lt finds. (same.may_find (CutIn k) m).0 finds;
   failed = λ k lt. same.failed k;
-  worn = λ k n le is. (same.worn k n).1 is;
+  worn = λ k n urgent le is. (same.worn k n urgent).1 is;
   of_second = λ k lt. same.of_second k;
+  spare = λ k s le free. (same.spare k s).0 free;
 }
 
 -- no operation was made, no count fell, and the clock is as it was

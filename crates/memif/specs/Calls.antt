@@ -60,6 +60,16 @@ pub record InOrder (d : DeviceTold) (c : Clock) : Type 0 where
   -- what it holds is told until the first operation, at least
   pub told : d.tells ≡ true → d.ops ≡ 0 → is_some d.slots ≡ true
 
+-- the most pages of the record of the open job; a read has none
+abbrev pub pages_open : Fixed → Stand → ℕ
+pages_open f (Open j) = if is_some j.mark then (figures_at f j.number).pages else 0
+pages_open f (Ended result given) = 0
+
+-- Pages that are free for urgent writes now are ready for one, beside the record of the open job, while it is started and its power
+-- is on.
+abbrev pub FreesReady : DeviceTold → Clock → Type 0
+FreesReady d c = d.started ≡ true → d.first.off ≡ false → (s : ℕ) → c.spare d.ops s → s ≤ d.ready + pages_open d.fixed d.stand
+
 -- behind any call but a turn: the clock is as it was
 pub record ClockStays (clock : Clock) (new : DeviceTold) (clock_new : Clock) : Type 0 where
   pub same : SameClock clock clock_new
@@ -170,9 +180,9 @@ abbrev pub EndsAs : Option Mark → ℕ → JobResult → List ℕ → DeviceTol
 EndsAs None number result given old new = ReadsAt number old.slots result given old × Gives result (length_of old.fixed.numbers number) given
 EndsAs (Some mark) number result given old new = Writes result number mark old new × (given ≡ [])
 
--- it failed only where the count of its part rose in this very turn, or, unless it is a read, where it is worn out
+-- it failed only where the count of its part rose in this very turn, or, unless it is a read, where it is worn out for such a job
 abbrev pub MayFail : Part → Job → DeviceTold → DeviceTold → Clock → Type 0
-MayFail p j old new clock_new = Rose (part_at p old).faults (part_at p new).faults ⊎ ((j.mark ≢ None) × clock_new.worn new.ops j.number)
+MayFail p j old new clock_new = Rose (part_at p old).faults (part_at p new).faults ⊎ ((j.mark ≢ None) × clock_new.worn new.ops j.number j.urgent)
 
 -- A TURN
 -- the turn works on the part of the open job; with none open, on the first one, whose alone the device's own work is

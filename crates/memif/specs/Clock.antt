@@ -1,6 +1,6 @@
 -- What is told of a device by the changing operations of its flash: what a start-up would find, where the power went
 -- off, where it was worn out. A device says in its own contract which of this it tells; the laws here hold of any.
-use Rattle.std.specs.Prelude.{◌≡◌, ◌⊎◌, ◌↔◌, ◌<◌, ◌≤◌, ℕ, List, Option, Some, None}
+use Rattle.std.specs.Prelude.{◌≡◌, ◌⊎◌, ◌↔◌, ◌<◌, ◌≤◌, ℕ, Bool, List, Option, Some, None}
 use Rattle.memif.specs.declared.answer.DeviceTurn.{DeviceTurn}
 use Rattle.memif.specs.declared.answer.DeviceTurn.TheVariants.{Off}
 use Rattle.memif.specs.Told.{DeviceTold, Slot, Held, Part, Second, part_at, slot_at}
@@ -20,31 +20,35 @@ pub record Clock : Type 1 where
   pub off_in : ℕ → Type 0
   -- this operation failed
   pub failed : ℕ → Type 0
-  -- once so many operations were made, it is worn out for this number
-  pub worn : ℕ → ℕ → Type 0
+  -- once so many operations were made, it is worn out for this number: for its urgent jobs, or for its others
+  pub worn : (operations number : ℕ) → (urgent : Bool) → Type 0
   -- this operation was one of the second part
   pub of_second : ℕ → Type 0
+  -- once so many operations were made, so many pages were free for urgent writes
+  pub spare : (operations pages : ℕ) → Type 0
 
--- nothing is told: no map, no cut, no failure, never worn, and no second part
+-- nothing is told: no map, no cut, no failure, never worn, no second part, and no free page
 abbrev pub untold : Clock
-untold = record { may_find = λ w m. ⊥; off_in = λ k. ⊥; failed = λ k. ⊥; worn = λ k n. ⊥; of_second = λ k. ⊥ }
+untold = record { may_find = λ w m. ⊥; off_in = λ k. ⊥; failed = λ k. ⊥; worn = λ k n urgent. ⊥; of_second = λ k. ⊥; spare = λ k s. ⊥ }
 
 -- WHAT STAYS
 pub record SameClock (old new : Clock) : Type 0 where
   pub may_find : (w : When) (m : ℕ → Held) → new.may_find w m ↔ old.may_find w m
   pub off_in : (k : ℕ) → new.off_in k ↔ old.off_in k
   pub failed : (k : ℕ) → new.failed k ↔ old.failed k
-  pub worn : (k n : ℕ) → new.worn k n ↔ old.worn k n
+  pub worn : (k n : ℕ) (urgent : Bool) → new.worn k n urgent ↔ old.worn k n urgent
   pub of_second : (k : ℕ) → new.of_second k ↔ old.of_second k
+  pub spare : (k s : ℕ) → new.spare k s ↔ old.spare k s
 
--- behind so many operations: what was told of them gets no map more, where it was worn it stays so, and which of them failed
--- and the parts that they were of stay
+-- behind so many operations: what was told of them gets no map and no free page more, where it was worn it stays so, and which
+-- of them failed and the parts that they were of stay
 pub record Past (ops : ℕ) (old new : Clock) : Type 0 where
   pub after : (k : ℕ) (m : ℕ → Held) → k ≤ ops → new.may_find (After k) m → old.may_find (After k) m
   pub cut : (k : ℕ) (m : ℕ → Held) → k < ops → new.may_find (CutIn k) m → old.may_find (CutIn k) m
   pub failed : (k : ℕ) → k < ops → new.failed k ↔ old.failed k
-  pub worn : (k n : ℕ) → k ≤ ops → old.worn k n → new.worn k n
+  pub worn : (k n : ℕ) (urgent : Bool) → k ≤ ops → old.worn k n urgent → new.worn k n urgent
   pub of_second : (k : ℕ) → k < ops → new.of_second k ↔ old.of_second k
+  pub spare : (k s : ℕ) → k ≤ ops → new.spare k s → old.spare k s
 
 -- the power goes off only in an operation of a turn that says so
 abbrev pub GoesOff : DeviceTurn → ℕ → ℕ → ℕ → Type 0

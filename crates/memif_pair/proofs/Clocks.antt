@@ -117,17 +117,17 @@ module _ (of : ℕ → Bool) (a : DeviceTold) (ca : Clock) (anew : DeviceTold) (
       by true = some k
       by false = all
 
-  past_worn : (k n : ℕ) → WornBoth of course ca cb k n → WornBoth of next ca_new cb k n
-  past_worn k n worn = record {
+  past_worn : (k n : ℕ) (urgent : Bool) → WornBoth of course ca cb k n urgent → WornBoth of next ca_new cb k n urgent
+  past_worn k n urgent worn = record {
     moment = worn.moment;
     by_then = (let more = own_next (of n) k in let early = worn.by_then in omega (arith, more, early));
     is = moved (of n) worn.by_then worn.is;
   }
     where
-      moved : (t : Bool) → worn.moment ≤ own t course (reach course k) → IfElse t (cb.worn worn.moment n) (ca.worn worn.moment n)
-          → IfElse t (cb.worn worn.moment n) (ca_new.worn worn.moment n)
+      moved : (t : Bool) → worn.moment ≤ own t course (reach course k) → IfElse t (cb.worn worn.moment n urgent) (ca.worn worn.moment n urgent)
+          → IfElse t (cb.worn worn.moment n urgent) (ca_new.worn worn.moment n urgent)
       moved true early out = out
-      moved false early out = past.worn worn.moment n (let most = most_first (reach course k) in omega (arith, early, most)) out
+      moved false early out = past.worn worn.moment n urgent (let most = most_first (reach course k) in omega (arith, early, most)) out
 
   past_second : (k : ℕ) → k < min (length course) last_count → (OfSecond next k → OfSecond course k) × (OfSecond course k → OfSecond next k)
   past_second k lt =
@@ -152,7 +152,7 @@ module _ (of : ℕ → Bool) (a : DeviceTold) (ca : Clock) (anew : DeviceTold) (
       )
 
   pub first_past : Past (min (length course) last_count) (clock_both of course ca cb) (clock_both of next ca_new cb)
-  first_past = record { after = past_after; cut = past_cut; failed = past_failed; worn = λ k n le. past_worn k n; of_second = past_second }
+  first_past = record { after = past_after; cut = past_cut; failed = past_failed; worn = λ k n urgent le. past_worn k n urgent; of_second = past_second; spare = λ k s le none. none }
 
   -- THE OPERATION OF THIS TURN
   same_bool : (p q : Bool) → ◌≡◌ {A = Option Bool} (Some p) (Some q) → p ≡ q
@@ -291,20 +291,22 @@ module _ (of : ℕ → Bool) (course : List Bool) (ca ca_new cb cb_new : Clock) 
       by true out = other (own true course k) out
       by false out = more (own false course k) out
 
-  worn_same : ((k n : ℕ) → ca.worn k n → ca_new.worn k n) → ((k n : ℕ) → cb.worn k n → cb_new.worn k n) → (k n : ℕ) → WornBoth of course ca cb k n → WornBoth of course ca_new cb_new k n
-  worn_same more other k n out = record { moment = out.moment; by_then = out.by_then; is = by (of n) out.is }
+  worn_same : ((k n : ℕ) (urgent : Bool) → ca.worn k n urgent → ca_new.worn k n urgent) → ((k n : ℕ) (urgent : Bool) → cb.worn k n urgent → cb_new.worn k n urgent)
+      → (k n : ℕ) (urgent : Bool) → WornBoth of course ca cb k n urgent → WornBoth of course ca_new cb_new k n urgent
+  worn_same more other k n urgent out = record { moment = out.moment; by_then = out.by_then; is = by (of n) out.is }
     where
-      by : (q : Bool) → IfElse q (cb.worn out.moment n) (ca.worn out.moment n) → IfElse q (cb_new.worn out.moment n) (ca_new.worn out.moment n)
-      by true is = other out.moment n is
-      by false is = more out.moment n is
+      by : (q : Bool) → IfElse q (cb.worn out.moment n urgent) (ca.worn out.moment n urgent) → IfElse q (cb_new.worn out.moment n urgent) (ca_new.worn out.moment n urgent)
+      by true is = other out.moment n urgent is
+      by false is = more out.moment n urgent is
 
 pub same_both : (of : ℕ → Bool) (course : List Bool) (ca ca_new cb cb_new : Clock) → SameClock ca ca_new → SameClock cb cb_new → SameClock (clock_both of course ca cb) (clock_both of course ca_new cb_new)
 same_both of course ca ca_new cb cb_new same other = record {
   may_find = λ w m. (may_same of course ca_new ca cb_new cb (λ v x. (same.may_find v x).0) (λ v x. (other.may_find v x).0) w m, may_same of course ca ca_new cb cb_new (λ v x. (same.may_find v x).1) (λ v x. (other.may_find v x).1) w m);
   off_in = λ k. (off_same of course ca_new ca cb_new cb (λ j. (same.off_in j).0) (λ j. (other.off_in j).0) k, off_same of course ca ca_new cb cb_new (λ j. (same.off_in j).1) (λ j. (other.off_in j).1) k);
   failed = λ k. (failed_same of course ca_new ca cb_new cb (λ j. (same.failed j).0) (λ j. (other.failed j).0) k, failed_same of course ca ca_new cb cb_new (λ j. (same.failed j).1) (λ j. (other.failed j).1) k);
-  worn = λ k n. (worn_same of course ca_new ca cb_new cb (λ j x. (same.worn j x).0) (λ j x. (other.worn j x).0) k n, worn_same of course ca ca_new cb cb_new (λ j x. (same.worn j x).1) (λ j x. (other.worn j x).1) k n);
+  worn = λ k n urgent. (worn_same of course ca_new ca cb_new cb (λ j x b. (same.worn j x b).0) (λ j x b. (other.worn j x b).0) k n urgent, worn_same of course ca ca_new cb cb_new (λ j x b. (same.worn j x b).1) (λ j x b. (other.worn j x b).1) k n urgent);
   of_second = λ k. (λ is. is, λ is. is);
+  spare = λ k s. (λ is. is, λ is. is);
 }
 
 pub same_self : (c : Clock) → SameClock c c
@@ -312,6 +314,7 @@ same_self c = record {
   may_find = λ w m. (λ is. is, λ is. is);
   off_in = λ k. (λ is. is, λ is. is);
   failed = λ k. (λ is. is, λ is. is);
-  worn = λ k n. (λ is. is, λ is. is);
+  worn = λ k n urgent. (λ is. is, λ is. is);
   of_second = λ k. (λ is. is, λ is. is);
+  spare = λ k s. (λ is. is, λ is. is);
 }

@@ -83,7 +83,7 @@ record Leads (c d : Clock) : Type 0 where
   pub may_find : (w : When) (m : ℕ → Held) → c.may_find w m → d.may_find w m
   pub off_in : (k : ℕ) → c.off_in k → d.off_in k
   pub failed : (k : ℕ) → c.failed k → d.failed k
-  pub worn : (k n : ℕ) → c.worn k n → d.worn k n
+  pub worn : (k n : ℕ) (urgent : Bool) → c.worn k n urgent → d.worn k n urgent
 
 chosen : (q : Bool) (x y : Held) → (if q then x else y) ≡ (if not q then y else x)
 chosen true x y = refl
@@ -139,10 +139,10 @@ module _ (of : ℕ → Bool) (course : List Bool) (a b : Clock) where
       is = get_flip course k out.second out.is;
       failed = owns (λ x y. IfElse (not out.second) (a.failed y) (b.failed x)) k (if_flip out.second (b.failed (own true course k)) (a.failed (own false course k)) out.failed);
     };
-    worn = λ k n out. record {
+    worn = λ k n urgent out. record {
       moment = out.moment;
       by_then = (let early = out.by_then in let same = ap (own (not (of n)) (flip course)) (reach_flip k) ∙ own_flip (of n) course (reach course k) in omega (arith, early, same));
-      is = if_flip (of n) (b.worn out.moment n) (a.worn out.moment n) out.is;
+      is = if_flip (of n) (b.worn out.moment n urgent) (a.worn out.moment n urgent) out.is;
     };
   }
 
@@ -197,8 +197,9 @@ module _ (answer : DeviceTurn) (a : DeviceTold) (ca : Clock) (b : DeviceTold) (c
         λ out. (flips_back of course ca cb).failed k ((past.failed k (earlier k lt)).0 ((flips of next ca cb_new).failed k out)),
         λ out. (flips_back of next ca cb_new).failed k ((past.failed k (earlier k lt)).1 ((flips of course ca cb).failed k out)),
       );
-      worn = λ k n le worn. (flips_back of next ca cb_new).worn k n (past.worn k n (let same = length_flip course in omega (arith, same, le)) ((flips of course ca cb).worn k n worn));
+      worn = λ k n urgent le worn. (flips_back of next ca cb_new).worn k n urgent (past.worn k n urgent (let same = length_flip course in omega (arith, same, le)) ((flips of course ca cb).worn k n urgent worn));
       of_second = λ k lt. let same = same_get k (omega (arith, lt)) in (λ one. record { small = one.small; is = sym same ∙ one.is }, λ one. record { small = one.small; is = same ∙ one.is });
+      spare = λ k s le none. none;
     }
 
     second_off : (k : ℕ) → to.off_in k → (from.off_in k × ((k < min (length course) last_count) ⊎ (last_count ≤ k))) ⊎ GoesOff answer (min (length course) last_count) (min (length next) last_count) k

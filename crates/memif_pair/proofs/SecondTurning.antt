@@ -86,11 +86,11 @@ module _ (a : DeviceTold) (ca : Clock) (b : DeviceTold) (cb : Clock) (bnew : Dev
   pair_behind = pair_flip bnew a (pair_new b cb bnew cb_new a ca (flip course) (flip next) (pair_flip a b pair) (course_flip a b course is) (goes_flip b.ops bnew.ops course next goes) fixed)
 
   -- THE END OF A JOB
-  worn_behind : (n : ℕ) → is_second b.fixed.numbers n ≡ true → cb_new.worn bnew.ops n → (pair_clock ca bnew cb_new next).worn new.ops n
-  worn_behind n of worn = subst (λ (f : Fixed). WornBoth (is_second f.numbers) next ca cb_new new.ops n) (sym fixed) (record {
+  worn_behind : (n : ℕ) (urgent : Bool) → is_second b.fixed.numbers n ≡ true → cb_new.worn bnew.ops n urgent → (pair_clock ca bnew cb_new next).worn new.ops n urgent
+  worn_behind n urgent of worn = subst (λ (f : Fixed). WornBoth (is_second f.numbers) next ca cb_new new.ops n urgent) (sym fixed) (record {
     moment = bnew.ops;
     by_then = subst (λ (q : Bool). bnew.ops ≤ own q next (reach next new.ops)) (sym of) (let now = ap (own true next) (reach_end next) ∙ course_behind.second in omega (arith, now));
-    is = subst (λ (q : Bool). IfElse q (cb_new.worn bnew.ops n) (ca.worn bnew.ops n)) (sym of) worn;
+    is = subst (λ (q : Bool). IfElse q (cb_new.worn bnew.ops n urgent) (ca.worn bnew.ops n urgent)) (sym of) worn;
   })
 
   still_behind : bnew ≡ b → new ≡ old
@@ -127,7 +127,7 @@ module _ (a : DeviceTold) (ca : Clock) (b : DeviceTold) (cb : Clock) (bnew : Dev
     job_behind (Open k) turns = (turns.0, keeps_behind turns.1, let less = turns.2 in omega (arith, less))
     job_behind (Ended r given) turns = (
       ends_behind j.mark r given turns.0,
-      λ failed. elim (turns.1 failed) [ inl rose ↦ inl rose | inr out ↦ inr (out.0, worn_behind j.number of out.1) ],
+      λ failed. elim (turns.1 failed) [ inl rose ↦ inl rose | inr out ↦ inr (out.0, worn_behind j.number j.urgent of out.1) ],
     )
 
     part_there : part_of old.fixed j ≡ Second

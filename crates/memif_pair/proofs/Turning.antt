@@ -121,11 +121,11 @@ module _ (a : DeviceTold) (ca : Clock) (anew : DeviceTold) (ca_new : Clock) (b :
   }
 
   -- THE END OF A JOB
-  worn_both : (n : ℕ) → is_second b.fixed.numbers n ≡ false → ca_new.worn anew.ops n → WornBoth (is_second b.fixed.numbers) next ca_new cb new.ops n
-  worn_both n of worn = record {
+  worn_both : (n : ℕ) (urgent : Bool) → is_second b.fixed.numbers n ≡ false → ca_new.worn anew.ops n urgent → WornBoth (is_second b.fixed.numbers) next ca_new cb new.ops n urgent
+  worn_both n urgent of worn = record {
     moment = anew.ops;
     by_then = (let now = own_now in subst (λ (q : Bool). anew.ops ≤ own q next (reach next new.ops)) (sym of) (omega (arith, now)));
-    is = subst (λ (q : Bool). IfElse q (cb.worn anew.ops n) (ca_new.worn anew.ops n)) (sym of) worn;
+    is = subst (λ (q : Bool). IfElse q (cb.worn anew.ops n urgent) (ca_new.worn anew.ops n urgent)) (sym of) worn;
   }
     where
       all : own false next (length next) ≡ anew.ops
@@ -184,7 +184,7 @@ module _ (a : DeviceTold) (ca : Clock) (anew : DeviceTold) (ca_new : Clock) (b :
     job_both (Open k) turns = (turns.0, keeps_both turns.1, let less = turns.2 in omega (arith, less))
     job_both (Ended r given) turns = (
       ends_both j.mark r given turns.0,
-      λ failed. elim (turns.1 failed) [ inl rose ↦ inl rose | inr out ↦ inr (out.0, worn_both j.number of out.1) ],
+      λ failed. elim (turns.1 failed) [ inl rose ↦ inl rose | inr out ↦ inr (out.0, worn_both j.number j.urgent of out.1) ],
     )
 
     -- its part is the first one, in both

@@ -72,15 +72,16 @@ abbrev pub reach : List Bool → ℕ → ℕ
 reach course k = if nat_lt k last_count then k else length course
 
 -- by some moment of its own device
-pub record WornBoth (of : ℕ → Bool) (course : List Bool) (a b : Clock) (k n : ℕ) : Type 0 where
+pub record WornBoth (of : ℕ → Bool) (course : List Bool) (a b : Clock) (k n : ℕ) (urgent : Bool) : Type 0 where
   pub moment : ℕ
   pub by_then : moment ≤ own (of n) course (reach course k)
-  pub is : IfElse (of n) (b.worn moment n) (a.worn moment n)
+  pub is : IfElse (of n) (b.worn moment n urgent) (a.worn moment n urgent)
 
 pub record OfSecond (course : List Bool) (k : ℕ) : Type 0 where
   pub small : k < last_count
   pub is : slice_get course k ≡ Some true
 
+-- of the pages that are free for urgent writes it tells nothing
 abbrev pub clock_both : (ℕ → Bool) → List Bool → Clock → Clock → Clock
 clock_both of course a b = record {
   may_find = may_find_both of course a b;
@@ -88,4 +89,5 @@ clock_both of course a b = record {
   failed = FailedBoth course a b;
   worn = WornBoth of course a b;
   of_second = OfSecond course;
+  spare = λ k s. ⊥;
 }
