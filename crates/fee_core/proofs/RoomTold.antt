@@ -1,18 +1,22 @@
 -- What a device tells of its room and its turns.
-use Rattle.std.specs.Prelude.{◌&&◌}
-use Rattle.std.proofs.Common.{◌≡◌, Bool, true, false, List, ℕ, Option, Some, None, refl, ◌∙◌, subst}
-use Rattle.fls_model.specs.Told.{Told}
+use Rattle.std.specs.Prelude.{◌&&◌, IfSome, option_map}
+use Rattle.std.proofs.Common.{◌≡◌, ◌≤◌, ◌+◌, Bool, true, false, List, ℕ, Option, Some, None, refl, ◌∙◌, subst, arith}
+use Rattle.memif.specs.Calls.{FreesReady, pages_open}
+use Rattle.fls_model.specs.Told.{Told, ToldBytes}
 use Rattle.fee_log.specs.Log.{IsLogState}
 use Rattle.fee_course.specs.declared.course.Course.{Course}
 use Rattle.fee_course.specs.declared.course.Course.TheVariants.{Erase, Copy, Head, Gate}
 use Rattle.fee_switch.specs.Banks.{BanksState, IsBanksState}
 use Rattle.fee_switch_laws.specs.Shown.{phase_shown}
 use Rattle.promise_device.specs.Making.{Making}
+use Rattle.promise_device.specs.Bridge.{ready_pages}
 use Rattle.promise_device.specs.Room.{TellsWorkOver}
-use Rattle.fee_told.specs.Device.{told_of, is_switching}
+use Rattle.fls_told.proofs.Clocks.{free_now}
+use Rattle.fee_told.specs.Device.{told_of, flash_device, is_switching}
 use Rattle.fee_laws.specs.Inside.{device_of, IsSound}
+use Rattle.fee_laws.proofs.FollowReady.{free_is_ready}
 use Rattle.fee_laws.proofs.FollowRoom.{room_is_told}
-use Rattle.fee_core.specs.Whole.{Whole, Sound}
+use Rattle.fee_core.specs.Whole.{Whole, Sound, told_in, clock_in}
 
 none_open : (started : Bool) (c : Option Course) (s : BanksState) (body : List ℕ) → started ≡ true → started && is_switching (phase_shown c s body) ≡ false → c ≡ None
 none_open true None s body up shut = refl
@@ -28,3 +32,24 @@ work_told m entry w sound banks log started on shut =
     room_is_told m entry w.parts w.numbers w.reserve w.ops
     (record { sound = subst (λ (x : Bool). IsSound m entry w.parts w.numbers w.reserve w.ops x) up sound.parts; started = started; banks = banks; log = log })
     (none_open w.parts.started w.parts.banks.course w.parts.banks _ started shut) sound.follows
+
+-- what is free for urgent writes is ready
+now_is : (o : Option ToldBytes) (P : List ℕ → Type 0) (image : List ℕ) → option_map (λ (b : ToldBytes). b.now) o ≡ Some image → IfSome o (λ b. P b.now) → P image
+now_is None P image is holds = cc is
+now_is (Some b) P image is holds = subst P (cc is) holds
+
+pub free_told : (m : Making) (entry : Told) (w : Whole) → Sound m entry w → IsBanksState w.parts.banks → IsLogState w.parts.banks.log → FreesReady (told_in m entry w) (clock_in m entry w)
+free_told m entry w sound banks log started on s spare =
+    let up = sound.parts.off started ∙ on in
+    let (told, (image, is, few)) = free_now (flash_device (device_of m entry w.parts)) s spare in
+    let d = told_in m entry w in
+    let all = free_is_ready m entry w.parts w.numbers w.reserve w.ops
+    (record { sound = subst (λ (x : Bool). IsSound m entry w.parts w.numbers w.reserve w.ops x) up sound.parts; started = started; banks = banks; log = log })
+    sound.follows told in
+    let most = now_is w.parts.fls.flash.bytes (λ x. ready_pages m w.parts.operations x ≤ d.ready + pages_open d.fixed d.stand) image is all in
+    omega (arith, few, most)
+
+-- as its fields show it, w, of what is known, v
+pub free_shown : {m : Making} {entry : Told} {w v : Whole} → w ≡ v → Sound m entry v → IsBanksState w.parts.banks → IsLogState w.parts.banks.log → FreesReady (told_in m entry v) (clock_in m entry v)
+free_shown {m} {entry} {w} {v} shown sound banks log =
+    free_told m entry v sound (subst (λ (x : Whole). IsBanksState x.parts.banks) shown banks) (subst (λ (x : Whole). IsLogState x.parts.banks.log) shown log)

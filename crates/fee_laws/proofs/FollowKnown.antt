@@ -91,10 +91,10 @@ module _ (m : Making) (entry : Told) (s : Parts) (listed : List (DeviceNumber ×
     pub bank_is : bank_of s.banks.log ≡ bank_in (banks_of m) a.head.format a.bank
     bank_is = λ i. bank_in (layout_of ((on.banks.log.shape ∙ on.sound.made_for.banks_geometry) i) ((on.banks.log.shared ∙ on.sound.made_for.shared) i)) (formats i) (own_bank i)
 
-    closed_beside : is_closed s.banks.log.tail ≡ true → (let b = bank_in (banks_of m) a.head.format a.bank in IsClosed b bytes (end_of b bytes)) ⊎ IsTrue (may_be_closed_beside s.banks.course s.banks.log s.operations)
+    pub closed_beside : is_closed s.banks.log.tail ≡ true → (let b = bank_in (banks_of m) a.head.format a.bank in IsClosed b bytes (end_of b bytes)) ⊎ IsTrue (may_be_closed_beside s.banks.course s.banks.log s.operations)
     closed_beside shut = elim (follows_log.closed shut) [ inl is ↦ inl (subst (λ (b : Bank). IsClosed b bytes (end_of b bytes)) bank_is is) | inr failed ↦ inr failed ]
 
-    may_by : s.banks.course ≡ None → IsTrue (may_be_closed_beside s.banks.course s.banks.log s.operations) → IsTrue (may_be_closed s.operations)
+    pub may_by : s.banks.course ≡ None → IsTrue (may_be_closed_beside s.banks.course s.banks.log s.operations) → IsTrue (may_be_closed s.operations)
     may_by none failed = first_of (may_be_closed s.operations) (failed_of s.banks.log s.operations) (subst (λ (c : Option Course). IsTrue (may_be_closed_beside c s.banks.log s.operations)) none failed)
 
     pub closed_at : s.banks.course ≡ None → is_closed s.banks.log.tail ≡ true → (let b = bank_in (banks_of m) a.head.format a.bank in IsClosed b bytes (end_of b bytes)) ⊎ IsTrue (may_be_closed s.operations)

@@ -29,9 +29,9 @@ use Rattle.fee_switch.specs.declared.active.ActiveBank.{ActiveBank}
 use Rattle.fee_switch.specs.Active.{active_shown}
 use Rattle.fee_switch_laws.specs.Space.{free_pages, has_room}
 use Rattle.promise_device.specs.Making.{Making, banks_of}
-use Rattle.promise_device.specs.Image.{is_closed_bank}
+use Rattle.promise_device.specs.Image.{free_in_bank, is_closed_bank}
 use Rattle.promise_device.specs.Bridge.{may_be_closed}
-use Rattle.promise_device.specs.Room.{mark_pages, job_pages, pages_needed, turns_with_room, free_in_bank, TellsRoom, TellsRoomOf, TellsWork}
+use Rattle.promise_device.specs.Room.{mark_pages, job_pages, pages_needed, turns_with_room, TellsRoom, TellsRoomOf, TellsWork}
 use Rattle.promise_device.proofs.Readings.{closed_banks_compute}
 use Rattle.fee_told.specs.Device.{told_of}
 use Rattle.fee_told.specs.Figures.{Work, ready_of, left_of, turns_of, turns_owed}
@@ -40,21 +40,21 @@ use Rattle.fee_laws.specs.Inside.{Parts, body_of, device_of, mark_of, stand_of, 
 use Rattle.fee_laws.specs.Record.{IsJobOf, IsLengthOf, IsInWork, head_of}
 use Rattle.fee_laws.specs.Turn.{IsOn}
 use Rattle.fee_laws.specs.Work.{pages_of_op, pages_free, is_owed, is_waiting, fits_in, needs_switch, begins_next, claimed, takes_append, switch_turns, work_of, seal_turns}
-use Rattle.fee_laws.specs.Follows.{anything, FollowsBytes}
+use Rattle.fee_laws.specs.Follows.{anything, FollowsBytes, may_be_closed_beside}
 use Rattle.fee_laws.specs.FollowLaws.{RoomIsTold}
 use Rattle.fee_laws.proofs.Appended.{pages_few}
 use Rattle.fee_laws.proofs.Before.{now_at, each_now, power}
 use Rattle.fee_laws.proofs.CallsBehind.{no_work}
-use Rattle.fee_laws.proofs.FollowKnown.{no_header, test, follows_log, bank_is, closed_at, free_is, shows_active}
+use Rattle.fee_laws.proofs.FollowKnown.{no_header, test, follows_log, bank_is, closed_beside, may_by, free_is, shows_active}
 use Rattle.fee_laws.proofs.Shown.{pages_by}
 use Rattle.fee_laws.proofs.SwitchBegun.{seal_is}
 use Rattle.fee_laws.proofs.WornFull.{op_some}
 
 -- THE PAGES
 -- no gate is owed, and what is free in memory, beside the record in work, is no less than lies behind the log's end
-record IsFree (b : Bank) (bytes : List ℕ) (t : Tail) (free : ℕ) : Type 0 where
-  paid : is_owed t ≡ false
-  least : b.pages ≤ end_of b bytes + (free + pages_with b.page (work_in t))
+pub record IsFree (b : Bank) (bytes : List ℕ) (t : Tail) (free : ℕ) : Type 0 where
+  pub paid : is_owed t ≡ false
+  pub least : b.pages ≤ end_of b bytes + (free + pages_with b.page (work_in t))
 
 -- where the log's records end in the bytes, by its tail
 module _ (b : Bank) (bytes : List ℕ) (may : May) (big : 16 ≤ b.page) (end : ℕ) (body : List ℕ) (high : end ≤ b.pages) where
@@ -92,11 +92,11 @@ module _ (b : Bank) (bytes : List ℕ) (may : May) (big : 16 ≤ b.page) (end : 
       inl (inr (λ blank. no_header b.page _ (omega (arith, big)) (sym written ∙ ap (page_of b bytes) start ∙ blank end (omega (arith, is)) (omega (arith, room)))))
   least_free tail.Closed at wide = cc wide
 
-few_free : (pages end : ℕ) (shut : Bool) → free_pages_of pages end shut ≤ pages - end
+pub few_free : (pages end : ℕ) (shut : Bool) → free_pages_of pages end shut ≤ pages - end
 few_free pages end true = omega arith
 few_free pages end false = omega arith
 
-none_free : (pages end : ℕ) (shut : Bool) → shut ≡ true → free_pages_of pages end shut ≡ 0
+pub none_free : (pages end : ℕ) (shut : Bool) → shut ≡ true → free_pages_of pages end shut ≡ 0
 none_free pages end true is = refl
 none_free pages end false is = cc is
 
@@ -155,13 +155,14 @@ has_pages : (urgent : Bool) (pages reserve free : ℕ) → pages + (if urgent th
 has_pages true pages reserve free few = le-leb pages free (omega (arith, few))
 has_pages false pages reserve free few = le-leb (pages + reserve) free few
 
-module _ (m : Making) (entry : Told) (s : Parts) (listed : List (DeviceNumber × ℕ)) (kept count : ℕ) (on : IsOn m entry s listed kept count) (shut : s.banks.course ≡ None) (bytes : List ℕ) (follows : FollowsBytes s.banks s.content s.operations bytes) where
+module _ (m : Making) (entry : Told) (s : Parts) (listed : List (DeviceNumber × ℕ)) (kept count : ℕ) (on : IsOn m entry s listed kept count) (bytes : List ℕ) (follows : FollowsBytes s.banks s.content s.operations bytes) where
   abbrev stand : Option FeeJob → Stand
   stand o = stand_of s.content o s.last s.given
 
   abbrev t : Tail
   t = s.banks.log.tail
 
+  -- a program failed that may have closed the active bank, with no switch open
   abbrev failed : Bool
   failed = may_be_closed s.operations
 
@@ -171,24 +172,17 @@ module _ (m : Making) (entry : Told) (s : Parts) (listed : List (DeviceNumber ×
   shape : s.banks.geometry ≡ m.geometry
   shape = on.sound.made_for.banks_geometry
 
-  -- no switch is needed
-  no_turns : (o : Option FeeJob) → needs_switch m.reserve s.banks o ≡ false → switch_turns m.reserve s.banks o s.banks.course ≡ 0
-  no_turns o none = ap (switch_turns m.reserve s.banks o) shut ∙ none_by (needs_switch m.reserve s.banks o) _ none
-
   idle_work : work_in t ≡ None → pages_with m.geometry.page (work_in t) ≡ 0
   idle_work idle = ap (pages_with m.geometry.page) idle
-
-  none_left : s.job ≡ None → left_of (stand None) (work_of m.reserve s.banks None) ≡ 0
-  none_left none = no_turns None refl
 
   module _ (j : FeeJob) (job : s.job ≡ Some j) where
     abbrev p : ℕ
     p = s.banks.geometry.page
 
-    of : IsJobOf m.numbers j
+    pub of : IsJobOf m.numbers j
     of = subst (λ (o : Option FeeJob). IfSome o (IsJobOf m.numbers)) job at_work.job
 
-    own_pages : job_pages m (stand (Some j)) ≡ pages_of_op p j.op j.length
+    pub own_pages : job_pages m (stand (Some j)) ≡ pages_of_op p j.op j.length
     own_pages = job_is m j.number.0 j.length of.length j.op (take j.length s.content) of.configured of.fits ∙ ap (λ (g : Geometry). pages_of_op g.page j.op j.length) (sym shape)
 
     in_work : (h : RecHead) → work_in t ≡ Some h → IsInWork s.banks (Some j) h
@@ -212,36 +206,9 @@ module _ (m : Making) (entry : Told) (s : Parts) (listed : List (DeviceNumber ×
         let same = work_pages h work in
         omega (arith, none, same)
 
-    -- a read takes one turn
-    reads : j.op ≡ Read → left_of (stand (Some j)) (work_of m.reserve s.banks (Some j)) ≡ 1
-    reads read =
-        let no_pages : pages_of_op p j.op j.length ≡ 0 = ap (λ (op : DeviceOp). pages_of_op p op j.length) read in
-        let no_record : nat_le 1 (pages_of_op p j.op j.length) ≡ false = ap (nat_le 1) no_pages in
-        let none : needs_switch m.reserve s.banks (Some j) ≡ false = ap (λ (x : Bool). (x && not (is_some (work_in t))) && not (fits_in m.reserve s.banks j)) no_record in
-        let zero = no_turns (Some j) none in
-        let one : turns_of (mark_of j.op (take j.length s.content)) (work_of m.reserve s.banks (Some j)) ≡ 1 = ap (λ (op : DeviceOp). turns_of (mark_of op (take j.length s.content)) (work_of m.reserve s.banks (Some j))) read in
-        omega (arith, zero, one)
-
-    -- another job with room no more than its record has pages
-    module _ (wide : is_owed t ≡ false) (writes : j.op ≢ Read) where
-      not_needed : (o : Option RecHead) → work_in t ≡ o → (o ≡ None → fits_in m.reserve s.banks j ≡ true) → needs_switch m.reserve s.banks (Some j) ≡ false
-      not_needed None idle fits = not_second (is_waiting s.banks j) (not (fits_in m.reserve s.banks j)) (ap not (fits refl))
-      not_needed (Some h) work fits = ap (λ (x : Bool). x && not (fits_in m.reserve s.banks j)) (waits_none h work)
-
-      written : (fits : work_in t ≡ None → fits_in m.reserve s.banks j ≡ true) → left_of (stand (Some j)) (work_of m.reserve s.banks (Some j)) ≤ pages_of_op p j.op j.length
-      written fits =
-          let zero = no_turns (Some j) (not_needed (work_in t) refl (λ idle. fits idle)) in
-          let few = pages_few p (pages_of_op p j.op j.length) t (λ r some. (let same = work_pages r some in omega (arith, same))) in
-          let paid : turns_owed (is_owed t) ≡ 0 = ap turns_owed wide in
-          let turns = turns_written (mark_of j.op (take j.length s.content)) (work_of m.reserve s.banks (Some j)) (λ none. writes (op_read j.op (take j.length s.content) none)) in
-          omega (arith, zero, few, paid, turns)
-
   -- WITHOUT ROOM IN THE BYTES
-  ready_is : ready_of m.reserve (nat_le 1 (seal_turns s.banks.course)) (pages_free s.banks s.job) ≡ min m.reserve (pages_free s.banks s.job)
-  ready_is = ap (λ (n : ℕ). ready_of m.reserve (nat_le 1 n) (pages_free s.banks s.job)) (seal_is s.banks.course shut)
-
   -- what is claimed, and the record in work, are the open job's
-  claims : (o : Option FeeJob) → s.job ≡ o → claimed s.banks o + pages_with m.geometry.page (work_in t) ≤ job_pages m (stand o)
+  pub claims : (o : Option FeeJob) → s.job ≡ o → claimed s.banks o + pages_with m.geometry.page (work_in t) ≤ job_pages m (stand o)
   claims None none = (let idle = no_work s.banks s.job (work_in t) none at_work.work in let zero = idle_work idle in omega (arith, zero))
   claims (Some j) job =
       let own = own_pages j job in
@@ -268,9 +235,13 @@ module _ (m : Making) (entry : Told) (s : Parts) (listed : List (DeviceNumber ×
         let same = free_is m entry s listed kept count on bytes follows a active in
         omega (arith, here, same)
 
-    free_by : Shut ⊎ (IsTrue failed ⊎ IsFree b bytes t (free_pages s.banks))
-    free_by = elim (test (is_closed t)) [
-      | inl closed ↦ (elim (closed_at m entry s listed kept count on bytes follows a active shut closed) [
+    -- a program that may have closed it failed
+    abbrev Failed : Type 0
+    Failed = IsTrue (may_be_closed_beside s.banks.course s.banks.log s.operations)
+
+    pub free_beside : Shut ⊎ (Failed ⊎ IsFree b bytes t (free_pages s.banks))
+    free_beside = elim (test (is_closed t)) [
+      | inl closed ↦ (elim (closed_beside m entry s listed kept count on bytes follows a active closed) [
         | inl is ↦ inl ((closed_banks_compute b bytes (end_of b bytes)).1 is)
         | inr bad ↦ inr (inl bad)
       ])
@@ -290,61 +261,106 @@ module _ (m : Making) (entry : Told) (s : Parts) (listed : List (DeviceNumber ×
     none_in : Shut → free_in_bank b bytes ≡ 0
     none_in is = none_free b.pages (end_of b bytes) (is_closed_bank b bytes (end_of b bytes)) is
 
-    left_by : (o : Option FeeJob) → s.job ≡ o → pages_needed m (stand o) ≤ free_in_bank b bytes → IsTrue failed ⊎ (left_of (stand o) (work_of m.reserve s.banks o) ≤ turns_with_room m (stand o))
-    left_by None none room = (let zero = none_left none in inr (omega (arith, zero)))
-    left_by (Some j) job room = elim (is_a_read j.op) [
-      | inl read ↦ (
-          let one = reads j job read in
-          let turns : turns_with_room m (stand (Some j)) ≡ 1 = ap (λ (op : DeviceOp). option_map_or (mark_pages m j.number.0) (mark_of op (take j.length s.content)) 1) read in
-          inr (omega (arith, one, turns)))
-      | inr writes ↦ (
-          let own = own_pages j job in
-          let some = op_some s.banks.geometry.page j.op j.length writes in
-          let same = turns_marked m j.number.0 (mark_of j.op (take j.length s.content)) (λ none. writes (op_read j.op (take j.length s.content) none)) in
-          elim free_by [
-            | inl is ↦ (let zero = none_in is in absurd (omega (arith, zero, room, own, some)))
-            | inr (inl bad) ↦ inl bad
-            | inr (inr free) ↦ (
-                let least = free.least in
-                let beside = few in
-                let fits : work_in t ≡ None → fits_in m.reserve s.banks j ≡ true = λ idle. has_pages j.urgent (pages_of_op s.banks.geometry.page j.op j.length) m.reserve (free_pages s.banks)
-                (let zero = idle_work idle in omega (arith, zero, least, beside, room, own)) in
-                let turns = written j job free.paid writes fits in
-                inr (omega (arith, turns, same, own)))
-          ])
-    ]
+  -- WITH NO SWITCH OPEN
+  module _ (shut : s.banks.course ≡ None) where
+    -- no switch is needed
+    no_turns : (o : Option FeeJob) → needs_switch m.reserve s.banks o ≡ false → switch_turns m.reserve s.banks o s.banks.course ≡ 0
+    no_turns o none = ap (switch_turns m.reserve s.banks o) shut ∙ none_by (needs_switch m.reserve s.banks o) _ none
 
-    tells_room : TellsRoom m failed b bytes (told_of (device_of m entry s))
-    tells_room = record {
-      ready_high = (let is = ready_is in let most = high in omega (arith, is, most));
-      ready_low = elim free_by [
-        | inl is ↦ (let zero = none_in is in inr (omega (arith, zero)))
-        | inr (inl bad) ↦ inl bad
-        | inr (inr free) ↦ (let is = ready_is in let own = claims s.job refl in let least = free.least in let most = few in inr (omega (arith, is, own, least, most)))
-      ];
-      left = λ room. left_by s.job refl room;
+    none_left : s.job ≡ None → left_of (stand None) (work_of m.reserve s.banks None) ≡ 0
+    none_left none = no_turns None refl
+
+    module _ (j : FeeJob) (job : s.job ≡ Some j) where
+      -- a read takes one turn
+      reads : j.op ≡ Read → left_of (stand (Some j)) (work_of m.reserve s.banks (Some j)) ≡ 1
+      reads read =
+          let no_pages : pages_of_op (p j job) j.op j.length ≡ 0 = ap (λ (op : DeviceOp). pages_of_op (p j job) op j.length) read in
+          let no_record : nat_le 1 (pages_of_op (p j job) j.op j.length) ≡ false = ap (nat_le 1) no_pages in
+          let none : needs_switch m.reserve s.banks (Some j) ≡ false = ap (λ (x : Bool). (x && not (is_some (work_in t))) && not (fits_in m.reserve s.banks j)) no_record in
+          let zero = no_turns (Some j) none in
+          let one : turns_of (mark_of j.op (take j.length s.content)) (work_of m.reserve s.banks (Some j)) ≡ 1 = ap (λ (op : DeviceOp). turns_of (mark_of op (take j.length s.content)) (work_of m.reserve s.banks (Some j))) read in
+          omega (arith, zero, one)
+
+      -- another job with room no more than its record has pages
+      module _ (wide : is_owed t ≡ false) (writes : j.op ≢ Read) where
+        not_needed : (o : Option RecHead) → work_in t ≡ o → (o ≡ None → fits_in m.reserve s.banks j ≡ true) → needs_switch m.reserve s.banks (Some j) ≡ false
+        not_needed None idle fits = not_second (is_waiting s.banks j) (not (fits_in m.reserve s.banks j)) (ap not (fits refl))
+        not_needed (Some h) work fits = ap (λ (x : Bool). x && not (fits_in m.reserve s.banks j)) (waits_none j job h work)
+
+        written : (fits : work_in t ≡ None → fits_in m.reserve s.banks j ≡ true) → left_of (stand (Some j)) (work_of m.reserve s.banks (Some j)) ≤ pages_of_op (p j job) j.op j.length
+        written fits =
+            let zero = no_turns (Some j) (not_needed (work_in t) refl (λ idle. fits idle)) in
+            let few = pages_few (p j job) (pages_of_op (p j job) j.op j.length) t (λ r some. (let same = work_pages j job r some in omega (arith, same))) in
+            let paid : turns_owed (is_owed t) ≡ 0 = ap turns_owed wide in
+            let turns = turns_written (mark_of j.op (take j.length s.content)) (work_of m.reserve s.banks (Some j)) (λ none. writes (op_read j.op (take j.length s.content) none)) in
+            omega (arith, zero, few, paid, turns)
+
+    ready_is : ready_of m.reserve (nat_le 1 (seal_turns s.banks.course)) (pages_free s.banks s.job) ≡ min m.reserve (pages_free s.banks s.job)
+    ready_is = ap (λ (n : ℕ). ready_of m.reserve (nat_le 1 n) (pages_free s.banks s.job)) (seal_is s.banks.course shut)
+
+    module _ (a : ActiveBank) (active : s.banks.active ≡ Some a) where
+      free_by : Shut a active ⊎ (IsTrue failed ⊎ IsFree (b a active) bytes t (free_pages s.banks))
+      free_by = elim (free_beside a active) [
+        | inl is ↦ inl is
+        | inr (inl bad) ↦ inr (inl (may_by m entry s listed kept count on bytes follows a active shut bad))
+        | inr (inr free) ↦ inr (inr free)
+      ]
+
+      left_by : (o : Option FeeJob) → s.job ≡ o → pages_needed m (stand o) ≤ free_in_bank (b a active) bytes → IsTrue failed ⊎ (left_of (stand o) (work_of m.reserve s.banks o) ≤ turns_with_room m (stand o))
+      left_by None none room = (let zero = none_left none in inr (omega (arith, zero)))
+      left_by (Some j) job room = elim (is_a_read j.op) [
+        | inl read ↦ (
+            let one = reads j job read in
+            let turns : turns_with_room m (stand (Some j)) ≡ 1 = ap (λ (op : DeviceOp). option_map_or (mark_pages m j.number.0) (mark_of op (take j.length s.content)) 1) read in
+            inr (omega (arith, one, turns)))
+        | inr writes ↦ (
+            let own = own_pages j job in
+            let some = op_some s.banks.geometry.page j.op j.length writes in
+            let same = turns_marked m j.number.0 (mark_of j.op (take j.length s.content)) (λ none. writes (op_read j.op (take j.length s.content) none)) in
+            elim free_by [
+              | inl is ↦ (let zero = none_in a active is in absurd (omega (arith, zero, room, own, some)))
+              | inr (inl bad) ↦ inl bad
+              | inr (inr free) ↦ (
+                  let least = free.least in
+                  let beside = few a active in
+                  let fits : work_in t ≡ None → fits_in m.reserve s.banks j ≡ true = λ idle. has_pages j.urgent (pages_of_op s.banks.geometry.page j.op j.length) m.reserve (free_pages s.banks)
+                  (let zero = idle_work idle in omega (arith, zero, least, beside, room, own)) in
+                  let turns = written j job free.paid writes fits in
+                  inr (omega (arith, turns, same, own)))
+            ])
+      ]
+
+      tells_room : TellsRoom m failed (b a active) bytes (told_of (device_of m entry s))
+      tells_room = record {
+        ready_high = (let is = ready_is in let most = high a active in omega (arith, is, most));
+        ready_low = elim free_by [
+          | inl is ↦ (let zero = none_in a active is in inr (omega (arith, zero)))
+          | inr (inl bad) ↦ inl bad
+          | inr (inr free) ↦ (let is = ready_is in let own = claims s.job refl in let least = free.least in let most = few a active in inr (omega (arith, is, own, least, most)))
+        ];
+        left = λ room. left_by s.job refl room;
+      }
+
+    room_of : (o : Option ActiveBank) → s.banks.active ≡ o → TellsRoomOf m failed (active_shown o) bytes (told_of (device_of m entry s))
+    room_of None none = (let is = ready_is in let zero : free_pages s.banks ≡ 0 = ap (λ (o : Option ActiveBank). if is_some o then free_in s.banks.log else 0) none in omega (arith, is, zero))
+    room_of (Some a) active = tells_room a active
+
+    idle_by : (o : Option FeeJob) → s.job ≡ o → is_open (stand o) ≡ false → left_of (stand o) (work_of m.reserve s.banks o) ≡ 0
+    idle_by None none idle = none_left none
+    idle_by (Some j) job idle = cc idle
+
+    read_by : (o : Option FeeJob) → s.job ≡ o → is_read (stand o) ≡ true → left_of (stand o) (work_of m.reserve s.banks o) ≡ 1
+    read_by None none read = cc read
+    read_by (Some j) job read = reads j job (op_read j.op (take j.length s.content) (none_is (mark_of j.op (take j.length s.content)) read))
+
+    tells_work : TellsWork m failed bytes (told_of (device_of m entry s))
+    tells_work = record {
+      idle = idle_by s.job refl;
+      read = read_by s.job refl;
+      room = subst (λ (o : Option (ℕ × BankHead)). TellsRoomOf m failed o bytes (told_of (device_of m entry s))) (shows_active m entry s listed kept count on bytes follows shut) (room_of s.banks.active refl);
     }
-
-  room_of : (o : Option ActiveBank) → s.banks.active ≡ o → TellsRoomOf m failed (active_shown o) bytes (told_of (device_of m entry s))
-  room_of None none = (let is = ready_is in let zero : free_pages s.banks ≡ 0 = ap (λ (o : Option ActiveBank). if is_some o then free_in s.banks.log else 0) none in omega (arith, is, zero))
-  room_of (Some a) active = tells_room a active
-
-  idle_by : (o : Option FeeJob) → s.job ≡ o → is_open (stand o) ≡ false → left_of (stand o) (work_of m.reserve s.banks o) ≡ 0
-  idle_by None none idle = none_left none
-  idle_by (Some j) job idle = cc idle
-
-  read_by : (o : Option FeeJob) → s.job ≡ o → is_read (stand o) ≡ true → left_of (stand o) (work_of m.reserve s.banks o) ≡ 1
-  read_by None none read = cc read
-  read_by (Some j) job read = reads j job (op_read j.op (take j.length s.content) (none_is (mark_of j.op (take j.length s.content)) read))
-
-  tells_work : TellsWork m failed bytes (told_of (device_of m entry s))
-  tells_work = record {
-    idle = idle_by s.job refl;
-    read = read_by s.job refl;
-    room = subst (λ (o : Option (ℕ × BankHead)). TellsRoomOf m failed o bytes (told_of (device_of m entry s))) (shows_active m entry s listed kept count on bytes follows shut) (room_of s.banks.active refl);
-  }
 
 pub room_is_told : RoomIsTold
 room_is_told m entry s listed kept count on shut follows =
     each_now s.fls.flash.bytes (λ bytes. TellsWork m (may_be_closed s.operations) bytes (told_of (device_of m entry s))) (λ bytes at.
-    tells_work m entry s listed kept count on shut bytes (now_at s.fls.flash.bytes (FollowsBytes s.banks s.content s.operations) bytes at (follows on.started (power m entry s listed kept count on))))
+    tells_work m entry s listed kept count on bytes (now_at s.fls.flash.bytes (FollowsBytes s.banks s.content s.operations) bytes at (follows on.started (power m entry s listed kept count on))) shut)

@@ -95,6 +95,7 @@ mod FollowContents
 mod FollowStarts
 mod FollowKnown
 pub mod FollowRoom
+pub mod FollowReady
 mod FollowLifts
 pub mod FollowTurned
 pub mod FollowCalled

@@ -20,8 +20,9 @@ past_by ops a b c same past = record {
   after = λ k m few finds. (same.may_find (After k) m).0 (past.after k m few finds);
   cut = λ k m few finds. (same.may_find (CutIn k) m).0 (past.cut k m few finds);
   failed = λ k few. ((λ is. (same.failed k).0 ((past.failed k few).0 is)), (λ is. (past.failed k few).1 ((same.failed k).1 is)));
-  worn = λ k n few is. past.worn k n few ((same.worn k n).1 is);
+  worn = λ k n urgent few is. past.worn k n urgent few ((same.worn k n urgent).1 is);
   of_second = λ k few. ((λ is. (same.of_second k).0 ((past.of_second k few).0 is)), (λ is. (past.of_second k few).1 ((same.of_second k).1 is)));
+  spare = λ k free few is. (same.spare k free).0 (past.spare k free few is);
 }
 
 off_by : (answer : DeviceTurn) (ops ops' k : ℕ) (a b : Clock) → SameClock a b → (b.off_in k × ((k < ops) ⊎ (last_count ≤ k))) ⊎ GoesOff answer ops ops' k

@@ -1,5 +1,5 @@
 -- What a job without room asks of the pages.
-use Rattle.std.specs.Prelude.{◌&&◌, ◌/◌}
+use Rattle.std.specs.Prelude.{◌&&◌, ◌/◌, if◌then◌else◌}
 use Rattle.std.proofs.Common.{◌≡◌, ◌≢◌, ◌≤◌, ◌<◌, ◌+◌, ◌-◌, ℕ, Bool, true, false, refl, ap, ◌∙◌, subst, arith}
 use Rattle.std.proofs.lemmas.Bool.{leb-false}
 use Rattle.std.proofs.lemmas.Nat.{le-div}
@@ -34,7 +34,7 @@ op_some p Invalidate length writes = omega arith
 op_some p Erase length writes = omega arith
 
 -- ROOM
-pub lacks : (urgent : Bool) (pages reserve free : ℕ) → has_room urgent pages reserve free ≡ false → free < pages + reserve
+pub lacks : (urgent : Bool) (pages reserve free : ℕ) → has_room urgent pages reserve free ≡ false → free < pages + (if urgent then 0 else reserve)
 lacks true pages reserve free full = let less = leb-false pages free full in omega (arith, less)
 lacks false pages reserve free full = leb-false (pages + reserve) free full
 

@@ -157,31 +157,31 @@ module _ (m : Making) (entry : Told) (s : Parts) (listed : List (DeviceNumber ×
   some_page : 0 < s.banks.geometry.page
   some_page = let low = (shape m entry s listed kept count on).page_low in let same = page_is in omega (arith, low, same)
 
-  wanted_is : wanted_pages m j.number.0 ≡ record_pages_of job_of.length m.geometry.page + m.reserve
-  wanted_is = ap (λ (o : Option ℕ). record_pages_of (unwrap_or o 0) m.geometry.page + m.reserve) job_of.configured
+  wanted_is : wanted_pages m j.number.0 j.urgent ≡ record_pages_of job_of.length m.geometry.page + (if j.urgent then 0 else m.reserve)
+  wanted_is = ap (λ (o : Option ℕ). record_pages_of (unwrap_or o 0) m.geometry.page + (if j.urgent then 0 else m.reserve)) job_of.configured
 
-  few_free : free_pages s.banks + 1 ≤ wanted_pages m j.number.0
+  few_free : free_pages s.banks + 1 ≤ wanted_pages m j.number.0 j.urgent
   few_free =
       let less = lacks j.urgent (pages_of_op s.banks.geometry.page j.op j.length) m.reserve (free_pages s.banks) is.full in
       let fits = subst (λ (n : ℕ). pages_of_op s.banks.geometry.page j.op j.length ≤ record_pages_of job_of.length n) page_is (op_few s.banks.geometry.page j.op j.length job_of.length some_page job_of.fits) in
       let same = wanted_is in
       omega (arith, less, fits, same)
 
-  room_at : (bytes : List ℕ) → bytes_now s.fls.flash ≡ Some bytes → IsTrue (has_no_room_for (wanted_pages m j.number.0) m bytes) ⊎ IsTrue (may_be_closed s.operations)
+  room_at : (bytes : List ℕ) → bytes_now s.fls.flash ≡ Some bytes → IsTrue (has_no_room_for (wanted_pages m j.number.0 j.urgent) m bytes) ⊎ IsTrue (may_be_closed s.operations)
   room_at bytes at =
       let shows = shows_at bytes at in
       let last = last_at bytes at in
       elim (shows.room (active_some s.banks.active (last.0, last.1) (shows.active ∙ last.2))) [
-        | inl none ↦ inl ((full_banks_compute (wanted_pages m j.number.0) m bytes).1 (more_pages m (free_pages s.banks + 1) (wanted_pages m j.number.0) bytes few_free none))
+        | inl none ↦ inl ((full_banks_compute (wanted_pages m j.number.0 j.urgent) m bytes).1 (more_pages m (free_pages s.banks + 1) (wanted_pages m j.number.0 j.urgent) bytes few_free none))
         | inr failed ↦ inr failed
       ]
 
-  room_now : IfSome (bytes_now s.fls.flash) (λ (x : List ℕ). IsTrue (has_no_room_for (wanted_pages m j.number.0) m x)) ⊎ IsTrue (may_be_closed s.operations)
-  room_now = told_or s.fls.flash.bytes (λ (x : List ℕ). IsTrue (has_no_room_for (wanted_pages m j.number.0) m x)) (IsTrue (may_be_closed s.operations))
-      (each_now s.fls.flash.bytes (λ (x : List ℕ). IsTrue (has_no_room_for (wanted_pages m j.number.0) m x) ⊎ IsTrue (may_be_closed s.operations)) room_at)
+  room_now : IfSome (bytes_now s.fls.flash) (λ (x : List ℕ). IsTrue (has_no_room_for (wanted_pages m j.number.0 j.urgent) m x)) ⊎ IsTrue (may_be_closed s.operations)
+  room_now = told_or s.fls.flash.bytes (λ (x : List ℕ). IsTrue (has_no_room_for (wanted_pages m j.number.0 j.urgent) m x)) (IsTrue (may_be_closed s.operations))
+      (each_now s.fls.flash.bytes (λ (x : List ℕ). IsTrue (has_no_room_for (wanted_pages m j.number.0 j.urgent) m x) ⊎ IsTrue (may_be_closed s.operations)) room_at)
 
-  is_worn : (clock_of e).worn (asked_ops (flash_device e)) j.number.0
-  is_worn = worn_now (flash_device e) since j.number.0 refl few_now room_now
+  is_worn : (clock_of e).worn (asked_ops (flash_device e)) j.number.0 j.urgent
+  is_worn = worn_now (flash_device e) since j.number.0 j.urgent refl few_now room_now
 
   -- BEHIND IT
   asks_none : AsksNone m entry s t

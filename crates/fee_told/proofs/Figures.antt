@@ -15,7 +15,7 @@ use Rattle.fee_told.specs.Figures.{figures_for, fixed_for, Work, turns_owed, tur
 use Rattle.fee_told.specs.FigureLaws.{IsWork, IsNearer, LeftIsBounded, LeftFits, StartsRaise, TurnsLower, ReadyIsKept, ReadyStays, UrgentStarts, UrgentNears}
 
 -- FIGURES
-figures_found : (p own : ℕ) (ns : List (DeviceNumber × ℕ)) (n length : ℕ) → length_of ns n ≡ Some length → at_number no_figures ns (map (λ (x : DeviceNumber × ℕ). figures_for p own x.1) ns) n ≡ figures_for p own length
+pub figures_found : (p own : ℕ) (ns : List (DeviceNumber × ℕ)) (n length : ℕ) → length_of ns n ≡ Some length → at_number no_figures ns (map (λ (x : DeviceNumber × ℕ). figures_for p own x.1) ns) n ≡ figures_for p own length
 figures_found p own [] n length is = cc
 figures_found p own (x ∷ xs) n length is = elim (cases_Bool (x.0.0 == n)) [
   | inl e ↦ (let same : x.1 ≡ length = (let s : Some x.1 ≡ Some length = rw e at is in cc) in rw e (ap (figures_for p own) same))

@@ -17,7 +17,7 @@ use Rattle.promise_device.specs.Bridge.{may_be_closed}
 use Rattle.promise_device.specs.FlashRun.{TellsBytes, HasFailed, bytes_after}
 use Rattle.promise_device.specs.Reading.{Reading}
 use Rattle.fls_told.specs.Device.{FlashDevice, flash_run, is_told_sound, tells_held, told_first, tells_now, slot_with, slots_now, flash_told}
-use Rattle.fls_told.specs.Clock.{IsMapOf, TellsAfter, FindsAfter, FindsInCut, IsWornFor, may_find_of, off_in_of, MakesNone, ClocksStay, ClocksPass, WornNow, change_of, Makes, turn_of, ImageIsPossible, CutsArePossible, ToldAlike, CountsFailure, ClocksTick, ClocksFindNow, TellsFirst}
+use Rattle.fls_told.specs.Clock.{IsMapOf, TellsAfter, FindsAfter, FindsInCut, IsWornFor, HasFree, FreeNow, may_find_of, off_in_of, MakesNone, ClocksStay, ClocksPass, WornNow, change_of, Makes, turn_of, ImageIsPossible, CutsArePossible, ToldAlike, CountsFailure, ClocksTick, ClocksFindNow, TellsFirst}
 
 -- LISTS
 get_front : {X : Type 0} (xs : List X) (c : X) (k : ℕ) → k < length xs → slice_get (xs ++ c ∷ []) k ≡ slice_get xs k
@@ -196,19 +196,30 @@ module _ (d t : FlashDevice) (none : MakesNone d t) where
   tells_back : TellsBytes (flash_run d) → TellsBytes (flash_run t)
   tells_back b = record { first = b.first; entry = ap bytes_now none.entry ∙ b.entry; last = b.last; exit = none.bytes ∙ b.exit }
 
-  room_back : (k n : ℕ) → IfSome (bytes_after (flash_run t) k) (λ image. IsTrue (t.reading.is_full n image))
-      → IfSome (bytes_after (flash_run t) k) (λ image. IsTrue (d.reading.is_full n image))
-  room_back k n room = subst (λ (reading : Reading). IfSome (bytes_after (flash_run t) k) (λ image. IsTrue (reading.is_full n image))) none.reading room
+  room_back : (k n : ℕ) (urgent : Bool) → IfSome (bytes_after (flash_run t) k) (λ image. IsTrue (t.reading.is_full n urgent image))
+      → IfSome (bytes_after (flash_run t) k) (λ image. IsTrue (d.reading.is_full n urgent image))
+  room_back k n urgent room = subst (λ (reading : Reading). IfSome (bytes_after (flash_run t) k) (λ image. IsTrue (reading.is_full n urgent image))) none.reading room
 
-  worn_back : (k n : ℕ) → t.worn n ≡ d.worn n → IsWornFor t k n → IsWornFor d k n
-  worn_back k n same w = record {
+  worn_back : (k n : ℕ) (urgent : Bool) → t.worn n ≡ d.worn n → IsWornFor t k n urgent → IsWornFor d k n urgent
+  worn_back k n urgent same w = record {
     since = w.since;
     is = sym same ∙ w.is;
     from = w.from;
     full = λ told small. elim (w.full (tells_back told) small) [
-      | inl room ↦ inl (subst (λ (o : Option (List ℕ)). IfSome o (λ image. IsTrue (d.reading.is_full n image))) (bytes_same k) (room_back k n room))
+      | inl room ↦ inl (subst (λ (o : Option (List ℕ)). IfSome o (λ image. IsTrue (d.reading.is_full n urgent image))) (bytes_same k) (room_back k n urgent room))
       | inr failed ↦ inr (subst (λ (l : List Change). IsTrue (may_be_closed (take k l))) none.operations failed)
     ];
+  }
+
+  free_back : (k pages : ℕ) → HasFree t k pages → HasFree d k pages
+  free_back k pages f = record {
+    told = sym (tells_of d t none.reading none.entry) ∙ f.told;
+    made = subst (λ (l : List Change). k ≤ length l) none.operations f.made;
+    small = f.small;
+    image = f.image;
+    is = sym (bytes_same k) ∙ f.is;
+    few = subst (λ (reading : Reading). pages ≤ reading.ready (take k d.operations) f.image) none.reading
+        (subst (λ (l : List Change). pages ≤ t.reading.ready (take k l) f.image) none.operations f.few);
   }
 
 back_again : (d t : FlashDevice) → MakesNone d t → MakesNone t d
@@ -221,8 +232,9 @@ clocks_stay d t none same =
       may_find = λ w m. (find_back d t none w m, find_back t d again w m);
       off_in = λ k. (off_back d t none k, off_back t d again k);
       failed = λ k. (failed_back d t none k, failed_back t d again k);
-      worn = λ k n. (worn_back d t none k n (same n), worn_back t d again k n (sym (same n)));
+      worn = λ k n urgent. (worn_back d t none k n urgent (same n), worn_back t d again k n urgent (sym (same n)));
       of_second = λ k. (λ is. is, λ is. is);
+      spare = λ k pages. (free_back d t none k pages, free_back t d again k pages);
     }
 
 -- an operation that it says the power went off in was made
@@ -239,13 +251,13 @@ off_before d k is = (is, off_made d k is)
 no_cut : {A : Type 0} (d t : FlashDevice) (k : ℕ) → MakesNone d t → min (length d.operations) last_count ≤ k → k < min (length t.operations) last_count → A
 no_cut d t k none le lt = let same : length t.operations ≡ length d.operations = ap (length {A = Change}) none.operations in absurd (omega arith)
 
-worn_kept : (d t : FlashDevice) (k n : ℕ) → MakesNone d t → (t.worn n ≡ d.worn n) ⊎ (d.worn n ≡ None) → IsWornFor d k n → IsWornFor t k n
-worn_kept d t k n none (inl same) w = worn_back t d (back_again d t none) k n (sym same) w
-worn_kept d t k n none (inr new) w = let no : Some w.since ≡ None = sym w.is ∙ new in cc
+worn_kept : (d t : FlashDevice) (k n : ℕ) (urgent : Bool) → MakesNone d t → (t.worn n ≡ d.worn n) ⊎ (d.worn n ≡ None) → IsWornFor d k n urgent → IsWornFor t k n urgent
+worn_kept d t k n urgent none (inl same) w = worn_back t d (back_again d t none) k n urgent (sym same) w
+worn_kept d t k n urgent none (inr new) w = let no : Some w.since ≡ None = sym w.is ∙ new in cc
 
 pub clocks_pass : ClocksPass
 clocks_pass answer d t none worn = record {
-  past = record { after = λ k m le f. find_back d t none (After k) m f; cut = λ k m lt f. find_back d t none (CutIn k) m f; failed = λ k lt. (failed_back d t none k, failed_back t d (back_again d t none) k); worn = λ k n le w. worn_kept d t k n none (worn n) w; of_second = λ k lt. (λ is. is, λ is. is) };
+  past = record { after = λ k m le f. find_back d t none (After k) m f; cut = λ k m lt f. find_back d t none (CutIn k) m f; failed = λ k lt. (failed_back d t none k, failed_back t d (back_again d t none) k); worn = λ k n urgent le w. worn_kept d t k n urgent none (worn n) w; of_second = λ k lt. (λ is. is, λ is. is); spare = λ k pages le f. free_back d t none k pages f };
   cut = λ k m le lt f. no_cut d t k none le lt;
   off = λ k f. inl (off_before d k (off_back d t none k f));
   failed = λ k le lt. no_cut d t k none le lt;
@@ -253,16 +265,24 @@ clocks_pass answer d t none worn = record {
 }
 
 pub worn_now : WornNow
-worn_now d since n is from full = record {
+worn_now d since n urgent is from full = record {
   since = since;
   is = is;
   from = from;
   full = λ told small. elim full [
-    | inl room ↦ inl (subst (λ (o : Option (List ℕ)). IfSome o (λ image. IsTrue (d.reading.is_full n image)))
+    | inl room ↦ inl (subst (λ (o : Option (List ℕ)). IfSome o (λ image. IsTrue (d.reading.is_full n urgent image)))
         (sym (bytes_at_end d) ∙ ap (bytes_after (flash_run d)) (let at : length d.operations ≡ min (length d.operations) last_count = omega (arith, small) in at)) room)
     | inr failed ↦ inr (subst (λ (l : List Change). IsTrue (may_be_closed l)) (sym (take_all (min (length d.operations) last_count) d.operations (omega (arith, small)))) failed)
   ];
 }
+
+pub free_now : FreeNow
+free_now d pages free =
+    let f : HasFree d (min (length d.operations) last_count) pages = free in
+    let at : min (length d.operations) last_count ≡ length d.operations = omega (arith, f.small) in
+    let is : bytes_now d.flash ≡ Some f.image = sym (bytes_at_end d) ∙ ap (bytes_after (flash_run d)) (sym at) ∙ f.is in
+    let all : take (min (length d.operations) last_count) d.operations ≡ d.operations = take_all (min (length d.operations) last_count) d.operations (omega (arith, at)) in
+    (f.told, (f.image, is, subst (λ (l : List Change). pages ≤ d.reading.ready l f.image) all f.few))
 
 -- BY AN OPERATION
 module _ (op : Op) (answer : FlashAnswer) (d t : FlashDevice) (alike : ToldAlike d) (makes : Makes op answer d t) where
@@ -338,8 +358,8 @@ module _ (op : Op) (answer : FlashAnswer) (d t : FlashDevice) (alike : ToldAlike
   told_before None (Some y) bytes both is = absurd both
   told_before None None bytes both is = cc
 
-  worn_past : (k n : ℕ) → k ≤ min count last_count → IsWornFor d k n → IsWornFor t k n
-  worn_past k n le w = record {
+  worn_past : (k n : ℕ) (urgent : Bool) → k ≤ min count last_count → IsWornFor d k n urgent → IsWornFor t k n urgent
+  worn_past k n urgent le w = record {
     since = w.since;
     is = makes.worn n ∙ w.is;
     from = w.from;
@@ -347,11 +367,26 @@ module _ (op : Op) (answer : FlashAnswer) (d t : FlashDevice) (alike : ToldAlike
         let b = told_before d.flash.bytes t.flash.bytes told.last makes.asked.bytes told.exit in
         let d_tells : TellsBytes (flash_run d) = record { first = told.first; entry = ap bytes_now (sym makes.entry) ∙ told.entry; last = b.bytes; exit = b.is } in
         elim (w.full d_tells small) [
-          | inl room ↦ inl (subst (λ (reading : Reading). IfSome (bytes_after (flash_run t) k) (λ image. IsTrue (reading.is_full n image))) (sym makes.reading)
-              (subst (λ (o : Option (List ℕ)). IfSome o (λ image. IsTrue (d.reading.is_full n image))) (sym (after_same k b.bytes b.is (omega arith))) room))
+          | inl room ↦ inl (subst (λ (reading : Reading). IfSome (bytes_after (flash_run t) k) (λ image. IsTrue (reading.is_full n urgent image))) (sym makes.reading)
+              (subst (λ (o : Option (List ℕ)). IfSome o (λ image. IsTrue (d.reading.is_full n urgent image))) (sym (after_same k b.bytes b.is (omega arith))) room))
           | inr failed ↦ inr (subst (λ (l : List Change). IsTrue (may_be_closed l)) (sym (ap (take k) makes.operations ∙ take-append-le k d.operations (change ∷ []) (omega arith))) failed)
         ];
   }
+
+  free_past : (k pages : ℕ) → k ≤ min count last_count → HasFree t k pages → HasFree d k pages
+  free_past k pages le f =
+      let told = sym told_same ∙ f.told in
+      let b = held_told d alike told in
+      let le2 : k ≤ count = omega arith in
+      record {
+        told = told;
+        made = le2;
+        small = f.small;
+        image = f.image;
+        is = sym (after_same k b.bytes b.is le2) ∙ f.is;
+        few = subst (λ (reading : Reading). pages ≤ reading.ready (take k d.operations) f.image) makes.reading
+            (subst (λ (l : List Change). pages ≤ t.reading.ready l f.image) (ap (take k) makes.operations ∙ take-append-le k d.operations (change ∷ []) le2) f.few);
+      }
 
   off_past : (k : ℕ) → off_in_of t k → off_in_of d k ⊎ GoesOff (turn_of answer) (min count last_count) (min (length t.operations) last_count) k
   off_past k (inl big) = inl (inl big)
@@ -389,7 +424,7 @@ module _ (op : Op) (answer : FlashAnswer) (d t : FlashDevice) (alike : ToldAlike
 
 pub clocks_tick : ClocksTick
 clocks_tick op answer d t alike makes counts possible = record {
-  past = record { after = λ k m le f. find_past op answer d t alike makes k m le f; cut = λ k m lt f. cut_past op answer d t alike makes k m lt f; failed = λ k lt. failed_past op answer d t alike makes k lt; worn = λ k n le w. worn_past op answer d t alike makes k n le w; of_second = λ k lt. (λ is. is, λ is. is) };
+  past = record { after = λ k m le f. find_past op answer d t alike makes k m le f; cut = λ k m lt f. cut_past op answer d t alike makes k m lt f; failed = λ k lt. failed_past op answer d t alike makes k lt; worn = λ k n urgent le w. worn_past op answer d t alike makes k n urgent le w; of_second = λ k lt. (λ is. is, λ is. is); spare = λ k pages le f. free_past op answer d t alike makes k pages le f };
   cut = λ k m le lt f. cut_now op answer d t alike makes possible k m le lt f;
   off = λ k is. off_told op answer d t alike makes k (off_past op answer d t alike makes k is);
   failed = λ k le lt f. failed_now op answer d t alike makes counts k le lt f;

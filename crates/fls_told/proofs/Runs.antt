@@ -74,8 +74,8 @@ any_front P (suc k) (x ∷ xs) has = elim (or_cases (P x) (list_any P (take k xs
   | inr rest ↦ any_last (P x) (list_any P xs) (any_front P k xs rest)
 ]
 
-worn_out : (d : FlashDevice) (k n : ℕ) → HasRun d → IsWornFor d k n → IsWornBy d.reading (flash_run d) k n
-worn_out d k n has w =
+worn_out : (d : FlashDevice) (k n : ℕ) (urgent : Bool) → HasRun d → IsWornFor d k n urgent → IsWornBy d.reading (flash_run d) k n urgent
+worn_out d k n urgent has w =
     let since = has.worn n w.since w.is in
     record {
       last = since.last;
@@ -105,5 +105,7 @@ runs_bridge d has = record {
   off = λ off. off;
   withheld = has.withheld;
   failed = λ k small failed. failed;
-  worn = λ k n w. worn_out d k n has w;
+  worn = λ k n urgent w. worn_out d k n urgent has w;
+  spare = λ t sound k made small. some_if (bytes_after (flash_run d) k) _ (λ image is.
+      record { told = sound_told d t sound; made = made; small = small; image = image; is = is; few = omega arith });
 }

@@ -21,8 +21,9 @@ reading = record {
   held = λ image n. record { mark = Content image; count = 1 };
   is_sound = begins_blank;
   is_last = λ n image. false;
-  is_full = λ n image. false;
+  is_full = λ n urgent image. false;
   may_follow = λ n op. true;
+  ready = λ earlier image. 0;
 }
 
 abbrev pub sound : List ℕ

@@ -1,5 +1,5 @@
 -- What a device tells by the operations of its flash.
-use Rattle.std.specs.Prelude.{◌≡◌, ◌⊎◌, ◌<◌, ◌≤◌, ◌++◌, ◌∷◌, [], ℕ, true, IsTrue, List, length, take, slice_get, unwrap_or, Some, None, is_some, IfSome}
+use Rattle.std.specs.Prelude.{◌≡◌, ◌⊎◌, ◌<◌, ◌≤◌, ◌++◌, ◌∷◌, [], ℕ, Bool, true, IsTrue, List, length, take, slice_get, unwrap_or, Some, None, is_some, IfSome}
 use Rattle.nv_base.specs.Count.{last_count, Rose}
 use Rattle.memif.specs.declared.answer.DeviceTurn.{DeviceTurn}
 use Rattle.memif.specs.declared.answer.DeviceTurn.TheVariants as turn
@@ -49,16 +49,25 @@ may_find_of d (CutIn k) m = FindsInCut d k m
 abbrev pub off_in_of : FlashDevice → ℕ → Type 0
 off_in_of d k = (last_count ≤ k) ⊎ ((x : Change) × (slice_get d.operations k ≡ Some x) × (x.answer ≡ Off))
 
--- since it is worn out for a number: the image was so by then, or a program failed since the last erase
-pub record IsWornFor (d : FlashDevice) (k n : ℕ) : Type 0 where
+-- since it is worn out for a number: the image had no room for such a record by then, or a program failed since the last erase
+pub record IsWornFor (d : FlashDevice) (k n : ℕ) (urgent : Bool) : Type 0 where
   pub since : ℕ
   pub is : d.worn n ≡ Some since
   pub from : since ≤ k
   pub full : TellsBytes (flash_run d) → k < last_count
-      → IfSome (bytes_after (flash_run d) k) (λ image. IsTrue (d.reading.is_full n image)) ⊎ IsTrue (may_be_closed (take k d.operations))
+      → IfSome (bytes_after (flash_run d) k) (λ image. IsTrue (d.reading.is_full n urgent image)) ⊎ IsTrue (may_be_closed (take k d.operations))
+
+-- of the bytes once k operations were made: so many pages are free for urgent writes
+pub record HasFree (d : FlashDevice) (k pages : ℕ) : Type 0 where
+  pub told : IsTrue (tells_held d)
+  pub made : k ≤ length d.operations
+  pub small : k < last_count
+  pub image : List ℕ
+  pub is : bytes_after (flash_run d) k ≡ Some image
+  pub few : pages ≤ d.reading.ready (take k d.operations) image
 
 abbrev pub flash_clock : FlashDevice → Clock
-flash_clock d = record { may_find = may_find_of d; off_in = off_in_of d; failed = HasFailed (flash_run d); worn = IsWornFor d; of_second = λ k. ⊥ }
+flash_clock d = record { may_find = may_find_of d; off_in = off_in_of d; failed = HasFailed (flash_run d); worn = IsWornFor d; of_second = λ k. ⊥; spare = HasFree d }
 
 -- WITHOUT AN OPERATION
 pub record MakesNone (d t : FlashDevice) : Type 0 where
@@ -80,9 +89,15 @@ ClocksPass =
 -- it is worn out now for a number of which the bytes are so, or where a program failed since the last erase
 abbrev pub WornNow : Type 0
 WornNow =
-    (d : FlashDevice) (since n : ℕ) → d.worn n ≡ Some since → since ≤ asked_ops d
-    → (IfSome (bytes_now d.flash) (λ image. IsTrue (d.reading.is_full n image)) ⊎ IsTrue (may_be_closed d.operations))
-    → (flash_clock d).worn (asked_ops d) n
+    (d : FlashDevice) (since n : ℕ) (urgent : Bool) → d.worn n ≡ Some since → since ≤ asked_ops d
+    → (IfSome (bytes_now d.flash) (λ image. IsTrue (d.reading.is_full n urgent image)) ⊎ IsTrue (may_be_closed d.operations))
+    → (flash_clock d).worn (asked_ops d) n urgent
+
+-- what is free now
+abbrev pub FreeNow : Type 0
+FreeNow =
+    (d : FlashDevice) (pages : ℕ) → (flash_clock d).spare (asked_ops d) pages
+    → IsTrue (tells_held d) × ((image : List ℕ) × (bytes_now d.flash ≡ Some image) × (pages ≤ d.reading.ready d.operations image))
 
 -- BY AN OPERATION
 abbrev pub change_of : Op → Told → FlashAnswer → Change

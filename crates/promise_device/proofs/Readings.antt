@@ -104,11 +104,11 @@ full_banks_compute pages m image =
 
 -- WORN OUT
 pub worn_banks_compute : WornBanksCompute
-worn_banks_compute m f k n worn = record {
+worn_banks_compute m f k n urgent worn = record {
   last = if_as _ (λ image. IsTrue (is_of_last_generation m image)) (IsOfLastGeneration m) (λ image is. (last_generations_compute m image).0 is) worn.last;
   no_erase = worn.follow;
   full = λ told small. elim (worn.full told small) [
-    | inl room ↦ inl (if_as _ (λ image. IsTrue (has_no_room_for (wanted_pages m n) m image)) (HasNoRoomFor (wanted_pages m n) m) (λ image is. (full_banks_compute (wanted_pages m n) m image).0 is) room)
+    | inl room ↦ inl (if_as _ (λ image. IsTrue (has_no_room_for (wanted_pages m n urgent) m image)) (HasNoRoomFor (wanted_pages m n urgent) m) (λ image is. (full_banks_compute (wanted_pages m n urgent) m image).0 is) room)
     | inr failed ↦ inr failed
   ];
 }

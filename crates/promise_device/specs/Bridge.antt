@@ -1,58 +1,48 @@
 -- From the words of a device to the bytes of its flash.
-use Rattle.std.specs.Prelude.{◌≡◌, ◌⊎◌, ◌<◌, ◌≤◌, ◌+◌, ◌&&◌, ◌||◌, ℕ, min, Bool, true, false, IsTrue, List, [], ◌∷◌, length, take, drop, count_by, unwrap_or, is_some, IfSome}
-use Rattle.std.specs.List.{list_all, list_any}
+use Rattle.std.specs.Prelude.{◌≡◌, ◌⊎◌, ◌<◌, ◌≤◌, ◌+◌, ℕ, min, if◌then◌else◌, Bool, true, false, IsTrue, List, [], ◌∷◌, length, take, drop, count_by, unwrap_or, is_some, IfSome}
+use Rattle.std.specs.Option.{option_map_or}
+use Rattle.std.specs.List.{list_all}
 use Rattle.nv_base.specs.Count.{last_count, Rose, WereCounted}
 use Rattle.nv_base.specs.Pages.{record_pages_of}
 use Rattle.memif.specs.Told.{PartTold, DeviceTold, length_of}
 use Rattle.memif.specs.Clock.{Clock, After, CutIn}
-use Rattle.fls_model.specs.Op.{Op, Program, Erase}
-use Rattle.fls_model.specs.declared.flash.FlashAnswer.{FlashAnswer}
-use Rattle.fls_model.specs.declared.flash.FlashAnswer.TheVariants.{Failed}
+use Rattle.fls_model.specs.Op.{Op}
 use Rattle.fls_model.specs.Told.{Change, bytes_now}
+use Rattle.fee_format.specs.declared.bank_head.BankHead.{BankHead}
+use Rattle.fee_image.specs.Image.{bank_in, active_of}
 use Rattle.fee_image.specs.Sound.{is_sound_image}
 use Rattle.promise_device.specs.Making.{Making, banks_of}
-use Rattle.promise_device.specs.Image.{attached, held_in, IsOfLastGeneration, is_of_last_generation, HasNoRoomFor, has_no_room_for}
+pub use Rattle.promise_device.specs.Failures.{is_program, is_failed, has_failed, failed_from, may_be_closed, bank_of_op, failed_in}
+use Rattle.promise_device.specs.Image.{attached, held_in, IsOfLastGeneration, is_of_last_generation, HasNoRoomFor, has_no_room_for, free_in_bank}
 use Rattle.promise_device.specs.FlashRun.{FlashRun, TellsBytes, TellsOperations, IsCutImage, HasFailed, bytes_after, is_none_done, AreOperations}
 use Rattle.promise_device.specs.Reading.{Reading, BeginsSound}
 
-abbrev pub is_program : Op → Bool
-is_program (Program address page) = true
-is_program (Erase address n) = false
+-- the pages of a record of a number, and those that are kept beside it; an urgent one needs its own alone
+abbrev pub wanted_pages : Making → (number : ℕ) → (urgent : Bool) → ℕ
+wanted_pages m n urgent = record_pages_of (unwrap_or (length_of m.numbers n) 0) m.geometry.page + (if urgent then 0 else m.reserve)
 
-abbrev pub is_failed : FlashAnswer → Bool
-is_failed Failed = true
-is_failed answer = false
+-- the pages that an urgent write finds free in the active bank, of those that are kept for one; none where a program of that bank
+-- failed in the operations before, and none without an active bank
+abbrev pub ready_in : Making → List Change → List ℕ → ℕ × BankHead → ℕ
+ready_in m earlier image x = if failed_in m.geometry m.banks x.0 false earlier then 0 else min m.reserve (free_in_bank (bank_in (banks_of m) x.1.format x.0) image)
 
--- one of these operations failed
-abbrev pub has_failed : List Change → Bool
-has_failed operations = list_any (λ x. is_failed x.answer) operations
+abbrev pub ready_pages : Making → List Change → List ℕ → ℕ
+ready_pages m earlier image = option_map_or (ready_in m earlier image) (active_of (banks_of m) image) 0
 
--- a program failed since the last erase, with which a switch begins: it may have closed the active bank
-abbrev pub failed_from : Bool → List Change → Bool
-failed_from before [] = before
-failed_from before (x ∷ xs) = failed_from (is_program x.op && (before || is_failed x.answer)) xs
-
-abbrev pub may_be_closed : List Change → Bool
-may_be_closed operations = failed_from false operations
-
--- the pages of a record of a number, and those that are kept beside it
-abbrev pub wanted_pages : Making → ℕ → ℕ
-wanted_pages m n = record_pages_of (unwrap_or (length_of m.numbers n) 0) m.geometry.page + m.reserve
-
--- Once k operations were made a device is worn out for a number, which it stays: the active bank has the last generation,
--- at the end still, nothing is erased from then on, and a record has no room in the bytes, where they are told, or a
--- program failed since the last erase, which closed the bank.
-pub record IsWornOut (m : Making) (f : FlashRun) (k n : ℕ) : Type 0 where
+-- Once k operations were made a device is worn out for a number, for its urgent jobs or for its others, which it stays: the
+-- active bank has the last generation, at the end still, nothing is erased from then on, and such a record has no room in the
+-- bytes, where they are told, or a program failed since the last erase, which closed the bank.
+pub record IsWornOut (m : Making) (f : FlashRun) (k n : ℕ) (urgent : Bool) : Type 0 where
   pub last : IfSome (bytes_now f.exit) (IsOfLastGeneration m)
   pub no_erase : k < last_count → IsTrue (list_all (λ x. is_program x.op) (drop k f.operations))
-  pub full : TellsBytes f → k < last_count → IfSome (bytes_after f k) (HasNoRoomFor (wanted_pages m n) m)
+  pub full : TellsBytes f → k < last_count → IfSome (bytes_after f k) (HasNoRoomFor (wanted_pages m n urgent) m)
       ⊎ (Rose f.entry.faults f.exit.faults × IsTrue (may_be_closed (take k f.operations)))
 
 -- The same of any device over a flash, by its reading.
-pub record IsWornBy (r : Reading) (f : FlashRun) (k n : ℕ) : Type 0 where
+pub record IsWornBy (r : Reading) (f : FlashRun) (k n : ℕ) (urgent : Bool) : Type 0 where
   pub last : IfSome (bytes_now f.exit) (λ image. IsTrue (r.is_last n image))
   pub follow : k < last_count → IsTrue (list_all (λ x. r.may_follow n x.op) (drop k f.operations))
-  pub full : TellsBytes f → k < last_count → IfSome (bytes_after f k) (λ image. IsTrue (r.is_full n image))
+  pub full : TellsBytes f → k < last_count → IfSome (bytes_after f k) (λ image. IsTrue (r.is_full n urgent image))
       ⊎ (Rose f.entry.faults f.exit.faults × IsTrue (may_be_closed (take k f.operations)))
 
 -- of each planned cut that came in the operations of a cutter how many bytes it let be done; a flash without one sees all
@@ -89,7 +79,10 @@ pub record Bridges (r : Reading) (cutter : Bool) (f : FlashRun) (before : PartTo
   -- the cuts that let nothing be done are counted
   pub withheld : before.planning.withheld ≡ 0 → now.first.planning.withheld ≡ min (count_by is_none_done now.first.planning.came) last_count
   -- and where it says that it is worn out, the flash is
-  pub worn : (k n : ℕ) → clock.worn k n → IsWornBy r f k n
+  pub worn : (k n : ℕ) (urgent : Bool) → clock.worn k n urgent → IsWornBy r f k n urgent
+  -- from a sound image on it says what the bytes have free for urgent writes once k operations were made
+  pub spare : TellsBytes f → BeginsSound r f → (k : ℕ) → k ≤ length f.operations → k < last_count
+      → IfSome (bytes_after f k) (λ image. clock.spare k (r.ready (take k f.operations) image))
 
 -- A DEVICE OVER BANKS
 -- the reading of one: the sound images, the last generation and a bank without room are those of `Image`, computed
@@ -99,6 +92,7 @@ reading_of m = record {
   held = held_in m;
   is_sound = λ image. is_sound_image (banks_of m) (attached m.geometry image);
   is_last = λ n image. is_of_last_generation m image;
-  is_full = λ n image. has_no_room_for (wanted_pages m n) m image;
+  is_full = λ n urgent image. has_no_room_for (wanted_pages m n urgent) m image;
   may_follow = λ n op. is_program op;
+  ready = ready_pages m;
 }

@@ -11,7 +11,7 @@ use Rattle.fee_format.specs.BankHead.{last_generation}
 use Rattle.fee_format.specs.Formats.{new_format}
 use Rattle.fee_format.specs.Pages.{blank_page, same_bytes}
 use Rattle.fee_image.specs.Bank.{Bank, page_of}
-use Rattle.fee_image.specs.RecordList.{IsClosed, end_of}
+use Rattle.fee_image.specs.RecordList.{IsClosed, end_of, free_pages_of}
 use Rattle.fee_image.specs.Image.{Layout, bank_in, active_of, found_held}
 use Rattle.fee_image.specs.Sound.{IsSoundImage}
 use Rattle.promise_device.specs.Making.{Making, banks_of}
@@ -65,3 +65,7 @@ lacks_pages pages b image = is_closed_bank b image (end_of b image) || nat_lt b.
 
 abbrev pub has_no_room_for : ℕ → Making → List ℕ → Bool
 has_no_room_for pages m image = option_map_or (λ x. lacks_pages pages (bank_in (banks_of m) x.1.format x.0) image) (active_of (banks_of m) image) false
+
+-- the free pages of a bank: those behind its log's end, none where it is closed
+abbrev pub free_in_bank : Bank → List ℕ → ℕ
+free_in_bank b image = free_pages_of b.pages (end_of b image) (is_closed_bank b image (end_of b image))

@@ -34,7 +34,7 @@ FullBanksCompute = (pages : ℕ) (m : Making) (image : List ℕ) → IsTrue (has
 
 -- so it is worn out by its reading where it is by these
 abbrev pub WornBanksCompute : Type 0
-WornBanksCompute = (m : Making) (f : FlashRun) (k n : ℕ) → IsWornBy (reading_of m) f k n → IsWornOut m f k n
+WornBanksCompute = (m : Making) (f : FlashRun) (k n : ℕ) (urgent : Bool) → IsWornBy (reading_of m) f k n urgent → IsWornOut m f k n urgent
 
 -- where a program failed since the last erase an operation did
 abbrev pub ClosingsFailed : Type 0

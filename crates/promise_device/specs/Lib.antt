@@ -2,6 +2,7 @@ pub mod Making
 pub mod Image
 pub mod FlashRun
 pub mod Reading
+pub mod Failures
 pub mod Bridge
 pub mod Room
 pub mod Wear

@@ -3,7 +3,7 @@ use Rattle.std.specs.Prelude.{ℕ, Bool, IsTrue, List, IfSome}
 use Rattle.nv_base.specs.declared.geometry.Geometry.{Geometry}
 use Rattle.memif.specs.Told.{Held}
 use Rattle.fls_model.specs.Op.{Op}
-use Rattle.fls_model.specs.Told.{bytes_now}
+use Rattle.fls_model.specs.Told.{Change, bytes_now}
 use Rattle.promise_device.specs.FlashRun.{FlashRun}
 use Rattle.promise_device.specs.Image.{attached}
 
@@ -18,8 +18,11 @@ pub record Reading : Type 0 where
   -- A device is worn out for a number since a moment: so an image says at the end, and one of that moment, and of the operations
   -- since then only such came.
   pub is_last : ℕ → List ℕ → Bool
-  pub is_full : ℕ → List ℕ → Bool
+  -- such an image has no room for a record of this number: of an urgent job, or of another
+  pub is_full : (number : ℕ) → (urgent : Bool) → List ℕ → Bool
   pub may_follow : ℕ → Op → Bool
+  -- the pages that an urgent write finds free in an image, behind these operations
+  pub ready : List Change → List ℕ → ℕ
 
 -- the image at the entry is sound
 abbrev pub BeginsSound : Reading → FlashRun → Type 0

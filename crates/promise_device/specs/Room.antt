@@ -10,9 +10,9 @@ use Rattle.fls_model.specs.Told.{Told, Change}
 use Rattle.fee_format.specs.declared.bank_head.BankHead.{BankHead}
 use Rattle.fee_image.specs.Bank.{Bank}
 use Rattle.fee_image.specs.Image.{bank_in, active_of}
-use Rattle.fee_image.specs.RecordList.{end_of, free_pages_of}
+use Rattle.fee_image.specs.RecordList.{end_of}
 use Rattle.promise_device.specs.Making.{Making, banks_of}
-use Rattle.promise_device.specs.Image.{is_closed_bank}
+use Rattle.promise_device.specs.Image.{free_in_bank}
 use Rattle.promise_device.specs.Bridge.{may_be_closed}
 
 -- THE OPEN JOB
@@ -36,10 +36,6 @@ turns_with_room m (Open j) = option_map_or (mark_pages m j.number) j.mark 1
 turns_with_room m (Ended result given) = 0
 
 -- THE ACTIVE BANK
--- the free pages of a bank: those behind its log's end, none where it is closed
-abbrev pub free_in_bank : Bank → List ℕ → ℕ
-free_in_bank b image = free_pages_of b.pages (end_of b image) (is_closed_bank b image (end_of b image))
-
 -- No more is ready for urgent writes than lies behind the log's end, and no less than is free beside the open job's record; and
 -- a job that has the free pages that it needs takes no further turns; unless a program failed that may have closed the bank.
 pub record TellsRoom (m : Making) (failed : Bool) (b : Bank) (image : List ℕ) (now : DeviceTold) : Type 0 where

@@ -17,7 +17,7 @@ use Rattle.fee_image.specs.Image.{bank_in, active_of}
 use Rattle.promise_device.specs.Making.{Making, banks_of}
 use Rattle.promise_device.specs.Image.{lacks_pages}
 use Rattle.promise_device.specs.FlashRun.{FlashRun, TellsBytes, StartsSound}
-use Rattle.promise_device.specs.Bridge.{is_program, is_failed}
+pub use Rattle.promise_device.specs.Failures.{is_program, is_failed, bank_of_op, failed_in}
 
 -- the pages of the longest record of these numbers
 abbrev pub longest_record : ℕ → List (DeviceNumber × ℕ) → ℕ
@@ -39,20 +39,10 @@ abbrev pub most_copied : Making → ℕ
 most_copied m = 1 + all_records m.geometry.page m.numbers + most_wanted m
 
 -- THE OPERATIONS BEFORE
--- the bank that an operation changes
-abbrev pub bank_of_op : Geometry → (banks : ℕ) → Op → ℕ
-bank_of_op g banks (Program address page) = address / g.page / pages_of_bank g banks
-bank_of_op g banks (Erase address n) = address / g.sector / sectors_of_bank g banks
-
 -- the last of these operations that changed bank k, where none did the one that is given
 abbrev pub last_in : Geometry → (banks k : ℕ) → Option Change → List Change → Option Change
 last_in g banks k last [] = last
 last_in g banks k last (x ∷ xs) = last_in g banks k (if bank_of_op g banks x.op == k then Some x else last) xs
-
--- a program of bank k failed, and none of its sectors was erased since
-abbrev pub failed_in : Geometry → (banks k : ℕ) → Bool → List Change → Bool
-failed_in g banks k failed [] = failed
-failed_in g banks k failed (x ∷ xs) = failed_in g banks k (if bank_of_op g banks x.op == k then is_program x.op && (failed || is_failed x.answer) else failed) xs
 
 abbrev pub same_op : Op → Op → Bool
 same_op (Program a page) (Program b other) = (a == b) && same_bytes page other

@@ -1,0 +1,7 @@
+use Rattle.std.proofs.Common.{subst}
+use Rattle.memif.specs.Calls.{FreesReady}
+use Rattle.fee_told.specs.Device.{Device, clock_of, told_of}
+use Rattle.fee_core.proofs.device.FeeMemDevice.status.Goals as goal
+
+pub returns-clause-ready : goal.returns-clause-ready
+returns-clause-ready g c = subst (λ (x : Device). FreesReady (told_of x) (clock_of x)) c.self.view_is c.status.ensures.ready
