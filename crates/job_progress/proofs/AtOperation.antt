@@ -6,7 +6,7 @@ use Rattle.memif.specs.Told as device
 use Rattle.memif.specs.Told.{DeviceTold, Stand, Open, is_open, IfElse}
 use Rattle.block_machine.specs.Words.{Mark, JobKind, ReadJob, Configuration}
 use Rattle.block_machine.specs.State.{State, Job}
-use Rattle.block_machine.specs.Blocks.{indices_of, job_block, kind_of, mark_by, mark_of}
+use Rattle.block_machine.specs.Blocks.{indices_of, job_block, kind_of, mark_by, mark_of, rank_of}
 use Rattle.block_machine.specs.Results.{took_none}
 use Rattle.job_programs.specs.Program.{Program, works, next_in}
 use Rattle.job_programs.proofs.Outcomes.{reads_if}
@@ -41,6 +41,7 @@ pub record AtOperation (c : Configuration) (s : State) (h : HandState) (job : de
   pub own : slice_get (indices_of c s (job_block j)) (length h.program.done) ≡ Some index
   pub number : job.number ≡ number_of (record { block = h.program.block; index = index })
   pub mark : job.mark ≡ mark_of j
+  pub urgent : job.urgent ≡ (rank_of c j).immediate
   pub some : took_none j.taken ≡ false
   pub at_device : works (kind_of j) ≡ true
   pub reads : job.mark ≡ None → kind_of j ≡ ReadJob
@@ -54,6 +55,7 @@ at_operation c s h old job is on = record {
   own = own.1;
   number = ap (λ (x : device.Job). x.number) asked;
   mark = mark;
+  urgent = ap (λ (x : device.Job). x.urgent) asked;
   some = some;
   at_device = own.0;
   reads = λ none. reads_if (kind_of is.job) is.job.content own.0 (λ kind. is.working.content kind some) (sym mark ∙ none);

@@ -26,10 +26,10 @@ split of c worn n s (x ∷ h) e (inr (excused, rest)) =
     let (m, few, own, last) = split of c worn n (step c s x) h e rest in (m, few, inr (excused, own), last)
 
 -- WHERE IT WAS WORN OUT
-module _ (c : Configuration) (worn other : Worn) (same : (k n : ℕ) → worn k n → other k n) where
+module _ (c : Configuration) (worn other : Worn) (same : (k n : ℕ) (urgent : Bool) → worn k n urgent → other k n urgent) where
   pub excused_as : (s : State) (e : Entry) → IsExcused c worn s e → IsExcused c other s e
   excused_as s (Post block r given refused ops) (j, hand, some, was) =
-      (j, hand, some, record { index = was.index; failed = was.failed; moment = was.moment; by_then = was.by_then; is = same was.moment _ was.is })
+      (j, hand, some, record { index = was.index; failed = was.failed; moment = was.moment; by_then = was.by_then; is = same was.moment _ _ was.is })
   excused_as s (Ask caller r reply) excused = absurd excused
   excused_as s (Pick block kind t ops) excused = absurd excused
   excused_as s (Wrote i mark ops) excused = absurd excused
@@ -44,7 +44,7 @@ module _ (c : Configuration) (worn other : Worn) (same : (k n : ℕ) → worn k 
 -- THE PRICE
 -- Whatever the count before was: where it left so many faults beside those that pay for a history, the history with one
 -- entry more is paid. So the entry costs no more than these, or it is excused.
-module _ (of : ℕ → Bool) (c : Configuration) (worn other : Worn) (same : (k n : ℕ) → other k n → worn k n) (h : List Entry) (e : Entry) (slack now : ℕ)
+module _ (of : ℕ → Bool) (c : Configuration) (worn other : Worn) (same : (k n : ℕ) (urgent : Bool) → other k n urgent → worn k n urgent) (h : List Entry) (e : Entry) (slack now : ℕ)
     (few : now < last_count) (pays : (before m : ℕ) → before + (m + slack) ≤ now → ArePaid of c worn m at_first h → IsPaid of c other before now (h ++ e ∷ [])) where
   abbrev Costs : Type 0
   Costs = (price_for of c (after_from c at_first h) e ≤ slack) ⊎ IsExcused c other (after_from c at_first h) e

@@ -2,9 +2,10 @@
 use Rattle.std.specs.Prelude.{IfSome, min, option_map}
 use Rattle.std.specs.List.{Contains}
 use Rattle.std.specs.Option.{option_map_or}
-use Rattle.std.proofs.Common.{◌≡◌, ◌<◌, ◌≤◌, ◌+◌, ◌⊎◌, ℕ, zero, suc, Bool, true, if◌then◌else◌, List, [], ◌∷◌, ◌++◌, length, Option, Some, None, refl, sym, ap, ◌∙◌, subst, inl, inr, arith, length-append}
+use Rattle.std.proofs.Common.{◌≡◌, ◌<◌, ◌≤◌, ◌+◌, ◌⊎◌, ℕ, zero, suc, Bool, true, false, if◌then◌else◌, List, [], ◌∷◌, ◌++◌, length, Option, Some, None, refl, sym, ap, ◌∙◌, subst, inl, inr, arith, length-append}
 use Rattle.std.proofs.lemmas.Bool.Decides.{leb_tells}
 use Rattle.nvm_laws.specs.nv_base.Count.{last_count, WereCounted}
+use Rattle.nvm_laws.specs.nv_base.Marks.{instance_of}
 use Rattle.nvm_laws.specs.memif.declared.answer.DeviceTurn.TheVariants as turn
 use Rattle.nvm_laws.specs.memif.declared.answer.JobResult.TheVariants.{JobOk}
 use Rattle.nvm_laws.specs.memif.Told.{DeviceTold, Part, First, Second, PartTold, Stand, Open, Ended as At, part_at, part_of_block, is_part, faults_of, ops_of}
@@ -14,15 +15,16 @@ use Rattle.nvm_laws.specs.memif.Trials.{Lasts}
 use Rattle.nvm_laws.proofs.memif.Turning.{turn_lasts, same_lasts}
 use Rattle.nvm_laws.specs.block_machine.Words.{ReqResult, JobKind, Mark, Entry, Ask, Pick, Wrote, Post, Off, Found, Taken, Configuration}
 use Rattle.nvm_laws.specs.block_machine.State.{State, Job}
-use Rattle.nvm_laws.specs.block_machine.Blocks.{job_block}
+use Rattle.nvm_laws.specs.block_machine.Blocks.{job_block, rank_of}
 use Rattle.nvm_laws.specs.block_machine.StartUp.{at_first}
+use Rattle.nvm_laws.specs.block_machine.Steps.{step}
 use Rattle.nvm_laws.specs.block_machine.Prices.{price_in_faults, faults_of as faults_in}
 use Rattle.nvm_laws.specs.block_machine.Results.{own_of, took_none}
 use Rattle.nvm_laws.specs.block_machine.Next.{Next, Nothing, PickJob, BeginSweep, PickMember, PostMember, EndSweep, next_of}
 use Rattle.nvm_laws.specs.promise_blocks.Payment.{Worn, IsExcused, price_for, ArePaid, IsPaid}
 use Rattle.nvm_laws.specs.promise_blocks.OverDevice.{is_of}
 use Rattle.nvm_laws.specs.nvm_device_laws.Turn.{settled_by, wrote_by}
-use Rattle.nvm_laws.specs.nvm_device_laws.Tries.{AreTriesPaid, IsWornOut, IsWornNext, counted_at, counted_from, tries_of_done}
+use Rattle.nvm_laws.specs.nvm_device_laws.Tries.{AreTriesPaid, IsWornOut, IsWornNext, is_hand_urgent, counted_at, counted_from, tries_of_done}
 use Rattle.nvm_laws.specs.job_programs.Program.{Program, next_in}
 use Rattle.nvm_laws.specs.job_programs.Laws.{failed_of}
 use Rattle.nvm_laws.specs.job_programs.Failures.{failed_tries}
@@ -41,11 +43,13 @@ use Rattle.nvm_laws.specs.declared.turned.Turned.TheVariants as turned
 use Rattle.nvm_laws.specs.declared.turned.Act.TheVariants.{Ended}
 use Rattle.nvm_laws.specs.AtDevice.{AtDevice, GoesOn}
 use Rattle.nvm_laws.proofs.Turning.{off_stand, hand_same}
+use Rattle.nvm_laws.proofs.Paying.{wrote_urgency}
+use Rattle.nvm_laws.proofs.block_laws.HistoryLaws.{histories_step}
 use Rattle.nvm_laws.proofs.Operations.{same_job}
 use Rattle.nvm_laws.proofs.Picking.{done_is, failures_are}
 use Rattle.nvm_core.specs.OperationStart.{LeavesDevice}
 use Rattle.nvm_core.specs.BehindDevice.{TurnsDevice, asked_by}
-use Rattle.nvm_core.specs.Paying.{counted_of, TriesSince, OwesSince, PaysSince, worn_so_far}
+use Rattle.nvm_core.specs.Paying.{counted_of, TriesSince, OwesSince, PaysSince, has_urgent, worn_so_far}
 use Rattle.nvm_core.proofs.Owing.{costs}
 use Rattle.nvm_core.proofs.Trying.{none_since, since_stays, since_goes_on}
 
@@ -75,7 +79,7 @@ module _ (before : Part → PartTold) (desk : DeskState) (h : HandState) (d : De
   own_part = part_of_block d.fixed h.program.block
 
   -- from it on all is kept, where the history is paid, and the tries of the job in hand are
-  kept_from : (n : ℕ) → PaidAt own_part n → AreTriesPaid (is_of own_part d.fixed) desk.config clock.worn (record { ops = 0; faults = n }) (counted_at own_part d) desk.entries h.program
+  kept_from : (n : ℕ) → PaidAt own_part n → AreTriesPaid (is_of own_part d.fixed) desk.config clock.worn (has_urgent desk) (record { ops = 0; faults = n }) (counted_at own_part d) desk.entries h.program
       → StackKeeps (rebased own_part n before) desk (Some h) d clock
   kept_from n paid tries = record {
     started = kept.started;
@@ -100,7 +104,7 @@ module _ (before : Part → PartTold) (desk : DeskState) (h : HandState) (d : De
       finds = kept.keeps.finds;
     };
     fits = kept.fits;
-    paid = subst (λ (k : ℕ). AreTriesPaid (is_of own_part d.fixed) desk.config clock.worn (record { ops = 0; faults = k }) (counted_at own_part d) desk.entries h.program) (sym (here own_part n before)) tries;
+    paid = subst (λ (k : ℕ). AreTriesPaid (is_of own_part d.fixed) desk.config clock.worn (has_urgent desk) (record { ops = 0; faults = k }) (counted_at own_part d) desk.entries h.program) (sym (here own_part n before)) tries;
     order = kept.order;
     starts = kept.starts;
   }
@@ -122,7 +126,7 @@ fewer n m a b less (inr full) = inr full
 
 -- of a job in hand, whose entry is of its part
 module _ (desk desk_new : DeskState) (h : HandState) (d : DeviceTold) (clock clock_new : Clock) (keeps : StaysKept desk (Some h) d clock desk_new None d clock_new)
-    (same : (k n : ℕ) → clock_new.worn k n → clock.worn k n) (e : Entry) (entries : desk_new.entries ≡ desk.entries ++ e ∷ []) (config : desk_new.config ≡ desk.config)
+    (same : (k n : ℕ) (urgent : Bool) → clock_new.worn k n urgent → clock.worn k n urgent) (e : Entry) (entries : desk_new.entries ≡ desk.entries ++ e ∷ []) (config : desk_new.config ≡ desk.config)
     (before : Part → PartTold) (kept : StackKeeps before desk (Some h) d clock) where
   abbrev q : Part
   q = part_of_block d.fixed h.program.block
@@ -135,7 +139,7 @@ module _ (desk desk_new : DeskState) (h : HandState) (d : DeviceTold) (clock clo
 
   abbrev AreTried : ℕ → Type 0
   AreTried slack = (n m : ℕ) → n + (m + slack) ≤ now → ArePaid of desk.config clock.worn m at_first desk.entries
-      → AreTriesPaid of desk.config clock.worn (record { ops = 0; faults = n }) (counted_at q d) desk.entries h.program
+      → AreTriesPaid of desk.config clock.worn (has_urgent desk) (record { ops = 0; faults = n }) (counted_at q d) desk.entries h.program
 
   pays : (slack : ℕ) → AreTried slack → (n m : ℕ) → n + (m + slack) ≤ now → ArePaid of desk.config clock.worn m at_first desk.entries
       → IsPaid of desk.config clock_new.worn n now (desk.entries ++ e ∷ [])
@@ -154,13 +158,13 @@ module _ (desk desk_new : DeskState) (h : HandState) (d : DeviceTold) (clock clo
   tried_all : AreTried (failed_tries h.program)
   tried_all n m within paid = inl (m, inl (omega (arith, within)), paid)
 
-  tried_next : IsWornNext clock.worn d.ops h.program (next_in h.program) → AreTried (tries_of_done h.program)
+  tried_next : IsWornNext clock.worn (has_urgent desk) d.ops h.program (next_in h.program) → AreTried (tries_of_done h.program)
   tried_next next n m within paid = inr (inl ((m, inl (omega (arith, within)), paid), next))
 
-  tried_none : ((index : ℕ) × Contains (failed_of h.program.indices h.program.done) index × IsWornOut clock.worn d.ops h.program index) → AreTried 0
+  tried_none : ((index : ℕ) × Contains (failed_of h.program.indices h.program.done) index × IsWornOut clock.worn (has_urgent desk) d.ops h.program index) → AreTried 0
   tried_none out n m within paid = inr (inr out)
 
-  module _ (since : ℕ) (own : price_in_faults desk.config (state_of desk) e ≡ price_for of desk.config (state_of desk) e) (owes : OwesSince since (Some h) d clock) where
+  module _ (since : ℕ) (own : price_in_faults desk.config (state_of desk) e ≡ price_for of desk.config (state_of desk) e) (owes : OwesSince (has_urgent desk) since (Some h) d clock) where
     abbrev Paid : Type 0
     Paid = WereCounted (price_in_faults desk.config (state_of desk) e) since (faults_of d) ⊎ IsExcused desk.config clock_new.worn (state_of desk) e
 
@@ -177,8 +181,8 @@ module _ (desk desk_new : DeskState) (h : HandState) (d : DeviceTold) (clock clo
     done_counted : WereCounted (failed_tries h.program) since (faults_of d) → WereCounted (tries_of_done h.program) since (faults_of d)
     done_counted all = fewer (failed_tries h.program) (tries_of_done h.program) since (faults_of d) done_fewer all
 
-    by_tries : now < last_count → TriesSince clock.worn since (counted_of d) h.program
-        → AreTriesPaid of desk.config clock.worn (counted_from (before q)) (counted_at q d) desk.entries h.program → Paid
+    by_tries : now < last_count → TriesSince clock.worn (has_urgent desk) since (counted_of d) h.program
+        → AreTriesPaid of desk.config clock.worn (has_urgent desk) (counted_from (before q)) (counted_at q d) desk.entries h.program → Paid
     by_tries few tries (inr (inr out)) =
         let paid = kept.keeps.over.paid q in
         elim paid.counted [
@@ -216,7 +220,7 @@ free_alone c s (Found marks ops) none = refl
 
 -- by the operations that its Post tells
 excused_by : (c : Configuration) (worn : Worn) (s : State) (n block : ℕ) (r : ReqResult) (given : Option (List ℕ)) (refused ops : ℕ) → ops ≤ n → IsExcused c worn s (Post block r given refused ops)
-    → IsExcused c (λ k m. (k ≤ n) × worn k m) s (Post block r given refused ops)
+    → IsExcused c (λ k m urgent. (k ≤ n) × worn k m urgent) s (Post block r given refused ops)
 excused_by c worn s n block r given refused ops few (j, hand, some, was) =
     (j, hand, some, record { index = was.index; failed = was.failed; moment = was.moment; by_then = was.by_then; is = (let then_ = was.by_then in omega (arith, then_, few), was.is) })
 
@@ -256,23 +260,23 @@ module _ (since now : ℕ) (old new : DeskState) (worn : Worn) (less : since ≤
   none_paid same e is = absurd (no_longer old.entries e (ap (λ (x : DeskState). x.entries) (sym same) ∙ is))
 
 -- THE PICK
-begun : (c : Configuration) (s : State) (o : Option Job) (since : ℕ) (d : DeviceTold) (clock : Clock) → since ≤ faults_of d → OwesSince since (option_map (hand_for c s) o) d clock
-begun c s None since d clock less = (less, tt)
-begun c s (Some j) since d clock less =
-    (less, none_since clock.worn since (counted_of d) (hand_for c s j).program less (done_is c s j (took_none j.taken)) (failures_are c s j (took_none j.taken)))
+begun : (c : Configuration) (s : State) (o : Option Job) (urgent : Bool) (since : ℕ) (d : DeviceTold) (clock : Clock) → since ≤ faults_of d → OwesSince urgent since (option_map (hand_for c s) o) d clock
+begun c s None urgent since d clock less = (less, tt)
+begun c s (Some j) urgent since d clock less =
+    (less, none_since clock.worn urgent since (counted_of d) (hand_for c s j).program less (done_is c s j (took_none j.taken)) (failures_are c s j (took_none j.taken)))
 
 -- A TURN THAT IS ITS FIRST HALF
 module _ (since : ℕ) (old new : DeskState) (hand hand_new : Option HandState) (d d_new : DeviceTold) (clock clock_new : Clock) (leaves : LeavesDevice d d_new) (same : SameClock clock clock_new)
     (paired : IsPaired old.config (state_of old) hand d) (keeps : StaysKept old hand d clock new hand_new d_new clock_new)
-    (before : Part → PartTold) (kept : StackKeeps before old hand d clock) (owes : OwesSince since hand d clock) where
+    (before : Part → PartTold) (kept : StackKeeps before old hand d clock) (owes : OwesSince (has_urgent old) since hand d clock) where
   as_many : faults_of d_new ≡ faults_of d
   as_many = ap faults_of leaves
 
   as_late : d_new.ops ≡ d.ops
   as_late = ap (λ (x : DeviceTold). x.ops) leaves
 
-  half_stays : (held : Option HandState) → OwesSince since held d clock → OwesSince since held d_new clock_new
-  half_stays held = since_stays old.config since d clock d_new clock_new (omega (arith, as_late)) (omega (arith, as_many)) (λ k n by_then is. (same.worn k n).1 is) held
+  half_stays : (held : Option HandState) → OwesSince (has_urgent old) since held d clock → OwesSince (has_urgent old) since held d_new clock_new
+  half_stays held = since_stays old.config since (has_urgent old) d clock d_new clock_new (omega (arith, as_late)) (omega (arith, as_many)) (λ k n urgent by_then is. (same.worn k n urgent).1 is) held
 
   abbrev worn_now : Worn
   worn_now = worn_so_far d_new clock_new
@@ -293,9 +297,9 @@ module _ (since : ℕ) (old new : DeskState) (hand hand_new : Option HandState) 
       (post_paid old new h d clock clock_new
       (subst (λ (x : Option HandState). StaysKept old x d clock new None d clock_new) held
       (subst (λ (x : Option HandState). StaysKept old hand d clock new x d clock_new) none (subst (λ (x : DeviceTold). StaysKept old hand d clock new hand_new x clock_new) still keeps)))
-      (λ k n worn. (same.worn k n).0 worn) e (ap (λ (x : DeskState). x.entries) adds) (ap (λ (x : DeskState). x.config) adds) before (subst (λ (x : Option HandState). StackKeeps before old x d clock) held kept) since
+      (λ k n urgent worn. (same.worn k n urgent).0 worn) e (ap (λ (x : DeskState). x.entries) adds) (ap (λ (x : DeskState). x.config) adds) before (subst (λ (x : Option HandState). StackKeeps before old x d clock) held kept) since
       (own_price old.config (state_of old) d block h.program.block r given refused ops of_block)
-      (subst (λ (x : Option HandState). OwesSince since x d clock) held owes))
+      (subst (λ (x : Option HandState). OwesSince (has_urgent old) since x d clock) held owes))
 
   posted : (h : HandState) → hand ≡ Some h → hand_new ≡ None → d_new ≡ d → (block : ℕ) (r : ReqResult) (given : Option (List ℕ)) (refused ops : ℕ) (j : Job) → (state_of old).hand ≡ Some j → block ≡ job_block j
       → ops ≤ d_new.ops → new ≡ record old { entries = old.entries ++ Post block r given refused ops ∷ [] } → (e : Entry) → new.entries ≡ old.entries ++ e ∷ [] → PaidNow since (faults_of d_new) old new worn_now less_now e
@@ -334,56 +338,62 @@ module _ (since : ℕ) (old new : DeskState) (hand hand_new : Option HandState) 
     | inr next ↦ no_pick_next (next_of old.config (state_of old)) ops copies behind next.1 block k kind t is
   ]
 
+  half_stood : new ≡ old → hand_new ≡ hand → OwesSince (has_urgent new) since hand_new d_new clock_new
+  half_stood same_desk same_hand =
+      subst (λ (x : DeskState). OwesSince (has_urgent x) since hand_new d_new clock_new) (sym same_desk)
+      (subst (λ (x : Option HandState). OwesSince (has_urgent old) since x d_new clock_new) (sym same_hand) (half_stays hand owes))
+
   pub half_pays : (answer : Turned) (Holds : ℕ → Taken → Type 0) (Fits : Type 0) (copies behind : List Told) → IsHalf (Ended answer) Holds Fits old new copies behind d_new → AtDevice (Ended answer) hand d new hand_new d_new
       → PaysSince since old new hand_new d d_new clock_new
   half_pays turned.Off Holds Fits copies behind half at = record {
-    owes = subst (λ (x : Option HandState). OwesSince since x d_new clock_new) (sym at.0) (half_stays hand owes);
+    owes = half_stood half.0.0 at.0;
     anew = λ block ops kind t is. absurd (no_longer old.entries (Pick block kind t ops) (ap (λ (x : DeskState). x.entries) (sym half.0.0) ∙ is));
     pays = none_paid since (faults_of d_new) old new worn_now less_now half.0.0;
   }
   half_pays turned.Idle Holds Fits copies behind half at = record {
-    owes = subst (λ (x : Option HandState). OwesSince since x d_new clock_new) (sym at.0) (half_stays hand owes);
+    owes = half_stood half.0.0 at.0;
     anew = λ block ops kind t is. absurd (no_longer old.entries (Pick block kind t ops) (ap (λ (x : DeskState). x.entries) (sym half.0.0) ∙ is));
     pays = none_paid since (faults_of d_new) old new worn_now less_now half.0.0;
   }
   half_pays turned.Picked Holds Fits copies behind half at = record {
-    owes = subst (λ (x : Option HandState). OwesSince since x d_new clock_new) (sym at.0) (begun new.config (state_of new) (state_of new).hand since d_new clock_new less_now);
-    anew = λ block ops kind t is. subst (λ (x : Option HandState). OwesSince (faults_of d) x d_new clock_new) (sym at.0) (begun new.config (state_of new) (state_of new).hand (faults_of d) d_new clock_new (omega (arith, as_many)));
+    owes = subst (λ (x : Option HandState). OwesSince (has_urgent new) since x d_new clock_new) (sym at.0) (begun new.config (state_of new) (state_of new).hand (has_urgent new) since d_new clock_new less_now);
+    anew = λ block ops kind t is. subst (λ (x : Option HandState). OwesSince (has_urgent new) (faults_of d) x d_new clock_new) (sym at.0) (begun new.config (state_of new) (state_of new).hand (has_urgent new) (faults_of d) d_new clock_new (omega (arith, as_many)));
     pays = free_paid since (faults_of d_new) old new worn_now less_now (Pick half.0 half.1.kind half.1.taken (ops_of d_new)) (ap (λ (x : DeskState). x.entries) half.1.adds) refl;
   }
   half_pays turned.Posted Holds Fits copies behind half at = record {
-    owes = subst (λ (x : Option HandState). OwesSince since x d_new clock_new) (sym at.1) (less_now, tt);
+    owes = subst (λ (x : Option HandState). OwesSince (has_urgent new) since x d_new clock_new) (sym at.1) (less_now, tt);
     anew = λ block ops kind t is. absurd (no_pick_posted Fits (ops_of d_new) copies behind half block ops kind t is);
     pays = posts Fits (ops_of d_new) copies behind half at.1 at.2 hand refl (omega arith);
   }
   half_pays turned.Worked Holds Fits copies behind half at = absurd half
 
   -- where the device's turn comes next
-  pub half_goes : (held : Option HandState) → hand ≡ held → GoesOn held d hand_new d_new → OwesSince since hand_new d_new clock_new
-  half_goes None none goes = subst (λ (x : Option HandState). OwesSince since x d_new clock_new) (sym goes.0) (less_now, tt)
+  pub half_goes : (held : Option HandState) → hand ≡ held → GoesOn held d hand_new d_new → OwesSince (has_urgent old) since hand_new d_new clock_new
+  half_goes None none goes = subst (λ (x : Option HandState). OwesSince (has_urgent old) since x d_new clock_new) (sym goes.0) (less_now, tt)
   half_goes (Some h) some goes =
-      subst (λ (x : Option HandState). OwesSince since x d_new clock_new) (sym goes.1)
-      (half_stays (Some h) (subst (λ (x : Option HandState). OwesSince since x d clock) some owes))
+      subst (λ (x : Option HandState). OwesSince (has_urgent old) since x d_new clock_new) (sym goes.1)
+      (half_stays (Some h) (subst (λ (x : Option HandState). OwesSince (has_urgent old) since x d clock) some owes))
 
 -- A TURN OF THE DEVICE
 module _ (c : Configuration) (s : State) (since : ℕ) (hand : Option HandState) (old new : DeviceTold) (clock clock_new : Clock) (grows : faults_of old ≤ faults_of new)
-    (paired : IsPaired c s hand old) (started : IfSome hand (λ h. h.started ≡ true)) (owes : OwesSince since hand old clock) where
-  by_lasts : Lasts old clock new clock_new → (held : Option HandState) → hand ≡ held → OwesSince since held new clock_new
-  by_lasts lasts held is = since_stays c since old clock new clock_new lasts.ops grows lasts.past.worn held (subst (λ (x : Option HandState). OwesSince since x old clock) is owes)
+    (paired : IsPaired c s hand old) (started : IfSome hand (λ h. h.started ≡ true)) (owes : OwesSince (is_hand_urgent c s) since hand old clock) where
+  by_lasts : Lasts old clock new clock_new → (held : Option HandState) → hand ≡ held → OwesSince (is_hand_urgent c s) since held new clock_new
+  by_lasts lasts held is = since_stays c since (is_hand_urgent c s) old clock new clock_new lasts.ops grows lasts.past.worn held (subst (λ (x : Option HandState). OwesSince (is_hand_urgent c s) since x old clock) is owes)
 
-  stood : Lasts old clock new clock_new → new.stand ≡ old.stand → OwesSince since (hand_by old.stand new.stand hand) new clock_new
-  stood lasts same = subst (λ (x : Option HandState). OwesSince since x new clock_new) (sym (hand_same old.stand new.stand hand same)) (by_lasts lasts hand refl)
+  stood : Lasts old clock new clock_new → new.stand ≡ old.stand → OwesSince (is_hand_urgent c s) since (hand_by old.stand new.stand hand) new clock_new
+  stood lasts same = subst (λ (x : Option HandState). OwesSince (is_hand_urgent c s) since x new clock_new) (sym (hand_same old.stand new.stand hand same)) (by_lasts lasts hand refl)
 
   moved : Lasts old clock new clock_new → (p : Part) → Works p old new clock_new → (a b : Stand) → old.stand ≡ a → JobTurns p a b old new clock_new → (held : Option HandState) → hand ≡ held
-      → OwesSince since (hand_by a b held) new clock_new
+      → OwesSince (is_hand_urgent c s) since (hand_by a b held) new clock_new
   moved lasts p works (Open j) (Open k) was turns held is = by_lasts lasts held is
   moved lasts p works (Open j) (At r given) was turns None is = by_lasts lasts None is
   moved lasts p works (Open j) (At r given) was turns (Some h) is =
-      since_goes_on c since old clock new clock_new lasts.ops grows lasts.past.worn s h (subst (λ (x : Option HandState). IsPaired c s x old) is paired)
-      (subst (λ (x : Option HandState). IfSome x (λ y. y.started ≡ true)) is started) p works j r given was turns.0 turns.1 (subst (λ (x : Option HandState). OwesSince since x old clock) is owes)
+      let own : IsInHand c s h old = subst (λ (x : Option HandState). IsPaired c s x old) is paired in
+      since_goes_on c since (is_hand_urgent c s) old clock new clock_new lasts.ops grows lasts.past.worn s h own
+      (sym (ap (λ (o : Option Job). option_map_or (λ k. (rank_of c k).immediate) o false) own.hand)) (subst (λ (x : Option HandState). IfSome x (λ y. y.started ≡ true)) is started) p works j r given was turns.0 turns.1 (subst (λ (x : Option HandState). OwesSince (is_hand_urgent c s) since x old clock) is owes)
   moved lasts p works (At r given) b was turns held is = by_lasts lasts held is
 
-  pub device_owes : (answer : Turned) → TurnsDevice answer old clock new clock_new → OwesSince since (hand_by old.stand new.stand hand) new clock_new
+  pub device_owes : (answer : Turned) → TurnsDevice answer old clock new clock_new → OwesSince (is_hand_urgent c s) since (hand_by old.stand new.stand hand) new clock_new
   device_owes turned.Idle turns = stood (turn_lasts turn.Idle old clock new clock_new turns).0 (ap (λ (d : DeviceTold). d.stand) turns.0.1)
   device_owes turned.Off turns = stood (turn_lasts turn.Off old clock new clock_new turns).0 (off_stand old clock new clock_new turns)
   device_owes turned.Worked turns = moved (turn_lasts turn.Worked old clock new clock_new turns).0 turns.0.1.0 turns.0.1.1 old.stand new.stand refl turns.0.1.1.job hand refl
@@ -405,6 +415,31 @@ asked_free c s turned.Idle a b ops = settled_free c s a b ops
 asked_free c s turned.Worked a b ops = settled_free c s a b ops
 asked_free c s turned.Picked a b ops = settled_free c s a b ops
 asked_free c s turned.Posted a b ops = settled_free c s a b ops
+
+-- and it leaves the rank of the job in hand
+settled_urgency : (c : Configuration) (s : State) (a b : Stand) (ops : ℕ) → IfSome (settled_by a b ops) (λ e. is_hand_urgent c s ≡ is_hand_urgent c (step c s e))
+settled_urgency c s (Open j) (At JobOk given) ops = by j.mark
+  where
+    by : (mark : Option Mark) → IfSome (wrote_by j.number mark ops) (λ e. is_hand_urgent c s ≡ is_hand_urgent c (step c s e))
+    by None = tt
+    by (Some m) = wrote_urgency c s (instance_of (record { 0 = j.number })) m ops
+settled_urgency c s a b ops = tt
+
+asked_urgency : (c : Configuration) (s : State) (answer : Turned) (a b : Stand) (ops : ℕ) → IfSome (asked_by answer a b ops) (λ e. is_hand_urgent c s ≡ is_hand_urgent c (step c s e))
+asked_urgency c s turned.Off a b ops = refl
+asked_urgency c s turned.Idle a b ops = settled_urgency c s a b ops
+asked_urgency c s turned.Worked a b ops = settled_urgency c s a b ops
+asked_urgency c s turned.Picked a b ops = settled_urgency c s a b ops
+asked_urgency c s turned.Posted a b ops = settled_urgency c s a b ops
+
+added_urgency : (between new : DeskState) (o : Option Entry) → IfSome o (λ e. is_hand_urgent between.config (state_of between) ≡ is_hand_urgent between.config (step between.config (state_of between) e))
+    → AddsBy o between new → has_urgent between ≡ has_urgent new
+added_urgency between new None same adds = ap has_urgent (sym adds)
+added_urgency between new (Some e) same adds =
+    same ∙ (ap (is_hand_urgent between.config) (sym (histories_step between.config between.entries e)) ∙ ap has_urgent (sym adds.0))
+
+pub device_urgency : (answer : Turned) (a b : Stand) (ops : ℕ) (between new : DeskState) → AddsBy (asked_by answer a b ops) between new → has_urgent between ≡ has_urgent new
+device_urgency answer a b ops between new adds = added_urgency between new (asked_by answer a b ops) (asked_urgency between.config (state_of between) answer a b ops) adds
 
 pub device_adds : (since now : ℕ) (old between new : DeskState) (worn : Worn) (less : since ≤ now) → between ≡ old → (o : Option Entry) → AddsBy o between new → IfSome o (λ e. price_in_faults old.config (state_of old) e ≡ 0)
     → (e : Entry) → new.entries ≡ old.entries ++ e ∷ [] → PaidNow since now old new worn less e

@@ -3,6 +3,7 @@ use Rattle.std.specs.Prelude.{min}
 use Rattle.std.proofs.Common.{◌≡◌, ◌≢◌, ◌<◌, ◌≤◌, ◌+◌, ◌⊎◌, ℕ, Bool, true, false, List, [], Option, Some, None, sym, ap, ◌∙◌, subst, inl, inr, arith}
 use Rattle.std.proofs.lemmas.Bool.Decides.{leb_tells}
 use Rattle.nvm_laws.specs.nv_base.Count.{Rose, WereCounted}
+use Rattle.nvm_laws.specs.nv_base.Marks.{number_of}
 use Rattle.nvm_laws.specs.memif.declared.answer.JobResult.{JobResult}
 use Rattle.nvm_laws.specs.memif.declared.answer.JobResult.TheVariants.{JobFailed}
 use Rattle.nvm_laws.specs.memif.Told as device
@@ -11,7 +12,7 @@ use Rattle.nvm_laws.specs.memif.Clock.{Clock}
 use Rattle.nvm_laws.specs.memif.Calls.{Works, EndsAs, MayFail}
 use Rattle.nvm_laws.specs.block_machine.Words.{JobKind, ReadJob, Configuration}
 use Rattle.nvm_laws.specs.block_machine.State.{State, Job}
-use Rattle.nvm_laws.specs.block_machine.Blocks.{kind_of, mark_by}
+use Rattle.nvm_laws.specs.block_machine.Blocks.{kind_of, mark_by, rank_of}
 use Rattle.nvm_laws.specs.promise_blocks.Payment.{Worn, every_block}
 use Rattle.nvm_laws.specs.promise_blocks.OverDevice.{TellsAtMost}
 use Rattle.nvm_laws.specs.job_programs.Program as program
@@ -43,22 +44,22 @@ without f n a b (inl more) = inl (omega (arith, more))
 without f n a b (inr full) = inr full
 
 -- so many faults pay for the tries of an empty history
-abbrev OverNone : Configuration → Worn → ℕ → Counted → Program → Type 0
-OverNone c worn since now p = AreTriesPaid every_block c worn (counted_since since) now [] p
+abbrev OverNone : Configuration → Worn → (urgent : Bool) → ℕ → Counted → Program → Type 0
+OverNone c worn urgent since now p = AreTriesPaid every_block c worn urgent (counted_since since) now [] p
 
-over_none : (c : Configuration) (worn : Worn) (since : ℕ) (now : Counted) (p : Program) → TriesSince worn since now p → OverNone c worn since now p
-over_none c worn since now p (inl all) = inl (0, with_none (failed_tries p) since now.faults all, tt)
-over_none c worn since now p (inr (inl (done, next))) = inr (inl ((0, with_none (tries_of_done p) since now.faults done, tt), next))
-over_none c worn since now p (inr (inr out)) = inr (inr out)
+over_none : (c : Configuration) (worn : Worn) (urgent : Bool) (since : ℕ) (now : Counted) (p : Program) → TriesSince worn urgent since now p → OverNone c worn urgent since now p
+over_none c worn urgent since now p (inl all) = inl (0, with_none (failed_tries p) since now.faults all, tt)
+over_none c worn urgent since now p (inr (inl (done, next))) = inr (inl ((0, with_none (tries_of_done p) since now.faults done, tt), next))
+over_none c worn urgent since now p (inr (inr out)) = inr (inr out)
 
-since_of : (c : Configuration) (worn : Worn) (since : ℕ) (now : Counted) (p : Program) → OverNone c worn since now p → TriesSince worn since now p
-since_of c worn since now p (inl (f, all, paid)) = inl (without f (failed_tries p) since now.faults all)
-since_of c worn since now p (inr (inl ((f, done, paid), next))) = inr (inl (without f (tries_of_done p) since now.faults done, next))
-since_of c worn since now p (inr (inr out)) = inr (inr out)
+since_of : (c : Configuration) (worn : Worn) (urgent : Bool) (since : ℕ) (now : Counted) (p : Program) → OverNone c worn urgent since now p → TriesSince worn urgent since now p
+since_of c worn urgent since now p (inl (f, all, paid)) = inl (without f (failed_tries p) since now.faults all)
+since_of c worn urgent since now p (inr (inl ((f, done, paid), next))) = inr (inl (without f (tries_of_done p) since now.faults done, next))
+since_of c worn urgent since now p (inr (inr out)) = inr (inr out)
 
 -- a program that begins has none
-pub none_since : (worn : Worn) (since : ℕ) (now : Counted) (p : Program) → since ≤ now.faults → p.done ≡ [] → p.failures ≡ 0 → TriesSince worn since now p
-none_since worn since now p less done failures = let none = no_tries p done failures in inl (inl (omega (arith, none, less)))
+pub none_since : (worn : Worn) (urgent : Bool) (since : ℕ) (now : Counted) (p : Program) → since ≤ now.faults → p.done ≡ [] → p.failures ≡ 0 → TriesSince worn urgent since now p
+none_since worn urgent since now p less done failures = let none = no_tries p done failures in inl (inl (omega (arith, none, less)))
 
 -- A FAULT OF A PART
 -- is one of the device
@@ -81,19 +82,19 @@ at_by c j p true d at on = at
 at_by c j p false d closed on = cc
 
 -- A CALL OF THE DEVICE
-module _ (c : Configuration) (since : ℕ) (old : DeviceTold) (clock : Clock) (new : DeviceTold) (clock_new : Clock) (ops : old.ops ≤ new.ops) (grows : faults_of old ≤ faults_of new)
-    (worn : (k n : ℕ) → k ≤ old.ops → clock.worn k n → clock_new.worn k n) where
-  pub since_stays : (hand : Option HandState) → OwesSince since hand old clock → OwesSince since hand new clock_new
+module _ (c : Configuration) (since : ℕ) (urgent : Bool) (old : DeviceTold) (clock : Clock) (new : DeviceTold) (clock_new : Clock) (ops : old.ops ≤ new.ops) (grows : faults_of old ≤ faults_of new)
+    (worn : (k n : ℕ) (b : Bool) → k ≤ old.ops → clock.worn k n b → clock_new.worn k n b) where
+  pub since_stays : (hand : Option HandState) → OwesSince urgent since hand old clock → OwesSince urgent since hand new clock_new
   since_stays None (less, owes) = (omega (arith, less, grows), tt)
   since_stays (Some h) (less, owes) = (
     omega (arith, less, grows),
-    since_of c clock_new.worn since (counted_of new) h.program
-        (tries_stay every_block c clock.worn clock_new.worn (counted_since since) (counted_of old) (counted_of new) [] ops grows worn (none_told old.ops) h.program
-        (over_none c clock.worn since (counted_of old) h.program owes)),
+    since_of c clock_new.worn urgent since (counted_of new) h.program
+        (tries_stay every_block c clock.worn clock_new.worn urgent (counted_since since) (counted_of old) (counted_of new) [] ops grows worn (none_told old.ops) h.program
+        (over_none c clock.worn urgent since (counted_of old) h.program owes)),
   )
 
   -- the operation of the job in hand ends
-  module _ (s : State) (h : HandState) (is : IsInHand c s h old) (on : h.started ≡ true) (p : Part) (works : Works p old new clock_new) (job : device.Job) (r : JobResult) (given : List ℕ)
+  module _ (s : State) (h : HandState) (is : IsInHand c s h old) (rank : (rank_of c is.job).immediate ≡ urgent) (on : h.started ≡ true) (p : Part) (works : Works p old new clock_new) (job : device.Job) (r : JobResult) (given : List ℕ)
       (was : old.stand ≡ Open job) (ends : EndsAs job.mark job.number r given old new) (fails : r ≡ JobFailed → MayFail p job old new clock_new) where
     at : IsAt c is.job h.program old.stand
     at = at_by c is.job h.program h.started old is.at on
@@ -106,16 +107,24 @@ module _ (c : Configuration) (since : ℕ) (old : DeviceTold) (clock : Clock) (n
         let kind : h.program.kind ≡ kind_of is.job = ap (λ (q : Program). q.kind) is.working.is in
         some (ap (λ (j : device.Job). j.mark) asked ∙ ap (λ (k : JobKind). mark_by k is.job.content) (sym kind ∙ reads))
 
-    cause : is_failed (outcome_by job.mark r) ≡ true → Rose (faults_of old) (faults_of new) ⊎ IsWornOut clock_new.worn new.ops h.program at.index
+    cause : is_failed (outcome_by job.mark r) ≡ true → Rose (faults_of old) (faults_of new) ⊎ IsWornOut clock_new.worn urgent new.ops h.program at.index
     cause failed = elim (fails (failed_job job.mark job.number r given old new ends failed)) [
       | inl rose ↦ inl (rose_of p old new clock_new works rose)
-      | inr out ↦ inr (writes out.0, (new.ops, omega arith, subst (λ (n : ℕ). clock_new.worn new.ops n) (ap (λ (j : device.Job). j.number) asked) out.1))
+      | inr out ↦ inr (
+        writes out.0,
+        (
+          new.ops,
+          omega arith,
+          subst (λ (b : Bool). clock_new.worn new.ops (number_of (record { block = h.program.block; index = at.index })) b) (ap (λ (j : device.Job). j.urgent) asked ∙ rank)
+              (subst (λ (n : ℕ). clock_new.worn new.ops n job.urgent) (ap (λ (j : device.Job). j.number) asked) out.1),
+        ),
+      )
     ]
 
-    pub since_goes_on : OwesSince since (Some h) old clock → OwesSince since (Some (ended (outcome_by job.mark r) h)) new clock_new
+    pub since_goes_on : OwesSince urgent since (Some h) old clock → OwesSince urgent since (Some (ended (outcome_by job.mark r) h)) new clock_new
     since_goes_on (less, owes) = (
       omega (arith, less, grows),
-      since_of c clock_new.worn since (counted_of new) (program.after h.program (outcome_by job.mark r))
-          (tries_go_on every_block c clock.worn clock_new.worn (counted_since since) (counted_of old) (counted_of new) [] ops grows worn (none_told old.ops) h.program (outcome_by job.mark r) at.index at.next
-          (after_is h.program (outcome_by job.mark r) at.index at.next (some_outcome job.mark r)) is.working.tries cause (over_none c clock.worn since (counted_of old) h.program owes)),
+      since_of c clock_new.worn urgent since (counted_of new) (program.after h.program (outcome_by job.mark r))
+          (tries_go_on every_block c clock.worn clock_new.worn urgent (counted_since since) (counted_of old) (counted_of new) [] ops grows worn (none_told old.ops) h.program (outcome_by job.mark r) at.index at.next
+          (after_is h.program (outcome_by job.mark r) at.index at.next (some_outcome job.mark r)) is.working.tries cause (over_none c clock.worn urgent since (counted_of old) h.program owes)),
     )

@@ -15,6 +15,7 @@ use Rattle.block_machine.specs.Words.{Configuration}
 use Rattle.job_programs.specs.Program as program
 use Rattle.job_programs.specs.Program.{Program, next_in, is_failed, is_again, after_by}
 use Rattle.block_machine.specs.nv_base.Count.{Rose}
+use Rattle.block_machine.specs.nv_base.Marks.{number_of}
 use Rattle.promise_blocks.specs.OverDevice.{is_of}
 use Rattle.promise_blocks.specs.Payment.{Worn}
 use Rattle.nvm_device_laws.specs.Turn.{Keeps}
@@ -27,17 +28,17 @@ use Rattle.nvm_device_laws.proofs.FittingOutcomes.{ending}
 use Rattle.nvm_device_laws.proofs.PaidTries.{tries_stay, tries_go_on}
 
 -- at the part of a program, which is the same behind each call
-paid_at : (f g : Fixed) (c : Configuration) (worn : Worn) (before : Part → PartTold) (now : DeviceTold) (h : List Entry) (p : Program) → g ≡ f
-    → TriesArePaidAt f c worn before now h p → TriesArePaidAt g c worn before now h p
-paid_at f g c worn before now h p same paid = subst (λ (x : Fixed). TriesArePaidAt x c worn before now h p) (sym same) paid
+paid_at : (f g : Fixed) (c : Configuration) (worn : Worn) (urgent : Bool) (before : Part → PartTold) (now : DeviceTold) (h : List Entry) (p : Program) → g ≡ f
+    → TriesArePaidAt f c worn urgent before now h p → TriesArePaidAt g c worn urgent before now h p
+paid_at f g c worn urgent before now h p same paid = subst (λ (x : Fixed). TriesArePaidAt x c worn urgent before now h p) (sym same) paid
 
 stays_by : (old : DeviceTold) (clock : Clock) (new : DeviceTold) (clock_new : Clock) (c : Configuration)
-    (cap : ℕ) (h : List Entry) (before : Part → PartTold) (p : Program) → Keeps c cap h before old clock
-    → Goes old clock new clock_new → TriesArePaid c clock.worn before old h p → TriesArePaid c clock_new.worn before new h p
-stays_by old clock new clock_new c cap h before p keeps goes paid =
+    (cap : ℕ) (urgent : Bool) (h : List Entry) (before : Part → PartTold) (p : Program) → Keeps c cap h before old clock
+    → Goes old clock new clock_new → TriesArePaid c clock.worn urgent before old h p → TriesArePaid c clock_new.worn urgent before new h p
+stays_by old clock new clock_new c cap urgent h before p keeps goes paid =
     let q = part_of_block old.fixed p.block in
-    paid_at old.fixed new.fixed c clock_new.worn before new h p goes.fixed
-    (tries_stay (is_of q old.fixed) c clock.worn clock_new.worn (counted_from (before q)) (counted_at q old) (counted_at q new) h goes.ops (goes.faults q) goes.past.worn
+    paid_at old.fixed new.fixed c clock_new.worn urgent before new h p goes.fixed
+    (tries_stay (is_of q old.fixed) c clock.worn clock_new.worn urgent (counted_from (before q)) (counted_at q old) (counted_at q new) h goes.ops (goes.faults q) goes.past.worn
     keeps.over.counted p paid)
 
 -- an outcome leaves the block of a program
@@ -97,21 +98,21 @@ module _ (old : DeviceTold) (clock : Clock) (new : DeviceTold) (clock_new : Cloc
 
   -- so each leaves them paid
   pub turn_tries : (answer : DeviceTurn) → Turns answer old clock new clock_new → TriesStay old clock new clock_new
-  turn_tries answer turns c cap h before p keeps paid =
-      stays_by old clock new clock_new c cap h before p keeps (turn_goes answer turns) paid
+  turn_tries answer turns c cap urgent h before p keeps paid =
+      stays_by old clock new clock_new c cap urgent h before p keeps (turn_goes answer turns) paid
 
   pub start_tries : (w : Wish) (answer : Result (Unit {0}) DeviceRefusal) → Accepts w answer old clock new clock_new
       → TriesStay old clock new clock_new
-  start_tries w answer accepts c cap h before p keeps paid =
-      stays_by old clock new clock_new c cap h before p keeps (start_goes w answer accepts) paid
+  start_tries w answer accepts c cap urgent h before p keeps paid =
+      stays_by old clock new clock_new c cap urgent h before p keeps (start_goes w answer accepts) paid
 
   pub cancel_tries : Cancels old clock new clock_new → TriesStay old clock new clock_new
-  cancel_tries cancels c cap h before p keeps paid =
-      stays_by old clock new clock_new c cap h before p keeps (calls.goes_canceled old clock new clock_new cancels) paid
+  cancel_tries cancels c cap urgent h before p keeps paid =
+      stays_by old clock new clock_new c cap urgent h before p keeps (calls.goes_canceled old clock new clock_new cancels) paid
 
   pub arm_tries : (which nth keep : ℕ) → Arms which nth keep old clock new clock_new → TriesStay old clock new clock_new
-  arm_tries which nth keep arms c cap h before p keeps paid =
-      stays_by old clock new clock_new c cap h before p keeps
+  arm_tries which nth keep arms c cap urgent h before p keeps paid =
+      stays_by old clock new clock_new c cap urgent h before p keeps
       (calls.goes_armed old clock new clock_new which nth keep arms) paid
 
   -- THE END OF A JOB
@@ -127,21 +128,21 @@ module _ (old : DeviceTold) (clock : Clock) (new : DeviceTold) (clock_new : Cloc
 
   pub turn_goes_on : (answer : DeviceTurn) → Turns answer old clock new clock_new
       → TriesGoOn old clock new clock_new
-  turn_goes_on answer turns c cap h before p j index x r given keeps was is at number listed own block reads few paid =
+  turn_goes_on answer turns c cap urgent h before p j index x r given keeps was is at number rank listed own block reads few paid =
       let goes = turn_goes answer turns in
       let ends = ends_own answer j r given turns was is in
       let q = part_of_block old.fixed p.block in
       let of : part_of old.fixed j ≡ q = ap (λ (n : ℕ). (figures_at old.fixed n).part) (sym own) ∙ keeps.device.parts x listed ∙ ap (part_of_block old.fixed) block in
-      paid_at old.fixed new.fixed c clock_new.worn before new h (program.after p (outcome_by j.mark r)) goes.fixed
-      (subst (λ (b : ℕ). AreTriesPaid (is_of (part_of_block old.fixed b) old.fixed) c clock_new.worn (counted_from (before (part_of_block old.fixed b)))
+      paid_at old.fixed new.fixed c clock_new.worn urgent before new h (program.after p (outcome_by j.mark r)) goes.fixed
+      (subst (λ (b : ℕ). AreTriesPaid (is_of (part_of_block old.fixed b) old.fixed) c clock_new.worn urgent (counted_from (before (part_of_block old.fixed b)))
       (counted_at (part_of_block old.fixed b) new) h (program.after p (outcome_by j.mark r))) (block_after p (outcome_by j.mark r))
-      (tries_go_on (is_of q old.fixed) c clock.worn clock_new.worn (counted_from (before q)) (counted_at q old) (counted_at q new) h goes.ops (goes.faults q)
+      (tries_go_on (is_of q old.fixed) c clock.worn clock_new.worn urgent (counted_from (before q)) (counted_at q old) (counted_at q new) h goes.ops (goes.faults q)
       goes.past.worn keeps.over.counted p (outcome_by j.mark r) index at
       (after_is p (outcome_by j.mark r) index at (some_outcome j.mark r)) few
       (λ failed. elim (ends.1 (failed_job j.mark j.number r given old new ends.0 failed)) [
         | inl rose ↦ inl (subst (λ (y : Part). Rose (part_at y old).faults (part_at y new).faults) of rose)
         | inr out ↦ inr (
           λ kind. out.0 (reads kind),
-          (new.ops, omega arith, subst (λ (n : ℕ). clock_new.worn new.ops n) number out.1),
+          (new.ops, omega arith, subst (λ (b : Bool). clock_new.worn new.ops (number_of (record { block = p.block; index = index })) b) rank (subst (λ (n : ℕ). clock_new.worn new.ops n j.urgent) number out.1)),
         )
       ]) paid))

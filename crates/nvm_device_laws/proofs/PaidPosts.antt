@@ -12,7 +12,7 @@ use Rattle.memif.specs.Clock.{Clock}
 use Rattle.block_machine.specs.Words.{JobKind, ReadJob, WriteJob, RestoreJob, EraseJob, InvalidateJob, ReadAllJob}
 use Rattle.block_machine.specs.Words.{WriteAllJob, Entry, Post, Configuration}
 use Rattle.block_machine.specs.State.{State, Job}
-use Rattle.block_machine.specs.Blocks.{desc_of, job_block, kind_of}
+use Rattle.block_machine.specs.Blocks.{desc_of, job_block, kind_of, rank_of}
 use Rattle.block_machine.specs.StartUp.{at_first}
 use Rattle.block_machine.specs.Steps.{step, after, after_from}
 use Rattle.block_machine.specs.Results.{Answer, Own, own_of, result_of, open_sets, failed_set, same_answer, took_none, unwritten}
@@ -107,7 +107,7 @@ module _ (c : Configuration)
     | inr off ↦ rw off (omega arith)
   ]
 
-  excuse : (worn : Worn) (bound ops index : ℕ) → bound ≤ ops → Contains failed index → IsWornOut worn bound p index
+  excuse : (worn : Worn) (bound ops index : ℕ) → bound ≤ ops → Contains failed index → IsWornOut worn (rank_of c j).immediate bound p index
       → IsExcused c worn s (Post (job_block j) (result_of own j failed).0 (result_of own j failed).1 0 ops)
   excuse worn bound ops index small has (writes, (moment, by_then, out)) =
       let kind : kind_of j ≢ ReadJob = λ same. writes (sym is.kind ∙ same) in
@@ -122,7 +122,7 @@ module _ (c : Configuration)
           failed = subst (λ (xs : List ℕ). Contains xs index) (sym same) has;
           moment = moment;
           by_then = omega (arith, by_then, small);
-          is = subst (λ (b : ℕ). worn moment (number_of (record { block = b; index = index }))) is.block out;
+          is = subst (λ (b : ℕ). worn moment (number_of (record { block = b; index = index })) (rank_of c j).immediate) is.block out;
         },
       )
 
@@ -164,7 +164,7 @@ posts_are_paid d clock c cap h before j p r given is over answer keeps paid =
     a : Answer
     a = result_of (own_of c (after c h) (job_block j)) j (failed_of p.indices p.done)
 
-    by : TriesArePaid c clock.worn before d h p
+    by : TriesArePaid c clock.worn (rank_of c j).immediate before d h p
         → PaidAt before d clock c own (h ++ Post (job_block j) a.0 a.1 0 (device.ops_of d) ∷ [])
     by (inl (faults, counted, pay)) = record {
       faults = faults + failed_tries p;
@@ -172,7 +172,7 @@ posts_are_paid d clock c cap h before j p r given is over answer keeps paid =
       pay = pay_more (is_of own d.fixed) c clock.worn faults (failed_tries p) at_first h (Post (job_block j) a.0 a.1 0 (device.ops_of d))
           (price c (after c h) j p is over (is_of own d.fixed) (device.ops_of d)) pay;
     }
-    by (inr (inl (rest, next))) = absurd (subst (IsWornNext clock.worn d.ops p) over next)
+    by (inr (inl (rest, next))) = absurd (subst (IsWornNext clock.worn (rank_of c j).immediate d.ops p) over next)
     by (inr (inr (index, has, out))) = record {
       faults = (keeps.over.paid own).faults;
       counted = (keeps.over.paid own).counted;

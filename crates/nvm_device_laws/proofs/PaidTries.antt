@@ -33,17 +33,17 @@ no_tries p done failures =
     let times : (p.retries + 1) * length (failed_of p.indices p.done) ≡ (p.retries + 1) * 0 = ap (λ (n : ℕ). (p.retries + 1) * n) none in
     omega (arith, times, failures)
 
-paid_at_begin : (of : ℕ → Bool) (c : Configuration) (worn : Worn) (before now : Counted) (h : List Entry) (p : Program)
-    → p.done ≡ [] → p.failures ≡ 0 → IsPaid of c worn before.faults now.faults h → AreTriesPaid of c worn before now h p
-paid_at_begin of c worn before now h p done failures paid =
+paid_at_begin : (of : ℕ → Bool) (c : Configuration) (worn : Worn) (urgent : Bool) (before now : Counted) (h : List Entry) (p : Program)
+    → p.done ≡ [] → p.failures ≡ 0 → IsPaid of c worn before.faults now.faults h → AreTriesPaid of c worn urgent before now h p
+paid_at_begin of c worn urgent before now h p done failures paid =
     let none = no_tries p done failures in
     let same : paid.faults + failed_tries p ≡ paid.faults = omega (arith, none) in
     inl (paid.faults, subst (λ (n : ℕ). WereCounted n before.faults now.faults) (sym same) paid.counted, paid.pay)
 
 pub tries_begin : (d : DeviceTold) (clock : Clock) → TriesBegin d clock
-tries_begin d clock c h before p done failures paid =
+tries_begin d clock c urgent h before p done failures paid =
     let q = part_of_block d.fixed p.block in
-    paid_at_begin (is_of q d.fixed) c clock.worn (counted_from (before q)) (counted_at q d) h p done failures (paid q)
+    paid_at_begin (is_of q d.fixed) c clock.worn urgent (counted_from (before q)) (counted_at q d) h p done failures (paid q)
 
 -- AN ENTRY MORE
 free : (of : ℕ → Bool) (c : Configuration) (s : State) (e : Entry) → is_post e ≡ false → price_for of c s e ≡ 0
@@ -54,20 +54,20 @@ free of c s (Post block r given refused ops) other = cc
 free of c s (Off ops) other = refl
 free of c s (Found marks ops) other = refl
 
-module _ (of : ℕ → Bool) (c : Configuration) (worn : Worn) (before now : Counted) (h : List Entry) (e : Entry) (other : is_post e ≡ false) where
+module _ (of : ℕ → Bool) (c : Configuration) (worn : Worn) (urgent : Bool) (before now : Counted) (h : List Entry) (e : Entry) (other : is_post e ≡ false) where
   with_entry : (n : ℕ) → ArePaidWith of c worn before.faults now.faults h n → ArePaidWith of c worn before.faults now.faults (h ++ e ∷ []) n
   with_entry n (faults, counted, paid) =
       (faults, counted, no_price of c worn faults at_first h e (free of c (after_from c at_first h) e other) paid)
 
-  paid_with : (p : Program) → AreTriesPaid of c worn before now h p → AreTriesPaid of c worn before now (h ++ e ∷ []) p
+  paid_with : (p : Program) → AreTriesPaid of c worn urgent before now h p → AreTriesPaid of c worn urgent before now (h ++ e ∷ []) p
   paid_with p (inl paid) = inl (with_entry (failed_tries p) paid)
   paid_with p (inr (inl (paid, next))) = inr (inl (with_entry (tries_of_done p) paid, next))
   paid_with p (inr (inr worn_out)) = inr (inr worn_out)
 
 pub tries_stay_with : (d : DeviceTold) (clock : Clock) → TriesStayWith d clock
-tries_stay_with d clock c h before p e other paid =
+tries_stay_with d clock c urgent h before p e other paid =
     let q = part_of_block d.fixed p.block in
-    paid_with (is_of q d.fixed) c clock.worn (counted_from (before q)) (counted_at q d) h e other p paid
+    paid_with (is_of q d.fixed) c clock.worn urgent (counted_from (before q)) (counted_at q d) h e other p paid
 
 -- ONE INSTANCE BEFORE THE OTHERS
 stays_by : (t : Bool) (i : ℕ) (xs ys : List ℕ) (index : ℕ) → (Contains xs index → Contains ys index)
@@ -95,9 +95,9 @@ one_more n before now new (inl rose) (inl few) = inl (omega (arith, rose, few))
 one_more n before now new (inl rose) (inr full) = inr (omega (arith, rose, full))
 one_more n before now new (inr (last, grows)) counted = inr (omega (arith, last, grows))
 
-module _ (of : ℕ → Bool) (c : Configuration) (worn other : Worn) (before now new : Counted) (h : List Entry)
+module _ (of : ℕ → Bool) (c : Configuration) (worn other : Worn) (urgent : Bool) (before now new : Counted) (h : List Entry)
     (ops : now.ops ≤ new.ops) (grows : now.faults ≤ new.faults)
-    (more : (k n : ℕ) → k ≤ now.ops → worn k n → other k n) (tells : TellsAtMost now.ops h) where
+    (more : (k n : ℕ) (b : Bool) → k ≤ now.ops → worn k n b → other k n b) (tells : TellsAtMost now.ops h) where
   with_on : (n m : ℕ) → m ≤ n → ArePaidWith of c worn before.faults now.faults h n → ArePaidWith of c other before.faults new.faults h m
   with_on n m less (faults, counted, paid) = (
     faults,
@@ -115,14 +115,14 @@ module _ (of : ℕ → Bool) (c : Configuration) (worn other : Worn) (before now
     paid_on of c worn other now.ops more faults at_first h tells paid,
   )
 
-  worn_on : (p : Program) (index : ℕ) → IsWornOut worn now.ops p index → IsWornOut other new.ops p index
-  worn_on p index (writes, (moment, by_then, is)) = (writes, (moment, omega (arith, by_then, ops), more moment _ by_then is))
+  worn_on : (p : Program) (index : ℕ) → IsWornOut worn urgent now.ops p index → IsWornOut other urgent new.ops p index
+  worn_on p index (writes, (moment, by_then, is)) = (writes, (moment, omega (arith, by_then, ops), more moment _ urgent by_then is))
 
-  next_on : (p : Program) (next : Option ℕ) → IsWornNext worn now.ops p next → IsWornNext other new.ops p next
+  next_on : (p : Program) (next : Option ℕ) → IsWornNext worn urgent now.ops p next → IsWornNext other urgent new.ops p next
   next_on p (Some index) is = worn_on p index is
   next_on p None is = absurd is
 
-  pub tries_stay : (p : Program) → AreTriesPaid of c worn before now h p → AreTriesPaid of c other before new h p
+  pub tries_stay : (p : Program) → AreTriesPaid of c worn urgent before now h p → AreTriesPaid of c other urgent before new h p
   tries_stay p (inl paid) = inl (with_on (failed_tries p) (failed_tries p) (omega arith) paid)
   tries_stay p (inr (inl (paid, next))) = inr
       (inl (with_on (tries_of_done p) (tries_of_done p) (omega arith) paid, next_on p (next_in p) next))
@@ -157,7 +157,7 @@ module _ (of : ℕ → Bool) (c : Configuration) (worn other : Worn) (before now
   -- the instance that is next is worn out, and a try of it failed
   worn_failed : (p : Program) (o : Outcome) (index : ℕ) → next_in p ≡ Some index → is_failed o ≡ true
       → ArePaidWith of c other before.faults new.faults h (tries_of_done p)
-      → IsWornOut other new.ops p index → AreTriesPaid of c other before new h (tried p o)
+      → IsWornOut other urgent new.ops p index → AreTriesPaid of c other urgent before new h (tried p o)
   worn_failed p o index at failed paid is = elim (cases_Bool (is_again o p.failures p.retries)) [
     | inl again ↦ rw again (inr (inl (paid, rw at is)))
     | inr done ↦ rw done (inr
@@ -171,27 +171,27 @@ module _ (of : ℕ → Bool) (c : Configuration) (worn other : Worn) (before now
 
   -- one that failed at every try is worn out
   worn_stays : (p : Program) (o : Outcome) (index : ℕ) → Contains (failed_of p.indices p.done) index
-      → IsWornOut other new.ops p index → AreTriesPaid of c other before new h (tried p o)
+      → IsWornOut other urgent new.ops p index → AreTriesPaid of c other urgent before new h (tried p o)
   worn_stays p o index has is = elim (cases_Bool (is_again o p.failures p.retries)) [
     | inl again ↦ rw again (inr (inr (index, has, is)))
     | inr done ↦ rw done (inr (inr (index, failed_stays p.indices p.done o index has, is)))
   ]
 
-  next_worn : (p : Program) (index : ℕ) → next_in p ≡ Some index → IsWornNext worn now.ops p (next_in p) → IsWornOut other new.ops p index
+  next_worn : (p : Program) (index : ℕ) → next_in p ≡ Some index → IsWornNext worn urgent now.ops p (next_in p) → IsWornOut other urgent new.ops p index
   next_worn p index at is = worn_on p index (rw at at is)
 
   fine_again : (p : Program) (o : Outcome) → is_failed o ≡ false → is_again o p.failures p.retries ≡ false
   fine_again p o fine = rw fine refl
 
-  tries_fine : (p : Program) (o : Outcome) → is_failed o ≡ false → AreTriesPaid of c worn before now h p
-      → AreTriesPaid of c other before new h (tried p o)
+  tries_fine : (p : Program) (o : Outcome) → is_failed o ≡ false → AreTriesPaid of c worn urgent before now h p
+      → AreTriesPaid of c other urgent before new h (tried p o)
   tries_fine p o fine paid =
       let rest : tries_of_done p + 0 ≡ (p.retries + 1) * length (failed_of p.indices (p.done ++ o ∷ [])) + 0 =
       ap (λ (xs : List ℕ). (p.retries + 1) * length xs + 0) (sym (fine_stays p.indices p.done o fine)) in
       by rest paid
     where
       by : tries_of_done p + 0 ≡ (p.retries + 1) * length (failed_of p.indices (p.done ++ o ∷ [])) + 0
-          → AreTriesPaid of c worn before now h p → AreTriesPaid of c other before new h (tried p o)
+          → AreTriesPaid of c worn urgent before now h p → AreTriesPaid of c other urgent before new h (tried p o)
       by rest (inl paid) = rw (fine_again p o fine)
           (inl (with_on (failed_tries p) ((p.retries + 1) * length (failed_of p.indices (p.done ++ o ∷ [])) + 0)
           (omega (arith, rest)) paid))
@@ -202,7 +202,7 @@ module _ (of : ℕ → Bool) (c : Configuration) (worn other : Worn) (before now
 
   rose_failed : (p : Program) (o : Outcome) (index : ℕ) → next_in p ≡ Some index
       → program.after p o ≡ tried p o → is_failed o ≡ true → p.failures ≤ p.retries → Rose now.faults new.faults
-      → AreTriesPaid of c worn before now h p → AreTriesPaid of c other before new h (tried p o)
+      → AreTriesPaid of c worn urgent before now h p → AreTriesPaid of c other urgent before new h (tried p o)
   rose_failed p o index at same failed few rose (inl paid) =
       let most = subst (λ (q : Program). failed_tries q ≤ failed_tries p + (if is_failed o then 1 else 0)) same (tries_are_counted p o few).1 in
       let one : ◌≡◌ {A = ℕ} (if is_failed o then 1 else 0) 1 = ap (λ (b : Bool). if b then 1 else 0) failed in
@@ -214,7 +214,7 @@ module _ (of : ℕ → Bool) (c : Configuration) (worn other : Worn) (before now
       worn_stays p o other_index has (worn_on p other_index is)
 
   out_failed : (p : Program) (o : Outcome) (index : ℕ) → next_in p ≡ Some index → is_failed o ≡ true
-      → IsWornOut other new.ops p index → AreTriesPaid of c worn before now h p → AreTriesPaid of c other before new h (tried p o)
+      → IsWornOut other urgent new.ops p index → AreTriesPaid of c worn urgent before now h p → AreTriesPaid of c other urgent before new h (tried p o)
   out_failed p o index at failed out (inl paid) = worn_failed p o index at failed
       (with_on (failed_tries p) (tries_of_done p) (omega arith) paid) out
   out_failed p o index at failed out (inr (inl (paid, next))) = worn_failed p o index at failed
@@ -223,9 +223,9 @@ module _ (of : ℕ → Bool) (c : Configuration) (worn other : Worn) (before now
 
   pub tries_go_on : (p : Program) (o : Outcome) (index : ℕ) → next_in p ≡ Some index
       → program.after p o ≡ tried p o → p.failures ≤ p.retries
-      → (is_failed o ≡ true → Rose now.faults new.faults ⊎ IsWornOut other new.ops p index)
-      → AreTriesPaid of c worn before now h p → AreTriesPaid of c other before new h (program.after p o)
-  tries_go_on p o index at same few cause paid = subst (AreTriesPaid of c other before new h) (sym same)
+      → (is_failed o ≡ true → Rose now.faults new.faults ⊎ IsWornOut other urgent new.ops p index)
+      → AreTriesPaid of c worn urgent before now h p → AreTriesPaid of c other urgent before new h (program.after p o)
+  tries_go_on p o index at same few cause paid = subst (AreTriesPaid of c other urgent before new h) (sym same)
       (elim (cases_Bool (is_failed o)) [
         | inl failed ↦ elim (cause failed) [
           | inl rose ↦ rose_failed p o index at same failed few rose paid

@@ -17,7 +17,7 @@ pub tells_rest : (n : ℕ) (e : Entry) (es : List Entry) → TellsAtMost n (e �
 tells_rest n e es tells x ops (k, within, is) = tells x ops (suc k, omega (arith, within), is)
 
 -- where it was worn by then it stays so
-module _ (of : ℕ → Bool) (c : Configuration) (worn other : Worn) (bound : ℕ) (more : (k n : ℕ) → k ≤ bound → worn k n → other k n) where
+module _ (of : ℕ → Bool) (c : Configuration) (worn other : Worn) (bound : ℕ) (more : (k n : ℕ) (urgent : Bool) → k ≤ bound → worn k n urgent → other k n urgent) where
   excused_on : (s : State) (e : Entry) → ((ops : ℕ) → ops_of e ≡ Some ops → ops ≤ bound) → IsExcused c worn s e → IsExcused c other s e
   excused_on s (Post block r given refused ops) tells (j, hand, some, was) =
       let early : ops ≤ bound = tells ops refl in (
@@ -30,7 +30,7 @@ module _ (of : ℕ → Bool) (c : Configuration) (worn other : Worn) (bound : �
           moment = was.moment;
           by_then =
               was.by_then;
-          is = more was.moment _ (omega (arith, was.by_then, early)) was.is;
+          is = more was.moment _ _ (omega (arith, was.by_then, early)) was.is;
         },
       )
   excused_on s (Ask caller r reply) tells none = none

@@ -1,6 +1,6 @@
 -- A request beside the job in hand.
 use Rattle.std.specs.Prelude.{IfSome, find, unwrap_or, option_map}
-use Rattle.std.proofs.Common.{◌≡◌, ℕ, true, List, [], ◌∷◌, ◌++◌, length, map, Option, Some, None, refl, sym, ap, ◌∙◌, subst, arith}
+use Rattle.std.proofs.Common.{◌≡◌, ℕ, Bool, true, List, [], ◌∷◌, ◌++◌, length, map, Option, Some, None, refl, sym, ap, ◌∙◌, subst, arith}
 use Rattle.memif.specs.Told.{DeviceTold, Part, PartTold}
 use Rattle.memif.specs.Clock.{Clock}
 use Rattle.block_machine.specs.Words.{Mark, Erased, Entry, Request, Reply, Ask, Configuration}
@@ -10,7 +10,7 @@ use Rattle.block_machine.specs.Results.{own_of}
 use Rattle.block_machine.specs.Steps.{step, after}
 use Rattle.block_machine.specs.Legal.{IsAllowed}
 use Rattle.job_programs.specs.Laws.{Fit, last_content}
-use Rattle.nvm_device_laws.specs.Tries.{TriesArePaid}
+use Rattle.nvm_device_laws.specs.Tries.{TriesArePaid, is_hand_urgent}
 use Rattle.nv_desk.specs.Desk.{DeskState, state_of}
 use Rattle.job_progress.specs.Hand.{HandState}
 use Rattle.job_progress.specs.JobInHand.{FitsMarks, HandFits}
@@ -26,6 +26,7 @@ use Rattle.nvm_laws.specs.Entries.{AsksKeep}
 use Rattle.nvm_laws.proofs.Keeping.{keeps_with}
 use Rattle.nvm_laws.proofs.Operations.{held}
 use Rattle.nvm_laws.proofs.Ordering.{order_asked, starts_push}
+use Rattle.nvm_laws.proofs.Paying.{asked_urgency}
 
 -- WHAT IS SETTLED
 -- the marks of a block's instances, by what the state has of them
@@ -65,10 +66,14 @@ module _ (d : DeviceTold) (clock : Clock) (old : DeskState) (caller : ℕ) (r : 
   hand_fits None kept = tt
   hand_fits (Some h) kept = fits_on h kept
 
-  paid_on : (hand : Option HandState) → IfSome hand (λ x. TriesArePaid old.config clock.worn before d old.entries x.program)
-      → IfSome hand (λ x. TriesArePaid old.config clock.worn before d (old.entries ++ e ∷ []) x.program)
+  urgency : is_hand_urgent old.config (state_of old) ≡ is_hand_urgent old.config (after old.config (old.entries ++ e ∷ []))
+  urgency = asked_urgency old.config old.entries caller r reply
+
+  paid_on : (hand : Option HandState) → IfSome hand (λ x. TriesArePaid old.config clock.worn (is_hand_urgent old.config (state_of old)) before d old.entries x.program)
+      → IfSome hand (λ x. TriesArePaid old.config clock.worn (is_hand_urgent old.config (after old.config (old.entries ++ e ∷ []))) before d (old.entries ++ e ∷ []) x.program)
   paid_on None paid = tt
-  paid_on (Some x) paid = tries_stay_with d clock old.config old.entries before x.program e refl paid
+  paid_on (Some x) paid = subst (λ (b : Bool). TriesArePaid old.config clock.worn b before d (old.entries ++ e ∷ []) x.program) urgency
+      (tries_stay_with d clock old.config (is_hand_urgent old.config (state_of old)) old.entries before x.program e refl paid)
 
   pub asked_keeps : (new : DeskState) (hand : Option HandState) → new ≡ record old { entries = old.entries ++ e ∷ [] } → StackKeeps before old hand d clock → StackKeeps before new hand d clock
   asked_keeps new hand adds kept = subst (λ (x : DeskState). StackKeeps before x hand d clock) (sym adds) (record {

@@ -1,7 +1,8 @@
 -- The device's job ends: what the program of the job in hand saw then, and what it tried.
 use Rattle.std.specs.Prelude.{slice_get, get_or, ◌/◌, ◌%◌, ◌-◌}
 use Rattle.std.specs.List.{Contains}
-use Rattle.std.proofs.Common.{◌≡◌, ◌≢◌, ◌≤◌, ◌<◌, ℕ, ◌+◌, ◌*◌, List, [], ◌∷◌, ◌++◌, length, map, Option, Some, None, refl, sym, ap, ◌∙◌, subst, arith}
+use Rattle.std.specs.Option.{option_map_or}
+use Rattle.std.proofs.Common.{◌≡◌, ◌≢◌, ◌≤◌, ◌<◌, ℕ, ◌+◌, ◌*◌, false, List, [], ◌∷◌, ◌++◌, length, map, Option, Some, None, refl, sym, ap, ◌∙◌, subst, arith}
 use Rattle.block_machine.specs.nv_base.Marks.{instance_of}
 use Rattle.block_machine.specs.nv_base.declared.instance.DeviceNumber.{DeviceNumber}
 use Rattle.memif.specs.declared.answer.JobResult.{JobResult}
@@ -13,13 +14,14 @@ use Rattle.block_machine.specs.block_config.Rules.{IsLegalConfig}
 use Rattle.block_machine.specs.block_config.Sizes.{instances_of}
 use Rattle.block_machine.specs.Words.{Mark, Content, Wrote, JobKind, ReadJob, Outcome, Configuration}
 use Rattle.block_machine.specs.State.{State, BlockState, Job}
-use Rattle.block_machine.specs.Blocks.{desc_of, block_at, indices_by, indices_of, settled_at, job_block, kind_of, mark_by, no_block}
+use Rattle.block_machine.specs.Blocks.{desc_of, block_at, indices_by, indices_of, settled_at, job_block, kind_of, mark_by, no_block, rank_of}
 use Rattle.block_machine.specs.Results.{own_of, outcome_of}
 use Rattle.block_machine.specs.Steps.{step, wrote}
 use Rattle.job_programs.specs.Program as program
 use Rattle.job_programs.specs.Program.{Program, next_in, is_failed}
 use Rattle.job_programs.specs.Laws.{Fit}
 use Rattle.nvm_device_laws.specs.Outcomes.{outcome_by, FitsSettled}
+use Rattle.nvm_device_laws.specs.Tries.{is_hand_urgent}
 use Rattle.nvm_device_laws.specs.Turn.{settled_by}
 use Rattle.job_progress.specs.Hand.{HandState, ended}
 use Rattle.job_progress.specs.JobInHand.{HandFits, IsInHand}
@@ -48,6 +50,9 @@ module _ (c : Configuration) (s : State) (h : HandState) (old new : DeviceTold) 
 
   pub number_is : job.number ≡ h.program.block * 64 + at.index
   number_is = at.number
+
+  pub rank_is : job.urgent ≡ is_hand_urgent c s
+  rank_is = at.urgent ∙ sym (ap (λ (o : Option Job). option_map_or (λ j. (rank_of c j).immediate) o false) is.hand)
 
   kind_is : h.program.kind ≡ kind_of is.job
   kind_is = ap (λ (q : Program). q.kind) is.working.is

@@ -5,7 +5,7 @@ pub mod Keeping
 mod Telling
 pub mod Numbered
 pub mod Picking
-mod Paying
+pub mod Paying
 pub mod Posting
 pub mod Starting
 pub mod Staying

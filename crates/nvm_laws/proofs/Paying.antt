@@ -3,18 +3,21 @@ use Rattle.std.specs.Prelude.{unwrap_or}
 use Rattle.std.specs.Option.{option_map_or}
 use Rattle.std.specs.List.{Contains}
 use Rattle.std.proofs.Common.{◌≡◌, ℕ, zero, suc, ◌+◌, ◌*◌, ◌⊎◌, Bool, true, false, if◌then◌else◌, List, [], ◌∷◌, ◌++◌, length, Option, Some, None, refl, sym, ap, ◌∙◌, inl, inr, arith}
-use Rattle.block_machine.specs.Words.{Entry, Ask, Pick, Wrote, Off, Found, Post, ReqResult, NotOk, Configuration}
+use Rattle.block_machine.specs.Words.{Instance, Mark, Request, Reply, Entry, Ask, Pick, Wrote, Off, Found, Post, ReqResult, NotOk, Configuration}
 use Rattle.block_machine.specs.State.{State, Job}
-use Rattle.block_machine.specs.Blocks.{job_block, kind_of}
+use Rattle.block_machine.specs.Blocks.{job_block, kind_of, rank_of}
 use Rattle.block_machine.specs.StartUp.{at_first}
-use Rattle.block_machine.specs.Steps.{after}
+use Rattle.block_machine.specs.Steps.{step, after, wrote}
 use Rattle.block_machine.specs.Results.{Answer, Own, own_of, result_of, open_sets, failed_set, took_none}
 use Rattle.block_machine.specs.Prices.{device_tries, faults_of, price_in_faults}
 use Rattle.promise_blocks.specs.Payment.{Worn, IsPaid, price_for}
+use Rattle.nvm_device_laws.specs.Tries.{is_hand_urgent}
 use Rattle.ram_blocks.specs.Told.{Told}
 use Rattle.nv_desk_copies.specs.Posts.{IsHandedOver}
 use Rattle.block_laws.proofs.FailedSets.{failed_sets_are_least}
+use Rattle.block_laws.proofs.HistoryLaws.{histories_step}
 use Rattle.nvm_device_laws.proofs.Payments.{no_price}
+use Rattle.job_progress.proofs.Asking.{asked_hand}
 
 -- AN ENTRY WITHOUT A PRICE
 -- what has no price has none for some blocks
@@ -34,6 +37,23 @@ pub pays_free : (of : ℕ → Bool) (c : Configuration) (worn : Worn) (before no
     → price_in_faults c (after c h) e ≡ 0 → IsPaid of c worn before now h → IsPaid of c worn before now (h ++ e ∷ [])
 pays_free of c worn before now h e free paid =
     record { faults = paid.faults; counted = paid.counted; pay = no_price of c worn paid.faults at_first h e (none_for of c (after c h) e free) paid.pay }
+
+-- IMMEDIATE OR NOT
+-- while the job in hand is as it was
+same_urgency : (c : Configuration) (s t : State) → t.hand ≡ s.hand → is_hand_urgent c s ≡ is_hand_urgent c t
+same_urgency c s t same = sym (ap (λ (o : Option Job). option_map_or (λ j. (rank_of c j).immediate) o false) same)
+
+-- nor does a request change its rank
+pub asked_urgency : (c : Configuration) (h : List Entry) (caller : ℕ) (r : Request) (reply : Reply) → is_hand_urgent c (after c h) ≡ is_hand_urgent c (after c (h ++ Ask caller r reply ∷ []))
+asked_urgency c h caller r reply = same_urgency c (after c h) (after c (h ++ Ask caller r reply ∷ [])) (ap (λ (t : State). t.hand) (histories_step c h (Ask caller r reply)) ∙ asked_hand c (after c h) r reply)
+
+-- or a Wrote of it
+pub wrote_urgency : (c : Configuration) (s : State) (i : Instance) (mark : Mark) (ops : ℕ) → is_hand_urgent c s ≡ is_hand_urgent c (step c s (Wrote i mark ops))
+wrote_urgency c s i mark ops = by s.hand refl
+  where
+    by : (o : Option Job) → s.hand ≡ o → is_hand_urgent c s ≡ is_hand_urgent c (wrote s i mark o)
+    by None none = refl
+    by (Some j) some = ap (λ (o : Option Job). option_map_or (λ j. (rank_of c j).immediate) o false) some
 
 -- PRICES
 -- with no job in hand

@@ -12,7 +12,7 @@ use Rattle.block_machine.specs.Legal.{IsAllowed}
 use Rattle.promise_blocks.specs.OverDevice.{is_of}
 use Rattle.promise_blocks.specs.Payment.{IsPaid}
 use Rattle.nvm_device_laws.specs.Turn.{Keeps}
-use Rattle.nvm_device_laws.specs.Tries.{TriesArePaid}
+use Rattle.nvm_device_laws.specs.Tries.{TriesArePaid, is_hand_urgent}
 use Rattle.job_programs.specs.Program.{step_of}
 use Rattle.nv_desk.specs.Desk.{DeskState, state_of}
 use Rattle.job_progress.specs.Hand.{HandState}
@@ -57,9 +57,9 @@ failures_are c s j false = refl
 
 paid_by : (d : DeviceTold) (clock : Clock) (c : Configuration) (s : State) (h : List Entry) (before : Part → PartTold)
     → ((p : Part) → IsPaid (is_of p d.fixed) c clock.worn (before p).faults (part_at p d).faults h) → (o : Option Job)
-    → IfSome (option_map (hand_for c s) o) (λ x. TriesArePaid c clock.worn before d h x.program)
+    → IfSome (option_map (hand_for c s) o) (λ x. TriesArePaid c clock.worn (is_hand_urgent c s) before d h x.program)
 paid_by d clock c s h before paid None = tt
-paid_by d clock c s h before paid (Some j) = tries_begin d clock c h before (hand_for c s j).program (done_is c s j (took_none j.taken)) (failures_are c s j (took_none j.taken)) paid
+paid_by d clock c s h before paid (Some j) = tries_begin d clock c (is_hand_urgent c s) h before (hand_for c s j).program (done_is c s j (took_none j.taken)) (failures_are c s j (took_none j.taken)) paid
 
 -- THE PICK
 picked_keeps : (d : DeviceTold) (clock : Clock) (old new : DeskState) (hand : Option HandState) (block : ℕ) (kind : JobKind) (taken : Taken)

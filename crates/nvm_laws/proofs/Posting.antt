@@ -1,18 +1,20 @@
 -- The Post of a finished job, and a Post without a Pick.
 use Rattle.std.specs.List.{Contains}
+use Rattle.std.specs.Option.{option_map_or}
 use Rattle.std.proofs.Common.{◌≡◌, ℕ, ◌+◌, ◌⊎◌, Bool, true, false, List, [], ◌∷◌, ◌++◌, Option, Some, None, refl, sym, ap, ◌∙◌, subst, inl, inr}
 use Rattle.block_machine.specs.nv_base.declared.job.JobStep.TheVariants as step
 use Rattle.memif.specs.Told.{DeviceTold, ops_of, given_by, IfElse, Part, part_at, PartTold}
 use Rattle.memif.specs.Clock.{Clock}
 use Rattle.block_machine.specs.Words.{Entry, Post, ReqResult, GivenFrom, JobKind, RestoreJob}
 use Rattle.block_machine.specs.State.{Job}
-use Rattle.block_machine.specs.Blocks.{desc_of, job_block, kind_of, names_ram}
+use Rattle.block_machine.specs.Blocks.{desc_of, job_block, kind_of, names_ram, rank_of}
 use Rattle.block_machine.specs.Next.{Next, Nothing, PickJob, BeginSweep, PickMember, PostMember, EndSweep, next_of}
 use Rattle.block_machine.specs.Results.{Answer, Own, own_of, open_sets, result_of, unpicked_result, took_none}
 use Rattle.block_machine.specs.Sweeps.{sweep_result}
 use Rattle.block_machine.specs.Prices.{price_in_faults}
 use Rattle.promise_blocks.specs.OverDevice.{is_of}
 use Rattle.promise_blocks.specs.Payment.{IsPaid}
+use Rattle.nvm_device_laws.specs.Tries.{TriesArePaid}
 use Rattle.job_programs.specs.Program.{Program, works, next_in, step_by, step_of}
 use Rattle.job_programs.specs.Laws.{failed_of}
 use Rattle.ram_blocks.specs.Told.{Told}
@@ -85,7 +87,7 @@ module _ (d : DeviceTold) (clock : Clock) (old : DeskState) (h : HandState) (j :
   as_ended false true some on =
       let (program, ex) = ends_are_of_programs old.config (state_of old) h d j r source is hand (kept.fits j hand) over on some in
       posts_are_paid d clock old.config old.cap old.entries before j h.program answer.0 answer.1 program (next_is some) (is_machines (failed_of h.program.indices h.program.done) ex)
-      kept.keeps kept.paid
+      kept.keeps (subst (λ (b : Bool). TriesArePaid old.config clock.worn b before d old.entries h.program) (ap (λ (o : Option Job). option_map_or (λ k. (rank_of old.config k).immediate) o false) hand) kept.paid)
   as_ended false false some off =
       let (failed, ex) = ends_are_explained old.config (state_of old) h d j r source is hand (kept.fits j hand) over in
       restored failed ex (kind_by j.request off)

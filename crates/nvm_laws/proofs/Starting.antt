@@ -21,6 +21,7 @@ use Rattle.job_programs.specs.Program.{Program, is_failed}
 use Rattle.job_programs.specs.Failures.{served_of}
 use Rattle.nvm_device_laws.specs.Pairing.{Allows, HasDoubt, Pairs, IsStaged}
 use Rattle.promise_blocks.specs.Counts.{count_due}
+use Rattle.nvm_device_laws.specs.Tries.{is_hand_urgent}
 use Rattle.nv_desk.specs.Desk.{DeskState, state_of}
 use Rattle.job_progress.specs.Hand.{HandState, with_start}
 use Rattle.job_progress.specs.JobInHand.{HandFits, IsInHand, job_for, program_for}
@@ -140,7 +141,7 @@ starts_keep old clock new clock_new w answer accepts desk h op i names at is ask
   keeps = start_stays old clock new clock_new w answer accepts desk.config desk.cap desk.entries before kept.started
       (subst (λ (j : device.Job). IsStaged desk.config (state_of desk) j.number j.mark) (sym asked) (staged before desk h op i names old clock is kept)) kept.keeps told;
   fits = fits_on desk.config (state_of desk) h old new op i at kept.fits;
-  paid = start_tries old clock new clock_new w answer accepts desk.config desk.cap desk.entries before h.program kept.keeps kept.paid;
+  paid = start_tries old clock new clock_new w answer accepts desk.config desk.cap (is_hand_urgent desk.config (state_of desk)) desk.entries before h.program kept.keeps kept.paid;
   order = order_stays old clock new clock_new (accepted_goes old clock new clock_new w answer accepts).fixed (accepted_goes old clock new clock_new w answer accepts).past.of_second desk.config desk.entries
       (accepted_same old clock new clock_new w answer accepts).0 kept.order;
   starts = starts_stay old new (accepted_goes old clock new clock_new w answer accepts).faults desk.entries kept.starts (accepted_same old clock new clock_new w answer accepts).1;
@@ -153,7 +154,7 @@ reads_keep old clock new clock_new w answer none accepts desk h op i names at is
   started = kept.started;
   keeps = read_stays old clock new clock_new w answer none accepts desk.config desk.cap desk.entries before kept.started kept.keeps told;
   fits = fits_on desk.config (state_of desk) h old new op i at kept.fits;
-  paid = start_tries old clock new clock_new w answer accepts desk.config desk.cap desk.entries before h.program kept.keeps kept.paid;
+  paid = start_tries old clock new clock_new w answer accepts desk.config desk.cap (is_hand_urgent desk.config (state_of desk)) desk.entries before h.program kept.keeps kept.paid;
   order = order_stays old clock new clock_new (accepted_goes old clock new clock_new w answer accepts).fixed (accepted_goes old clock new clock_new w answer accepts).past.of_second desk.config desk.entries
       (accepted_same old clock new clock_new w answer accepts).0 kept.order;
   starts = starts_stay old new (accepted_goes old clock new clock_new w answer accepts).faults desk.entries kept.starts (accepted_same old clock new clock_new w answer accepts).1;

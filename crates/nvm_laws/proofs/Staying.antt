@@ -7,7 +7,7 @@ use Rattle.memif.specs.Calls.{Arms}
 use Rattle.block_machine.specs.Words.{Entry, Configuration}
 use Rattle.block_machine.specs.State.{State}
 use Rattle.nvm_device_laws.specs.Turn.{Keeps}
-use Rattle.nvm_device_laws.specs.Tries.{TriesArePaid, TriesStay}
+use Rattle.nvm_device_laws.specs.Tries.{TriesArePaid, TriesStay, is_hand_urgent}
 use Rattle.nv_desk.specs.Desk.{DeskState, state_of}
 use Rattle.job_progress.specs.Hand.{HandState}
 use Rattle.job_progress.specs.JobInHand.{FitsMarks, HandFits}
@@ -23,10 +23,10 @@ fits_stay c s None old new same fits = tt
 fits_stay c s (Some h) old new same fits = λ j held. subst (λ (x : Stand). FitsMarks c s j h x) (sym same) (fits j held)
 
 pub paid_stays : (old : DeviceTold) (clock : Clock) (new : DeviceTold) (clock_new : Clock) → TriesStay old clock new clock_new
-    → (c : Configuration) (cap : ℕ) (h : List Entry) (before : Part → PartTold) → Keeps c cap h before old clock → (hand : Option HandState)
-    → IfSome hand (λ x. TriesArePaid c clock.worn before old h x.program) → IfSome hand (λ x. TriesArePaid c clock_new.worn before new h x.program)
-paid_stays old clock new clock_new tries c cap h before keeps None paid = tt
-paid_stays old clock new clock_new tries c cap h before keeps (Some x) paid = tries c cap h before x.program keeps paid
+    → (c : Configuration) (cap : ℕ) (urgent : Bool) (h : List Entry) (before : Part → PartTold) → Keeps c cap h before old clock → (hand : Option HandState)
+    → IfSome hand (λ x. TriesArePaid c clock.worn urgent before old h x.program) → IfSome hand (λ x. TriesArePaid c clock_new.worn urgent before new h x.program)
+paid_stays old clock new clock_new tries c cap urgent h before keeps None paid = tt
+paid_stays old clock new clock_new tries c cap urgent h before keeps (Some x) paid = tries c cap urgent h before x.program keeps paid
 
 -- a planned cut changes no job
 armed_stand : (which nth keep : ℕ) (d : DeviceTold) → (armed which nth keep d).stand ≡ d.stand
@@ -54,7 +54,7 @@ arms_keep old clock new clock_new which nth keep arms desk hand = keeps_at desk 
       started = kept.started;
       keeps = arm_stays old clock new clock_new which nth keep arms desk.config desk.cap desk.entries before kept.started kept.keeps told;
       fits = fits_stay desk.config (state_of desk) hand old new (ap (λ (d : DeviceTold). d.stand) arms.0 ∙ armed_stand which nth keep old) kept.fits;
-      paid = paid_stays old clock new clock_new (arm_tries old clock new clock_new which nth keep arms) desk.config desk.cap desk.entries before kept.keeps hand kept.paid;
+      paid = paid_stays old clock new clock_new (arm_tries old clock new clock_new which nth keep arms) desk.config desk.cap (is_hand_urgent desk.config (state_of desk)) desk.entries before kept.keeps hand kept.paid;
       order = order_stays old clock new clock_new goes.fixed goes.past.of_second desk.config desk.entries (ap (λ (d : DeviceTold). d.ops) arms.0 ∙ same.0) kept.order;
       starts = starts_stay old new goes.faults desk.entries kept.starts (ap (λ (d : DeviceTold). d.starts) arms.0 ∙ same.1);
     })

@@ -1,6 +1,6 @@
 -- A turn of the device, with the entry that it asks for.
 use Rattle.std.specs.Prelude.{IfSome}
-use Rattle.std.proofs.Common.{arith, ◌≡◌, ◌⊎◌, ℕ, true, false, List, [], ◌∷◌, ◌++◌, Option, Some, None, refl, sym, ap, ◌∙◌, subst, inl, inr}
+use Rattle.std.proofs.Common.{arith, ◌≡◌, ◌⊎◌, ℕ, Bool, true, false, List, [], ◌∷◌, ◌++◌, Option, Some, None, refl, sym, ap, ◌∙◌, subst, inl, inr}
 use Rattle.memif.specs.declared.answer.DeviceTurn.{DeviceTurn}
 use Rattle.memif.specs.declared.answer.DeviceTurn.TheVariants as turn
 use Rattle.memif.specs.declared.answer.JobResult.{JobResult}
@@ -13,12 +13,12 @@ use Rattle.memif.specs.Clock.{Clock}
 use Rattle.memif.specs.Calls.{JobTurns, IsCut, Turns}
 use Rattle.block_machine.specs.Words.{Mark, Entry, Off, Configuration}
 use Rattle.block_machine.specs.State.{State}
-use Rattle.block_machine.specs.Steps.{step}
+use Rattle.block_machine.specs.Steps.{step, after}
 use Rattle.promise_blocks.specs.Counts.{count_due}
 use Rattle.promise_blocks.specs.Operations.{AreOfJobs, AreStartsTold, start_ups_in}
 use Rattle.nvm_device_laws.specs.Outcomes.{outcome_by, OutcomesFit}
 use Rattle.nvm_device_laws.specs.Turn.{StaysBy, TurnsKeep, TellsSlots, settled_by, wrote_by}
-use Rattle.nvm_device_laws.specs.Tries.{TriesArePaid, TriesStay, TriesGoOn, is_post}
+use Rattle.nvm_device_laws.specs.Tries.{TriesArePaid, TriesStay, TriesGoOn, is_hand_urgent, is_post}
 use Rattle.nv_desk.specs.Desk.{DeskState, state_of}
 use Rattle.job_progress.specs.Hand.{HandState, ended}
 use Rattle.job_progress.specs.JobInHand.{HandFits, IsInHand, IsPaired}
@@ -33,8 +33,9 @@ use Rattle.nvm_laws.specs.Turns.{entry_by, AddsBy, hand_by}
 use Rattle.nvm_laws.specs.Keeps.{StackKeeps, StaysKept}
 use Rattle.nvm_laws.specs.Calls.{DeviceTurnsKeep}
 use Rattle.nvm_laws.proofs.Operations.{is_block}
+use Rattle.nvm_laws.proofs.Paying.{wrote_urgency}
 use Rattle.nvm_laws.proofs.Staying.{fits_stay, paid_stays}
-use Rattle.nvm_laws.proofs.Ending.{ended_fits, index, listed, next, number_is, read_has_none, small_index}
+use Rattle.nvm_laws.proofs.Ending.{ended_fits, index, listed, next, number_is, rank_is, read_has_none, small_index}
 use Rattle.nvm_laws.proofs.Keeping.{StillTells, keeps_at, keeps_behind, timed_at}
 use Rattle.nvm_laws.proofs.Telling.{turns_tell}
 use Rattle.nvm_laws.proofs.Ordering.{order_push, starts_push, turn_ordered}
@@ -70,17 +71,18 @@ hand_same (Open j) (Ended r given) hand same = cc
 hand_same (Ended r given) b hand same = refl
 
 -- THE ENTRY
--- it is no Post and no Found, and tells so many operations
+-- it is no Post and no Found, tells so many operations, and leaves the rank of the job in hand
 abbrev IsOfTurn : ℕ → Option Entry → Type 0
 IsOfTurn ops None = Unit {0}
 IsOfTurn ops (Some e) = (is_post e ≡ false) × (entry.ops_of e ≡ Some ops) × (start_ups_in e ≡ 0)
+    × ((c : Configuration) (s : State) → is_hand_urgent c s ≡ is_hand_urgent c (step c s e))
 
 of_turn : (a b : Stand) (ops : ℕ) → IsOfTurn ops (settled_by a b ops)
 of_turn (Open j) (Ended JobOk given) ops = by j.mark
   where
     by : (mark : Option Mark) → IsOfTurn ops (wrote_by j.number mark ops)
     by None = tt
-    by (Some m) = (refl, refl, refl)
+    by (Some m) = (refl, refl, refl, λ c s. wrote_urgency c s (instance_of (record { 0 = j.number })) m ops)
 of_turn a b ops = tt
 
 fits_off : (c : Configuration) (s : State) (hand : Option HandState) (d : DeviceTold) (ops : ℕ) → HandFits c s hand d → HandFits c (step c s (Off ops)) hand d
@@ -93,11 +95,14 @@ module _ (old : DeviceTold) (clock : Clock) (new : DeviceTold) (clock_new : Cloc
     (up : old.started ≡ true) (told : TellsSlots new) (paired : IsPaired desk.config (state_of desk) hand old) (kept : StackKeeps before desk hand old clock)
     (order : AreOfJobs desk.config desk.entries new clock_new) (starts : AreStartsTold desk.entries new) where
   abbrev ArePaidAt : List Entry → Option HandState → Type 0
-  ArePaidAt entries held = IfSome held (λ x. TriesArePaid desk.config clock_new.worn before new entries x.program)
+  ArePaidAt entries held = IfSome held (λ x. TriesArePaid desk.config clock_new.worn (is_hand_urgent desk.config (after desk.config entries)) before new entries x.program)
 
-  paid_with : (e : Entry) → is_post e ≡ false → (held : Option HandState) → ArePaidAt desk.entries held → ArePaidAt (desk.entries ++ e ∷ []) held
-  paid_with e plain None paid = tt
-  paid_with e plain (Some x) paid = tries_stay_with new clock_new desk.config desk.entries before x.program e plain paid
+  paid_with : (e : Entry) → is_post e ≡ false → is_hand_urgent desk.config (state_of desk) ≡ is_hand_urgent desk.config (step desk.config (state_of desk) e) → (held : Option HandState) → ArePaidAt desk.entries held → ArePaidAt (desk.entries ++ e ∷ []) held
+  paid_with e plain same None paid = tt
+  paid_with e plain same (Some x) paid =
+      subst (λ (b : Bool). TriesArePaid desk.config clock_new.worn b before new (desk.entries ++ e ∷ []) x.program)
+      (same ∙ sym (ap (is_hand_urgent desk.config) (histories_step desk.config desk.entries e)))
+      (tries_stay_with new clock_new desk.config (is_hand_urgent desk.config (state_of desk)) desk.entries before x.program e plain paid)
 
   -- all is kept behind an entry, or without one
   made : (e : Option Entry) → IsOfTurn (ops_of new) e → StaysBy e old clock new clock_new → AddsBy e desk desk_new → (held : Option HandState)
@@ -114,13 +119,13 @@ module _ (old : DeviceTold) (clock : Clock) (new : DeviceTold) (clock_new : Cloc
     started = started_push desk.entries e;
     keeps = stays desk.config desk.cap desk.entries before kept.started adds.1 kept.keeps told;
     fits = subst (λ (t : State). HandFits desk.config t held new) (sym (histories_step desk.config desk.entries e)) fits;
-    paid = paid_with e plain.0 held paid;
+    paid = paid_with e plain.0 (plain.3 desk.config (state_of desk)) held paid;
     order = order_push new clock_new desk.config desk.entries e plain.1 order;
     starts = starts_push new desk.entries e plain.2 starts;
   })
 
   paid_now : ArePaidAt desk.entries hand
-  paid_now = paid_stays old clock new clock_new tries desk.config desk.cap desk.entries before kept.keeps hand kept.paid
+  paid_now = paid_stays old clock new clock_new tries desk.config desk.cap (is_hand_urgent desk.config (state_of desk)) desk.entries before kept.keeps hand kept.paid
 
   abbrev Done : Type 0
   Done = StackKeeps before desk_new (hand_by old.stand new.stand hand) new clock_new
@@ -128,7 +133,7 @@ module _ (old : DeviceTold) (clock : Clock) (new : DeviceTold) (clock_new : Cloc
   -- the power goes off
   went_off : new.stand ≡ old.stand → StaysBy (Some (Off (ops_of new))) old clock new clock_new → AddsBy (Some (Off (ops_of new))) desk desk_new → Done
   went_off same stays adds = subst (λ (x : Option HandState). StackKeeps before desk_new x new clock_new) (sym (hand_same old.stand new.stand hand same))
-      (made (Some (Off (ops_of new))) (refl, refl, refl) stays adds hand
+      (made (Some (Off (ops_of new))) (refl, refl, refl, λ c s. refl) stays adds hand
       (fits_off desk.config (state_of desk) hand new (ops_of new) (fits_stay desk.config (state_of desk) hand old new same kept.fits)) paid_now)
 
   -- no job ended
@@ -146,7 +151,7 @@ module _ (old : DeviceTold) (clock : Clock) (new : DeviceTold) (clock_new : Cloc
     hand_is h held = ap (λ (a : Stand). hand_by a new.stand hand) on ∙ (ap (λ (b : Stand). hand_by (Open job) b hand) off
         ∙ ap (λ (x : Option HandState). hand_by (Open job) (Ended r given) x) held)
 
-    ended_paid : (h : HandState) → hand ≡ Some h → IsInHand desk.config (state_of desk) h old → TriesArePaid desk.config clock.worn before old desk.entries h.program
+    ended_paid : (h : HandState) → hand ≡ Some h → IsInHand desk.config (state_of desk) h old → TriesArePaid desk.config clock.worn (is_hand_urgent desk.config (state_of desk)) before old desk.entries h.program
         → ArePaidAt desk.entries (Some (ended (outcome_by job.mark r) h))
     ended_paid h held is paid =
         let (x, has, same) = listed desk.config (state_of desk) h old new job r given is on off
@@ -154,9 +159,9 @@ module _ (old : DeviceTold) (clock : Clock) (new : DeviceTold) (clock_new : Cloc
         let number = number_is desk.config (state_of desk) h old new job r given is on off in
         let small = small_index desk.config (state_of desk) h old new job r given is on off kept.keeps.device.rules in
         let own : (instance_of x.0).block ≡ h.program.block = omega (arith, number, small, same) in
-        goes_on desk.config desk.cap desk.entries before h.program job
+        goes_on desk.config desk.cap (is_hand_urgent desk.config (state_of desk)) desk.entries before h.program job
         (index desk.config (state_of desk) h old new job r given is on off) x r given kept.keeps on off
-        (next desk.config (state_of desk) h old new job r given is on off) number has same own
+        (next desk.config (state_of desk) h old new job r given is on off) number (rank_is desk.config (state_of desk) h old new job r given is on off) has same own
         (read_has_none desk.config (state_of desk) h old new job r given is on off) is.working.tries paid
 
     ended_seen : (h : HandState) → IsInHand desk.config (state_of desk) h old → HandFits desk.config (state_of desk) (Some h) old
@@ -176,8 +181,8 @@ module _ (old : DeviceTold) (clock : Clock) (new : DeviceTold) (clock_new : Cloc
     ended_with h held stays adds =
         let is : IsInHand desk.config (state_of desk) h old = subst (λ (x : Option HandState). IsPaired desk.config (state_of desk) x old) held paired in
         let fits : HandFits desk.config (state_of desk) (Some h) old = subst (λ (x : Option HandState). HandFits desk.config (state_of desk) x old) held kept.fits in
-        let paid : TriesArePaid desk.config clock.worn before old desk.entries h.program =
-        subst (λ (x : Option HandState). IfSome x (λ y. TriesArePaid desk.config clock.worn before old desk.entries y.program)) held kept.paid in
+        let paid : TriesArePaid desk.config clock.worn (is_hand_urgent desk.config (state_of desk)) before old desk.entries h.program =
+        subst (λ (x : Option HandState). IfSome x (λ y. TriesArePaid desk.config clock.worn (is_hand_urgent desk.config (state_of desk)) before old desk.entries y.program)) held kept.paid in
         subst (λ (x : Option HandState). StackKeeps before desk_new x new clock_new) (sym (hand_is h held))
         (made (settled_by (Open job) (Ended r given) (ops_of new)) (of_turn (Open job) (Ended r given) (ops_of new))
         (subst (λ (e : Option Entry). StaysBy e old clock new clock_new) entry_is stays)
@@ -217,7 +222,7 @@ device_turns_keep old clock new clock_new answer turns desk desk_new hand up pai
         (turn_keeps old clock new clock_new answer turns) adds
 
     of_answer : (answer : DeviceTurn) → IsOfTurn (ops_of new) (entry_by answer old.stand new.stand (ops_of new))
-    of_answer turn.Off = (refl, refl, refl)
+    of_answer turn.Off = (refl, refl, refl, λ c s. refl)
     of_answer turn.Idle = of_turn old.stand new.stand (ops_of new)
     of_answer turn.Worked = of_turn old.stand new.stand (ops_of new)
 

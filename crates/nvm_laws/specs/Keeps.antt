@@ -6,7 +6,7 @@ use Rattle.block_machine.specs.Words.{Entry, Configuration}
 use Rattle.promise_blocks.specs.OverDevice.{HasStarted, KeepsEarly}
 use Rattle.promise_blocks.specs.Operations.{AreOfJobs, AreStartsTold}
 use Rattle.nvm_device_laws.specs.Turn.{Keeps, TellsSlots, down}
-use Rattle.nvm_device_laws.specs.Tries.{TriesArePaid}
+use Rattle.nvm_device_laws.specs.Tries.{TriesArePaid, is_hand_urgent}
 use Rattle.nv_desk.specs.Desk.{DeskState, state_of}
 use Rattle.job_progress.specs.Hand.{HandState}
 use Rattle.job_progress.specs.JobInHand.{HandFits}
@@ -19,7 +19,7 @@ pub record StackKeeps (before : Part → PartTold) (desk : DeskState) (hand : Op
   pub started : HasStarted desk.entries
   pub keeps : Keeps desk.config desk.cap desk.entries before d clock
   pub fits : HandFits desk.config (state_of desk) hand d
-  pub paid : IfSome hand (λ h. TriesArePaid desk.config clock.worn before d desk.entries h.program)
+  pub paid : IfSome hand (λ h. TriesArePaid desk.config clock.worn (is_hand_urgent desk.config (state_of desk)) before d desk.entries h.program)
   pub order : AreOfJobs desk.config desk.entries d clock
   pub starts : AreStartsTold desk.entries d
 

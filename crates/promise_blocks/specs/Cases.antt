@@ -1,5 +1,5 @@
 -- A failed write and what pays for it, and a write, the counts that it may leave and its operations.
-use Rattle.std.specs.Prelude.{◌≡◌, ◌<◌, ◌≤◌, ◌++◌, ℕ, true, List, [], ◌∷◌, replicate, Some, None}
+use Rattle.std.specs.Prelude.{◌≡◌, ◌<◌, ◌≤◌, ◌++◌, ℕ, Bool, true, List, [], ◌∷◌, replicate, Some, None}
 use Rattle.memif.specs.Told.{DeviceTold, Second, no_figures, no_part}
 use Rattle.memif.specs.Clock.{Clock, untold}
 use Rattle.memif.specs.Plain.{plain_fixed, plain_store}
@@ -10,16 +10,17 @@ use Rattle.block_machine.specs.Steps.{after}
 use Rattle.promise_blocks.specs.Counts.{MayCountIn, count_due}
 use Rattle.promise_blocks.specs.Payment.{Worn}
 
--- a write of block 3 of the demo, which tries each operation twice, is posted 1 when the device was asked for 7 operations
+-- a write of block 3 of the demo, an immediate one that tries each operation twice, is posted 1 when the device was asked for 7
+-- operations
 abbrev pub failed_write : List Entry
 failed_write = Found [] 0 ∷ Ask 0 (Write 3 (Some (replicate 20 1)) 0) Accepted ∷ Pick 3 WriteJob (TookContent (replicate 20 1) 0) 0 ∷ Post 3 NotOk None 0 7 ∷ []
 
--- it is worn out for no number; for that of the block, 192, from 7 operations on; or from 8 on
+-- it is worn out for no number; or for that of the block, 192, from so many operations on, for its urgent jobs or for its others
 abbrev pub never_worn : Worn
-never_worn operations number = ⊥
+never_worn operations number urgent = ⊥
 
-abbrev pub worn_from : ℕ → Worn
-worn_from n operations number = (number ≡ 192) × (n ≤ operations)
+abbrev pub worn_from : ℕ → Bool → Worn
+worn_from n of operations number urgent = (number ≡ 192) × (urgent ≡ of) × (n ≤ operations)
 
 -- COUNTS
 -- block 2 of the demo, whose number is 128

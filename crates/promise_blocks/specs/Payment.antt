@@ -4,28 +4,30 @@ use Rattle.block_machine.specs.nv_base.Count.{WereCounted}
 use Rattle.block_machine.specs.nv_base.Marks.{number_of}
 use Rattle.block_machine.specs.Words.{Entry, Post, Configuration}
 use Rattle.block_machine.specs.State.{State, Job}
-use Rattle.block_machine.specs.Blocks.{mark_of}
+use Rattle.block_machine.specs.Blocks.{mark_of, rank_of}
 use Rattle.block_machine.specs.StartUp.{at_first}
 use Rattle.block_machine.specs.Results.{own_of, failed_set}
 use Rattle.block_machine.specs.Steps.{step}
 use Rattle.block_machine.specs.Prices.{price_in_faults}
 
--- Where a device is worn out: once so many operations were made, it can't write this number any more.
+-- Where a device is worn out: once so many operations were made, it can't write this number any more, by an urgent job or by
+-- another one.
 abbrev pub Worn : Type 1
-Worn = (operations number : ℕ) → Type 0
+Worn = (operations number : ℕ) → (urgent : Bool) → Type 0
 
--- the device was worn out for one of these instances of a block, once at most so many operations were made
-pub record WasWorn (worn : Worn) (block : ℕ) (indices : List ℕ) (ops : ℕ) : Type 0 where
+-- the device was worn out for such a job of one of these instances of a block, once at most so many operations were made
+pub record WasWorn (worn : Worn) (urgent : Bool) (block : ℕ) (indices : List ℕ) (ops : ℕ) : Type 0 where
   pub index : ℕ
   pub failed : Contains indices index
   pub moment : ℕ
   pub by_then : moment ≤ ops
-  pub is : worn moment (number_of (record { block = block; index = index }))
+  pub is : worn moment (number_of (record { block = block; index = index })) urgent
 
--- a write, invalidate or erase failed where the device was worn out
+-- A write, invalidate or erase failed where the device was worn out for it. An immediate job is an urgent one at the device, which
+-- may take the pages that are kept.
 abbrev pub IsExcused : Configuration → Worn → State → Entry → Type 0
 IsExcused c worn s (Post block r given refused ops) =
-    (j : Job) × (s.hand ≡ Some j) × IsSome (mark_of j) × WasWorn worn block (unwrap_or (failed_set (own_of c s block) j (r, given)) []) ops
+    (j : Job) × (s.hand ≡ Some j) × IsSome (mark_of j) × WasWorn worn (rank_of c j).immediate block (unwrap_or (failed_set (own_of c s block) j (r, given)) []) ops
 IsExcused c worn s e = ⊥
 
 -- the price of a Post of one of these blocks; a Post of another one has none

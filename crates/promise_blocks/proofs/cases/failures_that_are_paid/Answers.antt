@@ -8,5 +8,5 @@ pub returns-clause-worn : goal.returns-clause-worn
 returns-clause-worn c = record {
   faults = 0;
   counted = inl (omega arith);
-  pay = inl (omega arith, inl (omega arith, inl (omega arith, inr ((_, refl, refl, record { index = 0; failed = (0, omega arith, refl); moment = 7; by_then = omega arith; is = (refl, omega arith) }), tt))));
+  pay = inl (omega arith, inl (omega arith, inl (omega arith, inr ((_, refl, refl, record { index = 0; failed = (0, omega arith, refl); moment = 7; by_then = omega arith; is = (refl, refl, omega arith) }), tt))));
 }
