@@ -1,5 +1,5 @@
 -- The run of a cutter, and that of the flash within it.
-use Rattle.std.specs.Prelude.{IsTrue, IfSome, IsSome, option_map, slice_get, min, count_by}
+use Rattle.std.specs.Prelude.{IsTrue, IfSome, IsSome, option_map, slice_get, take, min, count_by}
 use Rattle.std.specs.Option.{option_map_or}
 use Rattle.std.proofs.Common.{◌≡◌, ◌⊎◌, inl, inr, ℕ, zero, suc, ◌≤◌, ◌+◌, Bool, true, false, List, length, Option, Some, None, refl, sym, ap, ◌∙◌, subst, arith}
 use Rattle.std.proofs.lemmas.Bool.{cases_lt}
@@ -135,13 +135,13 @@ off_within : (x y : Bool) → (y ≡ false → x ≡ false) → x ≡ true → y
 off_within x true on off = refl
 off_within x false on off = absurd (let never : true ≡ false = sym off ∙ on refl in cc never)
 
-worn_within : (r : Reading) (inner : Told) (cuts : ℕ) (c : Cutting) (operations : List Change) (k n : ℕ) → OnlyCuts c
-    → IsWornBy r (run_over inner cuts c operations) k n → IsWornBy r (run_within inner c operations) k n
-worn_within r inner cuts c operations k n only w = record {
+worn_within : (r : Reading) (inner : Told) (cuts : ℕ) (c : Cutting) (operations : List Change) (k n : ℕ) (urgent : Bool) → OnlyCuts c
+    → IsWornBy r (run_over inner cuts c operations) k n urgent → IsWornBy r (run_within inner c operations) k n urgent
+worn_within r inner cuts c operations k n urgent only w = record {
   last = as_same (λ image. IsTrue (r.is_last n image)) _ _ (same_exit c) w.last;
   follow = w.follow;
   full = λ t small. elim (w.full (tells_over inner cuts c operations t) small) [
-    | inl room ↦ inl (as_same (λ image. IsTrue (r.is_full n image)) _ _ (same_after inner cuts c operations k) room)
+    | inl room ↦ inl (as_same (λ image. IsTrue (r.is_full n urgent image)) _ _ (same_after inner cuts c operations k) room)
     | inr failed ↦ inr (rose_within inner.faults c.flash.inner.faults c.flash.faults only.faults failed.0, failed.1)
   ];
 }
@@ -175,5 +175,6 @@ devices_bridge r inner cuts c d before only hands first none b =
       cuts = λ n more. subst (λ (x : ℕ). WereCounted n x c.flash.inner.cuts) first (subst (WereCounted n before.planning.unplanned) (sym last) more);
       off = λ off. subst (λ (x : Bool). x ≡ true) (ap (λ (x : Told). x.off) hands.told) (off_within c.flash.inner.off c.flash.off only.flash.power off);
       withheld = b.withheld;
-      worn = λ k n w. worn_within r inner cuts c d.operations k n only (b.worn k n w);
+      worn = λ k n urgent w. worn_within r inner cuts c d.operations k n urgent only (b.worn k n urgent w);
+      spare = λ t s k few small. as_same (λ image. (flash_clock d).spare k (r.ready (take k d.operations) image)) _ _ (same_after inner cuts c d.operations k) (b.spare (up t) (sound s) k few small);
     }

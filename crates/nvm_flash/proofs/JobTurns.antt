@@ -17,8 +17,8 @@ use Rattle.nvm_core.specs.block_config.Lengths.{length_at, block_lengths, length
 use Rattle.nvm_core.specs.block_config.Rules.{IsDatasetCount, IsLegalBlock, AreBlocks, IsLegalConfig}
 use Rattle.nvm_core.specs.block_config.Sizes.{instances_of, size_of}
 use Rattle.nvm_core.proofs.block_config.Numbering.{length-lengths_from}
-use Rattle.fee_core.specs.memif.Told.{Figures, at_number, length_of, most_of, no_figures}
-use Rattle.nvm_core.specs.block_machine.Words.{JobKind, ReadJob, WriteJob, RestoreJob, EraseJob, InvalidateJob, ReadAllJob, WriteAllJob}
+use Rattle.fee_core.specs.memif.Told.{Figures, at_number, figures_at, length_of, most_of, no_figures}
+use Rattle.nvm_core.specs.block_machine.Words.{Instance, JobKind, ReadJob, WriteJob, RestoreJob, EraseJob, InvalidateJob, ReadAllJob, WriteAllJob}
 use Rattle.nvm_core.specs.block_machine.Blocks.{desc_of, indices_of, job_block, kind_of}
 use Rattle.nvm_core.specs.block_machine.Prices.{device_tries}
 use Rattle.fee_core.specs.fee_course.Copies.{copies_most, greatest}
@@ -26,8 +26,9 @@ use Rattle.fee_core.specs.fee_switch_laws.Space.{all_pages}
 use Rattle.fee_core.specs.fee_told.Figures.{figures_for}
 use Rattle.nvm_core.specs.job_programs.Program.{operation, retries_of, works}
 use Rattle.nvm_core.specs.nvm_figures.Left.{most_at, over_tries}
-use Rattle.promise_run.specs.JobTurns.{switch_at_most, try_at_most, try_on}
-use Rattle.nvm_flash.specs.Turns.{fixed_by, JobTurnsAreFigures}
+use Rattle.nvm_core.specs.nvm_figures.Urgent.{pages_of}
+use Rattle.promise_run.specs.JobTurns.{switch_at_most, try_at_most, try_on, pages_on}
+use Rattle.nvm_flash.specs.Turns.{fixed_by, JobTurnsAreFigures, WritePagesAreFigures}
 use Rattle.nvm_flash.proofs.Space.{all_blocks, greatest_blocks, greatest_more}
 
 -- THE SWITCH
@@ -155,3 +156,23 @@ job_turns_are_figures c legal s j =
     let tries = over_tries (most_at (fixed_by c) id (kind_of j)) (retries_of (desc_of c id) (kind_of j)) (if works (kind_of j) then indices_of c s id else []) in
     ap (λ (n : ℕ). n + tries + 1) (switch_is c legal)
     ∙ ap (λ (n : ℕ). switch_at_most c + n + 1) (by_kind c legal (desc_of c id) id (kind_of j) (indices_of c s id))
+
+-- URGENT WRITES
+by_pages : (p own : ℕ) (length : Option ℕ) → (option_map_or (figures_for p own) length no_figures).pages ≡ option_map_or (λ n. record_pages_of n p) length 0
+by_pages p own None = refl
+by_pages p own (Some n) = refl
+
+pages_at : (c : Configuration) (i : Instance) → (figures_at (fixed_by c) (number_of i)).pages ≡ pages_on c i
+pages_at c i =
+    ap (λ (f : Figures). f.pages) (figures_are c.geometry.page (fixed_by c).own (lengths_of c) (number_of i))
+    ∙ by_pages c.geometry.page (fixed_by c).own (length_of (lengths_of c) (number_of i))
+
+all_pages_are : (c : Configuration) (block : ℕ) (is : List ℕ) → pages_of (fixed_by c) block is ≡ sum_by (λ index. pages_on c (record { block = block; index = index })) is
+all_pages_are c block [] = refl
+all_pages_are c block (i ∷ is) =
+    let here = pages_at c (record { block = block; index = i }) in
+    let rest = all_pages_are c block is in
+    let all = sum_by-cons (λ index. pages_on c (record { block = block; index = index })) i is in omega (arith, here, rest, all)
+
+pub write_pages_are_figures : WritePagesAreFigures
+write_pages_are_figures c s id = all_pages_are c id (indices_of c s id)

@@ -1,5 +1,5 @@
 -- The figures of the device of a configuration, and the most turns of a job by them.
-use Rattle.std.specs.Prelude.{◌≡◌}
+use Rattle.std.specs.Prelude.{◌≡◌, ℕ}
 use Rattle.fee_core.specs.nv_base.Geometry.{sectors_of_bank}
 use Rattle.nvm_core.specs.block_config.Banks.{bank_count}
 use Rattle.nvm_core.specs.block_config.Config.{Configuration}
@@ -8,10 +8,12 @@ use Rattle.nvm_core.specs.block_config.Rules.{IsLegalConfig}
 use Rattle.nvm_core.specs.block_config.Sizes.{measures_of}
 use Rattle.fee_core.specs.memif.Told.{Fixed}
 use Rattle.nvm_core.specs.block_machine.State.{State, Job}
+use Rattle.nvm_core.specs.block_machine.Blocks.{indices_of}
 use Rattle.fee_core.specs.fee_told.Figures.{fixed_for}
 use Rattle.nvm_core.specs.job_progress.JobInHand.{program_for}
 use Rattle.nvm_core.specs.nvm_figures.Left.{most_turns}
-use Rattle.promise_run.specs.JobTurns.{job_turns}
+use Rattle.nvm_core.specs.nvm_figures.Urgent.{pages_of}
+use Rattle.promise_run.specs.JobTurns.{job_turns, write_pages}
 
 -- the figures of its device, made for the configuration
 abbrev pub fixed_by : Configuration → Fixed
@@ -21,3 +23,7 @@ fixed_by c = fixed_for c.geometry.page (sectors_of_bank c.geometry bank_count) (
 -- the most turns of a job are those of its program by these figures
 abbrev pub JobTurnsAreFigures : Type 0
 JobTurnsAreFigures = (c : Configuration) → IsLegalConfig c → (s : State) (j : Job) → most_turns (fixed_by c) (program_for c s j) ≡ job_turns c s j
+
+-- and the pages of the records of a write are those by these figures
+abbrev pub WritePagesAreFigures : Type 0
+WritePagesAreFigures = (c : Configuration) (s : State) (id : ℕ) → pages_of (fixed_by c) id (indices_of c s id) ≡ write_pages c s id

@@ -1,5 +1,5 @@
 -- The stack over a flash: what it is behind its first start-up, and what its flash comes back with.
-use Rattle.std.specs.Prelude.{◌||◌, not, IfSome, IfOk, slice_get, option_map, min}
+use Rattle.std.specs.Prelude.{◌||◌, not, IfSome, IfOk, slice_get, take, option_map, min}
 use Rattle.std.proofs.Common.{◌≡◌, ◌≢◌, ◌<◌, ◌≤◌, ◌+◌, ◌*◌, ◌⊎◌, ℕ, Bool, true, false, IsTrue, List, [], ◌∷◌, Option, Some, None, Result, Ok, Err, length, refl, sym, ap, ◌∙◌, subst, inl, inr, arith}
 use Rattle.std.proofs.lemmas.Bool.Decides.{leb_tells}
 use Rattle.std.proofs.Math.Nat.{eq-or-lt_of_le}
@@ -17,9 +17,9 @@ use Rattle.nvm_flash.specs.fls_model.Told.{Told, ToldBytes, Change, IfBothTold, 
 use Rattle.nvm_flash.specs.fls_devices.Cutter.{cutting, told_cutting}
 use Rattle.nvm_flash.specs.promise_device.Making.{Making}
 use Rattle.nvm_flash.specs.promise_device.Reading.{Reading}
-use Rattle.nvm_flash.specs.promise_device.Bridge.{Bridges, reading_of, cuts_of}
+use Rattle.nvm_flash.specs.promise_device.Bridge.{Bridges, reading_of, cuts_of, ready_pages}
 use Rattle.nvm_flash.specs.promise_device.Wear.{OperationsAreDue}
-use Rattle.nvm_flash.specs.promise_device.FlashRun.{HasFailed, TellsBytes, StartsSound}
+use Rattle.nvm_flash.specs.promise_device.FlashRun.{HasFailed, TellsBytes, StartsSound, bytes_after}
 use Rattle.nvm_flash.specs.fls_told.Clock.{off_in_of}
 use Rattle.nvm_flash.specs.fee_told.Device.{Device, flash_device, told_of, clock_of}
 use Rattle.nvm_flash.specs.fee_core.Tells.{told_clock}
@@ -46,7 +46,8 @@ use Rattle.nvm_flash.specs.declared.device.MakeFault.TheVariants as fault
 use Rattle.nvm_flash.specs.job_progress.JobInHand.{program_for}
 use Rattle.nvm_flash.specs.nvm_figures.Left.{most_turns}
 use Rattle.nvm_flash.specs.Turns.{fixed_by}
-use Rattle.nvm_flash.proofs.JobTurns.{job_turns_are_figures}
+use Rattle.nvm_flash.proofs.JobTurns.{job_turns_are_figures, write_pages_are_figures}
+use Rattle.nvm_flash.specs.promise_run.JobTurns.{write_pages}
 use Rattle.script_player.proofs.Fresh.{is_fresh}
 use Rattle.nvm_flash.proofs.nvm_device_laws.DownCalls.{over_with}
 use Rattle.nvm_flash.proofs.nvm_laws.StartingUp.{stacks_begin}
@@ -55,8 +56,9 @@ use Rattle.nvm_flash.proofs.promise_device.Readings.{sound_starts_compute, worn_
 use Rattle.nvm_flash.proofs.promise_run.Composition.{begins_well}
 use Rattle.nvm_flash.specs.Made.{IsOrigin, IsMadeStack, AreOfFirst, ComesBack, IsBack}
 use Rattle.nvm_flash.specs.promise_device.Bridge.{IsWornOut}
-use Rattle.nvm_flash.specs.nvm_core.Paying.{counted_of, TriesSince}
+use Rattle.nvm_flash.specs.nvm_core.Paying.{counted_of, TriesSince, has_urgent}
 use Rattle.script_player.specs.PlainPaying.{payer_by}
+use Rattle.script_player.specs.PlainDue.{pages_in}
 use Rattle.nvm_top.specs.Stack.{IsKeptFrom, IsStarted, StopsAtStart, Vouches, run_of, one_part, stop_of_make}
 use Rattle.nvm_flash.specs.fls_model.Attach.{IsFilled}
 use Rattle.nvm_top.specs.Play.{IsRightSize, IsWrongSize}
@@ -186,14 +188,24 @@ is_kept before m s t same starts keeps =
     (subst (λ (h : Option HandState). StackKeepsAsTold before s.desk h (told_of s.device) (told_clock s.device)) (sym (ap (λ x. x.hand) starts.only)) keeps))
 
 -- no job is in hand
-none_owed : (before : Part → PartTold) (m s t : StackState Device (List PlainBlock)) → t ≡ s → StartsUp told_of m s → IfSome t.hand (λ h. TriesSince (told_clock t.device).worn (faults_of (told_of t.device)) (counted_of (told_of t.device)) h.program)
+none_owed : (before : Part → PartTold) (m s t : StackState Device (List PlainBlock)) → t ≡ s → StartsUp told_of m s → IfSome t.hand (λ h. TriesSince (told_clock t.device).worn (has_urgent t.desk) (faults_of (told_of t.device)) (counted_of (told_of t.device)) h.program)
 none_owed before m s t same starts =
     let none : t.hand ≡ None = ap (λ x. x.hand) same ∙ ap (λ x. x.hand) starts.only in
-    subst (λ (h : Option HandState). IfSome h (λ x. TriesSince (told_clock t.device).worn (faults_of (told_of t.device)) (counted_of (told_of t.device)) x.program)) (sym none) tt
+    subst (λ (h : Option HandState). IfSome h (λ x. TriesSince (told_clock t.device).worn (has_urgent t.desk) (faults_of (told_of t.device)) (counted_of (told_of t.device)) x.program)) (sym none) tt
 
-pub kept_up : (before : Part → PartTold) (m s t : StackState Device (List PlainBlock)) → t ≡ s → StartsUp told_of m s → StackKeepsAsTold before s.desk None (told_of s.device) (told_clock s.device)
+-- the pages of its records are those of the configuration
+pages_up : (c : Configuration) (making : Making) (entry : Told) (m s t : StackState Device (List PlainBlock)) → t ≡ s → StartsUp told_of m s → IsMadeStack c making entry m → (payer_by told_of told_clock t).pages ≡ write_pages (told_by told_of t).configuration
+pages_up c making entry m s t same starts made =
+    let fixed : (told_of t.device).fixed ≡ fixed_by c = ap (λ x. (told_of x.device).fixed) same ∙ starts.finds.up.restarted.fixed ∙ made.fixed in
+    let config : t.desk.config ≡ c = ap (λ x. x.desk.config) same ∙ ap (λ x. x.desk.config) starts.only ∙ ap (λ x. x.desk.config) made.only in
+    ap (λ (f : Fixed). pages_in f t.desk.config) fixed
+    ∙ ap (λ (x : Configuration). pages_in (fixed_by x) t.desk.config) (sym config)
+    ∙ (λ i x id. write_pages_are_figures t.desk.config x id i)
+
+pub kept_up : (c : Configuration) (making : Making) (entry : Told) (before : Part → PartTold) (m s t : StackState Device (List PlainBlock)) → t ≡ s → StartsUp told_of m s → IsMadeStack c making entry m → StackKeepsAsTold before s.desk None (told_of s.device) (told_clock s.device)
     → IsKeptFrom (IsKept t.ready before t.desk t.hand (told_of t.device) (told_clock t.device)) (payer_by told_of told_clock t) (told_by told_of t)
-kept_up before m s t same starts keeps = let kept = is_kept before m s t same starts keeps in (kept, ((before, kept), (omega arith, none_owed before m s t same starts)))
+kept_up c making entry before m s t same starts made keeps =
+    let kept = is_kept before m s t same starts keeps in (kept, (((before, kept), (omega arith, none_owed before m s t same starts)), pages_up c making entry m s t same starts made))
 
 -- ITS END
 
@@ -230,6 +242,7 @@ told_bridge r inner exit operations before d b = record {
   withheld = b.withheld;
   failed = b.failed;
   worn = b.worn;
+  spare = b.spare;
 }
   where
     later : (k : ℕ) → off_in_of (flash_device d) k → (last_count ≤ k) ⊎ ((k < last_count) × off_in_of (flash_device d) k)
@@ -248,6 +261,11 @@ in_first : (a f t n : ℕ) → t ≡ min (f + 0) last_count → WereCounted n a 
 in_first a f t n is (inl more) = inl (omega (arith, is, more))
 in_first a f t n is (inr full) = inr (omega (arith, is, full))
 
+-- what is free in its bytes is spare
+had_free : {P : Type 0} (o : Option (List ℕ)) (spare : ℕ → ℕ → Type 0) (k n : ℕ) (ready : List ℕ → ℕ) (image : List ℕ) → o ≡ Some image → n ≤ ready image → IfSome o (λ x. spare k (ready x)) → P → (free : ℕ) × spare k free × (n ≤ free) × P
+had_free None spare k n ready image is few told first = absurd (let Q : ⊥ = cc is in Q)
+had_free (Some x) spare k n ready image is few told first = let same : x ≡ image = cc is in (ready x, told, subst (λ (y : List ℕ). n ≤ ready y) (sym same) few, first)
+
 pub vouched : (c : Configuration) (inner : Told) (cuts : ℕ) (making : Making) (entry exit : Told) (s : StackState Device (List PlainBlock)) (e : Device) → e ≡ s.device → HalvesMakeIt (told_clock e) → AreValues s.desk.entries → IsOrigin c inner cuts making entry → s.desk.config ≡ c → s.desk.cap ≡ cap
     → IsBack c inner exit (part_at entry) (told_of e) (clock_of e)
     → Vouches (IsKept s.ready (one_part (part_at entry)) s.desk s.hand (told_of s.device) (told_clock s.device)) (payer_by told_of told_clock s) (part_at entry) (told_by told_of s) inner exit
@@ -265,8 +283,15 @@ vouched c inner cuts making entry exit s e same halves values origin config most
   faults = λ rose. counted_rose inner.faults exit.faults (own.faults 1 (once (told_of s.device).first.faults (told_by told_of s).faults refl rose)) back.more;
   counted = λ n counted. own.faults n (in_first (part_at entry).faults (told_of s.device).first.faults (told_by told_of s).faults n refl counted);
   cuts = λ n counted. own.cuts n (subst (λ (k : ℕ). WereCounted n (part_at entry).planning.unplanned k) one_part_cuts counted);
-  worn = λ k n (few, is).
-      subst (λ (x : Configuration). IsWornOut (making_of x) (record { entry = inner; exit = exit; operations = back.operations }) k n) (sym config) (worn_banks_compute (making_of c) (record { entry = inner; exit = exit; operations = back.operations }) k n (own.worn k n is));
+  worn = λ k n urgent (few, is).
+      subst (λ (x : Configuration). IsWornOut (making_of x) (record { entry = inner; exit = exit; operations = back.operations }) k n urgent) (sym config) (worn_banks_compute (making_of c) (record { entry = inner; exit = exit; operations = back.operations }) k n urgent (own.worn k n urgent is));
+  spare = λ told sound k n few free.
+      let all = bridge.ops in
+      let begins = sound_starts_compute (making_of s.desk.config) (record { entry = inner; exit = exit; operations = back.operations }) sound in (
+        few,
+        had_free (bytes_after (record { entry = inner; exit = exit; operations = back.operations }) k) (told_clock s.device).spare k n (ready_pages (making_of s.desk.config) (take k back.operations)) free.image free.bytes free.free
+            (bridge.spare told begins k (omega (arith, few, all)) free.counted) (subst AreOfFirst same back.parts),
+      );
   values = values;
   tells = λ told sound. slots told sound;
   early = λ kept told made left pieces end.

@@ -102,6 +102,7 @@ early_turns c steps entry exit end more ends = record {
   rests = tt;
   drains = λ calm. tt;
   cuts = tt;
+  urgent = λ told sound. tt;
   paid = λ told sound. tt;
 }
 

@@ -19,11 +19,12 @@ use Rattle.nvm_flash.specs.promise_run.Refusals.{RefusesAsAsked}
 use Rattle.nvm_flash.specs.promise_run.Run.{Memory}
 use Rattle.nvm_flash.specs.promise_run.Promise.{making_of}
 use Rattle.nvm_script.specs.declared.script.Mode.TheVariants as mode
-use Rattle.nvm_flash.specs.promise_run.JobTurns.{job_turns}
+use Rattle.nvm_flash.specs.promise_run.JobTurns.{job_turns, write_pages}
 use Rattle.nvm_top.specs.Play.{IsRightSize}
-use Rattle.nvm_flash.specs.promise_run.Turns.{Moment, moment_behind, BeginsAt, EndsBy, ArePaidSince, EachMove, ServesTurn, StaysAtRest, all_moves, CutsCome}
+use Rattle.nvm_flash.specs.promise_run.Turns.{Moment, moment_behind, BeginsAt, EndsBy, ArePaidSince, EachMove, ServesTurn, StaysAtRest, PostsUrgent, HadFree, all_moves, CutsCome}
 use Rattle.nvm_flash.proofs.promise_run.Paid.{since_too}
 use Rattle.nvm_flash.proofs.promise_run.CalmPosts.{calm_posts}
+use Rattle.nvm_flash.proofs.promise_run.UrgentPosts.{urgent_by}
 use Rattle.nvm_flash.proofs.promise_run.Counted.{all_behind, counted_by}
 use Rattle.nvm_flash.specs.promise_device.Bridge.{IsWornOut}
 use Rattle.script_player.specs.Paying.{Payer}
@@ -37,7 +38,7 @@ use Rattle.nvm_top.specs.declared.status.Status.TheVariants as status
 use Rattle.nvm_top.specs.declared.runs.RunText.{RunText}
 use Rattle.nvm_top.specs.declared.runs.RunText.TheVariants.{History, Summary}
 use Rattle.nvm_top.specs.declared.stop.Stop.{Stop}
-use Rattle.nvm_top.specs.Stack.{IsStarted, Vouches, run_of}
+use Rattle.nvm_top.specs.Stack.{BeginsPaying, IsStarted, Vouches, run_of}
 use Rattle.nvm_top.specs.Promised.{call_by, HasRun, WritesText, EndsIn, entries_in, lines_in}
 use Rattle.nvm_top.specs.Runs as ends
 use Rattle.nvm_top.proofs.PlayLemmas.{Rose-after}
@@ -103,7 +104,7 @@ counted_from n a b d less (inr full) = inr full
 
 -- a run keeps the promise where its flash begins sound
 pub has_run : (Kept : Type 0) (p q : Payer) (c : Configuration) (cuts : ℕ) (all made left : List Step) (end : End) (before : PartTold) (old t : StackTold) (entry exit : Told) (Tells : Run → Type 0) (started : IsStarted c cuts before old) (walked : HasWalked p q made old t)
-    → t.configuration ≡ old.configuration → Kept → p.owes old.faults → (v : Vouches Kept q before t entry exit) → made ++ left ≡ all
+    → t.configuration ≡ old.configuration → Kept → BeginsPaying p old → (v : Vouches Kept q before t entry exit) → made ++ left ≡ all
     → LeavesFor (run_of t.configuration t.entries entry exit v.operations t.causes.came (Played made walked.pieces left) end) (after t.configuration t.entries) end left
     → EndsBy walked.last (record { entry = entry; exit = exit; operations = v.operations }) end
     → Tells (run_of t.configuration t.entries entry exit v.operations t.causes.came (Played made walked.pieces left) end) → IsRightSize (size_of c.geometry) entry.bytes → HasRun mode.Play c all Tells entry exit
@@ -141,6 +142,7 @@ has_run Kept p q c cuts all made left end before old t entry exit Tells started 
         entries = calm.entries;
       });
       cuts = in_time;
+      urgent = λ told sound. urgent told sound;
       paid = λ told sound. paid told sound;
     };
     values = v.values;
@@ -203,11 +205,20 @@ has_run Kept p q c cuts all made left end before old t entry exit Tells started 
         since_too t.configuration q.worn (IsWornOut (making_of t.configuration) (record { entry = entry; exit = exit; operations = v.operations })) v.worn old.faults (moment_of old) (after t.configuration (take 1 t.entries)) (all_moves walked.moves.moves)
         (subst (λ (h : List Entry). ArePaidSince t.configuration q.worn old.faults (moment_of old) (after t.configuration h) (all_moves walked.moves.moves)) (sym first)
         (subst (λ (x : Configuration). ArePaidSince x q.worn old.faults (moment_of old) (after x old.entries) (all_moves walked.moves.moves)) (sym same)
-        (walked.pays.pays (v.tells told sound) old.faults owes).0))
+        (walked.pays.pays (v.tells told sound) old.faults owes.0).0))
+
+    urgent : TellsBytes (record { entry = entry; exit = exit; operations = v.operations }) → StartsSound (making_of t.configuration) (record { entry = entry; exit = exit; operations = v.operations })
+        → EachMove t.configuration (PostsUrgent t.configuration (write_pages t.configuration) (HadFree (making_of t.configuration) (record { entry = entry; exit = exit; operations = v.operations })) (λ id left. Unit {0})) (after t.configuration (take 1 t.entries)) (all_moves walked.moves.moves)
+    urgent told sound =
+        urgent_by t.configuration (write_pages t.configuration) q.failed q.spare (HadFree (making_of t.configuration) (record { entry = entry; exit = exit; operations = v.operations })) q.due (λ id left. Unit {0}) t.ops (v.spare told sound) (λ id left due. tt)
+        (moment_of old) (after t.configuration (take 1 t.entries)) (all_moves walked.moves.moves) (omega (arith, moves_end)) walked.pays.counts
+        (subst (λ (h : List Entry). EachMove t.configuration (PostsUrgent t.configuration (write_pages t.configuration) q.spare q.due) (after t.configuration h) (all_moves walked.moves.moves)) (sym first)
+        (subst (λ (x : Configuration). EachMove x (PostsUrgent x (write_pages x) q.spare q.due) (after x old.entries) (all_moves walked.moves.moves)) (sym same)
+        (subst (λ (f : State → ℕ → ℕ). EachMove old.configuration (PostsUrgent old.configuration f q.spare q.due) (after old.configuration old.entries) (all_moves walked.moves.moves)) (walked.pays.pages ∙ owes.1) walked.pays.urgent)))
 
 -- of the status, the output and the steps
 end_runs : (text : RunText) (Kept : Type 0) (p q : Payer) (c : Configuration) (cuts : ℕ) (all made left : List Step) (end : End) (before : PartTold) (old t : StackTold) (entry exit : Told) (x : Status) (w w' : Written) (input : Option (List ℕ))
-    → IsStarted c cuts before old → (walked : HasWalked p q made old t) → t.configuration ≡ old.configuration → Kept → p.owes old.faults → (v : Vouches Kept q before t entry exit) → made ++ left ≡ all
+    → IsStarted c cuts before old → (walked : HasWalked p q made old t) → t.configuration ≡ old.configuration → Kept → BeginsPaying p old → (v : Vouches Kept q before t entry exit) → made ++ left ≡ all
     → LeavesFor (run_of t.configuration t.entries entry exit v.operations t.causes.came (Played made walked.pieces left) end) (after t.configuration t.entries) end left
     → EndsBy walked.last (record { entry = entry; exit = exit; operations = v.operations }) end → IsRightSize (size_of c.geometry) entry.bytes → WritesText (status_at end) (entries_in text t.entries) (lines_in text end t.entries) w w' x
     → HasRun mode.Play c all (EndsIn text (call_by mode.Play input x entry exit w w')) entry exit
@@ -224,7 +235,7 @@ end_by (Ok done) = Whole
 end_by (Err why) = ends.end_of why
 
 runs_by : (text : RunText) (Kept : Type 0) (p q : Payer) (c : Configuration) (cuts : ℕ) (all : List Step) (before : PartTold) (old t : StackTold) (entry exit : Told) (x : Status) (w w' : Written) (input : Option (List ℕ)) (result : Result (Unit {0}) StepFault)
-    → IsStarted c cuts before old → OnOk result (HasWalked p q all old t) → IfErr result (λ why. WasBroken p q why all old t) → t.configuration ≡ old.configuration → Kept → p.owes old.faults → Vouches Kept q before t entry exit
+    → IsStarted c cuts before old → OnOk result (HasWalked p q all old t) → IfErr result (λ why. WasBroken p q why all old t) → t.configuration ≡ old.configuration → Kept → BeginsPaying p old → Vouches Kept q before t entry exit
     → IsRightSize (size_of c.geometry) entry.bytes → WritesText (status_at (end_by result)) (entries_in text t.entries) (lines_in text (end_by result) t.entries) w w' x → HasRun mode.Play c all (EndsIn text (call_by mode.Play input x entry exit w w')) entry exit
 runs_by text Kept p q c cuts all before old t entry exit x w w' input (Ok done) started walked broken same keeps owes v size is =
     end_runs text Kept p q c cuts all all [] Whole before old t entry exit x w w' input started walked same keeps owes v (append-nil all) refl tt size is
@@ -250,7 +261,7 @@ in_text Summary (Err fault.Memory) h w w' x is = is
 
 -- with the history and the run as they were written
 pub ran_in : (text : RunText) (Kept : Type 0) (p q : Payer) (c : Configuration) (cuts : ℕ) (all : List Step) (before : PartTold) (old t : StackTold) (entry exit : Told) (x : Status) (w w' : Written) (input : Option (List ℕ)) (result : Result (Unit {0}) StepFault) (run : Result (Unit {0}) Stop) (h : List Entry) → IsStarted c cuts before old
-    → OnOk result (HasWalked p q all old t) → IfErr result (λ why. WasBroken p q why all old t) → t.configuration ≡ old.configuration → Kept → p.owes old.faults → Vouches Kept q before t entry exit → run ≡ ends.run_of result → h ≡ t.entries
+    → OnOk result (HasWalked p q all old t) → IfErr result (λ why. WasBroken p q why all old t) → t.configuration ≡ old.configuration → Kept → BeginsPaying p old → Vouches Kept q before t entry exit → run ≡ ends.run_of result → h ≡ t.entries
     → IsRightSize (size_of c.geometry) entry.bytes → WritesText (ends.status_of_run run) (entries_in text h) (ends.lines_written text run h) w w' x → HasRun mode.Play c all (EndsIn text (call_by mode.Play input x entry exit w w')) entry exit
 ran_in text Kept p q c cuts all before old t entry exit x w w' input result run h started walked broken same keeps owes v is_run is_history size is =
     runs_by text Kept p q c cuts all before old t entry exit x w w' input result started walked broken same keeps owes v size

@@ -32,7 +32,7 @@ use Rattle.nvm_top.specs.declared.stop.Stop.TheVariants as stop
 use Rattle.nvm_top.specs.Output.{Writes}
 use Rattle.nvm_top.specs.Play.{IsBeforeAttach, IsRightSize, IsSizeStop}
 use Rattle.nvm_top.specs.Promised.{HasNoRun, WritesText, played_call}
-use Rattle.nvm_top.specs.Stack.{IsStarted, StopsAtStart, Vouches, run_of}
+use Rattle.nvm_top.specs.Stack.{BeginsPaying, IsStarted, StopsAtStart, Vouches, run_of}
 use Rattle.nvm_top.specs.Stop.{IsStop}
 use Rattle.nvm_top.specs.Uds.{lines_by, lines_of_history, lines_served, HasPieces, HasRequests, HasRequestsOf, HasWrongRequest, UdsStopsBy, WritesLines, status_served, line_served, end_served, TellsServed, TellsRequests, HasServing, HasAnswered}
 use Rattle.nvm_top.proofs.AnswerLines.{has_pieces, lines_of_pieces}
@@ -135,7 +135,7 @@ module _ {p q : Payer} (requests : List (List ℕ)) (counts : List ℕ) (end : R
           subst (λ (es : List Entry). list_any is_off es ≡ true) walk.0
           (subst (λ (es : List Entry). list_any is_off es ≡ true) (sym has.serves.parts) (parts_off (joined has.serves.pieces) has.serves.rest in_rest))
 
-  pub serving_has : (Kept : Type 0) (entry exit : Told) (x : Status) (w w' : Written) (input : Option (List ℕ)) (h : List Entry) → h ≡ t.entries → Kept → p.owes old.faults → Vouches Kept q before t entry exit → IsRightSize (size_of c.geometry) entry.bytes
+  pub serving_has : (Kept : Type 0) (entry exit : Told) (x : Status) (w w' : Written) (input : Option (List ℕ)) (h : List Entry) → h ≡ t.entries → Kept → BeginsPaying p old → Vouches Kept q before t entry exit → IsRightSize (size_of c.geometry) entry.bytes
       → WritesLines (status_served end) (lines_of_history c requests counts h) (line_served end h) w w' x → HasServing c requests (played_call input x entry exit w w') x
   unfolding serves
   serving_has Kept entry exit x w w' input h is keeps owes v size writes =

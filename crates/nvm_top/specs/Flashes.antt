@@ -14,7 +14,7 @@ use Rattle.script_player.specs.declared.steps.StepFault.{StepFault}
 use Rattle.script_player.specs.Requests.{HasServed}
 use Rattle.script_player.specs.uds_gateway.declared.stop.ServeStop.{ServeStop}
 use Rattle.script_walks.specs.Words.{Step}
-use Rattle.nvm_top.specs.Stack.{IsStarted}
+use Rattle.nvm_top.specs.Stack.{BeginsPaying, IsStarted}
 
 -- what is told of it: of its flash, and of a second one beside that, if there is one
 pub record FlashesTold : Type 0 where
@@ -35,7 +35,7 @@ pub record WereMade {D : Type 0} (device : D → DeviceTold) (clock : D → Cloc
   pub configuration : (told_by device s).configuration ≡ (told_by device first).configuration
   pub most : (told_by device s).cap ≡ (told_by device first).cap
   pub keeps : IsKept s.ready before s.desk s.hand (device s.device) (clock s.device)
-  pub owes : (payer_by device clock first).owes (told_by device first).faults
+  pub owes : BeginsPaying (payer_by device clock first) (told_by device first)
 
 -- REQUESTS ON A STACK OVER IT
 -- how they were served, so
@@ -46,4 +46,4 @@ pub record WereServed {D : Type 0} (device : D → DeviceTold) (clock : D → Cl
   pub configuration : (told_by device s).configuration ≡ (told_by device first).configuration
   pub most : (told_by device s).cap ≡ (told_by device first).cap
   pub keeps : IsKept s.ready before s.desk s.hand (device s.device) (clock s.device)
-  pub owes : (payer_by device clock first).owes (told_by device first).faults
+  pub owes : BeginsPaying (payer_by device clock first) (told_by device first)

@@ -1,5 +1,5 @@
 -- The stack that a command runs over a flash.
-use Rattle.std.specs.Prelude.{◌≡◌, ◌<◌, ◌≤◌, ℕ, true, false, List, [], length, min, None}
+use Rattle.std.specs.Prelude.{◌≡◌, ◌<◌, ◌≤◌, ℕ, Bool, true, false, List, [], length, min, None}
 use Rattle.nvm_flash.specs.nv_base.Count.{last_count, Rose, WereCounted}
 use Rattle.nvm_flash.specs.nv_base.Geometry.{size_of}
 use Rattle.nvm_flash.specs.block_config.Config.{Configuration}
@@ -16,7 +16,8 @@ use Rattle.nvm_flash.specs.promise_device.FlashRun.{HasFailed, CountsAll, TellsB
 use Rattle.script_player.specs.Told.{StackTold}
 use Rattle.script_player.specs.Paying.{Payer}
 use Rattle.script_player.specs.Made.{IsFresh}
-use Rattle.nvm_flash.specs.promise_run.JobTurns.{job_turns}
+use Rattle.nvm_flash.specs.promise_run.Turns.{HadFree}
+use Rattle.nvm_flash.specs.promise_run.JobTurns.{job_turns, write_pages}
 use Rattle.nvm_flash.specs.declared.device.MakeFault.{MakeFault}
 use Rattle.nvm_flash.specs.declared.device.MakeFault.TheVariants as fault
 use Rattle.nvm_top.specs.declared.stop.Stop.{Stop}
@@ -63,12 +64,16 @@ pub record StopsAtStart (c : Configuration) (entry exit : Told) (stop : Stop) : 
   pub faults : entry.faults ≤ exit.faults
   pub cuts : entry.cuts ≤ exit.cuts
 
--- all is kept, and nothing is owed for any fault yet
+-- nothing is owed for any fault yet, and the pages of the records of a write are those of the configuration
+abbrev pub BeginsPaying : Payer → StackTold → Type 0
+BeginsPaying p t = p.owes t.faults × (p.pages ≡ write_pages t.configuration)
+
+-- so it is, and all is kept
 abbrev pub IsKeptFrom : Type 0 → Payer → StackTold → Type 0
-IsKeptFrom Kept p t = Kept × p.owes t.faults
+IsKeptFrom Kept p t = Kept × BeginsPaying p t
 
 -- The flash is given back: the operations, the faults and the cuts that the stack was told are its own, what failed of them
--- the stack was told of, and where it says that it is worn out the flash is; the flash is off only where the device was, and plans no
+-- the stack was told of, and what its bytes had free for urgent writes, and where it says that it is worn out the flash is; the flash is off only where the device was, and plans no
 -- cut while it is on; the numbers and bytes of its history are those of
 -- a program; and where this was kept, a run that followed a script keeps the promise, where its flash tells sound bytes at first and
 -- its steps explain its refused copies and its power cuts; until its first operation it does over any bytes.
@@ -84,7 +89,9 @@ pub record Vouches (Kept : Type 0) (p : Payer) (before : PartTold) (t : StackTol
   pub faults : Rose before.faults t.faults → Rose entry.faults exit.faults
   pub counted : (n : ℕ) → WereCounted n before.faults t.faults → WereCounted n entry.faults exit.faults
   pub cuts : (n : ℕ) → WereCounted n before.planning.unplanned t.causes.unplanned → WereCounted n entry.cuts exit.cuts
-  pub worn : (k n : ℕ) → p.worn k n → IsWornOut (making_of t.configuration) (record { entry = entry; exit = exit; operations = operations }) k n
+  pub worn : (k n : ℕ) (urgent : Bool) → p.worn k n urgent → IsWornOut (making_of t.configuration) (record { entry = entry; exit = exit; operations = operations }) k n urgent
+  pub spare : TellsBytes (record { entry = entry; exit = exit; operations = operations }) → StartsSound (making_of t.configuration) (record { entry = entry; exit = exit; operations = operations })
+      → (k n : ℕ) → k ≤ t.ops → HadFree (making_of t.configuration) (record { entry = entry; exit = exit; operations = operations }) k n → p.spare k n
   pub values : AreValues t.entries
   -- its device tells to the end what it holds, where the flash tells its bytes and these were sound
   pub tells : TellsBytes (record { entry = entry; exit = exit; operations = operations }) → StartsSound (making_of t.configuration) (record { entry = entry; exit = exit; operations = operations }) → p.tells

@@ -36,7 +36,7 @@ module _ (of : ℕ → Bool) (all : (block : ℕ) → of block ≡ true) where
   price_too c s (Off ops) = refl
   price_too c s (Found marks ops) = refl
 
-  paid_too : (c : Configuration) (worn other : Worn) (n : ℕ) (s : State) (es : List Entry) → ((k m : ℕ) → worn k m → other k m) → ArePaid of c worn n s es → ArePaid every_block c other n s es
+  paid_too : (c : Configuration) (worn other : Worn) (n : ℕ) (s : State) (es : List Entry) → ((k m : ℕ) (urgent : Bool) → worn k m urgent → other k m urgent) → ArePaid of c worn n s es → ArePaid every_block c other n s es
   paid_too c worn other n s [] more paid = tt
   paid_too c worn other n s (e ∷ es) more (inl (cheap, rest)) = inl (
     subst (λ (p : ℕ). p ≤ n) (price_too c s e) cheap,
@@ -44,7 +44,7 @@ module _ (of : ℕ → Bool) (all : (block : ℕ) → of block ≡ true) where
   )
   paid_too c worn other n s (e ∷ es) more (inr (excused, rest)) = inr (excused_too c worn other s e more excused, paid_too c worn other n (step c s e) es more rest)
 
-pays : (of : ℕ → Bool) → ((block : ℕ) → of block ≡ true) → (c : Configuration) (worn other : Worn) (before after first last : ℕ) (h : List Entry) → ((k n : ℕ) → worn k n → other k n)
+pays : (of : ℕ → Bool) → ((block : ℕ) → of block ≡ true) → (c : Configuration) (worn other : Worn) (before after first last : ℕ) (h : List Entry) → ((k n : ℕ) (urgent : Bool) → worn k n urgent → other k n urgent)
     → ((n : ℕ) → WereCounted n before after → WereCounted n first last) → IsPaid of c worn before after h → IsPaid every_block c other first last h
 pays of all c worn other before after first last h more counts paid = record { faults = paid.faults; counted = counts paid.faults paid.counted; pay = paid_too of all c worn other paid.faults at_first h more paid.pay }
 
@@ -137,7 +137,7 @@ of_one clock r before now block device wear = record {
   found = lists r before now clock block device;
   at_exit = exits r before now clock block device;
   block_machine = block.over.legal;
-  faults = pays (is_of First now.fixed) block.one r.configuration clock.worn (IsWornOut (making_of r.configuration) r.flash) (before First).faults now.first.faults r.flash.entry.faults r.flash.exit.faults r.history (λ k n worn. worn_banks_compute (making_of r.configuration) r.flash k n (device.worn k n worn)) device.faults (block.over.paid First);
+  faults = pays (is_of First now.fixed) block.one r.configuration clock.worn (IsWornOut (making_of r.configuration) r.flash) (before First).faults now.first.faults r.flash.entry.faults r.flash.exit.faults r.history (λ k n urgent worn. worn_banks_compute (making_of r.configuration) r.flash k n urgent (device.worn k n urgent worn)) device.faults (block.over.paid First);
   wear = wear;
   refusals = block.refusals;
   off = (block.off.0, block.off.1, device.cuts block.off.0 block.off.2);

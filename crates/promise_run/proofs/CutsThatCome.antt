@@ -9,7 +9,7 @@ use Rattle.promise_device.specs.FlashRun.{HasFailed}
 use Rattle.promise_run.specs.Turns.{Moment, Move, Planned, entry_list, entries_of, moment_behind, moment_after, AreMoves, CountsOwn, IsInTime, AreInTime, CutsCome, HasTurns}
 use Rattle.promise_run.specs.Cases.{small, picks_one, written_at, always, cut_comes, cut_missed}
 use Rattle.promise_run.proofs.PlannedCuts.{from_more}
-use Rattle.promise_run.proofs.OneByOne.{asked_one, asks_step, at_ops, no_count, no_sweep, at_work, some_same}
+use Rattle.promise_run.proofs.OneByOne.{asked_one, asks_step, at_ops, no_count, no_sweep, at_work, some_same, none_urgent}
 
 -- IT COMES
 none_failed : (k : ℕ) → HasFailed cut_comes.flash k → ⊥
@@ -45,6 +45,7 @@ comes_kept = record {
   rests = (λ rest idle no_ask. absurd (cc no_ask), (at_work, (at_work, (at_work, tt))));
   drains = λ calm. (λ drain. absurd (cc drain), (λ drain. absurd (cc drain), (λ drain. absurd (cc drain), tt)));
   cuts = (tt, ((inl (omega arith), tt), ((inl (omega arith), (inl (omega arith), (inr (inl refl), tt))), tt)));
+  urgent = λ told sound. (λ id is. absurd (none_urgent id is), (λ id is. absurd (none_urgent id is), (λ id is. absurd (none_urgent id is), (λ id is. absurd (none_urgent id is), tt))));
   paid = λ told sound. (inl (inl (omega arith)), (inl (inl (omega arith)), (inl (inl (omega arith)), (inl (inl (omega arith)), tt))));
 }
 

@@ -1,6 +1,6 @@
 -- Operations that failed, in their moves.
 use Rattle.std.specs.Prelude.{map, IfSome}
-use Rattle.std.proofs.Common.{◌≡◌, ◌⊎◌, ◌≤◌, ◌<◌, ◌+◌, ℕ, zero, suc, false, List, [], ◌∷◌, ◌++◌, Option, Some, None, if◌then◌else◌, refl, sym, ap, ◌∙◌, subst, inl, inr, arith, append-nil, append_assoc, rules}
+use Rattle.std.proofs.Common.{◌≡◌, ◌⊎◌, ◌≤◌, ◌<◌, ◌+◌, ℕ, Bool, zero, suc, false, List, [], ◌∷◌, ◌++◌, Option, Some, None, if◌then◌else◌, refl, sym, ap, ◌∙◌, subst, inl, inr, arith, append-nil, append_assoc, rules}
 use Rattle.std.proofs.lemmas.Bool.{cases_lt}
 use Rattle.block_machine.specs.nv_base.Count.{Rose, WereCounted}
 use Rattle.block_machine.specs.nv_base.Entry.{ops_of}
@@ -18,7 +18,7 @@ use Rattle.promise_run.specs.Promise.{making_of}
 use Rattle.promise_run.specs.Turns.{Moment, Move, entry_list, entries_of, moment_behind, moment_after, AreTurnsMade, AreMovesOf, AreMoves, CountsOwn, CountFailed, IsPaidSince, ArePaidSince, HasTurns, is_picked, all_moves}
 use Rattle.promise_run.specs.Cases.{small, one, blank, picks_one, always, CountsFailed, mended, posts_on_credit, starts_on_credit, untold}
 use Rattle.promise_run.proofs.Counted.{behind_more, all_behind}
-use Rattle.promise_run.proofs.OneByOne.{two_lists, asked_one, asks_step, at_ops, no_sweep, at_work}
+use Rattle.promise_run.proofs.OneByOne.{two_lists, asked_one, asks_step, at_ops, no_sweep, at_work, none_urgent}
 
 -- A FAULT THAT WAS COUNTED
 -- no move takes a fault back
@@ -221,6 +221,7 @@ mended_kept = record {
   rests = (λ rest idle no_ask. absurd (cc no_ask), (at_work, (at_work, (at_work, (at_work, (at_work, (at_work, (at_work, tt))))))));
   drains = λ calm. (λ drain. absurd (cc drain), (λ drain. absurd (cc drain), tt));
   cuts = ((tt, tt), ((tt, (tt, (tt, (tt, (tt, (tt, (tt, tt))))))), tt));
+  urgent = λ told sound. (λ id is. absurd (none_urgent id is), (λ id is. absurd (none_urgent id is), (λ id is. absurd (none_urgent id is), (λ id is. absurd (none_urgent id is), (λ id is. absurd (none_urgent id is), (λ id is. absurd (none_urgent id is), (λ id is. absurd (none_urgent id is), (λ id is. absurd (none_urgent id is), tt))))))));
   paid = λ told sound. (free, (free, (free_behind, (free_behind, (free_behind, (free_behind, (free_behind, (free_behind, tt))))))));
 }
 
@@ -269,8 +270,8 @@ both_told e f (Some x) None is = absurd (cc is)
 both_told e f (Some x) (Some y) is = let (first, second) = two_lists e f x y is in (ap (λ (z : Entry). Some z) (sym first), ap (λ (z : Entry). Some z) (sym second))
 
 -- a blank flash isn't worn out
-not_worn : (k n : ℕ) → IsWornOut (making_of small) posts_on_credit.flash k n → ⊥
-not_worn k n worn = let (b, h, active, last) = worn.last in cc active
+not_worn : (k n : ℕ) (urgent : Bool) → IsWornOut (making_of small) posts_on_credit.flash k n urgent → ⊥
+not_worn k n urgent worn = let (b, h, active, last) = worn.last in cc active
 
 -- the Post has a price, and no fault was counted since its Pick
 unpaid : (n m : ℕ) → n ≤ m → 1 ≤ n → m ≤ 1 → (q : Move) → q.entry ≡ Some posts_failed → q.behind.faults ≡ m → IsPaidSince small (IsWornOut (making_of small) posts_on_credit.flash) n picked_again q → ⊥
@@ -279,7 +280,7 @@ unpaid n m up some few q is at paid = by (subst (λ (o : Option Entry). IsPaidSi
     by : IsPaidSince small (IsWornOut (making_of small) posts_on_credit.flash) n picked_again (record { entry = Some posts_failed; behind = q.behind }) → ⊥
     by (inl (inl counted)) = let more : n + 1 ≤ q.behind.faults = counted in omega (arith, more, some, at, few)
     by (inl (inr full)) = omega (arith, full, at, few)
-    by (inr (j, hand, mark, was)) = not_worn was.moment _ was.is
+    by (inr (j, hand, mark, was)) = not_worn was.moment _ _ was.is
 
 -- a write's Post tells five operations, so behind four of them the first was counted
 module _ (computes : SoundImagesCompute) (has : HasTurns (always 8) posts_on_credit posts_on_credit.course) where

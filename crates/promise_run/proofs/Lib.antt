@@ -5,6 +5,7 @@ pub mod Paid
 mod RefusedRuns
 pub mod RefusalsPaid
 pub mod Counted
+pub mod UrgentPosts
 pub mod CalmPosts
 pub mod Composition
 pub mod InRoom
@@ -20,6 +21,7 @@ mod TwoFlashes
 mod LostWrite
 mod WrongCalls
 mod OneByOne
+mod UrgentCases
 mod Failing
 pub mod Callers
 pub mod RunHalves

@@ -120,6 +120,10 @@ picked = after_from small asked (picks_one ∷ [])
 picked_block : (j : Job) → picked.hand ≡ Some j → job_block j ≡ 2
 picked_block j hand = sym (ap job_block (some_same _ j hand))
 
+-- no urgent write is accepted
+pub none_urgent : (id : ℕ) → None ≡ Some id → ⊥
+none_urgent id is = cc is
+
 -- no fault is due, and none was counted
 free : {E : Type 0} → WereCounted 0 0 0 ⊎ E
 free = inl (inl (omega arith))
@@ -168,6 +172,7 @@ six_kept = record {
   rests = (λ rest idle no_ask. absurd (cc no_ask), (at_work, (at_work, (at_work, (at_work, (at_work, (at_work, tt)))))));
   drains = λ calm. (λ drain. absurd (cc drain), (λ drain. absurd (cc drain), tt));
   cuts = ((tt, tt), ((tt, (tt, (tt, (tt, (tt, (tt, tt)))))), tt));
+  urgent = λ told sound. (λ id is. absurd (none_urgent id is), (λ id is. absurd (none_urgent id is), (λ id is. absurd (none_urgent id is), (λ id is. absurd (none_urgent id is), (λ id is. absurd (none_urgent id is), (λ id is. absurd (none_urgent id is), (λ id is. absurd (none_urgent id is), tt)))))));
   paid = λ told sound. (free, (free, (free, (free, (free, (free, (free, tt)))))));
 }
 

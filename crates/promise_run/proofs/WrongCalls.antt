@@ -1,5 +1,5 @@
 -- Calls that are none of a run, and runs in which a job isn't served.
-use Rattle.std.proofs.Common.{◌≡◌, ◌<◌, ℕ, List, [], ◌∷◌, ◌++◌, length, Some, None, subst, length-append, refl, ap, inl, inr, arith}
+use Rattle.std.proofs.Common.{◌≡◌, ◌<◌, ℕ, Bool, List, [], ◌∷◌, ◌++◌, length, Some, None, subst, length-append, refl, ap, inl, inr, arith}
 use Rattle.std.specs.List.{concat}
 use Rattle.block_machine.specs.nv_base.Count.{Rose}
 use Rattle.nvm_script.specs.Printed.{history_lines}
@@ -54,13 +54,13 @@ posted_well calm = record { ends = λ is. cc is; results = λ alone told sound. 
 abbrev picked_state : State
 picked_state = after small (Found [] 0 ∷ Ask 0 (Write 2 (Some one) 0) Accepted ∷ picks_one ∷ [])
 
-not_worn : (k n : ℕ) → IsWornOut (making_of small) fails_for_nothing.flash k n → ⊥
-not_worn k n worn = let (b, h, active, last) = worn.last in cc active
+not_worn : (k n : ℕ) (urgent : Bool) → IsWornOut (making_of small) fails_for_nothing.flash k n urgent → ⊥
+not_worn k n urgent worn = let (b, h, active, last) = worn.last in cc active
 
 pub not_failed : SoundImagesCompute → Completeness fails_for_nothing fails_for_nothing.course → ⊥
 not_failed computes complete = elim posts.1.1.1.0 [
   | inl none ↦ let is = none _ refl in cc is
-  | inr (j, hand, some, was) ↦ not_worn was.moment _ was.is
+  | inr (j, hand, some, was) ↦ not_worn was.moment _ _ was.is
 ]
   where
     posts : PostWell fails_for_nothing

@@ -93,8 +93,9 @@ holds_block_2 flash = record {
     held = λ image n. never_written;
     is_sound = λ image. true;
     is_last = λ n image. false;
-    is_full = λ n image. false;
+    is_full = λ n urgent image. false;
     may_follow = λ n op. false;
+    ready = λ earlier image. 0;
   };
   blocks = λ block. block == 2;
 }
@@ -192,6 +193,14 @@ worn_long_ago = failed_behind before_the_erase 2 (image_of 4294967295 (replicate
 -- it has the last generation, and records of other numbers in all of its pages
 abbrev pub worn_and_full : Run
 worn_and_full = failed_on (image_of 4294967295 (record_of 77 one ++ record_of 77 one))
+
+-- block 2 has this priority, beside an immediate block, for whose writes four pages are kept; a write of it fails while as many are
+-- free in the last bank
+abbrev pub beside_immediate : ℕ → Configuration
+beside_immediate priority = record small { blocks = manager_block 1 ∷ record (plain_block 4) { priority = priority; writes = 1 } ∷ record (plain_block 4) { priority = 0 } ∷ [] }
+
+abbrev pub worn_but_kept : ℕ → Run
+worn_but_kept priority = record (failed_on (image_of 4294967295 (record_of 77 one ++ replicate 64 255))) { configuration = beside_immediate priority }
 
 -- a write begins with this operation, on this image
 abbrev pub begins_with : Op → List ℕ → Run
@@ -384,7 +393,7 @@ posted_after n =
     ∷ record { entry = Some (Post 2 NotOk None 0 0); behind = at_faults n } ∷ []
 
 abbrev pub PaysFailed : ℕ → Type 0
-PaysFailed n = ArePaidSince tried_twice (λ operations number. ⊥) 0 (at_faults 2) (after tried_twice (Found [] 0 ∷ Ask 0 (Write 2 (Some one) 0) Accepted ∷ [])) (posted_after n)
+PaysFailed n = ArePaidSince tried_twice (λ operations number urgent. ⊥) 0 (at_faults 2) (after tried_twice (Found [] 0 ∷ Ask 0 (Write 2 (Some one) 0) Accepted ∷ [])) (posted_after n)
 
 -- A FULL HISTORY
 -- the state behind a start-up, with so many entries in all

@@ -43,3 +43,12 @@ job_turns c s j =
     switch_at_most c
     + device_tries (desc_of c (job_block j)) (kind_of j) * sum_by (λ index. try_on c (kind_of j) (record { block = job_block j; index = index })) (indices_of c s (job_block j))
     + 1
+
+-- URGENT WRITES
+-- the pages of the record of an instance, if it is configured
+abbrev pub pages_on : Configuration → Instance → ℕ
+pages_on c i = option_map_or (λ length. record_pages_of length c.geometry.page) (length_of (lengths_of c) (number_of i)) 0
+
+-- those of all records of a write of a block, at its data index
+abbrev pub write_pages : Configuration → State → ℕ → ℕ
+write_pages c s block = sum_by (λ index. pages_on c (record { block = block; index = index })) (indices_of c s block)

@@ -15,3 +15,4 @@ pub mod InRoom
 pub mod Texts
 pub mod Cases
 pub mod RefusedCases
+pub mod UrgentCases

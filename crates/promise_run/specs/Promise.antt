@@ -118,9 +118,9 @@ OperationsAre r (Some b) =
 abbrev pub FailuresArePaid : Run → Option Beside → Type 0
 FailuresArePaid r None = IsPaid every_block r.configuration (IsWornOut (making_of r.configuration) r.flash) r.flash.entry.faults r.flash.exit.faults r.history
 FailuresArePaid r (Some b) =
-    IsPaid (λ block. not (b.blocks block)) r.configuration (λ k n. IsWornOut (making_of r.configuration) r.flash (ops_of false r.configuration r.history b k) n)
+    IsPaid (λ block. not (b.blocks block)) r.configuration (λ k n urgent. IsWornOut (making_of r.configuration) r.flash (ops_of false r.configuration r.history b k) n urgent)
     r.flash.entry.faults r.flash.exit.faults r.history
-    × IsPaid b.blocks r.configuration (λ k n. IsWornBy b.reading b.flash (ops_of true r.configuration r.history b k) n) b.flash.entry.faults b.flash.exit.faults r.history
+    × IsPaid b.blocks r.configuration (λ k n urgent. IsWornBy b.reading b.flash (ops_of true r.configuration r.history b k) n urgent) b.flash.entry.faults b.flash.exit.faults r.history
 
 pub record Promise (r : Run) : Type 0 where
   -- For every order of callers' requests and main-function turns,

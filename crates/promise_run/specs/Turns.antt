@@ -1,19 +1,23 @@
 -- The turns that a run of `play` made, one by one.
-use Rattle.std.specs.Prelude.{◌≡◌, ◌⊎◌, ◌<◌, ◌≤◌, ◌+◌, ◌-◌, ℕ, zero, suc, not, ◌||◌, if◌then◌else◌, Bool, true, false, IsTrue, List, [], ◌∷◌, ◌++◌, length, map, take, min, Option, Some, None, IfSome}
+use Rattle.std.specs.Prelude.{◌≡◌, ◌⊎◌, ◌<◌, ◌≤◌, ◌+◌, ◌-◌, ◌==◌, ℕ, zero, suc, not, ◌&&◌, ◌||◌, if◌then◌else◌, Bool, true, false, IsTrue, List, [], ◌∷◌, ◌++◌, length, map, take, min, Option, Some, None, IfSome}
+use Rattle.std.specs.List.{list_all}
+use Rattle.std.specs.Option.{option_map_or}
 use Rattle.block_machine.specs.nv_base.Count.{last_count, Rose, WereCounted}
 use Rattle.block_machine.specs.nv_base.Entry.{ops_of}
 use Rattle.script_walks.specs.Words.{Step, StepKind, AskStep, Turn, Drain, Restart, Cut}
-use Rattle.block_machine.specs.Words.{Canceled, WriteAllJob, TookNothing, Entry, Ask, Pick, Post, Found, Configuration}
+use Rattle.block_machine.specs.Words.{Canceled, JobKind, ReadJob, RestoreJob, WriteAllJob, TookNothing, Accepted, Entry, Ask, Pick, Post, Off, Found, Configuration}
 use Rattle.block_machine.specs.State.{State, Job, Sweep, jobs_of}
-use Rattle.block_machine.specs.Blocks.{job_block}
+use Rattle.block_machine.specs.Blocks.{asked_block, is_immediate, job_block, kind_of, rank_of}
 use Rattle.block_machine.specs.Steps.{after, after_from}
 use Rattle.block_machine.specs.Prices.{price_in_faults, sum_from}
 use Rattle.promise_blocks.specs.Payment.{Worn, IsExcused}
 use Rattle.script_walks.specs.Walk.{is_due, is_at_rest, begins_with_pick_or_post}
 use Rattle.promise_run.specs.Completeness.{is_calm_entry, IsCalm, ends_job}
 use Rattle.promise_run.specs.Promise.{making_of}
-use Rattle.promise_device.specs.FlashRun.{FlashRun, TellsBytes, StartsSound, HasFailed}
-use Rattle.promise_device.specs.Bridge.{IsWornOut}
+use Rattle.promise_run.specs.JobTurns.{write_pages}
+use Rattle.promise_device.specs.Making.{Making}
+use Rattle.promise_device.specs.FlashRun.{FlashRun, TellsBytes, StartsSound, HasFailed, bytes_after}
+use Rattle.promise_device.specs.Bridge.{IsWornOut, ready_pages}
 use Rattle.promise_run.specs.Run.{Run, Course, Played, Ran, End, FlashFault}
 
 -- MOMENTS AND MOVES
@@ -223,6 +227,61 @@ abbrev pub all_moves : List (List Move) → List Move
 all_moves [] = []
 all_moves (ms ∷ mss) = ms ++ all_moves mss
 
+-- URGENT WRITES
+abbrev pub is_off : Option Entry → Bool
+is_off (Some (Off ops)) = true
+is_off e = false
+
+-- a job of this block is posted, or one of another block
+abbrev pub posts : ℕ → Option Entry → Bool
+posts id (Some (Post block r given refused ops)) = block == id
+posts id e = false
+
+abbrev pub posts_other : ℕ → Option Entry → Bool
+posts_other id (Some (Post block r given refused ops)) = not (block == id)
+posts_other id e = false
+
+-- A job of this block is posted by the last of so many turns, where a request is no turn and the Post of another job isn't
+-- counted, unless before it a restart comes, a fault is counted, or the power goes off. Behind all of the moves `still` holds of
+-- the turns that are left.
+abbrev pub IsPostedSoon : (still : ℕ → Type 0) → ℕ → ℕ → ℕ → List Move → Type 0
+IsPostedSoon still id turns faults [] = still turns
+IsPostedSoon still id turns faults (m ∷ ms) =
+    IsTrue (is_found m.entry)
+    ⊎ ((IsTrue (is_asked m.entry || posts_other id m.entry) × IsPostedSoon still id turns m.behind.faults ms)
+    ⊎ (Rose faults m.behind.faults
+    ⊎ (IsTrue (is_off m.entry)
+    ⊎ (IsTrue (posts id m.entry)
+    ⊎ ((1 < turns) × IsPostedSoon still id (turns - 1) m.behind.faults ms)))))
+
+-- the block of an immediate write that is accepted while the power is on, and no other immediate job is pending or in hand
+abbrev pub urgent_block : Configuration → State → Option Entry → Option ℕ
+urgent_block c s (Some (Ask caller r Accepted)) =
+    if not s.off && (is_immediate c r && list_all (λ j. not (rank_of c j).immediate) (jobs_of s)) then Some (asked_block r) else None
+urgent_block c s e = None
+
+-- the pages that a job of this kind may still need of so many, where it is in hand: a read and a restore have no record
+abbrev pub pages_by : JobKind → ℕ → ℕ
+pages_by ReadJob pages = 0
+pages_by RestoreJob pages = 0
+pages_by kind pages = pages
+
+-- those that are wanted for an urgent write of a block: of its records, and of those of the job in hand
+abbrev pub pages_wanted : (pages : State → ℕ → ℕ) → State → ℕ → ℕ
+pages_wanted pages s id = pages s id + option_map_or (λ j. pages_by (kind_of j) (pages s (job_block j))) s.hand 0
+
+-- Where so many pages are spare at its moment, it is posted within the pages of its own records and four turns.
+abbrev pub PostsUrgent : Configuration → (pages : State → ℕ → ℕ) → (spare : ℕ → ℕ → Type 0) → (still : ℕ → ℕ → Type 0) → State → Move → List Move → Type 0
+PostsUrgent c pages spare still s m ms =
+    (id : ℕ) → urgent_block c s m.entry ≡ Some id → spare m.behind.ops (pages_wanted pages s id) → IsPostedSoon (still id) id (pages s id + 4) m.behind.faults ms
+
+-- Once so many operations were made the bytes had so many pages free for an urgent write, in a bank of which no program failed.
+pub record HadFree (making : Making) (f : FlashRun) (operations pages : ℕ) : Type 0 where
+  pub counted : operations < last_count
+  pub image : List ℕ
+  pub bytes : bytes_after f operations ≡ Some image
+  pub free : pages ≤ ready_pages making (take operations f.operations) image
+
 -- THE ENDS OF A RUN
 -- the first start-up tells the operations of the first moment
 abbrev pub BeginsAt : Moment → List Entry → Type 0
@@ -239,8 +298,9 @@ EndsBy last f end = Unit {0}
 -- the flash, and each that failed is counted in its own move; the flash counted the faults that they tell, and one more where
 -- a start-up failed behind them. Each job is posted within its most turns, counted from its Pick, a turn with nothing to do does
 -- nothing, and each power cut that is planned comes at its operation; where nothing fails a `drain` leaves nothing open at the
--- device. Over a flash that tells its bytes, from a sound image on, each Post is paid since the last Pick before it, or the flash
--- was worn out.
+-- device. Over a flash that tells its bytes, from a sound image on, an urgent write is posted within its pages and four turns,
+-- where these pages are free in the bytes of its moment beside those of the job in hand, and each Post is paid since the last Pick
+-- before it, or the flash was worn out.
 pub record KeepsTurns (most : State → Job → ℕ) (r : Run) (made : List Step) (pieces : List (List Entry)) : Type 0 where
   pub first : Moment
   pub last : Moment
@@ -254,6 +314,9 @@ pub record KeepsTurns (most : State → Job → ℕ) (r : Run) (made : List Step
   pub rests : StaysAtRest r.configuration first (after r.configuration (take 1 r.history)) (all_moves moves.moves)
   pub drains : IsCalm r → ClosesAtDrains first made moves.moves
   pub cuts : CutsCome r.configuration None first (after r.configuration (take 1 r.history)) made moves.moves
+  pub urgent : TellsBytes r.flash → StartsSound (making_of r.configuration) r.flash
+      → EachMove r.configuration (PostsUrgent r.configuration (write_pages r.configuration) (HadFree (making_of r.configuration) r.flash) (λ id left. Unit {0}))
+      (after r.configuration (take 1 r.history)) (all_moves moves.moves)
   pub paid : TellsBytes r.flash → StartsSound (making_of r.configuration) r.flash
       → ArePaidSince r.configuration (IsWornOut (making_of r.configuration) r.flash) first.faults first (after r.configuration (take 1 r.history)) (all_moves moves.moves)
 

@@ -15,7 +15,7 @@ ghost use Rattle.script_walks.specs.Words.{AskStep, Restart};
 ghost use Rattle.block_machine.specs.Words.{Status, Fine, Canceled, BlockSkipped, Post};
 ghost use Rattle.promise_run.specs.Run.{FlashFault, HistoryFull};
 ghost use Rattle.promise_run.specs.Turns.{BeginsAt, EndsBy, HasTurns};
-ghost use Rattle.promise_run.specs.Cases.{six_turns, lazy, leaps, at_faults, faulty, PaysFailed, CountsFailed, HadRoomAt, LeftAt, DrainsTo, WorksAt, EndsWith, mended, posts_on_credit, starts_on_credit, untold, BreaksBy, small, one, two, quiet, quiet_beside, wiped, empty_at_11, made_up_mark, off_without_a_cut, cut_within, cut_twice, stale_in_play, invented_store, second_found, other_dataset, worn_but_roomy, worn_and_full, kept_write, lost_write, two_callers, written_at, always, turned, not_drained, fails_for_nothing, ends_for_nothing, demo_run, demo_call, untold_write, unseen_stale, later_store, full_for_nothing, not_served, worn_long_ago, cut_comes, cut_missed, last_in_two, erased_with_room, erased_when_full, erased_beside_last, programmed_over};
+ghost use Rattle.promise_run.specs.Cases.{six_turns, lazy, leaps, at_faults, faulty, PaysFailed, CountsFailed, HadRoomAt, LeftAt, DrainsTo, WorksAt, EndsWith, mended, posts_on_credit, starts_on_credit, untold, BreaksBy, small, one, two, quiet, quiet_beside, wiped, empty_at_11, made_up_mark, off_without_a_cut, cut_within, cut_twice, stale_in_play, invented_store, second_found, other_dataset, worn_but_roomy, worn_but_kept, worn_and_full, kept_write, lost_write, two_callers, written_at, always, turned, not_drained, fails_for_nothing, ends_for_nothing, demo_run, demo_call, untold_write, unseen_stale, later_store, full_for_nothing, not_served, worn_long_ago, cut_comes, cut_missed, last_in_two, erased_with_room, erased_when_full, erased_beside_last, programmed_over};
 
 /// A start-up alone keeps it, and so do a write that a cut breaks off with a restart behind it, and the requests of two
 /// callers.
@@ -70,8 +70,9 @@ pub fn wrong_marks_break_it()
 
 /// A power cut that nothing brought breaks it by its cuts, and so does one of which fewer bytes were done than the step said, one
 /// that comes an operation too soon, and one more than was planned. A failure with a fault too few, over a bank of
-/// the last generation that has room, breaks it by its faults, also where a program failed before the last erase. Over one that
-/// has none the failure is paid.
+/// the last generation that has room, breaks it by its faults, also where a program failed before the last erase, or where only the
+/// pages that are kept are free and the write is an immediate one. Over one that has none the failure is paid, and so is that of a
+/// standard write where only these are free.
 pub fn wrong_causes_break_it()
     ensures off_without_a_cut { BreaksBy off_without_a_cut (CutsExplain off_without_a_cut.course off_without_a_cut.history [] 0 0) }
     ensures let_15_done { BreaksBy (cut_within 1 15) (CutsExplain (cut_within 1 15).course (cut_within 1 15).history (15 ∷ []) 0 0) }
@@ -80,7 +81,9 @@ pub fn wrong_causes_break_it()
     ensures cut_twice { BreaksBy cut_twice (CutsExplain cut_twice.course cut_twice.history (16 ∷ 16 ∷ []) 0 0) }
     ensures worn_but_roomy { BreaksBy worn_but_roomy (FailuresArePaid worn_but_roomy worn_but_roomy.beside) }
     ensures worn_long_ago { BreaksBy worn_long_ago (FailuresArePaid worn_long_ago worn_long_ago.beside) }
+    ensures immediate_but_kept { BreaksBy (worn_but_kept 0) (FailuresArePaid (worn_but_kept 0) (worn_but_kept 0).beside) }
     ensures worn_and_full { FailuresArePaid worn_and_full worn_and_full.beside }
+    ensures standard_but_kept { FailuresArePaid (worn_but_kept 1) (worn_but_kept 1).beside }
 {}
 
 /// An erase beside an active bank that has room for the record breaks it by its wear, and so does one beside a bank of the last

@@ -10,6 +10,7 @@ mod cases;
 mod life;
 mod refused_cases;
 mod turn_cases;
+mod urgent_cases;
 
 pub use cap::CAP;
 pub use cases::{
@@ -22,3 +23,4 @@ pub use cases::{
 pub use life::units_hold_marks;
 pub use refused_cases::{copies_not_refused_as_asked, copies_refused_as_asked};
 pub use turn_cases::turns_of_jobs;
+pub use urgent_cases::urgent_writes_are_posted_soon;

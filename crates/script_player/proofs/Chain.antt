@@ -65,7 +65,7 @@ false_true {t} off on = never (sym off ∙ on)
     never : false ≡ true → ⊥
     never e = cc
 
-rose_or : (a b : ℕ) → Rose a b ⊎ (¬ Rose a b)
+pub rose_or : (a b : ℕ) → Rose a b ⊎ (¬ Rose a b)
 rose_or a b = elim (leb_tells (a + 1) b) [
   | inl more ↦ inl (inl (let less = more.1 in omega (arith, less)))
   | inr few ↦ elim (leb_tells last_count a) [

@@ -13,7 +13,7 @@ use Rattle.uds_gateway.specs.block_machine.Steps.{step, after, after_from, picke
 use Rattle.uds_gateway.proofs.Along.{Leaves, asked_leaves}
 use Rattle.script_walks.specs.Walk.{is_at_rest}
 use Rattle.promise_run.specs.Completeness.{is_calm_entry, ends_job}
-use Rattle.promise_run.specs.Turns.{is_found}
+use Rattle.promise_run.specs.Turns.{entry_list, is_found, is_off}
 
 -- THE POWER AND THE HAND
 
@@ -74,6 +74,16 @@ stays_off c s (Wrote i mark ops) no_found off = wrote_off s i mark s.hand ∙ of
 stays_off c s (Post block r given refused ops) no_found off = posted_off c s r given s.hand ∙ off
 stays_off c s (Off ops) no_found off = refl
 stays_off c s (Found marks ops) no_found off = absurd (cc no_found)
+
+-- it stays on through any entry but an Off
+pub off_stays : (c : Configuration) (s : State) (e : Option Entry) → is_off e ≡ false → s.off ≡ false → (after_from c s (entry_list e)).off ≡ false
+off_stays c s None none on = on
+off_stays c s (Some (Ask caller r reply)) none on = (asked_leaves c s r reply).2 ∙ on
+off_stays c s (Some (Pick block kind t ops)) none on = picked_on c s t (next_of c s) on
+off_stays c s (Some (Wrote i mark ops)) none on = wrote_on s i mark s.hand on
+off_stays c s (Some (Post block r given refused ops)) none on = posted_on c s r given s.hand on
+off_stays c s (Some (Off ops)) none on = absurd (cc none)
+off_stays c s (Some (Found marks ops)) none on = refl
 
 -- behind calm entries it is on
 pub power_on : (c : Configuration) (h : List Entry) → IsTrue (list_all is_calm_entry h) → (after c h).off ≡ false

@@ -27,6 +27,9 @@ pub mod PlainHalves
 pub mod PlainBehind
 pub mod PlainMostTurns
 pub mod PlainServing
+pub mod JobNumbers
+pub mod PlainPages
+pub mod PlainDue
 pub mod PlainPaying
 pub mod PlannedCuts
 pub mod Fresh

@@ -28,7 +28,7 @@ use Rattle.promise_run.specs.Turns.{Moment, Move, Planned, planned_by, AreMovesO
 use Rattle.script_player.proofs.Coming.{pending_same, refuse_cuts, ask_cuts, turns_cuts}
 use Rattle.script_player.proofs.Moves.{move_to, ask_chain, start_chain}
 use Rattle.script_player.specs.Chain.{shown_of}
-use Rattle.script_player.specs.Paying.{Payer, PaysNothing}
+use Rattle.script_player.specs.Paying.{Payer, OwesNothing, PaysNothing, AskPays}
 use Rattle.script_player.proofs.Paying.{nothing_pays, ask_pays, found_pays}
 use Rattle.promise_run.specs.Refusals.{asked_by}
 use Rattle.script_player.proofs.Explained.{by_cut, by_entries, by_nothing, by_refuse, by_restart}
@@ -118,7 +118,7 @@ not_both false is none = cc is
 
 -- a request
 pub ask_made : (p q : Payer) (before : List Step) (line caller : ℕ) (r : Request) (table : List ℕ) (old new : StackTold) → CanBePlayed old.configuration (AskStep r)
-    → IsAsked caller r table old new → PaysNothing p q new → HasLastStores old.configuration before table → IsKept before old → IsMade p q before (record { line = line; caller = caller; kind = AskStep r }) old new
+    → IsAsked caller r table old new → AskPays p q old new → HasLastStores old.configuration before table → IsKept before old → IsMade p q before (record { line = line; caller = caller; kind = AskStep r }) old new
 ask_made p q before line caller r table old new can asked pays has kept =
     let x : Step = record { line = line; caller = caller; kind = AskStep r } in
     let (reply, adds) = asked before has in
@@ -138,7 +138,7 @@ ask_made p q before line caller r table old new can asked pays has kept =
       tell = refl;
       behind = sym (ap moment_of adds.adds);
       chain = ask_chain caller (request_after old.configuration before caller r) reply old new adds;
-      pays = ask_pays p q caller (request_after old.configuration before caller r) reply old new (ap (λ t. t.faults) adds.adds) pays;
+      pays = ask_pays p q caller (request_after old.configuration before caller r) reply old new (ap (λ t. t.faults) adds.adds) (ap (λ t. t.entries) adds.adds) pays.0 pays.1;
       one = ap (λ t. t.one) adds.adds;
       cuts = λ few. ask_cuts caller r (request_after old.configuration before caller r) reply old new adds;
       is = ((refl, refl), (ask_takes old.configuration before (copies_by old.configuration (next_of old.configuration (state_of old))) e caller (request_after old.configuration before caller r) reply, tt));
@@ -153,7 +153,7 @@ ask_made p q before line caller r table old new can asked pays has kept =
 
 -- a start-up
 pub restart_made : (p q : Payer) (before : List Step) (line caller : ℕ) (old new : StackTold)
-    → StartsAgain old new → PaysNothing p q new → IsKept before old → IsMade p q before (record { line = line; caller = caller; kind = Restart }) old new
+    → StartsAgain old new → OwesNothing p q new → IsKept before old → IsMade p q before (record { line = line; caller = caller; kind = Restart }) old new
 restart_made p q before line caller old new starts_again pays kept =
     let x : Step = record { line = line; caller = caller; kind = Restart } in
     let marks = starts_again.marks in

@@ -2,14 +2,15 @@
 use Rattle.std.specs.Prelude.{IfSome, not, ◌||◌}
 use Rattle.script_walks.specs.Walk.{is_due, begins_with_pick_or_post}
 use Rattle.std.specs.List.{list_any}
-use Rattle.std.proofs.Common.{◌≡◌, ℕ, false, List, [], ◌∷◌, ◌++◌, IsTrue, map, Some, refl, sym, ap, ◌∙◌, subst, append_assoc, append-nil}
+use Rattle.std.proofs.lemmas.Bool.{cases_Bool}
+use Rattle.std.proofs.Common.{◌≡◌, ℕ, Bool, true, false, inl, inr, Option, None, List, [], ◌∷◌, ◌++◌, IsTrue, map, Some, refl, sym, ap, ◌∙◌, subst, append_assoc, append-nil}
 use Rattle.std.proofs.lemmas.List.{map-append}
 use Rattle.uds_gateway.specs.nv_base.Entry.{ops_of}
 use Rattle.uds_gateway.specs.block_machine.Words.{Instance, Mark, Request, Reply, Entry, Ask, Pick, Wrote, Post, Off, Found, Configuration}
 use Rattle.uds_gateway.specs.block_machine.State.{State}
 use Rattle.script_walks.specs.Words.{Step, Drain}
 use Rattle.script_walks.specs.Turn.{IsTurn}
-use Rattle.promise_run.specs.Turns.{Moment, Move, entry_list, entries_of, moment_behind, moment_after, AreTurnsMade, AreMovesOf, AreMoves, HasMoves, ClosesAtDrains, is_asked, is_picked, all_moves, IsInTime, AreInTime}
+use Rattle.promise_run.specs.Turns.{Moment, Move, entry_list, entries_of, moment_behind, moment_after, AreTurnsMade, AreMovesOf, AreMoves, HasMoves, ClosesAtDrains, is_asked, is_picked, is_off, posts_other, urgent_block, IsPostedSoon, all_moves, IsInTime, AreInTime}
 use Rattle.uds_gateway.specs.block_machine.Steps.{after_from}
 use Rattle.script_player.specs.Told.{StackTold, state_of, moment_of, IsGrown}
 use Rattle.script_player.specs.Paying.{Payer, PaysTurn, PaysBy}
@@ -21,7 +22,7 @@ use Rattle.script_player.specs.Chain.{Shown, shown_of, ServesIn, IsMoved, AreMov
 use Rattle.script_player.proofs.Canceled.{first_of, canceled_ends}
 use Rattle.promise_run.proofs.PlannedCuts.{in_time_more}
 use Rattle.script_player.proofs.Coming.{entries_more, in_time, turn_coming}
-use Rattle.script_player.proofs.Chain.{moved_more, all_more}
+use Rattle.script_player.proofs.Chain.{moved_more, all_more, rose_or}
 use Rattle.script_player.specs.Kept.{AreMade}
 
 -- TURNS
@@ -111,6 +112,36 @@ turn_chain old new turn =
       serves = λ no_ask no_found calm on. subst (λ (es : List Entry). ServesIn es (shown_of old) (shown_of new)) first (let serves = turn.serves calm on in record { nears = serves.nears; within = serves.within });
     }
 
+-- only a request is accepted
+no_urgent : (e : Option Entry) (c : Configuration) (s : State) (id : ℕ) → (IsTrue (is_asked e) → ⊥) → urgent_block c s e ≡ Some id → ⊥
+no_urgent (Some (Ask caller r reply)) c s id no_ask is = no_ask refl
+no_urgent (Some (Pick block kind t ops)) c s id no_ask is = cc is
+no_urgent (Some (Wrote i mark ops)) c s id no_ask is = cc is
+no_urgent (Some (Post block r given refused ops)) c s id no_ask is = cc is
+no_urgent (Some (Off ops)) c s id no_ask is = cc is
+no_urgent (Some (Found marks ops)) c s id no_ask is = cc is
+no_urgent None c s id no_ask is = cc is
+
+or_true : (a b : Bool) → IsTrue b → IsTrue (a || b)
+or_true true b is = refl
+or_true false b is = is
+
+-- what is due is posted in a turn, or stays due
+turn_soon : (p q : Payer) (old new : StackTold) (turn : MakesTurn old new) → PaysTurn p q old new → (id turns : ℕ) → p.due id turns → IsPostedSoon (q.due id) id turns old.faults (move_to turn.entries new ∷ [])
+turn_soon p q old new turn pays id turns due =
+    let e = first_of turn.entries in
+    inr (elim (rose_or old.faults new.faults) [
+      | inl rose ↦ inr (inl rose)
+      | inr calm ↦ elim (cases_Bool (is_off e)) [
+        | inl off ↦ inr (inr (inl off))
+        | inr on ↦ elim (pays.serves id turns e due (ap (λ t. t.entries) turn.grows ∙ ap (λ (es : List Entry). old.entries ++ es) (all_first old.configuration (state_of old) old.stores turn.entries turn.turn)) calm on) [
+          | inl posted ↦ inr (inr (inr (inl posted)))
+          | inr (inl (other, still)) ↦ inl (or_true (is_asked e) (posts_other id e) other, still)
+          | inr (inr nearer) ↦ inr (inr (inr (inr nearer)))
+        ]
+      ]
+    ])
+
 turn_pays : (p q : Payer) (old new : StackTold) (turn : MakesTurn old new) → PaysTurn p q old new → PaysBy p q old (move_to turn.entries new ∷ [])
 turn_pays p q old new turn pays =
     let first = all_first old.configuration (state_of old) old.stores turn.entries turn.turn in record {
@@ -118,6 +149,10 @@ turn_pays p q old new turn pays =
       worn = pays.worn;
       failed = pays.failed;
       counts = (record { later = turn.operations.later; own = pays.counts }, tt);
+      spare = pays.spare;
+      pages = pays.pages;
+      dues = λ id turns due. turn_soon p q old new turn pays id turns due;
+      urgent = (λ id is free. absurd (no_urgent (first_of turn.entries) old.configuration (state_of old) id (no_ask old.configuration (state_of old) old.stores turn.entries turn.turn) is), tt);
       pays = λ tells since owes.
           let (paid, now) = pays.pays tells since (move_to turn.entries new) owes refl (ap (λ t. t.entries) turn.grows ∙ ap (λ (es : List Entry). old.entries ++ es) first) in ((paid, tt), now);
     }

@@ -1,15 +1,16 @@
 -- What the calls of a stack pay.
-use Rattle.std.specs.Prelude.{IfSome, min}
+use Rattle.std.specs.Prelude.{IfSome, min, ◌==◌, false}
 use Rattle.std.proofs.lemmas.Bool.Decides.{leb_tells}
-use Rattle.std.proofs.Common.{◌≡◌, ◌<◌, ◌≤◌, ◌+◌, ◌⊎◌, ℕ, Bool, true, if◌then◌else◌, List, [], ◌∷◌, ◌++◌, Option, Some, None, refl, sym, ap, ◌∙◌, subst, inl, inr, arith}
+use Rattle.std.proofs.Common.{◌≡◌, ◌<◌, ◌≤◌, ◌+◌, ◌⊎◌, ℕ, Bool, true, if◌then◌else◌, List, [], ◌∷◌, ◌++◌, Option, Some, None, refl, sym, ap, ◌∙◌, subst, inl, inr, arith, append-nil}
+use Rattle.std.proofs.lemmas.Bool.{cases_Bool}
 use Rattle.uds_gateway.specs.nv_base.Count.{last_count, Rose, WereCounted}
-use Rattle.uds_gateway.specs.memif.Told.{DeviceTold, Part, PartTold, faults_of}
+use Rattle.uds_gateway.specs.memif.Told.{DeviceTold, Fixed, Part, PartTold, armed, faults_of}
 use Rattle.uds_gateway.specs.memif.Clock.{Clock}
-use Rattle.uds_gateway.specs.memif.Calls.{Arms}
+use Rattle.uds_gateway.specs.memif.Calls.{Arms, InOrder}
 use Rattle.uds_gateway.specs.memif.Trials.{Lasts}
 use Rattle.uds_gateway.specs.memif.Marks.{ComesFrom}
 use Rattle.uds_gateway.proofs.Turning.{told_before, same_clock, same_told, same_lasts as clock_lasts}
-use Rattle.uds_gateway.specs.block_machine.Words.{Entry, Ask, Pick, Wrote, Post, Off, Found}
+use Rattle.uds_gateway.specs.block_machine.Words.{Request, Reply, Entry, Ask, Pick, Wrote, Post, Off, Found}
 use Rattle.uds_gateway.specs.block_machine.Prices.{price_in_faults, sum_from}
 use Rattle.uds_gateway.specs.promise_blocks.Payment.{IsExcused}
 use Rattle.uds_gateway.specs.ram_blocks.declared.plain_block.PlainBlock.{PlainBlock}
@@ -19,16 +20,25 @@ use Rattle.uds_gateway.specs.job_progress.Hand.{HandState}
 use Rattle.uds_gateway.specs.nvm_found.Found.{IsRestarted}
 use Rattle.uds_gateway.specs.nvm_device_laws.Turn.{TellsSlots}
 use Rattle.uds_gateway.specs.nvm_laws.Keeps.{StaysKept}
+use Rattle.uds_gateway.specs.nvm_laws.Ties.{IsTied}
+use Rattle.uds_gateway.specs.nvm_laws.DueCalls as laws
+use Rattle.uds_gateway.specs.nvm_laws.DueCalls.{TurnServesDue}
 use Rattle.uds_gateway.specs.nvm_laws.declared.turned.Turned.{Turned}
 use Rattle.uds_gateway.specs.nvm_laws.declared.turned.FoundAnswer.{FoundAnswer}
 use Rattle.uds_gateway.specs.nvm_laws.declared.turned.FoundAnswer.TheVariants as found
-use Rattle.uds_gateway.specs.nvm_core.Stack.{StackState}
+use Rattle.uds_gateway.specs.nvm_core.Stack.{StackState, PowersOff}
+use Rattle.uds_gateway.specs.nvm_core.Due.{now_of}
 use Rattle.uds_gateway.specs.nvm_core.StartUps.{Restarts}
 use Rattle.uds_gateway.specs.nvm_core.Turns as core
-use Rattle.uds_gateway.specs.nvm_core.Paying.{OwesSince, PaysSince, TurnPays, worn_so_far}
+use Rattle.uds_gateway.specs.nvm_core.Paying.{OwesSince, PaysSince, TurnPays, has_urgent, worn_so_far}
 use Rattle.uds_gateway.proofs.Trying.{since_stays}
+use Rattle.uds_gateway.proofs.Paying.{asked_urgency}
 use Rattle.promise_run.specs.Turns.{entry_list, is_picked}
-use Rattle.script_player.specs.Paying.{StaysWorn, FailsNoMore, PaysTurn, PaysNothing}
+use Rattle.script_player.specs.Paying.{StaysWorn, FailsNoMore, SparesNoMore, PaysTurn, OwesNothing, PaysNothing, StartPays}
+use Rattle.script_player.specs.Calls.{MakesTurn}
+use Rattle.script_player.specs.PlainDue.{AreFirst, pages_in}
+use Rattle.script_player.proofs.PlainDevices.{turn_fixed}
+use Rattle.script_player.proofs.PlainDue.{on_behind, call_keeps, same_keeps, turn_serves, true_false}
 use Rattle.script_player.specs.PlainTold.{told_by}
 use Rattle.script_player.specs.PlainKept.{IsKept}
 use Rattle.script_player.specs.PlainPaying.{payer_by}
@@ -71,17 +81,29 @@ module _ {D : Type 0} (device : D → DeviceTold) (clock : D → Clock) (old new
   TellsBack = TellsSlots (device new.device) → TellsSlots (device old.device)
 
   abbrev Owes : Type 0
-  Owes = (since : ℕ) → OwesSince since old.hand (device old.device) (clock old.device) → OwesSince since new.hand (device new.device) (clock new.device)
+  Owes = (since : ℕ) → OwesSince (has_urgent old.desk) since old.hand (device old.device) (clock old.device) → OwesSince (has_urgent new.desk) since new.hand (device new.device) (clock new.device)
+
+  -- a turn leaves what never changes
+  turned_fixed : {copies : List PlainBlock → List Told} {is_store : List PlainBlock → ℕ → ℕ → List ℕ → Type 0} {looked : List PlainBlock → List PlainBlock → ℕ → ℕ → Type 0} (answer : Turned) → core.Turns device clock copies is_store looked answer old new → (device new.device).fixed ≡ (device old.device).fixed
+  turned_fixed answer (inl half) = ap (λ (d : DeviceTold). d.fixed) half.device
+  turned_fixed answer (inr (between, first, second)) = turn_fixed answer (device between.device) (device new.device) (clock between.device) (clock new.device) second.turns ∙ ap (λ (d : DeviceTold). d.fixed) first.device
 
   module _ (keeps : Keeps) (tells : TellsBack) (lasts : Lasts (device old.device) (clock old.device) (device new.device) (clock new.device)) where
     stays_worn : StaysWorn (payer_by device clock old) (payer_by device clock new)
-    stays_worn k n (few, is) = (let later = lasts.ops in omega (arith, few, later), lasts.past.worn k n few is)
+    stays_worn k n urgent (few, is) = (let later = lasts.ops in omega (arith, few, later), lasts.past.worn k n urgent few is)
 
     fails_no_more : FailsNoMore (device old.device).ops (payer_by device clock old) (payer_by device clock new)
     fails_no_more k before (few, is) = (before, (lasts.past.failed k before).0 is)
 
-    pub nothing_paid : (device new.device).ops ≡ (device old.device).ops → Owes → PaysNothing (payer_by device clock old) (payer_by device clock new) (told_by device new)
-    nothing_paid none owes = record { tells = tells; worn = stays_worn; failed = λ k is. (let few = is.0 in fails_no_more k (omega (arith, few, none)) is); owes = λ since was. (((was.0.0, keeps was.0.0 was.0.1), owes since was.1), (owes since was.1).0) }
+    module _ (fixed : (device new.device).fixed ≡ (device old.device).fixed) (config : new.desk.config ≡ old.desk.config) where
+      spares_no_more : SparesNoMore (device old.device).ops (payer_by device clock old) (payer_by device clock new)
+      spares_no_more k n few (within, (free, spare, wanted, first)) = (few, (free, lasts.past.spare k free few spare, wanted, subst AreFirst fixed first))
+
+      same_pages : pages_in (device new.device).fixed new.desk.config ≡ pages_in (device old.device).fixed old.desk.config
+      same_pages = ap (λ (f : Fixed). pages_in f new.desk.config) fixed ∙ ap (pages_in (device old.device).fixed) config
+
+      pub nothing_paid : (device new.device).ops ≡ (device old.device).ops → Owes → OwesNothing (payer_by device clock old) (payer_by device clock new) (told_by device new)
+      nothing_paid none owes = record { tells = tells; worn = stays_worn; spare = λ k n is. (let few = is.0 in spares_no_more k n (omega (arith, few, none)) is); pages = same_pages; failed = λ k is. (let few = is.0 in fails_no_more k (omega (arith, few, none)) is); owes = λ since was. (((was.0.0, keeps was.0.0 was.0.1), owes since was.1), (owes since was.1).0) }
 
     -- A TURN
     module _ (since : ℕ) (before : Part → PartTold) (kept : IsKept new.ready before new.desk new.hand (device new.device) (clock new.device))
@@ -92,7 +114,7 @@ module _ {D : Type 0} (device : D → DeviceTold) (clock : D → Clock) (old new
           ⊎ IfSome o (IsExcused old.desk.config (worn_so_far (device new.device) (clock new.device)) (state_of old.desk))
 
       abbrev OwesFrom : ℕ → Type 0
-      OwesFrom n = ((b : Part → PartTold) × IsKept new.ready b new.desk new.hand (device new.device) (clock new.device)) × OwesSince n new.hand (device new.device) (clock new.device)
+      OwesFrom n = ((b : Part → PartTold) × IsKept new.ready b new.desk new.hand (device new.device) (clock new.device)) × OwesSince (has_urgent new.desk) n new.hand (device new.device) (clock new.device)
 
       price : (e : Entry) → new.desk.entries ≡ old.desk.entries ++ e ∷ [] → IsPaidBy (Some e)
       price e is = elim (paid.pays e is) [
@@ -112,11 +134,23 @@ module _ {D : Type 0} (device : D → DeviceTold) (clock : D → Clock) (old new
       by_entry (Some (Off ops)) is = (price (Off ops) is, goes)
       by_entry (Some (Found marks ops)) is = (price (Found marks ops) is, goes)
 
-    pub turn_paid : old.ready ≡ true → TurnPays device clock old new → PaysTurn (payer_by device clock old) (payer_by device clock new) (told_by device old) (told_by device new)
-    turn_paid ready pays = record {
+    pub turn_paid : {copies : List PlainBlock → List Told} {is_store : List PlainBlock → ℕ → ℕ → List ℕ → Type 0} {looked : List PlainBlock → List PlainBlock → ℕ → ℕ → Type 0} (answer : Turned) → core.Turns device clock copies is_store looked answer old new → TurnServesDue (now_of device old) (now_of device new)
+        → IsTied old.desk old.hand (device old.device) → PowersOff new.desk (device new.device) → InOrder (device new.device) (clock new.device) → MakesTurn (told_by device old) (told_by device new) → old.ready ≡ true → TurnPays device clock old new → PaysTurn (payer_by device clock old) (payer_by device clock new) (told_by device old) (told_by device new)
+    turn_paid answer made serving tied power order turn ready pays = record {
       tells = tells;
       worn = stays_worn;
       failed = fails_no_more;
+      spare = spares_no_more (turned_fixed answer made) (ap (λ t. t.configuration) turn.grows);
+      pages = same_pages (turned_fixed answer made) (ap (λ t. t.configuration) turn.grows);
+      serves = λ id turns e due adds calm none.
+          let was = due ready in
+          let config = ap (λ t. t.configuration) turn.grows in
+          let on = on_behind old.desk new.desk e config adds none was.on in
+          turn_serves device clock old new e (record { config = config; adds = adds; none = none; on = on; tied = tied; power = power; order = order }) id answer turns made serving
+          (record {
+            faultless = λ rose. calm (rose_in (device old.device).first.faults (device old.device).second.faults (device new.device).first.faults (device new.device).second.faults lasts.faults.0 lasts.faults.1 (inl rose));
+            on = on;
+          }) was;
       counts = λ k le lt (few, is).
           rose_in (device old.device).first.faults (device old.device).second.faults (device new.device).first.faults (device new.device).second.faults lasts.faults.0 lasts.faults.1 (lasts.failed k le lt is);
       pays = λ told since m was behind entries.
@@ -134,30 +168,62 @@ module _ {D : Type 0} (device : D → DeviceTold) (clock : D → Clock) (old new
   same_lasts same =
       subst (λ (x : D). Lasts (device old.device) (clock old.device) (device x) (clock x)) (sym same) (same_told (device old.device) (clock old.device) (device old.device) (clock old.device) refl (same_clock (clock old.device)))
 
-  same_owes : new.device ≡ old.device → new.hand ≡ old.hand → Owes
-  same_owes same hand since owes =
-      subst (λ (x : D). OwesSince since new.hand (device x) (clock x)) (sym same) (subst (λ (h : Option HandState). OwesSince since h (device old.device) (clock old.device)) (sym hand) owes)
+  same_owes : new.device ≡ old.device → new.hand ≡ old.hand → has_urgent old.desk ≡ has_urgent new.desk → Owes
+  same_owes same hand urgency since owes =
+      subst (λ (x : D). OwesSince (has_urgent new.desk) since new.hand (device x) (clock x)) (sym same) (subst (λ (h : Option HandState). OwesSince (has_urgent new.desk) since h (device old.device) (clock old.device)) (sym hand)
+      (subst (λ (b : Bool). OwesSince b since old.hand (device old.device) (clock old.device)) urgency owes))
 
   -- the device and the job in hand stay
-  pub same_paid : Keeps → new.device ≡ old.device → new.hand ≡ old.hand → PaysNothing (payer_by device clock old) (payer_by device clock new) (told_by device new)
-  same_paid keeps same hand = nothing_paid keeps (λ told. subst (λ (x : D). TellsSlots (device x)) same told) (same_lasts same) (ap (λ (x : D). (device x).ops) same) (same_owes same hand)
+  pub same_owed : Keeps → new.device ≡ old.device → new.hand ≡ old.hand → has_urgent old.desk ≡ has_urgent new.desk → new.desk.config ≡ old.desk.config → OwesNothing (payer_by device clock old) (payer_by device clock new) (told_by device new)
+  same_owed keeps same hand urgency config =
+      nothing_paid keeps (λ told. subst (λ (x : D). TellsSlots (device x)) same told) (same_lasts same) (ap (λ (x : D). (device x).fixed) same) config (ap (λ (x : D). (device x).ops) same) (same_owes same hand urgency)
+
+  -- with a request more
+  pub ask_paid : Keeps → laws.KeepsDue (now_of device old) (now_of device new) → (caller : ℕ) (r : Request) (reply : Reply) → new ≡ record old { desk = record old.desk { entries = old.desk.entries ++ Ask caller r reply ∷ [] } }
+      → PaysNothing (payer_by device clock old) (payer_by device clock new) (told_by device new)
+  ask_paid keeps due caller r reply is = record {
+    own = same_owed keeps (ap (λ (s : StackState D (List PlainBlock)). s.device) is) (ap (λ (s : StackState D (List PlainBlock)). s.hand) is)
+        (asked_urgency old.desk.config old.desk.entries caller r reply ∙ ap (λ (s : StackState D (List PlainBlock)). has_urgent s.desk) (sym is)) (ap (λ (s : StackState D (List PlainBlock)). s.desk.config) is);
+    due = call_keeps device old new due (Some (Ask caller r reply)) (ap (λ (s : StackState D (List PlainBlock)). s.desk.config) is) (ap (λ (s : StackState D (List PlainBlock)). s.desk.entries) is) refl (ap (λ (s : StackState D (List PlainBlock)). s.hand) is) (ap (λ (s : StackState D (List PlainBlock)). s.ready) is);
+  }
+
+  pub none_paid : new ≡ old → Keeps → PaysNothing (payer_by device clock old) (payer_by device clock new) (told_by device new)
+  none_paid is keeps = record {
+    own = same_owed keeps (ap (λ (s : StackState D (List PlainBlock)). s.device) is) (ap (λ (s : StackState D (List PlainBlock)). s.hand) is) (ap (λ (s : StackState D (List PlainBlock)). has_urgent s.desk) (sym is)) (ap (λ (s : StackState D (List PlainBlock)). s.desk.config) is);
+    due = same_keeps device old new (ap (λ (s : StackState D (List PlainBlock)). s.desk) is) (ap (λ (s : StackState D (List PlainBlock)). s.hand) is) (ap (λ (s : StackState D (List PlainBlock)). s.device) is) (ap (λ (s : StackState D (List PlainBlock)). s.ready) is);
+  }
 
   -- so do all but the copies
   pub copies_paid : (xs : List PlainBlock) → new ≡ record old { copies = xs } → PaysNothing (payer_by device clock old) (payer_by device clock new) (told_by device new)
-  copies_paid xs is =
-      same_paid (λ before kept. subst (λ (s : StackState D (List PlainBlock)). IsKept s.ready before s.desk s.hand (device s.device) (clock s.device)) (sym is) kept)
-      (ap (λ (s : StackState D (List PlainBlock)). s.device) is) (ap (λ (s : StackState D (List PlainBlock)). s.hand) is)
+  copies_paid xs is = record {
+    own = same_owed (λ before kept. subst (λ (s : StackState D (List PlainBlock)). IsKept s.ready before s.desk s.hand (device s.device) (clock s.device)) (sym is) kept)
+        (ap (λ (s : StackState D (List PlainBlock)). s.device) is) (ap (λ (s : StackState D (List PlainBlock)). s.hand) is) (ap (λ (s : StackState D (List PlainBlock)). has_urgent s.desk) (sym is)) (ap (λ (s : StackState D (List PlainBlock)). s.desk.config) is);
+    due = same_keeps device old new (ap (λ (s : StackState D (List PlainBlock)). s.desk) is) (ap (λ (s : StackState D (List PlainBlock)). s.hand) is) (ap (λ (s : StackState D (List PlainBlock)). s.device) is) (ap (λ (s : StackState D (List PlainBlock)). s.ready) is);
+  }
 
   -- a power cut is planned
-  pub arm_paid : Keeps → TellsBack → (nth keep : ℕ) → new.hand ≡ old.hand → Arms 0 nth keep (device old.device) (clock old.device) (device new.device) (clock new.device)
+  armed_fixed : (which nth keep : ℕ) (d : DeviceTold) → (armed which nth keep d).fixed ≡ d.fixed
+  armed_fixed which nth keep d = elim (cases_Bool (which == 0)) [
+    | inl on ↦ rw on refl
+    | inr off ↦ rw off (elim (cases_Bool (which == 1)) [ inl on ↦ rw on refl | inr off ↦ rw off refl ])
+  ]
+
+  pub arm_paid : Keeps → TellsBack → laws.KeepsDue (now_of device old) (now_of device new) → (nth keep : ℕ) → new ≡ record old { device = new.device } → Arms 0 nth keep (device old.device) (clock old.device) (device new.device) (clock new.device)
       → PaysNothing (payer_by device clock old) (payer_by device clock new) (told_by device new)
-  arm_paid keeps tells nth keep hand arms =
+  arm_paid keeps tells due nth keep is arms =
       let ops : (device new.device).ops ≡ (device old.device).ops = ap (λ (d : DeviceTold). d.ops) arms.0 in
       let faults : faults_of (device new.device) ≡ faults_of (device old.device) = ap faults_of arms.0 in
+      let fixed : (device new.device).fixed ≡ (device old.device).fixed = ap (λ (d : DeviceTold). d.fixed) arms.0 in
+      let hand : new.hand ≡ old.hand = ap (λ (s : StackState D (List PlainBlock)). s.hand) is in
+      let config : new.desk.config ≡ old.desk.config = ap (λ (s : StackState D (List PlainBlock)). s.desk.config) is in
       let lasts = clock_lasts (device old.device) (clock old.device) (device new.device) (clock new.device) ops (ap (λ (d : DeviceTold). d.first.faults) arms.0) (ap (λ (d : DeviceTold). d.second.faults) arms.0) arms.1.same in
-      nothing_paid keeps tells lasts ops (λ since owes.
-      subst (λ (h : Option HandState). OwesSince since h (device new.device) (clock new.device)) (sym hand)
-      (since_stays old.desk.config since (device old.device) (clock old.device) (device new.device) (clock new.device) lasts.ops (omega (arith, faults)) lasts.past.worn old.hand owes))
+      record {
+        own = nothing_paid keeps tells lasts fixed config ops (λ since owes.
+            subst (λ (b : Bool). OwesSince b since new.hand (device new.device) (clock new.device)) (ap (λ (s : StackState D (List PlainBlock)). has_urgent s.desk) (sym is))
+            (subst (λ (h : Option HandState). OwesSince (has_urgent old.desk) since h (device new.device) (clock new.device)) (sym hand)
+            (since_stays old.desk.config since (has_urgent old.desk) (device old.device) (clock old.device) (device new.device) (clock new.device) lasts.ops (omega (arith, faults)) lasts.past.worn old.hand owes)));
+        due = call_keeps device old new due None config (ap (λ (s : StackState D (List PlainBlock)). s.desk.entries) is ∙ sym (append-nil old.desk.entries)) refl hand (ap (λ (s : StackState D (List PlainBlock)). s.ready) is);
+      }
 
   -- a further start-up
   restarted_more : IsRestarted (device old.device) (device new.device) → faults_of (device old.device) ≤ faults_of (device new.device)
@@ -166,10 +232,10 @@ module _ {D : Type 0} (device : D → DeviceTold) (clock : D → Clock) (old new
 
   none_owed : new.hand ≡ None → faults_of (device old.device) ≤ faults_of (device new.device) → Owes
   none_owed none more since owes =
-      subst (λ (h : Option HandState). OwesSince since h (device new.device) (clock new.device)) (sym none) (let less = owes.0 in omega (arith, less, more), tt)
+      subst (λ (h : Option HandState). OwesSince (has_urgent new.desk) since h (device new.device) (clock new.device)) (sym none) (let less = owes.0 in omega (arith, less, more), tt)
 
   unchanged : new ≡ old → Owes
-  unchanged is = same_owes (ap (λ (s : StackState D (List PlainBlock)). s.device) is) (ap (λ (s : StackState D (List PlainBlock)). s.hand) is)
+  unchanged is = same_owes (ap (λ (s : StackState D (List PlainBlock)). s.device) is) (ap (λ (s : StackState D (List PlainBlock)). s.hand) is) (ap (λ (s : StackState D (List PlainBlock)). has_urgent s.desk) (sym is))
 
   pub restart_ops : (answer : FoundAnswer) → Restarts device answer old new → (device new.device).ops ≡ (device old.device).ops
   restart_ops found.Ready restarts = restarts.finds.up.restarted.ops
@@ -188,6 +254,18 @@ module _ {D : Type 0} (device : D → DeviceTold) (clock : D → Clock) (old new
   restart_owes found.Failed restarts = none_owed (ap (λ (s : StackState D (List PlainBlock)). s.hand) restarts.only) (restarted_more restarts.fails.restarted)
   restart_owes found.NoRoom restarts = unchanged restarts.0
   restart_owes found.Memory restarts = unchanged restarts
+
+  -- by what it came to; behind one that failed nothing is due
+  pub restart_paid : Keeps → (lasts : Lasts (device old.device) (clock old.device) (device new.device) (clock new.device)) → (answer : FoundAnswer) → Restarts device answer old new
+      → StartPays answer (payer_by device clock old) (payer_by device clock new) (told_by device new)
+  restart_paid keeps lasts found.Ready restarts =
+      nothing_paid keeps (restart_tells found.Ready restarts) lasts restarts.finds.up.restarted.fixed (ap (λ (s : StackState D (List PlainBlock)). s.desk.config) restarts.only) (restart_ops found.Ready restarts) (restart_owes found.Ready restarts)
+  restart_paid keeps lasts found.Failed restarts = record {
+    own = nothing_paid keeps (restart_tells found.Failed restarts) lasts restarts.fails.restarted.fixed (ap (λ (s : StackState D (List PlainBlock)). s.desk.config) restarts.only) (restart_ops found.Failed restarts) (restart_owes found.Failed restarts);
+    due = λ id turns due ready. absurd (let down : new.ready ≡ false = ap (λ (s : StackState D (List PlainBlock)). s.ready) restarts.only in true_false ready down);
+  }
+  restart_paid keeps lasts found.NoRoom restarts = none_paid restarts.0 keeps
+  restart_paid keeps lasts found.Memory restarts = none_paid restarts keeps
 
   -- a turn leaves the stack ready
   pub turned_ready : {copies : List PlainBlock → List Told} {is_store : List PlainBlock → ℕ → ℕ → List ℕ → Type 0} {looked : List PlainBlock → List PlainBlock → ℕ → ℕ → Type 0} (answer : Turned) → core.Turns device clock copies is_store looked answer old new → new.ready ≡ old.ready

@@ -30,7 +30,7 @@ use Rattle.script_player.specs.Told.{StackTold, state_of, desk_of}
 use Rattle.script_player.specs.Calls.{AddsAsk, Turns}
 use Rattle.script_player.specs.Kept.{IsKept, MakesTurns}
 use Rattle.script_player.specs.Made.{IsMade, IsAsked, IsFresh, HasWalked}
-use Rattle.script_player.specs.Paying.{Payer, PaysTurn, PaysNothing}
+use Rattle.script_player.specs.Paying.{Payer, PaysTurn, PaysNothing, AskPays}
 use Rattle.script_player.specs.Requests.{is_of_request, AreOfRequests, no_stores, IsServing, ServesMore, ServesNoMore, EndsJob, EndsRequest, AreServedSoFar, LeavesRequests, ServesRequests, HasServed}
 use Rattle.script_player.specs.Table.{HasLastStores}
 use Rattle.script_player.specs.Walking.{AreUnderWay}
@@ -119,7 +119,7 @@ pub only_more : (made more : List Step) → AreOfRequests made → AreOfRequests
 only_more made more one two = list_all-append (λ (y : Step). is_of_request y.kind) made more ∙ rw (one, two) refl
 
 -- it is asked
-pub asks_on : (p q r : Payer) (asked : Request) (reply : Reply) (old mid new : StackTold) → IsOwn asked → IsServing p q old mid → AddsAsk (Ask 0 asked reply) mid new → PaysNothing q r new → IsServing p r old new
+pub asks_on : (p q r : Payer) (asked : Request) (reply : Reply) (old mid new : StackTold) → IsOwn asked → IsServing p q old mid → AddsAsk (Ask 0 asked reply) mid new → AskPays q r mid new → IsServing p r old new
 unfolding ask_step
 asks_on p q r asked reply old mid new own serving adds pays = record {
   made = serving.made ++ ask_step asked ∷ [];
@@ -174,7 +174,7 @@ entries_asked asked reply old new adds = ap (λ (t : StackTold). t.entries) adds
 more_entries : (a b d : List Entry) (e : Entry) (es : List Entry) → b ≡ a ++ e ∷ [] → d ≡ b ++ es → d ≡ a ++ e ∷ es
 more_entries a b d e es one two = two ∙ ap (λ (h : List Entry). h ++ es) one ∙ append_assoc a (e ∷ []) es
 
-pub job_posted : (p q r s : Payer) (asked : Request) (old mid between new : StackTold) → IsOwn asked → (serving : IsServing p q old mid) → AddsAsk (Ask 0 asked Accepted) mid between → PaysNothing q r between
+pub job_posted : (p q r s : Payer) (asked : Request) (old mid between new : StackTold) → IsOwn asked → (serving : IsServing p q old mid) → AddsAsk (Ask 0 asked Accepted) mid between → AskPays q r mid between
     → ((before : List Step) → IsKept before between → TurnsSome r s before between new) → ComesToPost asked (desk_of between) (desk_of new) → EndsJob asked p s (Ok tt) old mid new
 job_posted p q r s asked old mid between new own serving adds pays turns comes =
     let asks = asks_on p q r asked Accepted old mid between own serving adds pays in (
@@ -187,7 +187,7 @@ job_posted p q r s asked old mid between new own serving adds pays turns comes =
       comes.none,
     )
 
-pub job_off : (p q r s : Payer) (asked : Request) (old mid between new : StackTold) → IsOwn asked → (serving : IsServing p q old mid) → AddsAsk (Ask 0 asked Accepted) mid between → PaysNothing q r between
+pub job_off : (p q r s : Payer) (asked : Request) (old mid between new : StackTold) → IsOwn asked → (serving : IsServing p q old mid) → AddsAsk (Ask 0 asked Accepted) mid between → AskPays q r mid between
     → ((before : List Step) → IsKept before between → TurnsSome r s before between new) → ComesToOff (desk_of between) (desk_of new) → EndsJob asked p s (Err stop.Off) old mid new
 job_off p q r s asked old mid between new own serving adds pays turns comes =
     let asks = asks_on p q r asked Accepted old mid between own serving adds pays in (
@@ -200,7 +200,7 @@ job_off p q r s asked old mid between new own serving adds pays turns comes =
     )
 
 -- a reply that doesn't accept refuses
-pub job_refused : (p q r : Payer) (asked : Request) (reply : Reply) (old mid new : StackTold) → IsOwn asked → HasNone (state_of mid) → reply ≢ Accepted → reply ≡ reply_of mid.configuration mid.cap (state_of mid) asked → IsServing p q old mid → AddsAsk (Ask 0 asked reply) mid new → PaysNothing q r new
+pub job_refused : (p q r : Payer) (asked : Request) (reply : Reply) (old mid new : StackTold) → IsOwn asked → HasNone (state_of mid) → reply ≢ Accepted → reply ≡ reply_of mid.configuration mid.cap (state_of mid) asked → IsServing p q old mid → AddsAsk (Ask 0 asked reply) mid new → AskPays q r mid new
     → EndsJob asked p r (Ok tt) old mid new
 job_refused p q r asked reply old mid new own none other replies serving adds pays =
     by reply other (subst (λ (x : Reply). IsYesOrNo x) (sym replies) (own_reply mid.configuration mid.cap (state_of mid) asked own)) adds

@@ -28,8 +28,9 @@ use Rattle.script_player.specs.Kept.{IsKept}
 use Rattle.script_player.specs.Made.{cuts_in, cuts_of, IsExplained, IsMade, IsLeft, IsFresh, Makes, HasWalked, WereLeft, WasBroken}
 use Rattle.script_player.specs.Walking.{IsWalking, AreUnderWay, planned_behind}
 use Rattle.script_player.specs.Table.{HasLastStores}
-use Rattle.promise_run.specs.Turns.{Moment, Move, entries_of, moment_behind, moment_after, Planned, planned_by, AreInTime, all_moves}
+use Rattle.promise_run.specs.Turns.{Moment, Move, entries_of, moment_behind, moment_after, Planned, planned_by, AreInTime, EachMove, PostsUrgent, all_moves}
 use Rattle.promise_run.proofs.Paid.{since_too}
+use Rattle.promise_run.proofs.UrgentPosts.{soon_by, urgent_by}
 use Rattle.promise_run.proofs.Counted.{all_behind, behind_later, counted_by}
 use Rattle.script_player.specs.Paying.{Payer, PaysBy, since_behind}
 use Rattle.script_player.proofs.Paying.{none_pays, by_more}
@@ -178,7 +179,12 @@ has_walked p q r made old mid new same counted operations cuts came power pays w
     tells = λ tells. walking.pays.tells (pays.tells tells);
     failed = λ k few is. walking.pays.failed k few (pays.failed k (let later = behind_later q.failed (moment_of old) (all_moves walking.moves.moves) walking.pays.counts in omega (arith, few, later, ends)) is);
     counts = counted_by q.failed r.failed mid.ops pays.failed (moment_of old) (all_moves walking.moves.moves) (omega (arith, ends)) walking.pays.counts;
-    worn = λ k n is. pays.worn k n (walking.pays.worn k n is);
+    spare = λ k n few is. walking.pays.spare k n few (pays.spare k n (let later = behind_later q.failed (moment_of old) (all_moves walking.moves.moves) walking.pays.counts in omega (arith, few, later, ends)) is);
+    pages = pays.pages ∙ walking.pays.pages;
+    dues = λ id turns due. soon_by (q.due id) (r.due id) id turns old.faults (all_moves walking.moves.moves) (pays.dues id) (walking.pays.dues id turns due);
+    urgent = urgent_by old.configuration r.pages q.failed q.spare r.spare q.due r.due mid.ops pays.spare pays.dues (moment_of old) (state_of old) (all_moves walking.moves.moves) (omega (arith, ends)) walking.pays.counts
+        (subst (λ (f : State → ℕ → ℕ). EachMove old.configuration (PostsUrgent old.configuration f q.spare q.due) (state_of old) (all_moves walking.moves.moves)) (sym pays.pages) walking.pays.urgent);
+    worn = λ k n urgent is. pays.worn k n urgent (walking.pays.worn k n urgent is);
     pays = λ tells since owes.
         let (paid, then_owes) = walking.pays.pays (pays.tells tells) since owes in
         let moves = all_moves walking.moves.moves in (

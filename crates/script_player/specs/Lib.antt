@@ -10,6 +10,7 @@ pub mod Requests
 pub mod Paying
 pub mod PlainTold
 pub mod PlainKept
+pub mod PlainDue
 pub mod PlainPaying
 pub use Rattle.uds_gateway.specs.ram_blocks as ram_blocks
 pub use Rattle.uds_gateway.specs as uds_gateway

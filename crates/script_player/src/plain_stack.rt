@@ -58,7 +58,8 @@ impl<D: MemDevice> PlayedStack for PlainStack<D> {
     ghost payer = { λ s. payer_by D.told D.clock s };
 
     fn ask(&mut self, alloc: Global, caller: u8, request: Request) -> Result<Reply, AskFault> {
-        let _device = self.stack.device();
+        let device = self.stack.device();
+        let _status = device.status();
         let reply = self.stack.ask(alloc, caller, request)?;
         let _behind = self.stack.device();
         Ok(reply)
@@ -67,7 +68,8 @@ impl<D: MemDevice> PlayedStack for PlainStack<D> {
     fn turn(&mut self) -> Turned {
         let _device = self.stack.device();
         let turned = self.stack.turn();
-        let _behind = self.stack.device();
+        let behind = self.stack.device();
+        let _status = behind.status();
         turned
     }
 

@@ -1,5 +1,5 @@
 // A stack, as its player sees it.
-ghost use Rattle.std.specs.Prelude.{◌≡◌, ◌≤◌, true, Some, IsSome, IfOk, length, is_some};
+ghost use Rattle.std.specs.Prelude.{◌≡◌, ◌≤◌, true, Some, IsSome, IfOk, OnOk, length, is_some};
 ghost use Rattle.uds_gateway.specs.block_machine.Words.{Request as Asked};
 ghost use Rattle.uds_gateway.specs.block_machine.Legal.{HasStore};
 ghost use Rattle.uds_gateway.specs.block_machine.Reply.{reply_of};
@@ -9,7 +9,7 @@ ghost use Rattle.uds_gateway.specs.Jobs.{HasOne};
 ghost use Rattle.uds_gateway.specs.Turning.{Goes};
 ghost use Rattle.script_player.specs.Told.{StackTold, state_of, desk_of};
 ghost use Rattle.script_player.specs.Calls.{Asks, Turns, Restarts, Arms, Stores, Refuses};
-ghost use Rattle.script_player.specs.Paying.{Payer, PaysTurn, PaysNothing};
+ghost use Rattle.script_player.specs.Paying.{Payer, PaysTurn, PaysNothing, AcceptsUrgent, StartPays};
 
 use std::alloc::Global;
 use uds_gateway::{AskFault, FoundAnswer, Reply, Request, Turned};
@@ -33,6 +33,7 @@ pub trait PlayedStack {
         ensures asks { Asks caller request result (told self.old) (told self.new) }
         ensures replies { IfOk result (λ reply. reply ≡ reply_of (told self.old).configuration (told self.old).cap (state_of (told self.old)) request) }
         ensures pays { PaysNothing (payer self.old) (payer self.new) (told self.new) }
+        ensures urgent { OnOk result (AcceptsUrgent (payer self.old) (payer self.new) (told self.old) (told self.new)) }
         ensures keeps { (before : Part → PartTold) → kept self.old before → kept self.new before };
 
     /// One turn of the main function.
@@ -46,7 +47,7 @@ pub trait PlayedStack {
     /// A further start-up.
     fn restart(&mut self, alloc: Global) -> FoundAnswer
         ensures restarts { Restarts result (told self.old) (told self.new) }
-        ensures pays { PaysNothing (payer self.old) (payer self.new) (told self.new) }
+        ensures pays { StartPays result (payer self.old) (payer self.new) (told self.new) }
         ensures keeps { (before : Part → PartTold) → kept self.old before → kept self.new before };
 
     /// Plans a power cut of the device's flash at its nth changing operation from now, with so many bytes of it done.

@@ -8,7 +8,7 @@ ghost use Rattle.script_walks.specs.Walk.{request_after};
 ghost use Rattle.nvm_script.specs.Played.{IsPlayed, ArePlayed, CanBePlayed};
 ghost use Rattle.script_player.specs.Calls.{StartsAgain};
 ghost use Rattle.script_player.specs.Made.{Makes, IsAsked, IsLeft, IsFresh, HasWalked, WasBroken, cuts_of};
-ghost use Rattle.script_player.specs.Paying.{PaysBy, PaysNothing};
+ghost use Rattle.script_player.specs.Paying.{PaysBy, OwesNothing, AskPays};
 ghost use Rattle.script_player.specs.Table.{HasLastStores, HoldsSynchronized};
 
 use crate::turns::{drain, make_turns};
@@ -132,7 +132,7 @@ fn ask<S: PlayedStack>(
     requires played { CanBePlayed (S.told stack.old).configuration (AskStep request) }
     requires synchronized { HoldsSynchronized (S.told stack.old).configuration stores.now }
     ensures ready { OnOk result ((S.told stack.new).ready ≡ true) }
-    ensures asked { OnOk result (IsAsked caller request stores.now (S.told stack.old) (S.told stack.new) × PaysNothing (S.payer stack.old) (S.payer stack.new) (S.told stack.new)) }
+    ensures asked { OnOk result (IsAsked caller request stores.now (S.told stack.old) (S.told stack.new) × AskPays (S.payer stack.old) (S.payer stack.new) (S.told stack.old) (S.told stack.new)) }
     ensures owes { OnErr result (PaysBy (S.payer stack.old) (S.payer stack.new) (S.told stack.old) []) }
     ensures left { IfErr result (λ fault. (line : ℕ) → IsLeft fault (record { line = line; caller = caller; kind = AskStep request }) (S.told stack.old) (S.told stack.new)) }
     ensures keeps { (before : Part → PartTold) → S.kept stack.old before → S.kept stack.new before }
@@ -146,7 +146,7 @@ fn ask<S: PlayedStack>(
 
 fn restart<S: PlayedStack>(alloc: Global, stack: &mut S) -> Result<(), StepFault>
     ensures ready { OnOk result ((S.told stack.new).ready ≡ true) }
-    ensures made { OnOk result (StartsAgain (S.told stack.old) (S.told stack.new) × PaysNothing (S.payer stack.old) (S.payer stack.new) (S.told stack.new)) }
+    ensures made { OnOk result (StartsAgain (S.told stack.old) (S.told stack.new) × OwesNothing (S.payer stack.old) (S.payer stack.new) (S.told stack.new)) }
     ensures owes { OnErr result (PaysBy (S.payer stack.old) (S.payer stack.new) (S.told stack.old) []) }
     ensures left { IfErr result (λ fault. (line caller : ℕ) → IsLeft fault (record { line = line; caller = caller; kind = Restart }) (S.told stack.old) (S.told stack.new)) }
     ensures keeps { (before : Part → PartTold) → S.kept stack.old before → S.kept stack.new before }

@@ -5,7 +5,7 @@ use Rattle.nvm_flash.specs.ram_blocks.declared.plain_block.PlainBlock.{PlainBloc
 use Rattle.script_player.specs.PlainKept.{IsKept}
 use Rattle.script_player.specs.PlainPaying.{payer_by}
 use Rattle.script_player.specs.PlainTold.{told_by}
-use Rattle.nvm_top.specs.Stack.{IsStarted}
+use Rattle.nvm_top.specs.Stack.{BeginsPaying, IsStarted}
 use Rattle.nvm_top.proofs.served.serve_run.Goals as goal
 
 pub returns-in-Ok-clause-served : goal.returns-in-Ok-clause-served
@@ -22,5 +22,5 @@ returns-in-Ok-clause-served g c =
       most = c.serve_requests-end.ensures.most;
       keeps = c.serve_requests-end.ensures.keeps before
           (subst (λ (s : StackState g.row.P-Device.Denot (List PlainBlock)). IsKept s.ready before s.desk s.hand (told s.device) (clock s.device)) (sym same) c.in-Ok.ensures.kept.0);
-      owes = subst (λ (s : StackState g.row.P-Device.Denot (List PlainBlock)). (payer_by told clock s).owes (told_by told s).faults) (sym same) c.in-Ok.ensures.kept.1;
+      owes = subst (λ (s : StackState g.row.P-Device.Denot (List PlainBlock)). BeginsPaying (payer_by told clock s) (told_by told s)) (sym same) c.in-Ok.ensures.kept.1;
     }

@@ -1,4 +1,4 @@
-use Rattle.promise_run.proofs.WrongCauses.{no_off_without_a_cut, not_15, just_16, not_too_soon, not_twice, no_worn_but_roomy, no_worn_long_ago, full_is_worn}
+use Rattle.promise_run.proofs.WrongCauses.{no_off_without_a_cut, not_15, just_16, not_too_soon, not_twice, no_worn_but_roomy, no_worn_but_kept, no_worn_long_ago, full_is_worn, kept_is_worn}
 use Rattle.promise_run.proofs.cases.wrong_causes_break_it.Goals as goal
 
 pub returns-clause-off_without_a_cut : goal.returns-clause-off_without_a_cut
@@ -24,3 +24,9 @@ returns-clause-worn_long_ago c = (λ p. p.faults, no_worn_long_ago)
 
 pub returns-clause-worn_and_full : goal.returns-clause-worn_and_full
 returns-clause-worn_and_full c = full_is_worn
+
+pub returns-clause-immediate_but_kept : goal.returns-clause-immediate_but_kept
+returns-clause-immediate_but_kept c = (λ p. p.faults, no_worn_but_kept)
+
+pub returns-clause-standard_but_kept : goal.returns-clause-standard_but_kept
+returns-clause-standard_but_kept c = kept_is_worn

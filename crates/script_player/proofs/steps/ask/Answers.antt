@@ -11,4 +11,4 @@ returns-in-Ok-clause-asked g c =
     let asked : IsAsked c.args.caller c.args.request c.args.stores.now old new = λ before has. (
       c.in-Ok._reply,
       subst (λ (r : Request). AddsAsk (Ask c.args.caller r c.in-Ok._reply) old new) (c.request_with.ensures.after old.configuration before has c.requires.played) c.in-Ok.ensures.asks,
-    ) in (asked, c.ask.ensures.pays)
+    ) in (asked, (c.ask.ensures.pays, c.in-Ok.ensures.urgent))

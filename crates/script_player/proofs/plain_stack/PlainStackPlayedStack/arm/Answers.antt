@@ -32,8 +32,8 @@ returns-clause-pays g c =
     let ready = ap (λ (t : StackState g.row.D.Denot (List PlainBlock)). t.ready) c.self.view_is ∙ c.requires in
     let same = ap (λ (t : StackState g.row.D.Denot (List PlainBlock)). t.ready) c.arm.ensures.only in
     subst (λ (t : StackState g.row.D.Denot (List PlainBlock)). PaysNothing (payer_by told clock t) (payer_by told clock new) (told_by told new)) c.self.view_is
-    (arm_paid told clock s new (keeps_by s.ready new.ready s.desk new.desk s.hand new.hand (told s.device) (told new.device) (clock s.device) (clock new.device) ready same c.arm.ensures.keeps) c.arm.ensures.keeps.told
-    c.args.nth c.args.keep (ap (λ (t : StackState g.row.D.Denot (List PlainBlock)). t.hand) c.arm.ensures.only) c.arm.ensures.arms)
+    (arm_paid told clock s new (keeps_by s.ready new.ready s.desk new.desk s.hand new.hand (told s.device) (told new.device) (clock s.device) (clock new.device) ready same c.arm.ensures.keeps) c.arm.ensures.keeps.told c.arm.ensures.due
+    c.args.nth c.args.keep c.arm.ensures.only c.arm.ensures.arms)
 
 pub returns-clause-keeps : goal.returns-clause-keeps
 returns-clause-keeps g c =

@@ -13,11 +13,11 @@ use Rattle.uds_gateway.specs.nvm_core.Stack.{StackState}
 use Rattle.uds_gateway.specs.nvm_core.StartUps.{DownKeepsAsTold, Restarts, StartsKeep}
 use Rattle.uds_gateway.specs.block_laws.Laws.{EntriesAreCounted, HistoriesGoOn, HistoriesStep, SumsGrow}
 use Rattle.uds_gateway.proofs.HistoryLaws.{entries_are_counted, histories_go_on, histories_step, sums_grow}
-use Rattle.script_player.specs.Paying.{PaysNothing}
+use Rattle.script_player.specs.Paying.{StartPays}
 use Rattle.script_player.specs.PlainTold.{told_by}
 use Rattle.script_player.specs.PlainKept.{IsKept}
 use Rattle.script_player.specs.PlainPaying.{payer_by}
-use Rattle.script_player.proofs.PlainPaying.{nothing_paid, restart_ops, restart_owes, restart_tells}
+use Rattle.script_player.proofs.PlainPaying.{restart_paid, restart_tells}
 use Rattle.script_player.proofs.plain_stack.PlainStackPlayedStack.restart.Goals as goal
 
 -- whatever the last start-up came to, a further one has what it needs
@@ -73,10 +73,10 @@ returns-clause-pays g c =
     let new = c.restart.new.self in
     let told = g.D.MemDevice.told in
     let clock = g.D.MemDevice.clock in
-    subst (λ (t : StackState g.row.D.Denot (List PlainBlock)). PaysNothing (payer_by told clock t) (payer_by told clock new) (told_by told new)) c.self.view_is
-    (nothing_paid told clock s new
+    subst (λ (t : StackState g.row.D.Denot (List PlainBlock)). StartPays c.restart.result (payer_by told clock t) (payer_by told clock new) (told_by told new)) c.self.view_is
+    (restart_paid told clock s new
     (λ before kept. restart_keeps told clock before s new (c.restart.ensures.down before) kept c.restart.result c.restart.ensures.restarts c.restart.ensures.keeps)
-    (restart_tells told clock s new c.restart.result c.restart.ensures.restarts) c.restart.ensures.lasts (restart_ops told clock s new c.restart.result c.restart.ensures.restarts) (restart_owes told clock s new c.restart.result c.restart.ensures.restarts))
+    c.restart.ensures.lasts c.restart.result c.restart.ensures.restarts)
 
 pub returns-clause-restarts : goal.returns-clause-restarts
 returns-clause-restarts g c =

@@ -1,7 +1,8 @@
-use Rattle.std.proofs.Common.{◌≡◌, List, subst, ap, ◌∙◌, inl, inr}
+use Rattle.std.proofs.Common.{◌≡◌, List, sym, subst, ap, ◌∙◌, inl, inr}
 use Rattle.uds_gateway.specs.block_machine.Words.{Request}
 use Rattle.uds_gateway.specs.ram_blocks.declared.plain_block.PlainBlock.{PlainBlock}
 use Rattle.uds_gateway.specs.memif.Told.{Part, PartTold}
+use Rattle.uds_gateway.specs.memif.Calls.{InOrder}
 use Rattle.uds_gateway.specs.nvm_core.Stack.{StackState}
 use Rattle.script_player.specs.PlainKept.{IsKept}
 use Rattle.script_player.specs.Calls.{Turns}
@@ -51,7 +52,9 @@ returns-clause-pays g c =
     subst (λ (t : StackState g.row.D.Denot (List PlainBlock)). PaysTurn (payer_by told clock t) (payer_by told clock new) (told_by told t) (told_by told new)) c.self.view_is
     (turn_paid told clock s new
     (keeps_by s.ready new.ready s.desk new.desk s.hand new.hand (told s.device) (told new.device) (clock s.device) (clock new.device) ready (turned_ready told clock s new c.turn-turned.result c.turn-turned.ensures.turns) c.turn-turned.ensures.keeps)
-    c.turn-turned.ensures.keeps.told c.turn-turned.ensures.lasts ready c.turn-turned.ensures.pays)
+    c.turn-turned.ensures.keeps.told c.turn-turned.ensures.lasts c.turn-turned.result c.turn-turned.ensures.turns c.turn-turned.ensures.due (c.device-device.ensures.tied ready)
+    (c.device-behind.ensures.power (turned_ready told clock s new c.turn-turned.result c.turn-turned.ensures.turns ∙ ready)) (subst (λ (x : g.row.D.Denot). InOrder (told x) (clock x)) c.device-behind.ensures.device c.status-status.ensures.order)
+    (subst (λ (t : StackState g.row.D.Denot (List PlainBlock)). Turns c.turn-turned.result (told_by told t) (told_by told new)) (sym c.self.view_is) (returns-clause-turns g c)).made ready c.turn-turned.ensures.pays)
 
 pub returns-clause-keeps : goal.returns-clause-keeps
 returns-clause-keeps g c =
