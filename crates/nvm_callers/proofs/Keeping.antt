@@ -1,7 +1,7 @@
 -- What any number of a driver's turns keeps.
 use Rattle.std.proofs.Common.{ℕ, zero, suc, List, refl, sym, subst, inl, inr}
 use Rattle.nvm_core.specs.memif.Told.{DeviceTold}
-use Rattle.nvm_core.specs.memif.Clock.{Clock, SameClock}
+use Rattle.nvm_core.specs.memif.Clock.{Clock}
 use Rattle.nvm_core.specs.memif.Trials.{Lasts}
 use Rattle.nvm_core.specs.block_machine.Words.{Entry}
 use Rattle.nvm_core.specs.ram_blocks.Told.{Told}
@@ -9,21 +9,12 @@ use Rattle.nvm_core.specs.nv_desk_copies.Front.{AreSynchronized}
 use Rattle.nvm_shared.specs.declared.terms.Terms.{Terms}
 use Rattle.nvm_shared.specs.Locked.{desk_with}
 use Rattle.nvm_shared.specs.Driving.{DriverState}
-use Rattle.nvm_core.proofs.memif.Turning.{lasts_more}
+use Rattle.nvm_core.proofs.memif.Turning.{lasts_more, same_clock}
 use Rattle.nvm_core.proofs.nv_desk_copies.Sizes.{still_synchronized}
 use Rattle.nvm_core.proofs.nvm_laws.Keeping.{stays_more, stays_still}
 use Rattle.nvm_core.proofs.Paying.{half_lasts}
 use Rattle.nvm_callers.specs.Driven.{DrivesBy, DrivesOn, TurnsOn, SeesOn}
 use Rattle.nvm_callers.specs.Kept.{HasKept, DrivingKeeps}
-
-same_clock : (clock : Clock) → SameClock clock clock
-same_clock clock = record {
-  may_find = λ w m. ((λ is. is), (λ is. is));
-  off_in = λ k. ((λ is. is), (λ is. is));
-  failed = λ k. ((λ is. is), (λ is. is));
-  worn = λ k n. ((λ is. is), (λ is. is));
-  of_second = λ k. ((λ is. is), (λ is. is));
-}
 
 module _ {D C : Type 0} (told : D → DeviceTold) (clock : D → Clock) (copies : C → List Told) (is_store : C → ℕ → ℕ → List ℕ → Type 0) (looked : C → C → ℕ → ℕ → Type 0) (over : C → C → Type 0) (stands : C → ℕ → ℕ → List Entry → Type 0) (t : Terms) where
   abbrev Kept : (seen seen_new : List Entry) → (old new : DriverState D C) → Type 0

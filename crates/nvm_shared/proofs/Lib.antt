@@ -8,7 +8,6 @@ mod Learning
 mod Serving
 mod Stale
 mod PicksShown
-mod Holding
 mod Resting
 mod Counting
 pub mod WritingLegal
