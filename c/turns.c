@@ -1,0 +1,51 @@
+/* A long run: so many cycles of 10 ms, in each of which a status is polled, and in every fiftieth a setting is written. It ends with 0
+   where every write was stored, and memory stayed as it was behind the first tenth. */
+#include "nvm.h"
+#include <stdio.h>
+#include <stdlib.h>
+#include <string.h>
+#include <sys/resource.h>
+
+static const char TEXT[] =
+    "{\"id\":7,\"page\":16,\"sector\":256,\"sectors\":8,\"standard\":4,\"immediate\":1,\"blocks\":[{\"length\":4}]}";
+enum { FLASH_SIZE = 256 * 8, SETTING = 2 };
+
+static uint8_t flash[FLASH_SIZE];
+static const NvM_BlockType BLOCKS[] = { { SETTING, 4, NULL } };
+static unsigned ended, failed;
+
+static void job_end(NvM_BlockIdType block, NvM_RequestResultType result) {
+    if (block != SETTING) return;
+    ended++;
+    failed += result != NVM_REQ_OK;
+}
+
+static long memory(void) {
+    struct rusage use;
+    getrusage(RUSAGE_SELF, &use);
+    return use.ru_maxrss;
+}
+
+int main(int count, char **words) {
+    unsigned long cycles = count > 1 ? strtoul(words[1], NULL, 10) : 1000000, most = 0;
+    unsigned asked = 0;
+    long before = 0;
+    NvM_ConfigType config = { TEXT, BLOCKS, 1, flash, FLASH_SIZE, 0, job_end };
+    memset(flash, 0xFF, FLASH_SIZE);
+    NvM_Init(&config);
+    if (NvM_SimFault() != NVM_SIM_UP) return 2;
+    for (unsigned long cycle = 0; cycle < cycles; cycle++) {
+        NvM_RequestResultType result = NVM_REQ_PENDING;
+        NvM_GetErrorStatus(SETTING, &result);
+        if (cycle % 50 == 0 && result != NVM_REQ_PENDING) {
+            uint8_t content[4] = { (uint8_t)(asked >> 24), (uint8_t)(asked >> 16), (uint8_t)(asked >> 8), (uint8_t)asked };
+            asked += NvM_WriteBlock(SETTING, content) == E_OK;
+        }
+        NvM_MainFunction();
+        if (NvM_SimEntries() > most) most = NvM_SimEntries();
+        if (cycle == cycles / 10 * 9 / 2) before = memory();
+    }
+    printf("%lu cycles, %u writes asked, %u ended, %u failed, at most %lu entries, %ld kB more\n", cycles, asked, ended, failed, most, memory() - before);
+    NvM_SimClose();
+    return asked == 0 || asked - ended > 1 || failed || memory() - before > 1024;
+}

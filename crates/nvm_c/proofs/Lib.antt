@@ -1,0 +1,5 @@
+pub mod OnePointer
+pub mod AtHeap
+pub mod AsRoom
+pub mod UnitLaws
+pub mod CallLaws

@@ -1,0 +1,234 @@
+-- The stack of a unit: what is kept from its first start-up on, and what its flash comes back with.
+use Rattle.std.proofs.Common.{◌≡◌, ◌<◌, ◌≤◌, ◌+◌, ◌*◌, ◌⊎◌, ℕ, Bool, true, false, IsTrue, List, [], ◌∷◌, Option, Some, None, Result, Ok, Err, IsSome, refl, sym, ap, ◌∙◌, subst, inl, inr, arith}
+use Rattle.std.specs.Prelude.{slice_get, IfErr}
+use Rattle.std.proofs.lemmas.Bool.Decides.{leb_tells}
+use Rattle.nvm.specs.nv_base.Count.{last_count, WereCounted}
+use Rattle.nvm.specs.nv_base.Marks.{instance_of}
+use Rattle.nvm.specs.block_config.Config.{Configuration}
+use Rattle.nvm.specs.block_config.Rules.{IsLegalConfig}
+use Rattle.nvm.specs.memif.Told.{Part, PartTold, DeviceTold, First, Second, part_at as at_part}
+use Rattle.nvm.specs.memif.Calls.{InOrder}
+use Rattle.nvm.specs.fls_model.Told.{Told, Change, bytes_now}
+use Rattle.nvm.specs.nvm_flash.promise_device.Making.{Making}
+use Rattle.nvm.specs.nvm_flash.promise_device.Reading.{Reading}
+use Rattle.nvm.specs.nvm_flash.promise_device.Bridge.{Bridges, reading_of, cuts_of}
+use Rattle.nvm.specs.nvm_flash.fls_told.Clock.{off_in_of}
+use Rattle.nvm.specs.nvm_flash.fee_told.Device.{Device, flash_device, told_of, clock_of}
+use Rattle.nvm.specs.nvm_flash.fee_core.Tells.{told_clock}
+use Rattle.nvm.specs.nvm_flash.fee_laws.Made.{IsMadeOf, part_at}
+use Rattle.nvm.specs.nvm_flash.nvm_device_laws.Turn.{Keeps, BeginsKept, TellsSlots, down}
+use Rattle.nvm.specs.nvm_flash.promise_blocks.OverDevice.{KeepsOver, KeepsEarly}
+use Rattle.nvm.specs.nvm_flash.nvm_laws.Keeps.{StackKeepsAsTold, KeepsAsTold, KeepsWhileDown}
+use Rattle.nvm.specs.nvm_flash.nvm_laws.declared.turned.FoundAnswer.TheVariants as found
+use Rattle.nvm.specs.nvm_flash.nvm_core.StartUps.{StartsUp, StartsKeep}
+use Rattle.nvm.specs.nvm_flash.Made.{IsOrigin, IsMadeStack, AreOfFirst, IsBack, ComesBack}
+use Rattle.nvm.specs.nvm_flash.declared.device.MakeFault.{MakeFault}
+use Rattle.nvm.specs.nvm_flash.promise_run.Run.{Course, has_cutter}
+use Rattle.nvm.specs.nvm_flash.promise_run.Promise.{making_of}
+use Rattle.nvm.specs.nvm_flash.promise_run.Halves.{beyond_end}
+use Rattle.nvm.specs.nvm_flash.job_progress.Hand.{HandState}
+use Rattle.nvm.specs.nv_desk.Desk.{DeskState}
+use Rattle.nvm.proofs.nvm_flash.nvm_device_laws.DownCalls.{over_with}
+use Rattle.nvm.proofs.nvm_flash.nvm_laws.StartingUp.{stacks_begin}
+use Rattle.nvm.proofs.nvm_flash.promise_device.FlashRun.{seen_more}
+use Rattle.nvm.proofs.nvm_flash.promise_device.Readings.{sound_starts_compute}
+use Rattle.nvm.proofs.nvm_flash.promise_run.Composition.{begins_well, halves_make_the_promise}
+use Rattle.script_player.specs.PlainKept.{IsKept}
+use Rattle.nvm.specs.block_machine.Words.{Request, Reply, Entry}
+use Rattle.nvm.specs.nv_desk.declared.ask.AskFault.{AskFault}
+use Rattle.nvm.specs.nv_desk.declared.ask.AskFault.TheVariants as fault
+use Rattle.nvm.specs.nvm_flash.nvm_laws.declared.turned.Turned.{Turned}
+use Rattle.nvm.specs.nvm_flash.nvm_laws.declared.turned.FoundAnswer.{FoundAnswer}
+use Rattle.script_player.specs.Calls.{Arms, Asks, Restarts, Turns}
+use Rattle.script_player.specs.Told.{StackTold}
+use Rattle.nvm_c.specs.Unit.{UnitState, CameBack, Closes, IsUnit, one_part, run_of, unit_told}
+
+-- THE FIRST START-UP
+-- before it the empty history keeps all
+fresh_down : (d : Device) (c : Configuration) (inner : Told) (cuts : ℕ) (making : Making) (entry : Told) (most : ℕ) → BeginsKept (told_of d) (told_clock d) → InOrder (told_of d) (told_clock d) → IsOrigin c inner cuts making entry → IsLegalConfig c
+    → IsMadeOf making entry d → AreOfFirst d → Keeps c most [] (one_part (part_at entry)) (down (told_of d)) (told_clock d)
+fresh_down d c inner cuts making entry most begins order origin legal made parts =
+    subst (λ (x : DeviceTold). Keeps c most [] (one_part (part_at entry)) x (told_clock d)) (ap (λ b. record (told_of d) { started = b }) made.started)
+    (begins c most (one_part (part_at entry)) same
+    (record { rules = legal; numbers = ap (λ m. m.numbers) (made.making ∙ origin.made_for); parts = λ x has. parts x.0.0 ∙ sym (parts ((instance_of x.0).block * 64)) })
+    (record { ops = made.ops; on = λ k off. never k off.0 off.1; finds = λ held finds. order.now held finds }))
+  where
+    none_off : (k : ℕ) (xs : List Change) → xs ≡ [] → (x : Change) → slice_get xs k ≡ Some x → ⊥
+    none_off k [] none x at = cc at
+    none_off k (y ∷ ys) none x at = cc none
+
+    never : (k : ℕ) → k < last_count → off_in_of (flash_device d) k → ⊥
+    never k small (inl full) = absurd (omega (arith, small, full))
+    never k small (inr (x, at, is)) = none_off k d.operations made.made.operations x at
+
+    same : (p : Part) → (one_part (part_at entry) p).faults ≡ (at_part p (told_of d)).faults
+    same First = sym (ap (λ p. p.faults) made.part)
+    same Second = refl
+
+-- behind it all is kept
+starts_kept : (making : Making) (entry : Told) (m s : UnitState) → IsMadeStack m.desk.config making entry m → BeginsKept (told_of m.device) (told_clock m.device) → InOrder (told_of m.device) (told_clock m.device)
+    → StartsUp told_of m s → StartsKeep found.Ready m.desk (told_of m.device) (told_clock m.device) s.desk (told_of s.device) (told_clock s.device)
+    → (inner : Told) (cuts : ℕ) → IsLegalConfig m.desk.config → IsOrigin m.desk.config inner cuts making entry → StackKeepsAsTold (one_part (part_at entry)) s.desk None (told_of s.device) (told_clock s.device)
+starts_kept making entry m s made begins order starts keeps inner cuts legal origin =
+    keeps (one_part (part_at entry)) (λ told. inr (starts.finds.up.restarted.ops ∙ made.device.ops))
+    (subst (λ (h : List Entry). KeepsAsTold (KeepsWhileDown m.desk.config m.desk.cap h (one_part (part_at entry)) (told_of m.device) (told_clock m.device)) m.desk.config m.desk.cap h (told_of m.device) (told_clock m.device)) (sym (ap (λ x. x.desk.entries) made.only))
+    (stacks_begin (told_of m.device) (told_clock m.device) m.desk.config m.desk.cap (one_part (part_at entry)) order made.device.ops made.device.starts
+    (fresh_down m.device m.desk.config inner cuts making entry m.desk.cap begins order origin legal made.device made.parts)))
+
+pub is_unit : (making : Making) (entry : Told) (m s : UnitState) → IsMadeStack m.desk.config making entry m → BeginsKept (told_of m.device) (told_clock m.device) → InOrder (told_of m.device) (told_clock m.device)
+    → StartsUp told_of m s → StartsKeep found.Ready m.desk (told_of m.device) (told_clock m.device) s.desk (told_of s.device) (told_clock s.device)
+    → (inner : Told) (cuts : ℕ) → IsLegalConfig m.desk.config → IsOrigin m.desk.config inner cuts making entry → IsUnit making entry true s
+is_unit making entry m s made begins order starts keeps inner cuts legal origin = record {
+  made_for = origin.made_for ∙ ap (λ x. making_of x.desk.config) (sym starts.only);
+  most = ap (λ x. x.desk.cap) starts.only ∙ ap (λ x. x.desk.cap) made.only;
+  is_up = ap (λ x. x.ready) starts.only;
+  kept =
+      subst (λ (b : Bool). IsKept b (one_part (part_at entry)) s.desk s.hand (told_of s.device) (told_clock s.device)) (sym (ap (λ x. x.ready) starts.only))
+      (subst (λ (h : Option HandState). StackKeepsAsTold (one_part (part_at entry)) s.desk h (told_of s.device) (told_clock s.device)) (sym (ap (λ x. x.hand) starts.only))
+      (starts_kept making entry m s made begins order starts keeps inner cuts legal origin));
+}
+
+-- where it failed the flash comes back as that of the configuration
+pub comes_back : {X : Type 0} (c d : Configuration) (inner : Told) (cuts : ℕ) (making : Making) (entry : Told) (r : Result X (MakeFault × Told)) → d ≡ c → IsOrigin c inner cuts making entry
+    → IfErr r (λ e. (i : Told) (n : ℕ) → IsOrigin d i n making entry → ComesBack d e.0 i e.1) → IfErr r (λ e. ComesBack c e.0 inner e.1)
+comes_back c d inner cuts making entry (Ok x) is origin told = told
+comes_back c d inner cuts making entry (Err e) is origin told =
+    subst (λ (x : Configuration). ComesBack x e.0 inner e.1) is (told inner cuts (subst (λ (x : Configuration). IsOrigin x inner cuts making entry) (sym is) origin))
+
+-- THE END
+over_of : (b : Bool) (before : Part → PartTold) (desk : DeskState) (hand : Option HandState) (d : Device) → IsKept b before desk hand (told_of d) (told_clock d) → TellsSlots (told_of d) → KeepsOver desk.config desk.cap desk.entries before (told_of d) (told_clock d)
+over_of true before desk hand d keeps told = (keeps.all told).keeps.over
+over_of false before desk hand d keeps told = over_with (told_of d).started desk.config desk.cap desk.entries before (down (told_of d)) (told_clock d) (keeps.keeps.all told).keeps.over
+
+early_of : (b : Bool) (before : Part → PartTold) (desk : DeskState) (hand : Option HandState) (d : Device) → IsKept b before desk hand (told_of d) (told_clock d) → (told_of d).tells ≡ true → KeepsEarly desk.config desk.cap desk.entries (told_clock d)
+early_of true before desk hand d keeps tells = keeps.early tells
+early_of false before desk hand d keeps tells = keeps.keeps.early tells
+
+-- what the device told of its operations, by the clock that it tells
+told_bridge : (r : Reading) (inner exit : Told) (operations : List Change) (before : PartTold) (d : Device) → Bridges r true (record { entry = inner; exit = exit; operations = operations }) before (told_of d) (clock_of d)
+    → Bridges r true (record { entry = inner; exit = exit; operations = operations }) before (told_of d) (beyond_end (told_clock d))
+told_bridge r inner exit operations before d b = record {
+  after = b.after;
+  cut = b.cut;
+  tells = b.tells;
+  slots = b.slots;
+  sound = b.sound;
+  sound_cut = b.sound_cut;
+  operations = record {
+    told_alike = b.operations.told_alike;
+    chain = b.operations.chain;
+    seen = λ t. seen_more (λ k. IsTrue true × off_in_of (flash_device d) k) (λ k. IsTrue true × ((last_count ≤ k) ⊎ ((k < last_count) × off_in_of (flash_device d) k))) 0 t.bytes.last operations (cuts_of true (told_of d)) t.changes (λ k is. (is.0, later k is.1)) (b.operations.seen t);
+    counted = b.operations.counted;
+    told = b.operations.told;
+  };
+  ops = b.ops;
+  faults = b.faults;
+  cuts = b.cuts;
+  off = b.off;
+  withheld = b.withheld;
+  failed = b.failed;
+  worn = b.worn;
+  spare = b.spare;
+}
+  where
+    later : (k : ℕ) → off_in_of (flash_device d) k → (last_count ≤ k) ⊎ ((k < last_count) × off_in_of (flash_device d) k)
+    later k off = elim (leb_tells last_count k) [ inl past_end ↦ inl past_end.1 | inr before_end ↦ inr (before_end.1, off) ]
+
+-- its flash comes back so
+pub closes : (inner : Told) (cuts : ℕ) (making : Making) (entry exit : Told) (up : Bool) (s : UnitState) (bytes : List ℕ) → IsUnit making entry up s → IsOrigin s.desk.config inner cuts making entry → bytes_now exit ≡ Some bytes
+    → IsBack s.desk.config inner exit (part_at entry) (told_of s.device) (clock_of s.device) → Closes inner s bytes
+closes inner cuts making entry exit up s bytes unit origin at_exit back = record {
+  exit = exit;
+  bytes_at_exit = at_exit;
+  operations = back.operations;
+  early = λ course end cutter told.
+      begins_well (told_clock s.device) (run_of s inner exit back.operations course end) (part_at entry) (told_of s.device)
+      (subst (λ (n : ℕ). KeepsEarly s.desk.config n s.desk.entries (told_clock s.device)) unit.most (early_of s.ready (one_part (part_at entry)) s.desk s.hand s.device unit.kept (back.bridges.tells told)))
+      (by_course course cutter) told;
+  promise = λ told sound course end cutter order refusals off.
+      halves_make_the_promise (told_clock s.device) (run_of s inner exit back.operations course end) (one_part (part_at entry)) (told_of s.device)
+      (record {
+        alone = refl;
+        order = order;
+        over = subst (λ (n : ℕ). KeepsOver s.desk.config n s.desk.entries (one_part (part_at entry)) (told_of s.device) (told_clock s.device)) unit.most (over_of s.ready (one_part (part_at entry)) s.desk s.hand s.device unit.kept
+            (back.bridges.slots told (sound_starts_compute (making_of s.desk.config) (record { entry = inner; exit = exit; operations = back.operations }) sound)));
+        refusals = refusals;
+        off = (off.0, off.1, subst (λ (k : ℕ). WereCounted off.0 k (told_of s.device).first.planning.unplanned) at_entry (subst (λ (k : ℕ). WereCounted off.0 inner.cuts k) one_part_cuts off.2));
+        came = ap (λ (b : Bool). cuts_of b (told_of s.device)) cutter;
+        one = λ block. rw (back.parts (block * 64)) refl;
+      })
+      (by_course course cutter)
+      back.wear;
+}
+  where
+    one_part_cuts : (told_of s.device).first.planning.unplanned + 0 ≡ (told_of s.device).first.planning.unplanned
+    one_part_cuts = omega arith
+
+    at_entry : inner.cuts ≡ (part_at entry).planning.unplanned
+    at_entry = ap (λ (t : Told). (part_at t).planning.unplanned) (sym origin.over)
+
+    by_course : (course : Course) → has_cutter course ≡ true → Bridges (reading_of (making_of s.desk.config)) (has_cutter course) (record { entry = inner; exit = exit; operations = back.operations }) (part_at entry) (told_of s.device) (beyond_end (told_clock s.device))
+    by_course course cutter =
+        subst (λ (b : Bool). Bridges (reading_of (making_of s.desk.config)) b (record { entry = inner; exit = exit; operations = back.operations }) (part_at entry) (told_of s.device) (beyond_end (told_clock s.device))) (sym cutter)
+        (told_bridge (reading_of (making_of s.desk.config)) inner exit back.operations (part_at entry) s.device back.bridges)
+
+pub came_back : (making : Making) (entry exit : Told) (up : Bool) (s : UnitState) (bytes : Option (List ℕ)) → IsUnit making entry up s → bytes ≡ bytes_now exit → IsSome bytes
+    → ((c : Configuration) (inner : Told) (cuts : ℕ) → IsOrigin c inner cuts making entry → IsBack c inner exit (part_at entry) (told_of s.device) (clock_of s.device))
+    → CameBack entry s bytes
+came_back making entry exit up s None unit is some back = cc some
+came_back making entry exit up s (Some image) unit is some back = λ inner cuts over.
+    let origin : IsOrigin s.desk.config inner cuts making entry = record { made_for = unit.made_for; over = over } in
+    closes inner cuts making entry exit up s image unit origin (sym is) (back s.desk.config inner cuts origin)
+
+-- FROM CALL TO CALL
+-- what no call changes but a start-up, which tells whether it stands
+record Stays (up : Bool) (old new : StackTold) : Type 0 where
+  configuration : new.configuration ≡ old.configuration
+  most : new.cap ≡ old.cap
+  ready : new.ready ≡ up
+
+same_unit : (making : Making) (entry : Told) (up up' : Bool) (s t : UnitState) → IsUnit making entry up s → Stays up' (unit_told s) (unit_told t)
+    → ((before : Part → PartTold) → IsKept s.ready before s.desk s.hand (told_of s.device) (told_clock s.device) → IsKept t.ready before t.desk t.hand (told_of t.device) (told_clock t.device))
+    → IsUnit making entry up' t
+same_unit making entry up up' s t unit stays keeps = record {
+  made_for = unit.made_for ∙ ap making_of (sym stays.configuration);
+  most = stays.most ∙ unit.most;
+  is_up = stays.ready;
+  kept = keeps (one_part (part_at entry)) unit.kept;
+}
+
+asks_stay : (r : Request) (answer : Result Reply AskFault) (up : Bool) (old new : StackTold) → old.ready ≡ up → Asks 0 r answer old new → Stays up old new
+asks_stay r (Ok reply) up old new is asks = record { configuration = ap (λ t. t.configuration) asks.adds; most = ap (λ t. t.cap) asks.adds; ready = ap (λ t. t.ready) asks.adds ∙ is }
+asks_stay r (Err fault.NoRoom) up old new is asks = record { configuration = ap (λ t. t.configuration) asks.0; most = ap (λ t. t.cap) asks.0; ready = ap (λ t. t.ready) asks.0 ∙ is }
+asks_stay r (Err fault.Memory) up old new is asks = record { configuration = ap (λ t. t.configuration) asks; most = ap (λ t. t.cap) asks; ready = ap (λ t. t.ready) asks ∙ is }
+
+abbrev Keeping : UnitState → UnitState → Type 0
+Keeping s t = (before : Part → PartTold) → IsKept s.ready before s.desk s.hand (told_of s.device) (told_clock s.device) → IsKept t.ready before t.desk t.hand (told_of t.device) (told_clock t.device)
+
+pub asked_unit : (making : Making) (entry : Told) (up : Bool) (s t : UnitState) (r : Request) (answer : Result Reply AskFault) → IsUnit making entry up s → Asks 0 r answer (unit_told s) (unit_told t) → Keeping s t → IsUnit making entry up t
+asked_unit making entry up s t r answer unit asks keeps = same_unit making entry up up s t unit (asks_stay r answer up (unit_told s) (unit_told t) unit.is_up asks) keeps
+
+pub turned_unit : (making : Making) (entry : Told) (up : Bool) (s t : UnitState) (answer : Turned) → IsUnit making entry up s → Turns answer (unit_told s) (unit_told t) → Keeping s t → IsUnit making entry up t
+turned_unit making entry up s t answer unit turns keeps =
+    let grows = turns.made.grows in
+    same_unit making entry up up s t unit (record { configuration = ap (λ x. x.configuration) grows; most = ap (λ x. x.cap) grows; ready = ap (λ x. x.ready) grows ∙ unit.is_up }) keeps
+
+pub armed_unit : (making : Making) (entry : Told) (up : Bool) (s t : UnitState) (nth keep : ℕ) → IsUnit making entry up s → Arms nth keep (unit_told s) (unit_told t) → Keeping s t → IsUnit making entry up t
+armed_unit making entry up s t nth keep unit arms keeps =
+    same_unit making entry up up s t unit (record { configuration = ap (λ x. x.configuration) arms.only; most = ap (λ x. x.cap) arms.only; ready = ap (λ x. x.ready) arms.only ∙ unit.is_up }) keeps
+
+-- whether the last start-up stands behind this one
+abbrev pub up_behind : FoundAnswer → Bool → Bool
+up_behind found.Ready up = true
+up_behind found.Failed up = false
+up_behind found.NoRoom up = up
+up_behind found.Memory up = up
+
+restarts_stay : (answer : FoundAnswer) (up : Bool) (old new : StackTold) → old.ready ≡ up → Restarts answer old new → Stays (up_behind answer up) old new
+restarts_stay found.Ready up old new is it = record { configuration = ap (λ t. t.configuration) it.grows; most = ap (λ t. t.cap) it.grows; ready = ap (λ t. t.ready) it.grows }
+restarts_stay found.Failed up old new is it = record { configuration = ap (λ t. t.configuration) it.only; most = ap (λ t. t.cap) it.only; ready = ap (λ t. t.ready) it.only }
+restarts_stay found.NoRoom up old new is it = record { configuration = ap (λ t. t.configuration) it.0; most = ap (λ t. t.cap) it.0; ready = ap (λ t. t.ready) it.0 ∙ is }
+restarts_stay found.Memory up old new is it = record { configuration = ap (λ t. t.configuration) it; most = ap (λ t. t.cap) it; ready = ap (λ t. t.ready) it ∙ is }
+
+pub restarted_unit : (making : Making) (entry : Told) (up : Bool) (s t : UnitState) (answer : FoundAnswer) → IsUnit making entry up s → Restarts answer (unit_told s) (unit_told t) → Keeping s t → IsUnit making entry (up_behind answer up) t
+restarted_unit making entry up s t answer unit restarts keeps = same_unit making entry up (up_behind answer up) s t unit (restarts_stay answer up (unit_told s) (unit_told t) unit.is_up restarts) keeps

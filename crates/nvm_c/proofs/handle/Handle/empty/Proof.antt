@@ -1,0 +1,31 @@
+-- `empty` owns nothing at null.
+use mathlib.Core.Path.{refl}
+use mathlib.Core.List.{[], ◌∷◌}
+use base.Fml.{ftrue, feq}
+use denote.RawPtr.{Ptr, null_ptr}
+use denote.Triple.Entry.{alive}
+use denote.Triple.Walked.{says, walk_of, ends_at}
+use types.ByLocal.{alloc_all, pass_all, free_all, look_at, sets}
+use types.Kit.{‵, raw, ◌⊛◌, ◌$◌, ◌∵◌, !, qed, drop, move, split, join, feq_i, suffices, done}
+use types.Part.{agg}
+use types.Run.{enter, lit, no_more, and_then, returns}
+use Rattle.std.proofs.raw_atomic.Walks.{proved}
+use Rattle.std.specs.Prelude.{None}
+use Rattle.nvm_c.proofs.OnePointer.{word, word_typed, wraps}
+use Rattle.nvm_c.proofs.handle.Handle.empty.Code as code
+use Rattle.nvm_c.proofs.handle.Handle.empty.Statement.{statement}
+use Rattle.nvm_c.specs.contracts.handle.Handle.empty as f
+use Rattle.nvm_c.specs.contracts.handle.Handle.empty.Key.{name as symbol}
+
+pub empty_spec : {M : Type 1} → statement M
+empty_spec 𝓤 𝓛 𝓜 𝓡 wired =
+    let c = f.clauses 𝓛 𝓜.mem 𝓡.returns in let W = walk_of 𝓛 f.ended tt c in
+    proved 𝓛 f.ended tt c 𝓜 𝓡 tt symbol code.function (code.unfolded 𝓤 𝓛.H 𝓜 𝓡 wired) (λ κs. tt) (λ κs. tt) (λ κs qs bounds a g are.
+    let y : W.Ghost = ((κs, qs, bounds, a, tt), g) in
+    qed 𝓛 ((raw (alive 𝓛 f.signature κs qs) ⊛ ‵ ftrue) ∷ raw ((c κs a).requires g) ∷ []) ∵ move ! (1 ∷ []) $ drop ! $
+    enter ! _ _ _ _ _ $ alloc_all ! (λ l. pass_all ! refl tt $
+    sets ! (agg ! (and_then ! (lit ! tt) (no_more !))) refl (word_typed null_ptr) $ returns ! (look_at ! 0 refl) $ free_all ! refl $
+    -- [the tokens]
+    suffices ! _ (ends_at 𝓛 f.ended tt c y (word null_ptr) (record { at = null_ptr; kept = None }) tt tt) $ says ! refl $
+    feq_i ! Ptr null_ptr null_ptr refl $ wraps ! null_ptr (feq Ptr null_ptr null_ptr) $
+    move ! (1 ∷ []) $ split ! $ move ! (1 ∷ 2 ∷ []) $ join ! $ move ! (1 ∷ 0 ∷ []) $ join ! $ done !))

@@ -1,0 +1,6 @@
+pub mod Room
+pub mod Unit
+pub mod Work
+pub mod Held
+pub mod Services
+pub mod Exports

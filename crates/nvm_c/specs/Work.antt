@@ -1,0 +1,60 @@
+-- What is asked of the unit of a handle, and what comes of it.
+use Rattle.std.specs.Prelude.{◌≡◌, false, true, Option, None, Some, IsSome, IsSomeAnd, IfOk, length}
+use Rattle.nvm.specs.block_machine.Blocks.{block_at, status_of}
+use Rattle.nvm.specs.block_machine.Legal.{HasStore}
+use Rattle.nvm.specs.block_machine.Reply.{reply_of}
+use Rattle.nvm.specs.fls_model.Told.{Told, bytes_now}
+use Rattle.nvm.specs.nv_desk.Desk.{state_of}
+use Rattle.nvm.specs.nvm_flash.Made.{ComesBack, IsOrigin}
+use Rattle.nvm.specs.nvm_flash.promise_device.Making.{Making}
+use Rattle.script_player.specs.Calls.{Arms, Asks, Restarts, Turns}
+use Rattle.nvm_c.specs.Unit.{UnitState, unit_told, given_last, Opens, CameBack}
+use Rattle.nvm_c.specs.declared.work.Task.{Task}
+use Rattle.nvm_c.specs.declared.work.Task.TheVariants as task
+use Rattle.nvm_c.specs.declared.work.Work.{Work}
+use Rattle.nvm_c.specs.declared.work.Work.TheVariants as work
+use Rattle.nvm_c.specs.declared.work.Outcome.{Outcome}
+use Rattle.nvm_c.specs.declared.work.Outcome.TheVariants as outcome
+
+-- TASKS
+-- a request keeps the rule on numbers of stores
+abbrev pub CanDo : Task → UnitState → Type 0
+CanDo (task.Ask request) s = HasStore s.desk.config request
+CanDo x s = Unit {0}
+
+-- its last start-up failed, so nothing was done
+abbrev pub StaysDown : UnitState → UnitState → Type 0
+StaysDown s t = (s.ready ≡ false) × (t ≡ s)
+
+abbrev pub Does : Task → Outcome → UnitState → UnitState → Type 0
+Does (task.Ask request) (outcome.Asked answer) s t =
+    (s.ready ≡ true) × Asks 0 request answer (unit_told s) (unit_told t) × IfOk answer (λ reply. reply ≡ reply_of s.desk.config s.desk.cap (state_of s.desk) request)
+Does (task.Ask request) outcome.Down s t = StaysDown s t
+Does task.Turn (outcome.Turned answer) s t = (s.ready ≡ true) × Turns answer (unit_told s) (unit_told t)
+Does task.Turn outcome.Down s t = StaysDown s t
+Does (task.Cut nth keep) outcome.Planned s t = (s.ready ≡ true) × Arms nth keep (unit_told s) (unit_told t)
+Does (task.Cut nth keep) outcome.Down s t = StaysDown s t
+Does task.Restart (outcome.Found answer) s t = Restarts answer (unit_told s) (unit_told t)
+Does (task.Status block) (outcome.StatusIs result) s t = (result ≡ status_of (state_of s.desk) block) × (t ≡ s)
+Does (task.Ram block) (outcome.Content bytes) s t = (bytes ≡ (block_at (state_of s.desk) block).ram) × (t ≡ s)
+Does (task.Ram block) outcome.NoMemory s t = t ≡ s
+Does task.Given (outcome.Given bytes) s t = (bytes ≡ given_last s) × (t ≡ s)
+Does task.Given outcome.NoMemory s t = t ≡ s
+Does task.Entries (outcome.Count entries) s t = (entries ≡ length s.desk.entries) × (t ≡ s)
+Does x y s t = ⊥
+
+-- WORK
+abbrev pub CanServe : Making → Told → Work → Option UnitState → Type 0
+CanServe making entry (work.Open config flash cuts) before = (before ≡ None) × IsOrigin config flash cuts making entry
+CanServe making entry work.Close before = IsSome before
+CanServe making entry (work.Serve x) before = IsSomeAnd before (CanDo x)
+
+abbrev pub Serves : Making → Told → Work → Outcome → Option UnitState → Option UnitState → Type 0
+Serves making entry (work.Open config flash cuts) outcome.Opened before behind = IsSomeAnd behind (Opens config making entry)
+Serves making entry (work.Open config flash cuts) (outcome.NotOpened fault lent) before behind =
+    (behind ≡ None) × IsSome lent.bytes × ((exit : Told) × ComesBack config fault flash exit × (lent.bytes ≡ bytes_now exit))
+Serves making entry (work.Open config flash cuts) (outcome.Shut lent) before behind =
+    (behind ≡ None) × ((s : UnitState) × Opens config making entry s × CameBack entry s lent.bytes)
+Serves making entry work.Close (outcome.Closed lent) (Some s) behind = (behind ≡ None) × CameBack entry s lent.bytes
+Serves making entry (work.Serve x) y (Some s) (Some t) = Does x y s t
+Serves making entry w y before behind = ⊥

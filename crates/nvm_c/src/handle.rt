@@ -1,0 +1,56 @@
+// What C holds of a unit.
+ghost use Rattle.std.specs.Prelude.{◌≡◌, Option, None};
+ghost use Rattle.nvm_c.specs.Held.{Kept, held, kept_coded, CanRun, Ran};
+
+use crate::room::Room;
+use crate::unit::LentUnit;
+use crate::work::{Outcome, Work, serve};
+use std::alloc::Global;
+use std::marker::{Brand, Model};
+use std::mem::replace;
+use std::ptr::null_mut;
+
+/// Null, which is how C begins one; else the unit that lies there, and what it was opened with.
+#[repr(C)]
+#[derive(Drop)]
+pub struct Handle {
+    at: *mut u8,
+    pub ghost kept: { Option Kept } by { kept_coded },
+}
+
+impl Model for Handle {
+    ghost also_owns = { λ h. held h.at h.kept };
+}
+
+impl Handle {
+    // Null.
+    fn empty() -> Handle
+        ensures { result.kept ≡ None }
+    {
+        Handle { at: null_mut() }
+    }
+
+    // The unit is of a type that its own flash picks, so what is done with it is done at that type.
+    fn run(self, alloc: Global, work: Work) -> (Handle, Outcome)
+        requires { CanRun self.kept work }
+        ensures { Ran self.kept work result.1 result.0.kept }
+    {
+        let Handle { at } = self;
+        let room = Room::<LentUnit<Brand>> {
+            at: at as *mut LentUnit<Brand>,
+        };
+        let (room, outcome) = serve::<Brand>(alloc, room, work);
+        let Room { at } = room;
+        (Handle { at: at as *mut u8 }, outcome)
+    }
+}
+
+/// Does work with the unit of a handle.
+pub(crate) fn work_on(alloc: Global, handle: &mut Handle, work: Work) -> Outcome
+    requires { CanRun handle.old.kept work }
+    ensures { Ran handle.old.kept work result handle.new.kept }
+{
+    let (held, outcome) = replace(handle, Handle::empty()).run(alloc, work);
+    *handle = held;
+    outcome
+}

@@ -1,0 +1,98 @@
+// What a unit shows. None of it adds an entry.
+ghost use Rattle.std.specs.Prelude.{◌≡◌, ◌≢◌, ◌⊎◌, ◌≤◌, length, take, IsSome};
+ghost use Rattle.nvm.specs.block_machine.Blocks.{block_at, status_of};
+ghost use Rattle.nvm.specs.nv_base.Result.{code_of};
+ghost use Rattle.nvm.specs.nv_desk.Desk.{state_of};
+ghost use Rattle.nvm_c.specs.Exports.{IsFilled, IsGiven, IsRam, Looks};
+
+use crate::handle::{Handle, work_on};
+use crate::work::{Outcome, Task, Work};
+use nvm::result_code;
+use std::alloc::Global;
+
+/// The status of a block, by the standard's number (NvM_GetErrorStatus); of id 0 that of the last request on all blocks.
+#[unsafe(no_mangle)]
+pub extern "C" fn nvm_status(alloc: Global, handle: &mut Handle, block: u16) -> u8
+    requires open { IsSome handle.old.kept }
+    ensures status { Looks handle.old.kept handle.new.kept (λ s. result ≡ code_of (status_of (state_of s.desk) block)) }
+{
+    let task = Task::Status { block };
+    match work_on(alloc, handle, Work::Serve { task }) {
+        Outcome::StatusIs { result } => result_code(result),
+        _other => 0,
+    }
+}
+
+/// How many entries the history has, of 100,000 at most.
+#[unsafe(no_mangle)]
+pub extern "C" fn nvm_entries(alloc: Global, handle: &mut Handle) -> u32
+    requires open { IsSome handle.old.kept }
+    ensures entries { Looks handle.old.kept handle.new.kept (λ s. result ≡ length s.desk.entries) }
+{
+    let task = Task::Entries;
+    match work_on(alloc, handle, Work::Serve { task }) {
+        Outcome::Count { entries } => entries,
+        _other => 0,
+    }
+}
+
+// Puts a content at the front, where there is room for it. Answers its size.
+fn fill(content: &[u8], into: &mut [u8]) -> usize
+    ensures { IsFilled content.now result into.old into.new }
+{
+    let size = content.len();
+    if size <= into.len() {
+        into[..size].copy_from_slice(content);
+    }
+    size
+}
+
+/// Copies the content of a block's RAM to the front of `into`, where it has room for it, and tells its size. 0: so it was done. 4:
+/// there is no memory.
+#[unsafe(no_mangle)]
+pub extern "C" fn nvm_ram(
+    alloc: Global,
+    handle: &mut Handle,
+    block: u16,
+    into: &mut [u8],
+    size: &mut usize,
+) -> u8
+    requires open { IsSome handle.old.kept }
+    ensures ram { Looks handle.old.kept handle.new.kept (λ s. IsRam block result size.new into.old into.new s) }
+{
+    *size = 0;
+    let task = Task::Ram { block };
+    match work_on(alloc, handle, Work::Serve { task }) {
+        Outcome::Content { bytes } => {
+            *size = fill(bytes.as_slice(), into);
+            0
+        }
+        _other => 4,
+    }
+}
+
+/// Copies what the last entry gave, where that is a Post that gave something, as behind a turn that answers 3. 0: so it was done. 1:
+/// it gave nothing. 4: there is no memory.
+#[unsafe(no_mangle)]
+pub extern "C" fn nvm_given(
+    alloc: Global,
+    handle: &mut Handle,
+    into: &mut [u8],
+    size: &mut usize,
+) -> u8
+    requires open { IsSome handle.old.kept }
+    ensures given { Looks handle.old.kept handle.new.kept (λ s. IsGiven result size.new into.old into.new s) }
+{
+    *size = 0;
+    let task = Task::Given;
+    match work_on(alloc, handle, Work::Serve { task }) {
+        Outcome::Given { bytes } => match bytes {
+            Some(bytes) => {
+                *size = fill(bytes.as_slice(), into);
+                0
+            }
+            None => 1,
+        },
+        _other => 4,
+    }
+}

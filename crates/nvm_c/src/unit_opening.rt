@@ -1,0 +1,48 @@
+// A unit's first start-up.
+ghost use Rattle.std.specs.Prelude.{◌≡◌, IfErr, IfOk, ℕ};
+ghost use Rattle.nvm.specs.fls_model.Told.{Told};
+ghost use Rattle.nvm.specs.block_config.Rules.{IsLegalConfig};
+ghost use Rattle.nvm.specs.nvm_flash.Made.{ComesBack, IsMadeStack, IsOrigin};
+ghost use Rattle.nvm.specs.nvm_core.StartUps.{StartsUp};
+ghost use Rattle.nvm.specs.nvm_flash.fee_told.Device.{told_of};
+ghost use Rattle.nvm_c.specs.Unit.{Opens};
+
+use crate::unit::{LentStack, LentUnit};
+use lent_flash::LentFlash;
+use nvm::nvm_flash::fee_core::Origin;
+use nvm::nvm_flash::{make_stack, start_stack};
+use nvm::{Config, MakeFault, MemDevice};
+use std::alloc::Global;
+
+/// The unit of a configuration over a flash, of which so many power cuts can be planned, behind its first start-up.
+pub fn open<O: Origin>(
+    alloc: Global,
+    config: Config,
+    flash: LentFlash,
+    cuts: u32,
+) -> Result<LentUnit<O>, (MakeFault, LentFlash)>
+    requires { IsOrigin config flash cuts O.making O.entry }
+    ensures opened { IfOk result (λ s. Opens config O.making O.entry s) }
+    ensures stopped { IfErr result (λ e. ComesBack config e.0 flash e.1) }
+{
+    let _geometry = config.geometry();
+    match make_stack::<LentFlash, O>(alloc, config, flash, cuts) {
+        Ok(stack) => begin(stack),
+        Err(stopped) => Err(stopped),
+    }
+}
+
+// The first start-up of a stack that was made.
+fn begin<O: Origin>(stack: LentStack<O>) -> Result<LentUnit<O>, (MakeFault, LentFlash)>
+    requires made { IsMadeStack stack.desk.config O.making O.entry stack }
+    requires legal { IsLegalConfig stack.desk.config }
+    requires origin { (inner : Told) × (cuts : ℕ) × IsOrigin stack.desk.config inner cuts O.making O.entry }
+    ensures started { IfOk result (λ s. StartsUp told_of stack s) }
+    ensures stopped { IfErr result (λ e. (inner : Told) (cuts : ℕ) → IsOrigin stack.desk.config inner cuts O.making O.entry → ComesBack stack.desk.config e.0 inner e.1) }
+{
+    stack.device().status();
+    match start_stack(stack) {
+        Ok(stack) => Ok(LentUnit::over(stack)),
+        Err(stopped) => Err(stopped),
+    }
+}
