@@ -96,6 +96,7 @@ ticks old new = record {
   off = λ k h. absurd h;
   failed = λ k le lt h. absurd h;
   part = λ k le lt. (λ h. absurd h, λ is. absurd (not_second is));
+  kept = λ k le lt h. absurd h;
 }
 
 powers_up : PowersUp no_part no_part
@@ -150,6 +151,7 @@ module _ (numbers : List (DeviceNumber × ℕ)) (kept : List Kept) (up : StartUp
     marks = marks;
     left_low = omega arith;
     left_high = rw figures_are (omega (arith, most_is (op_of m)));
+    left_beside = λ one is. cc is;
     ready = starts_ready after j.urgent refl (is_first (figures_at (plain_fixed numbers) j.number.0).part);
   }
 
@@ -217,6 +219,7 @@ module _ (numbers : List (DeviceNumber × ℕ)) (kept : List Kept) (up : StartUp
           read = λ is. (refl, reads (none_by the_job.mark is));
           nearer = inl (omega arith);
           ready = λ calm. turns_ready k r g done j.urgent refl (is_first (part_of (plain_fixed numbers) the_job));
+          seals = λ k ops lt is. absurd is;
         },
         ticks before (told_with numbers k up None r g),
       ),

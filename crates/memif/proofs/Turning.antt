@@ -75,6 +75,7 @@ lasts_more a ca b cb c ct one two = record {
         let second = two.past.failed k (omega (arith, lt, one.ops)) in
         (λ is. first.0 (second.0 is), λ is. second.1 (first.1 is));
     spare = λ k s le free. one.past.spare k s le (two.past.spare k s (omega (arith, le, one.ops)) free);
+    was = λ t k lt is. one.past.was t k lt (two.past.was t k (omega (arith, lt, one.ops)) is);
   };
   faults = (omega (arith, one.faults.0, two.faults.0), omega (arith, one.faults.1, two.faults.1));
   failed = failed_more a ca b cb c ct one two;
@@ -88,6 +89,7 @@ same_clock c = record {
   worn = λ k n urgent. (λ h. h, λ h. h);
   of_second = λ k. (λ h. h, λ h. h);
   spare = λ k s. (λ h. h, λ h. h);
+  was = λ t k. (λ h. h, λ h. h);
 }
 
 pub past_same : (ops : ℕ) (old new : Clock) → SameClock old new → Past ops old new
@@ -98,6 +100,7 @@ past_same ops old new same = record {
   worn = λ k n urgent le is. (same.worn k n urgent).1 is;
   of_second = λ k lt. same.of_second k;
   spare = λ k s le free. (same.spare k s).0 free;
+  was = λ t k lt is. (same.was t k).0 is;
 }
 
 -- no operation was made, no count fell, and the clock is as it was

@@ -1,5 +1,5 @@
 -- What the calls of a memory device do. Each says first what it may change, as `new ≡ record old { .. }`, then how.
-use Rattle.std.specs.Prelude.{◌≡◌, ◌≢◌, ◌⊎◌, ◌==◌, ◌<◌, ◌≤◌, ◌+◌, ◌-◌, ◌^◌, ◌&&◌, ℕ, Bool, true, false, if◌then◌else◌, List, [], length, Option, Some, None, IfSome, is_none, is_some, Result, Ok, Err}
+use Rattle.std.specs.Prelude.{◌≡◌, ◌≢◌, ◌⊎◌, ◌==◌, ◌<◌, ◌≤◌, ◌+◌, ◌-◌, ◌*◌, ◌^◌, ◌&&◌, min, ℕ, Bool, true, false, if◌then◌else◌, List, [], length, Option, Some, None, IfSome, is_none, is_some, Result, Ok, Err}
 use Rattle.nv_base.specs.Count.{Rose, next_count, last_count}
 use Rattle.nv_base.specs.Plan.{Nears, Comes, ComesUnplanned, dropped}
 use Rattle.nv_base.specs.declared.mark.Mark.{Mark}
@@ -13,9 +13,9 @@ use Rattle.memif.specs.declared.answer.JobResult.TheVariants.{JobOk, JobFailed, 
 use Rattle.memif.specs.declared.answer.PlainMark.{PlainMark}
 use Rattle.memif.specs.declared.answer.PlainMark.TheVariants as plain
 use Rattle.memif.specs.declared.answer.StartFault.{StartFault}
-use Rattle.memif.specs.Told.{DeviceTold, PartTold, Part, First, Second, HasPart, Slot, Job, Stand, Open, Ended, Fixed, no_part, part_at, with_part, armed, slot_at, length_of, figures_at, part_of, is_open, nothing_open, most_of, most_open, op_of, IfElse}
+use Rattle.memif.specs.Told.{DeviceTold, PartTold, Part, First, Second, HasPart, Slot, Job, Stand, Open, Ended, Fixed, no_part, is_urgent, part_at, with_part, armed, slot_at, length_of, figures_at, part_of, is_open, nothing_open, most_of, most_open, op_of, IfElse}
 use Rattle.memif.specs.Marks.{KeepsAll, DoubtsAt, Settles, ComesFrom, EachNumber}
-use Rattle.memif.specs.Clock.{Clock, SameClock, FindsNow, Ticks}
+use Rattle.memif.specs.Clock.{Clock, Seals, SameClock, FindsNow, Ticks}
 
 -- URGENT WRITES
 -- Writes of p pages in all that are ready, started urgent one after another, end with JobOk within p + 2 turns, while no
@@ -60,15 +60,38 @@ pub record InOrder (d : DeviceTold) (c : Clock) : Type 0 where
   -- what it holds is told until the first operation, at least
   pub told : d.tells ≡ true → d.ops ≡ 0 → is_some d.slots ≡ true
 
--- the most pages of the record of the open job; a read has none
+-- THE OPEN JOB
+abbrev pub is_read : Stand → Bool
+is_read (Open j) = is_none j.mark
+is_read (Ended result given) = false
+
+-- the most pages of the record of a job; a read has none
+abbrev pub record_pages : Fixed → Job → ℕ
+record_pages f j = if is_some j.mark then (figures_at f j.number).pages else 0
+
+-- those of the open job, and those of one that is urgent
 abbrev pub pages_open : Fixed → Stand → ℕ
-pages_open f (Open j) = if is_some j.mark then (figures_at f j.number).pages else 0
+pages_open f (Open j) = record_pages f j
 pages_open f (Ended result given) = 0
 
--- Pages that are free for urgent writes now are ready for one, beside the record of the open job, while it is started and its power
--- is on.
+abbrev pub pages_urgent : Fixed → Stand → ℕ
+pages_urgent f stand = if is_urgent stand then pages_open f stand else 0
+
+-- the free pages that the open job needs: one that isn't urgent leaves those that are kept
+abbrev pub pages_needed : Fixed → Stand → ℕ
+pages_needed f stand = pages_open f stand + (if is_urgent stand then 0 else f.reserve)
+
+-- FREE PAGES
+-- Pages that are free now are ready for urgent writes, as far as they are kept, beside the record of an urgent job that is open,
+-- while it is started and its power is on.
 abbrev pub FreesReady : DeviceTold → Clock → Type 0
-FreesReady d c = d.started ≡ true → d.first.off ≡ false → (s : ℕ) → c.spare d.ops s → s ≤ d.ready + pages_open d.fixed d.stand
+FreesReady d c = d.started ≡ true → d.first.off ≡ false → (s : ℕ) → c.spare d.ops s → min d.fixed.reserve s ≤ d.ready + pages_urgent d.fixed d.stand
+
+-- With no switch open a job other than a read takes no more turns than the pages of its record, where the pages that it needs are free.
+abbrev pub RoomIsLeft : DeviceTold → Clock → Type 0
+RoomIsLeft d c =
+    d.started ≡ true → d.first.off ≡ false → d.switching ≡ false → is_open d.stand ≡ true → is_read d.stand ≡ false
+    → (s : ℕ) → c.spare d.ops s → pages_needed d.fixed d.stand ≤ s → d.left ≤ pages_open d.fixed d.stand
 
 -- behind any call but a turn: the clock is as it was
 pub record ClockStays (clock : Clock) (new : DeviceTold) (clock_new : Clock) : Type 0 where
@@ -101,6 +124,8 @@ pub record Opens (j : Job) (old new : DeviceTold) : Type 0 where
   -- it raises `left` by at most the most turns of its operation, and never lowers it
   pub left_low : old.left ≤ new.left
   pub left_high : new.left ≤ old.left + most_of (figures_at old.fixed j.number) (op_of j.mark)
+  -- beside an open switch by its pages and an owed gate, and once more where it is urgent, so that its number is copied anew
+  pub left_beside : old.fixed.two ≡ false → old.switching ≡ true → new.left ≤ old.left + (if j.urgent then 2 else 1) * (record_pages old.fixed j + 1)
   pub ready : IfElse (urgent_first old.fixed (Open j)) (IsPrompt (figures_at old.fixed j.number).pages old new) ((old.ready ≤ new.ready))
 
 -- taken exactly where no refusal holds; refused with the first that holds, and then nothing changes
@@ -185,6 +210,11 @@ abbrev pub MayFail : Part → Job → DeviceTold → DeviceTold → Clock → Ty
 MayFail p j old new clock_new = Rose (part_at p old).faults (part_at p new).faults ⊎ ((j.mark ≢ None) × clock_new.worn new.ops j.number j.urgent)
 
 -- A TURN
+-- A switch goes on, and all pages that are kept are ready. So it is behind an operation that left it at its seal, up to the next one.
+pub record IsSealing (d : DeviceTold) : Type 0 where
+  pub switching : d.switching ≡ true
+  pub ready : is_urgent d.stand ≡ false → d.fixed.reserve ≤ d.ready
+
 -- the turn works on the part of the open job; with none open, on the first one, whose alone the device's own work is
 abbrev pub IsOf : Part → Fixed → Stand → Type 0
 IsOf p f (Open j) = HasPart f p × (p ≡ part_of f j)
@@ -195,10 +225,6 @@ abbrev pub JobTurns : Part → Stand → Stand → DeviceTold → DeviceTold →
 JobTurns p (Open j) (Open j') old new clock_new = (j' ≡ j) × KeepsAll old new × (new.left < old.left)
 JobTurns p (Open j) (Ended result given) old new clock_new = EndsAs j.mark j.number result given old new × (result ≡ JobFailed → MayFail p j old new clock_new)
 JobTurns p (Ended result given) stand old new clock_new = (stand ≡ Ended result given) × KeepsAll old new
-
-abbrev pub is_read : Stand → Bool
-is_read (Open j) = is_none j.mark
-is_read (Ended result given) = false
 
 -- without a cut the plan is one operation nearer; or it is as it was, and no operation was made, or a fault was counted
 abbrev pub PlanStays : ℕ → ℕ → PartTold → PartTold → Type 0
@@ -229,6 +255,7 @@ pub record Works (p : Part) (old new : DeviceTold) (clock_new : Clock) : Type 0 
   pub read : is_read old.stand ≡ true → (new.ops ≡ old.ops) × (new.slots ≡ old.slots)
   pub nearer : (new.left < old.left) ⊎ Rose (part_at p old).faults (part_at p new).faults
   pub ready : TurnsReady old new
+  pub seals : (k : ℕ) → new.ops ≡ k + 1 → new.ops < last_count → clock_new.was Seals k → (old.ops ≤ k) ⊎ IsSealing old → IsSealing new
 
 -- a cut comes: no job ends in it, and it is no turn of a read
 pub record IsCut (p : Part) (old new : DeviceTold) : Type 0 where

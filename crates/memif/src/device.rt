@@ -3,7 +3,7 @@ ghost use Rattle.std.specs.Prelude.{◌≡◌, ℕ, length, None, Some, false, t
 ghost use Rattle.nv_base.specs.declared.mark.Mark.TheVariants as mark;
 ghost use Rattle.memif.specs.Told.{DeviceTold, given_by, IsConfigured, figures_at, most_of, status_of, result_of, ops_of, faults_of, is_open, is_urgent};
 ghost use Rattle.memif.specs.Clock.{Clock};
-ghost use Rattle.memif.specs.Calls.{StartsUp, Accepts, Cancels, Arms, Turns, IsKind, InOrder, FreesReady};
+ghost use Rattle.memif.specs.Calls.{StartsUp, Accepts, Cancels, Arms, Turns, IsKind, InOrder, FreesReady, RoomIsLeft};
 
 use crate::{DeviceRefusal, DeviceTurn, JobResult, MemStatus, PlainMark, StartFault};
 use nv_base::{DeviceNumber, DeviceOp};
@@ -69,7 +69,8 @@ pub trait MemDevice {
     fn status(&self) -> MemStatus
         ensures status { result ≡ status_of (told self.now) }
         ensures order { InOrder (told self.now) (clock self.now) }
-        ensures ready { FreesReady (told self.now) (clock self.now) };
+        ensures ready { FreesReady (told self.now) (clock self.now) }
+        ensures room { RoomIsLeft (told self.now) (clock self.now) };
 
     /// What the last job came to, `JobPending` exactly while one is open.
     fn result(&self) -> JobResult

@@ -104,6 +104,7 @@ module _ (a : DeviceTold) (ca : Clock) (b : DeviceTold) (cb : Clock) (last : Boo
         marks = marks_first w.job.mark opens.marks;
         left_low = (let low = opens.left_low in omega (arith, low));
         left_high = (let high = opens.left_high in let most = most_here in omega (arith, high, most));
+        left_beside = λ one. cc one;
         ready =
             subst (λ (u : Bool). IfElse u (IsPrompt (figures_at (fixed_both a.fixed b.fixed) w.job.number).pages (told_both a b last course) new_first) (a.ready ≤ anew.ready)) (sym urgent_here)
             (subst (λ (x : Figures). IfElse (urgent_first a.fixed (Open w.job)) (IsPrompt x.pages (told_both a b last course) new_first) (a.ready ≤ anew.ready)) (sym figures_here) opens.ready);
@@ -179,6 +180,7 @@ module _ (a : DeviceTold) (ca : Clock) (b : DeviceTold) (cb : Clock) (last : Boo
         marks = marks_second w.job.mark opens.marks;
         left_low = (let low = opens.left_low in omega (arith, low));
         left_high = (let high = opens.left_high in let most = most_there in omega (arith, high, most));
+        left_beside = λ one. cc one;
         ready = subst (λ (u : Bool). IfElse u (IsPrompt (figures_at (fixed_both a.fixed b.fixed) w.job.number).pages (told_both a b last course) new_second) (a.ready ≤ a.ready)) (sym never_urgent) (omega arith);
       }
 

@@ -152,7 +152,7 @@ module _ (of : ℕ → Bool) (a : DeviceTold) (ca : Clock) (anew : DeviceTold) (
       )
 
   pub first_past : Past (min (length course) last_count) (clock_both of course ca cb) (clock_both of next ca_new cb)
-  first_past = record { after = past_after; cut = past_cut; failed = past_failed; worn = λ k n urgent le. past_worn k n urgent; of_second = past_second; spare = λ k s le none. none }
+  first_past = record { after = past_after; cut = past_cut; failed = past_failed; worn = λ k n urgent le. past_worn k n urgent; of_second = past_second; spare = λ k s le none. none; was = λ t k lt none. none }
 
   -- THE OPERATION OF THIS TURN
   same_bool : (p q : Bool) → ◌≡◌ {A = Option Bool} (Some p) (Some q) → p ≡ q
@@ -307,6 +307,7 @@ same_both of course ca ca_new cb cb_new same other = record {
   worn = λ k n urgent. (worn_same of course ca_new ca cb_new cb (λ j x b. (same.worn j x b).0) (λ j x b. (other.worn j x b).0) k n urgent, worn_same of course ca ca_new cb cb_new (λ j x b. (same.worn j x b).1) (λ j x b. (other.worn j x b).1) k n urgent);
   of_second = λ k. (λ is. is, λ is. is);
   spare = λ k s. (λ is. is, λ is. is);
+  was = λ t k. (λ is. is, λ is. is);
 }
 
 pub same_self : (c : Clock) → SameClock c c
@@ -317,4 +318,5 @@ same_self c = record {
   worn = λ k n urgent. (λ is. is, λ is. is);
   of_second = λ k. (λ is. is, λ is. is);
   spare = λ k s. (λ is. is, λ is. is);
+  was = λ t k. (λ is. is, λ is. is);
 }

@@ -200,6 +200,7 @@ module _ (answer : DeviceTurn) (a : DeviceTold) (ca : Clock) (b : DeviceTold) (c
       worn = λ k n urgent le worn. (flips_back of next ca cb_new).worn k n urgent (past.worn k n urgent (let same = length_flip course in omega (arith, same, le)) ((flips of course ca cb).worn k n urgent worn));
       of_second = λ k lt. let same = same_get k (omega (arith, lt)) in (λ one. record { small = one.small; is = sym same ∙ one.is }, λ one. record { small = one.small; is = same ∙ one.is });
       spare = λ k s le none. none;
+      was = λ t k lt none. none;
     }
 
     second_off : (k : ℕ) → to.off_in k → (from.off_in k × ((k < min (length course) last_count) ⊎ (last_count ≤ k))) ⊎ GoesOff answer (min (length course) last_count) (min (length next) last_count) k
@@ -222,6 +223,7 @@ module _ (answer : DeviceTurn) (a : DeviceTold) (ca : Clock) (b : DeviceTold) (c
       failed = λ k le lt out.
           let now = is_now (opposite of) b cb bnew cb_new a ca (flip course) (flip next) there moves ticks.past k (before k le) (behind k lt) in
           ticks.failed b.ops (omega arith) (let rose = now.rose in omega (arith, rose)) (first_failed (opposite of) b cb bnew cb_new a ca (flip course) (flip next) there moves ticks.past k (before k le) (behind k lt) ((flips of next ca cb_new).failed k out));
+      kept = λ k le lt none. absurd none;
       part = λ k le lt.
           let now = is_now (opposite of) b cb bnew cb_new a ca (flip course) (flip next) there moves ticks.past k (before k le) (behind k lt) in
           (λ one. refl, λ same. record { small = now.small; is = subst (λ (cs : List Bool). slice_get cs k ≡ Some true) (flip_twice next) (get_flip (flip next) k false now.last) });

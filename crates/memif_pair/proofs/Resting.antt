@@ -95,6 +95,7 @@ module _ (a : DeviceTold) (ca : Clock) (anew : DeviceTold) (ca_new : Clock) (b :
       read = λ read. absurd (let wrong : true ≡ false = sym read ∙ never_read old.stand no_job in cc wrong);
       nearer = elim works.nearer [ inl less ↦ inl (omega (arith, less)) | inr rose ↦ inr rose ];
       ready = ready_rests;
+      seals = λ k ops small none. absurd none;
     }
 
   cut_rest : IsCut First a anew → IsCut First old new

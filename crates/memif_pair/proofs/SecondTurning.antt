@@ -153,6 +153,7 @@ module _ (a : DeviceTold) (ca : Clock) (b : DeviceTold) (cb : Clock) (bnew : Dev
       read = read_behind works;
       nearer = elim works.nearer [ inl less ↦ inl (omega (arith, less)) | inr rose ↦ inr rose ];
       ready = λ calm. subst (λ (u : Bool). IfElse u (Nearer old new) (a.ready ≤ a.ready)) (sym never_urgent) (omega arith);
+      seals = λ k ops small none. absurd none;
     }
 
     -- a cut, and a turn while the power is off

@@ -57,4 +57,5 @@ first_ticks answer a ca a_new ca_new b cb order course next last last_new pair i
           let now = is_now of a ca a_new ca_new b cb course next is goes ticks.past k le lt in
           ticks.failed a.ops (omega arith) (let rose = now.rose in omega (arith, rose)) (first_failed of a ca a_new ca_new b cb course next is goes ticks.past k le lt out);
       part = first_part of a ca a_new ca_new b cb course next is goes ticks.past;
+      kept = λ k le lt none. absurd none;
     }

@@ -228,6 +228,7 @@ module _ (a : DeviceTold) (ca : Clock) (anew : DeviceTold) (ca_new : Clock) (b :
         read = read_both;
         nearer = elim works.nearer [ inl less ↦ inl (omega (arith, less)) | inr rose ↦ inr rose ];
         ready = ready_both;
+        seals = λ k ops small none. absurd none;
       }
 
     -- a cut, and a turn while the power is off

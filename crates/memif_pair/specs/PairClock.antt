@@ -81,7 +81,7 @@ pub record OfSecond (course : List Bool) (k : ℕ) : Type 0 where
   pub small : k < last_count
   pub is : slice_get course k ≡ Some true
 
--- of the pages that are free for urgent writes it tells nothing
+-- of the free pages, and of what an operation is by itself, it tells nothing
 abbrev pub clock_both : (ℕ → Bool) → List Bool → Clock → Clock → Clock
 clock_both of course a b = record {
   may_find = may_find_both of course a b;
@@ -90,4 +90,5 @@ clock_both of course a b = record {
   worn = WornBoth of course a b;
   of_second = OfSecond course;
   spare = λ k s. ⊥;
+  was = λ t k. ⊥;
 }

@@ -1,4 +1,4 @@
-use Rattle.std.proofs.Common.{◌≡◌, true, false, inl, inr, Some, None, refl, arith}
+use Rattle.std.proofs.Common.{◌≡◌, true, false, inl, inr, refl, arith}
 use Rattle.memif.specs.Told.{DeviceTold, no_part}
 use Rattle.memif.specs.Calls.{FaultsGrow, Works, InOrder}
 use Rattle.memif.specs.Told.{First}
@@ -26,6 +26,7 @@ works = record {
   read = λ is. cc;
   nearer = inl (omega arith);
   ready = λ calm. omega arith;
+  seals = λ k ops small is. absurd is;
 }
 
 ordered : InOrder done no_clock
