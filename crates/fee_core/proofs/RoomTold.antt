@@ -1,7 +1,7 @@
 -- What a device tells of its room and its turns.
-use Rattle.std.specs.Prelude.{◌&&◌, IfSome, option_map}
+use Rattle.std.specs.Prelude.{◌&&◌, IfSome, min, option_map}
 use Rattle.std.proofs.Common.{◌≡◌, ◌≤◌, ◌+◌, Bool, true, false, List, ℕ, Option, Some, None, refl, ◌∙◌, subst, arith}
-use Rattle.memif.specs.Calls.{FreesReady, pages_open}
+use Rattle.memif.specs.Calls.{FreesReady, RoomIsLeft, pages_needed, pages_open, pages_urgent}
 use Rattle.fls_model.specs.Told.{Told, ToldBytes}
 use Rattle.fee_log.specs.Log.{IsLogState}
 use Rattle.fee_course.specs.declared.course.Course.{Course}
@@ -9,11 +9,12 @@ use Rattle.fee_course.specs.declared.course.Course.TheVariants.{Erase, Copy, Hea
 use Rattle.fee_switch.specs.Banks.{BanksState, IsBanksState}
 use Rattle.fee_switch_laws.specs.Shown.{phase_shown}
 use Rattle.promise_device.specs.Making.{Making}
-use Rattle.promise_device.specs.Bridge.{ready_pages}
+use Rattle.promise_device.specs.Bridge.{free_pages}
 use Rattle.promise_device.specs.Room.{TellsWorkOver}
 use Rattle.fls_told.proofs.Clocks.{free_now}
 use Rattle.fee_told.specs.Device.{told_of, flash_device, is_switching}
 use Rattle.fee_laws.specs.Inside.{device_of, IsSound}
+use Rattle.fee_laws.proofs.FollowFree.{room_is_enough}
 use Rattle.fee_laws.proofs.FollowReady.{free_is_ready}
 use Rattle.fee_laws.proofs.FollowRoom.{room_is_told}
 use Rattle.fee_core.specs.Whole.{Whole, Sound, told_in, clock_in}
@@ -33,7 +34,7 @@ work_told m entry w sound banks log started on shut =
     (record { sound = subst (λ (x : Bool). IsSound m entry w.parts w.numbers w.reserve w.ops x) up sound.parts; started = started; banks = banks; log = log })
     (none_open w.parts.started w.parts.banks.course w.parts.banks _ started shut) sound.follows
 
--- what is free for urgent writes is ready
+-- what is free is ready for urgent writes, as far as it is kept
 now_is : (o : Option ToldBytes) (P : List ℕ → Type 0) (image : List ℕ) → option_map (λ (b : ToldBytes). b.now) o ≡ Some image → IfSome o (λ b. P b.now) → P image
 now_is None P image is holds = cc is
 now_is (Some b) P image is holds = subst P (cc is) holds
@@ -46,10 +47,25 @@ free_told m entry w sound banks log started on s spare =
     let all = free_is_ready m entry w.parts w.numbers w.reserve w.ops
     (record { sound = subst (λ (x : Bool). IsSound m entry w.parts w.numbers w.reserve w.ops x) up sound.parts; started = started; banks = banks; log = log })
     sound.follows told in
-    let most = now_is w.parts.fls.flash.bytes (λ x. ready_pages m w.parts.operations x ≤ d.ready + pages_open d.fixed d.stand) image is all in
+    let most = now_is w.parts.fls.flash.bytes (λ x. min m.reserve (free_pages m w.parts.operations x) ≤ d.ready + pages_urgent d.fixed d.stand) image is all in
     omega (arith, few, most)
+
+-- and enough for a job that needs no more
+pub enough_told : (m : Making) (entry : Told) (w : Whole) → Sound m entry w → IsBanksState w.parts.banks → IsLogState w.parts.banks.log → RoomIsLeft (told_in m entry w) (clock_in m entry w)
+enough_told m entry w sound banks log started on shut open' other s spare needed =
+    let up = sound.parts.off started ∙ on in
+    let (told, (image, is, few)) = free_now (flash_device (device_of m entry w.parts)) s spare in
+    let d = told_in m entry w in
+    let all = room_is_enough m entry w.parts w.numbers w.reserve w.ops
+    (record { sound = subst (λ (x : Bool). IsSound m entry w.parts w.numbers w.reserve w.ops x) up sound.parts; started = started; banks = banks; log = log })
+    (none_open w.parts.started w.parts.banks.course w.parts.banks _ started shut) sound.follows open' other in
+    now_is w.parts.fls.flash.bytes (λ x. pages_needed d.fixed d.stand ≤ free_pages m w.parts.operations x → d.left ≤ pages_open d.fixed d.stand) image is all (omega (arith, few, needed))
 
 -- as its fields show it, w, of what is known, v
 pub free_shown : {m : Making} {entry : Told} {w v : Whole} → w ≡ v → Sound m entry v → IsBanksState w.parts.banks → IsLogState w.parts.banks.log → FreesReady (told_in m entry v) (clock_in m entry v)
 free_shown {m} {entry} {w} {v} shown sound banks log =
     free_told m entry v sound (subst (λ (x : Whole). IsBanksState x.parts.banks) shown banks) (subst (λ (x : Whole). IsLogState x.parts.banks.log) shown log)
+
+pub enough_shown : {m : Making} {entry : Told} {w v : Whole} → w ≡ v → Sound m entry v → IsBanksState w.parts.banks → IsLogState w.parts.banks.log → RoomIsLeft (told_in m entry v) (clock_in m entry v)
+enough_shown {m} {entry} {w} {v} shown sound banks log =
+    enough_told m entry v sound (subst (λ (x : Whole). IsBanksState x.parts.banks) shown banks) (subst (λ (x : Whole). IsLogState x.parts.banks.log) shown log)

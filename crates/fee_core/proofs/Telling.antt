@@ -20,6 +20,7 @@ same_told d t same = record {
   worn = same.worn;
   of_second = same.of_second;
   spare = same.spare;
+  was = same.was;
 }
 
 finds_told : (told : DeviceTold) (d : Device) → FindsNow told (clock_of d) → FindsNow told (told_clock d)
@@ -70,12 +71,13 @@ works_told p old new t works = record {
   read = works.read;
   nearer = works.nearer;
   ready = works.ready;
+  seals = works.seals;
 }
 
 ticks_told : (p : Part) (answer : DeviceTurn) (old new : DeviceTold) (d t : Device) → Ticks p answer old (clock_of d) new (clock_of t)
     → Ticks p answer old (told_clock d) new (told_clock t)
 ticks_told p answer old new d t ticks = record {
-  past = record { after = ticks.past.after; cut = ticks.past.cut; failed = ticks.past.failed; worn = ticks.past.worn; of_second = ticks.past.of_second; spare = ticks.past.spare };
+  past = record { after = ticks.past.after; cut = ticks.past.cut; failed = ticks.past.failed; worn = ticks.past.worn; of_second = ticks.past.of_second; spare = ticks.past.spare; was = ticks.past.was };
   cut = ticks.cut;
   off = λ k off. elim (ticks.off k off.1) [
     | inl was ↦ inl ((off.0, was.0), was.1)
@@ -83,6 +85,7 @@ ticks_told p answer old new d t ticks = record {
   ];
   failed = ticks.failed;
   part = ticks.part;
+  kept = ticks.kept;
 }
 
 turned_told : (answer : DeviceTurn) (old new : DeviceTold) (d t : Device) → TurnsAs answer old (clock_of d) new (clock_of t) → TurnsAs answer old (told_clock d) new (told_clock t)

@@ -1,7 +1,7 @@
 // What a device shows.
 ghost use Rattle.std.specs.Prelude.{◌≡◌, Some, true, IfSome};
 ghost use Rattle.memif.specs.Told.{status_of, result_of, ops_of, faults_of, given_by, is_open, length_of, most_of, figures_at, slot_at, IsConfigured};
-ghost use Rattle.memif.specs.Calls.{FreesReady, InOrder, IsKind, kind_of};
+ghost use Rattle.memif.specs.Calls.{FreesReady, InOrder, IsKind, RoomIsLeft, kind_of};
 ghost use Rattle.fee_core.specs.Whole.{Sound, told_in, clock_in};
 
 use crate::Origin;
@@ -21,6 +21,7 @@ impl<F: Flash, O: Origin> FeeParts<F, O> {
         ensures status { result ≡ status_of (told_in O.making O.entry self.now) }
         ensures order { InOrder (told_in O.making O.entry self.now) (clock_in O.making O.entry self.now) }
         ensures ready { FreesReady (told_in O.making O.entry self.now) (clock_in O.making O.entry self.now) }
+        ensures room { RoomIsLeft (told_in O.making O.entry self.now) (clock_in O.making O.entry self.now) }
     {
         let _active = self.banks.active();
         if !self.started {

@@ -1,6 +1,6 @@
 -- The figures and the invariant behind a page.
-use Rattle.std.specs.Prelude.{IfSome, length, take}
-use Rattle.std.proofs.Common.{◌≡◌, ◌≤◌, ℕ, List, Option, Some, None, refl, sym, subst, arith}
+use Rattle.std.specs.Prelude.{IfSome, length, take, is_some}
+use Rattle.std.proofs.Common.{◌≡◌, ◌≤◌, ℕ, List, Option, Some, None, refl, sym, subst, arith, ap}
 use Rattle.nv_base.specs.Geometry.{sectors_of_bank}
 use Rattle.nv_base.specs.Pages.{record_pages_of}
 use Rattle.nv_base.specs.declared.geometry.Geometry.{Geometry}
@@ -97,4 +97,4 @@ none_in_work b job None idle = tt
 none_in_work b job (Some h) idle = cc idle
 
 pub idle_at_work : (m : Making) (t : Parts) → work_in t.banks.log.tail ≡ None → IsActiveOf t.banks t.banks.active → IfSome t.job (IsJobOf m.numbers) → IfSome t.job (IsReady t.banks) → HasSwitch t.banks t.banks.course → IsAtWork m t
-idle_at_work m t idle active job ready switch = record { active = active; job = job; work = none_in_work t.banks t.job (work_in t.banks.log.tail) idle; ready = ready; switch = switch }
+idle_at_work m t idle active job ready switch = record { active = active; job = job; work = none_in_work t.banks t.job (work_in t.banks.log.tail) idle; kept = λ work calm. (let none = ap (λ (o : Option RecHead). is_some o) idle in absurd (cc (work, none))); ready = ready; switch = switch }

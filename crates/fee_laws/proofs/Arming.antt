@@ -69,11 +69,12 @@ module _ (m : Making) (entry : Told) (s : Parts) (nth keep : ℕ) where
         made_for = still_made m s (with_plan nth keep s) was refl was.bytes (record { geometry = refl; banks = refl; numbers = refl }) was.room was.given was.ended;
         device = arm_keeps is.device;
         rests = λ started. record { job = (is.rests started).job; course = (is.rests started).course };
-        works = λ started. (let w = is.works started in record { active = w.active; job = w.job; work = w.work; ready = w.ready; switch = w.switch });
+        works = λ started. (let w = is.works started in record { active = w.active; job = w.job; work = w.work; kept = w.kept; ready = w.ready; switch = w.switch });
         room = is.room;
         copies = λ on told. shown_as s.fls.flash.bytes s.banks.course (λ b c. ShowsCopies m s c b.now) (λ b c. ShowsCopies m (with_plan nth keep s) c b.now) (λ b c shows. record { held = shows.held; copy = shows.copy }) (is.copies on told);
         cuts = record { before = is.cuts.before; since = counts is.cuts.since };
         worn = λ since e. record { passed = (is.worn since e).passed; shut = (is.worn since e).shut };
+        seals = is.seals;
         numbers = is.numbers;
         reserve = is.reserve;
         ops = is.ops;

@@ -16,7 +16,7 @@ use Rattle.fee_image.specs.RecordList.{pages_of_head}
 use Rattle.fee_image.specs.Log.{Log, Open as LogOpen, Writes as LogWrites}
 use Rattle.fee_image.specs.May.{May}
 use Rattle.fee_image.specs.Step.{log_begun, IsRecord}
-use Rattle.fee_image.specs.Banks.{Old, OldBank}
+use Rattle.fee_image.specs.Banks.{Old, OldBank, Phase}
 use Rattle.fee_image.specs.BankLaws.{TakesAppends}
 use Rattle.fee_log.specs.declared.tail.Tail.{Tail}
 use Rattle.fee_log.specs.declared.tail.Tail.TheVariants.{Open, Writes, Owes, Closed}
@@ -39,13 +39,13 @@ use Rattle.promise_device.specs.Making.{Making, banks_of}
 use Rattle.fee_told.specs.Slots.{Memory, IsWorkOf, slots_found}
 use Rattle.fee_told.specs.SlotLaws.{IsHeld, SamePlaces}
 use Rattle.fls_told.proofs.Clocks.{clocks_stay}
-use Rattle.fee_told.specs.Device.{Device, tells_now, told_of, slots_in, clock_of, flash_device}
+use Rattle.fee_told.specs.Device.{Device, tells_now, told_of, slots_in, clock_of, flash_device, is_switching}
 use Rattle.memif.specs.Clock.{SameClock}
 use Rattle.fee_told.specs.Kept.{with_log}
 use Rattle.fee_told.proofs.Appends.{records_begin}
 use Rattle.fee_told.proofs.Steps.{places_tell}
 use Rattle.fee_laws.specs.declared.job.FeeJob.{FeeJob}
-use Rattle.fee_laws.specs.Inside.{Parts, body_of, device_of, memory_of, stand_of, IsActiveOf, IsAtWork, HasSwitch, HoldsBehind}
+use Rattle.fee_laws.specs.Inside.{Parts, body_of, device_of, memory_of, stand_of, IsActiveOf, IsAtWork, HasSwitch, HoldsBehind, LeavesKept}
 use Rattle.fee_laws.specs.Record.{head_of, IsJobOf}
 use Rattle.fee_laws.specs.Work.{pages_of_op, pages_of_job, pages_free, work_of, is_waiting, begins_next, fits_in, claimed, seal_turns, switch_turns, turns_before, turns_beside, takes_append, is_urgent_job, is_promised}
 use Rattle.nv_base.specs.declared.mark.Mark.{Mark}
@@ -350,6 +350,16 @@ module _ (m : Making) (entry : Told) (s : Parts) (listed : List (DeviceNumber ×
       let two = free_then in
       let goal : min m.reserve (pages_free t.banks s.job) ≡ min m.reserve (free_pages s.banks - claimed s.banks s.job) = omega (arith, one, two, enough) in goal
 
+  -- so it keeps them beside it
+  pub kept_on : LeavesKept m.reserve t.banks s.job
+  kept_on work calm =
+      let own : j.urgent ≡ false = sym (ap is_urgent_job may.job) ∙ calm in
+      let room : has_room false (pages_of_op p j.op j.length) m.reserve (free_pages s.banks) ≡ true = (λ i. has_room (sym own i) (pages_of_op p j.op j.length) m.reserve (free_pages s.banks)) ∙ may.room in
+      let enough = leb-true (pages_of_op p j.op j.length + m.reserve) (free_pages s.banks) room in
+      let all = free_is t.banks some_work s.job in
+      let less = free_then in
+      omega (arith, enough, all, less)
+
   seal : seal_turns s.banks.course ≡ 0
   seal = no_seal r.kind s.banks.course may.taken
 
@@ -376,6 +386,7 @@ module _ (m : Making) (entry : Told) (s : Parts) (listed : List (DeviceNumber ×
     only = only;
     left = left_few;
     job = subst (λ (o : Option FeeJob). is_open (stand_of s.content o s.last s.given) ≡ true) (sym may.job) refl;
+    switching = λ is. ap (λ (x : Phase). s.started && is_switching x) phase_is ∙ is;
     on = (power m entry s listed kept count on, refl);
     same = same_clock;
   }

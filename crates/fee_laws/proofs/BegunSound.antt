@@ -24,10 +24,10 @@ use Rattle.fee_laws.specs.Record.{IsInWork, IsReady}
 use Rattle.fee_laws.specs.Turn.{IsOn}
 use Rattle.fee_laws.specs.Begins.{MayBegin, RecordsBegin}
 use Rattle.fee_laws.proofs.Before.{each_now, now_at}
-use Rattle.fee_laws.proofs.Beside.{appended_again, appended_some, clear_again, flags_set, clears_copying, appended_copying}
+use Rattle.fee_laws.proofs.Beside.{still_copied, appended_again, appended_some, clear_again, flags_set, clears_copying, appended_copying}
 use Rattle.fee_laws.proofs.Begun.{no_course}
 use Rattle.fee_laws.proofs.GoesOn.{each_some}
-use Rattle.fee_laws.proofs.Beginning.{t, r, ready, active_is, formats, was_at_work, work_is, active, taken_then, taking, held_by, places_by, room_on, switch_on, none, behind, work_then, has_begun}
+use Rattle.fee_laws.proofs.Beginning.{t, r, ready, active_is, formats, was_at_work, work_is, active, taken_then, taking, held_by, places_by, room_on, switch_on, none, behind, work_then, kept_on, has_begun}
 use Rattle.fee_laws.proofs.BehindNone.{sound as sound_behind}
 
 module _ (m : Making) (entry : Told) (s : Parts) (listed : List (DeviceNumber × ℕ)) (kept count : ℕ) (j : FeeJob) (on : IsOn m entry s listed kept count) (may : MayBegin m s j) where
@@ -87,6 +87,7 @@ module _ (m : Making) (entry : Told) (s : Parts) (listed : List (DeviceNumber ×
     active = subst (IsActiveOf begun.banks) (sym (active_is m entry s listed kept count j on may)) (formats m entry s listed kept count j on may);
     job = (was_at_work m entry s listed kept count j on may).job;
     work = subst (λ (o : Option RecHead). IfSome o (IsInWork begun.banks s.job)) (sym (work_is m entry s listed kept count j on may)) in_work_on;
+    kept = kept_on m entry s listed kept count j on may;
     ready = each_some s.job (IsReady begun.banks) (λ x promised none. (let w = work_is m entry s listed kept count j on may in cc (w, none)));
     switch = switch_on m entry s listed kept count j on may;
   }
@@ -100,6 +101,7 @@ module _ (m : Making) (entry : Told) (s : Parts) (listed : List (DeviceNumber ×
     room = room_on m entry s listed kept count j on may;
     copies = copies;
     worn = λ since worn. record { passed = (on.sound.worn since worn).passed; shut = ap (appended_at place) (on.sound.worn since worn).shut ∙ no_course place };
+    still = λ none. still_copied place s.banks.course ∙ none;
   })
 
 pub records_begin : RecordsBegin

@@ -1,6 +1,6 @@
 -- A device behind a changing operation.
-use Rattle.std.specs.Prelude.{IfSome, IsTrue, min, length, if◌then◌else◌}
-use Rattle.std.proofs.Common.{◌≡◌, ◌≢◌, inl, inr, ◌≤◌, ◌++◌, ◌∷◌, ℕ, Bool, true, false, List, [], Option, Some, None, refl, sym, ap, ◌∙◌, subst, arith}
+use Rattle.std.specs.Prelude.{IfSome, IsTrue, min, length, slice_get, if◌then◌else◌}
+use Rattle.std.proofs.Common.{◌≡◌, ◌≢◌, inl, inr, ◌≤◌, ◌+◌, ◌++◌, ◌∷◌, ℕ, Bool, true, false, List, [], Option, Some, None, refl, sym, ap, ◌∙◌, subst, arith}
 use Rattle.std.proofs.Math.ListN.{length-append}
 use Rattle.nv_base.specs.Count.{next_count, last_count}
 use Rattle.nv_base.specs.Geometry.{sectors_of_bank}
@@ -10,6 +10,7 @@ use Rattle.memif.specs.declared.answer.JobResult.{JobResult}
 use Rattle.memif.specs.declared.answer.JobResult.TheVariants.{JobPending}
 use Rattle.memif.specs.Told.{Slot, Stand, slot_at}
 use Rattle.memif.specs.Marks.{Keeps, KeepsAll}
+use Rattle.memif.specs.Clock.{Seals}
 use Rattle.memif.specs.Calls.{InOrder}
 use Rattle.fls_model.specs.declared.flash.FlashAnswer.{FlashAnswer}
 use Rattle.fls_model.specs.Attach.{AreBytesOf}
@@ -18,6 +19,7 @@ use Rattle.fls_model.specs.Step.{IsAsked}
 use Rattle.fls_model.specs.Told.{Told, Change, bytes_now}
 use Rattle.fee_image.specs.May.{May}
 use Rattle.promise_device.specs.Making.{Making, banks_of}
+use Rattle.promise_device.specs.Traits.{is_such}
 use Rattle.fee_told.specs.Slots.{Memory, HasJob, slots_held, slots_found}
 use Rattle.fee_told.specs.SlotLaws.{IsHeld, SamePlaces}
 use Rattle.fls_told.specs.Device.{slot_with}
@@ -30,13 +32,15 @@ use Rattle.fee_told.proofs.Steps.{places_tell}
 use Rattle.fee_told.proofs.Whole.{told_behind}
 use Rattle.fls_jobs.specs.Start.{IsIdle}
 use Rattle.fls_jobs.specs.State.{FlsState}
+use Rattle.fee_course.specs.declared.course.Course.{Course}
+use Rattle.fee_course.specs.declared.course.Course.TheVariants as course
 use Rattle.fee_switch.specs.Banks.{BanksState, IsSameFlash}
 use Rattle.fee_switch_laws.specs.KeepsRoom.{KeepsRoom}
 use Rattle.fee_told.specs.FigureLaws.{IsWork}
 use Rattle.fee_told.proofs.Kept.{same_places}
 use Rattle.fee_laws.specs.declared.job.FeeJob.{FeeJob}
-use Rattle.fee_laws.specs.Inside.{Parts, stand_of, memory_of, device_of, IsMadeFor, IsAtWork, HoldsBehind, TellsCopies, IsSound}
-use Rattle.fee_laws.specs.Work.{work_of}
+use Rattle.fee_laws.specs.Inside.{Parts, stand_of, memory_of, device_of, IsMadeFor, IsAtWork, HoldsBehind, TellsCopies, SealsEarlier, is_copying, IsSound}
+use Rattle.fee_laws.specs.Work.{work_of, seal_turns}
 use Rattle.fee_laws.specs.Turn.{IsOn, Drives}
 use Rattle.fee_laws.proofs.Before.{shape, lengths, legal, some_told, each_told}
 use Rattle.fee_laws.proofs.Order.{behind_finds, in_order}
@@ -45,6 +49,26 @@ use Rattle.fee_laws.proofs.MadeFor.{still_made}
 
 later : (n : ℕ) (xs : List Change) (x : Change) → n ≤ min (length xs) last_count → n ≤ min (length (xs ++ x ∷ [])) last_count
 later n xs x few = let h = length-append xs (x ∷ []) in omega (arith, h)
+
+-- the last of a list is what was added
+get_last : (xs : List Change) (x : Change) → slice_get (xs ++ x ∷ []) (length xs) ≡ Some x
+get_last [] x = refl
+get_last (y ∷ xs) x = get_last xs x
+
+pub last_is : (xs : List Change) (x y : Change) (k : ℕ) → length (xs ++ x ∷ []) ≡ k + 1 → slice_get (xs ++ x ∷ []) k ≡ Some y → y ≡ x
+last_is xs x y k many at =
+    let more = length-append xs (x ∷ []) in
+    let here : k ≡ length xs = omega (arith, many, more) in
+    let same : Some y ≡ Some x = sym at ∙ ap (slice_get (xs ++ x ∷ [])) here ∙ get_last xs x in
+    cc same
+
+-- while the target is sealed it isn't copied
+not_copying : (c : Option Course) → 1 ≤ seal_turns c → is_copying c ≡ false
+not_copying None sealed = refl
+not_copying (Some (course.Erase n)) sealed = refl
+not_copying (Some (course.Copy w)) sealed = absurd (omega (arith, sealed))
+not_copying (Some course.Head) sealed = refl
+not_copying (Some (course.Gate failed)) sealed = refl
 
 module _ (m : Making) (entry : Told) (s : Parts) (listed : List (DeviceNumber × ℕ)) (kept count : ℕ) (on : IsOn m entry s listed kept count) (op : Op) (answer : FlashAnswer) (f : FlsState) (drives : Drives s.fls f) (asked : IsAsked op s.fls.flash answer f.flash) (b : BanksState) (job : Option FeeJob) (last : JobResult) (given : ℕ) where
   abbrev d : Device
@@ -110,8 +134,13 @@ module _ (m : Making) (entry : Told) (s : Parts) (listed : List (DeviceNumber ×
     pub work : IsWork m.geometry.page (sectors_of_bank m.geometry m.banks) m.numbers m.reserve (stand_of s.content job last given) (work_of m.reserve b job)
     pub at_work : IsAtWork m t
     pub shut : (since : ℕ) → s.worn ≡ Some since → b.course ≡ None
+    pub seals : IsTrue (is_such m Seals (change_of op s.fls.flash answer)) → 1 ≤ seal_turns b.course
     pub room : f.flash.off ≡ false → KeepsRoom m.reserve b
     pub copies : TellsCopies m entry t
+
+  seals_earlier : Facts → SealsEarlier m t
+  seals_earlier is k x many at such =
+      not_copying b.course (is.seals (subst (λ (y : Change). IsTrue (is_such m Seals y)) (last_is s.operations (change_of op s.fls.flash answer) x k many at) such))
 
   pub order : Facts → InOrder (told_of e) (clock_of e)
   order is = in_order m entry t (shape m entry s listed kept count on) (lengths m entry s listed kept count on) is.work is.run.alike (behind_finds e on.started is.behind)
@@ -126,6 +155,7 @@ module _ (m : Making) (entry : Told) (s : Parts) (listed : List (DeviceNumber ×
     copies = is.copies;
     cuts = cuts m entry s listed kept count on op answer f drives asked;
     worn = λ since is'. record { passed = later since s.operations (change_of op s.fls.flash answer) (on.sound.worn since is').passed; shut = is.shut since is' };
+    seals = seals_earlier is;
     numbers = on.sound.numbers;
     reserve = on.sound.reserve;
     ops = next_length s.operations (change_of op s.fls.flash answer) count on.sound.ops;

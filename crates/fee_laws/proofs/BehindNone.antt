@@ -1,19 +1,21 @@
 -- A device behind a turn without a changing operation.
-use Rattle.std.specs.Prelude.{IfSome, IsTrue, length, min}
-use Rattle.std.proofs.Common.{◌≡◌, ◌≢◌, ◌⊎◌, inl, inr, ◌≤◌, ◌<◌, ℕ, true, false, List, Option, Some, None, refl, sym, ap, ◌∙◌, subst, arith}
+use Rattle.std.specs.Prelude.{IfSome, IsTrue, length, min, slice_get}
+use Rattle.std.proofs.Common.{◌≡◌, ◌≢◌, ◌⊎◌, inl, inr, ◌≤◌, ◌<◌, ◌+◌, ℕ, true, false, List, Option, Some, None, refl, sym, ap, ◌∙◌, subst, arith}
 use Rattle.nv_base.specs.Count.{Rose, WereCounted, next_count, last_count}
 use Rattle.nv_base.specs.Geometry.{sectors_of_bank}
 use Rattle.nv_base.specs.declared.instance.DeviceNumber.{DeviceNumber}
 use Rattle.memif.specs.declared.answer.JobResult.TheVariants.{JobPending}
 use Rattle.memif.specs.declared.answer.DeviceTurn.TheVariants as turn
 use Rattle.memif.specs.Told.{First, nothing_open}
-use Rattle.memif.specs.Calls.{PartTurns, JobTurns, TurnsReady, is_read}
+use Rattle.memif.specs.Clock.{Seals}
+use Rattle.memif.specs.Calls.{PartTurns, JobTurns, IsSealing, TurnsReady, is_read}
 use Rattle.fls_model.specs.Attach.{AreBytesOf}
-use Rattle.fls_model.specs.Told.{Told, ToldBytes, bytes_now}
+use Rattle.fls_model.specs.Told.{Told, ToldBytes, Change, bytes_now}
 use Rattle.fee_image.specs.May.{May}
 use Rattle.fee_switch.specs.Banks.{IsSameFlash}
 use Rattle.fee_switch_laws.specs.KeepsRoom.{KeepsRoom}
 use Rattle.promise_device.specs.Making.{Making, banks_of}
+use Rattle.promise_device.specs.Traits.{is_such}
 use Rattle.fee_told.specs.SlotLaws.{IsHeld}
 use Rattle.fls_told.specs.Device.{asked_ops, flash_part}
 use Rattle.fls_told.specs.Clock.{MakesNone}
@@ -24,7 +26,7 @@ use Rattle.fls_told.proofs.Parts.{parts_read}
 use Rattle.fee_told.specs.Device.{Device, tells_now, told_of, clock_of, flash_device}
 use Rattle.fee_told.specs.FigureLaws.{IsWork}
 use Rattle.fee_told.proofs.Kept.{same_places}
-use Rattle.fee_laws.specs.Inside.{Parts, stand_of, memory_of, device_of, CountsCuts, IsAtWork, IsWorn, HoldsBehind, TellsCopies, IsSound}
+use Rattle.fee_laws.specs.Inside.{Parts, stand_of, memory_of, device_of, CountsCuts, IsAtWork, IsWorn, HoldsBehind, TellsCopies, is_copying, IsSound}
 use Rattle.fee_laws.specs.Work.{work_of}
 use Rattle.fee_laws.specs.Turn.{IsOn, Turned}
 use Rattle.fee_laws.proofs.Before.{power, shape, lengths, legal, some, each_told}
@@ -127,6 +129,14 @@ module _ (m : Making) (entry : Told) (s : Parts) (listed : List (DeviceNumber ×
     pub room : KeepsRoom m.reserve t.banks
     pub copies : TellsCopies m entry t
     pub worn : (since : ℕ) → t.worn ≡ Some since → IsWorn t since
+    pub still : is_copying s.banks.course ≡ false → is_copying t.banks.course ≡ false
+
+  same_operations : t.operations ≡ s.operations
+  same_operations = ap (λ (x : Parts). x.operations) none.only
+
+  -- the last operation is the same
+  sealed_before : (k : ℕ) (x : Change) → length t.operations ≡ k + 1 → slice_get t.operations k ≡ Some x → IsTrue (is_such m Seals x) → is_copying s.banks.course ≡ false
+  sealed_before k x many at such = on.sound.seals k x (ap length (sym same_operations) ∙ many) (ap (λ (l : List Change). slice_get l k) (sym same_operations) ∙ at) such
 
   pub sound : Facts → IsSound m entry t listed kept count false
   sound is = record {
@@ -144,6 +154,7 @@ module _ (m : Making) (entry : Told) (s : Parts) (listed : List (DeviceNumber ×
     copies = is.copies;
     cuts = subst (CountsCuts entry) (sym flash) (record { before = on.sound.cuts.before; since = on.sound.cuts.since });
     worn = is.worn;
+    seals = λ k x many at such. is.still (sealed_before k x many at such);
     numbers = on.sound.numbers;
     reserve = on.sound.reserve;
     ops = on.sound.ops ∙ sym (ap (λ (x : Parts). min (length x.operations) last_count) none.only);
@@ -157,7 +168,13 @@ module _ (m : Making) (entry : Told) (s : Parts) (listed : List (DeviceNumber ×
     pub read : is_read (told_of d).stand ≡ true → ((told_of e).ops ≡ (told_of d).ops) × ((told_of e).slots ≡ (told_of d).slots)
     pub nearer : ((told_of e).left < (told_of d).left) ⊎ Rose s.faults t.faults
     pub ready : TurnsReady (told_of d) (told_of e)
+    pub seals : is_copying s.banks.course ≡ false → IsSealing (told_of d) → IsSealing (told_of e)
     pub worn : (t.worn ≡ s.worn) ⊎ (s.worn ≡ None)
+
+  -- a switch that stood at its seal stands there
+  seals_by : HasWorked → (k : ℕ) → (told_of e).ops ≡ k + 1 → (told_of e).ops < last_count → (clock_of e).was Seals k → ((told_of d).ops ≤ k) ⊎ IsSealing (told_of d) → IsSealing (told_of e)
+  seals_by did k ops few such (inl now) = (let same = ap (λ (l : List Change). min (length l) last_count) same_operations in absurd (omega (arith, ops, now, same)))
+  seals_by did k ops few (x, at, such) (inr is) = did.seals (sealed_before k x (omega (arith, ops, few)) at such) is
 
   pub worked : Facts → HasWorked → Turned m entry turn.Worked s t listed kept count false
   worked is did = record {
@@ -175,6 +192,7 @@ module _ (m : Making) (entry : Told) (s : Parts) (listed : List (DeviceNumber ×
             read = did.read;
             nearer = did.nearer;
             ready = did.ready;
+            seals = seals_by did;
           },
           clocks_pass turn.Worked (flash_device d) (flash_device e) makes_none (λ n. did.worn),
         ),

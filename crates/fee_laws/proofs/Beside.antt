@@ -23,6 +23,7 @@ use Rattle.fee_switch_laws.specs.Shown.{phase_shown}
 use Rattle.fee_laws.specs.Copied.{flags_of, IsCopyIn, IsCopying}
 use Rattle.fee_laws.specs.Work.{takes_append}
 use Rattle.fee_image.specs.Copies.{at_number as flag_at_number}
+use Rattle.fee_laws.specs.Inside.{is_copying}
 
 -- THE COURSE
 -- it changes no phase
@@ -40,6 +41,18 @@ appended_phase (Some i) (Some (course.Copy (Some w))) s log next content =
     (λ (c : Course). phase_shown (Some c) (record s { log = log; course = next }) content ≡ phase_shown (Some (course.Copy (Some w))) s content) (λ e. refl) (λ e. refl)
 appended_phase (Some i) (Some course.Head) s log next content = refl
 appended_phase (Some i) (Some (course.Gate failed)) s log next content = refl
+
+-- and a target is copied as before
+pub still_copied : (o : Option ℕ) (c : Option Course) → is_copying (appended_at o c) ≡ is_copying c
+still_copied None None = refl
+still_copied None (Some c) = refl
+still_copied (Some i) None = refl
+still_copied (Some i) (Some (course.Erase n)) = refl
+still_copied (Some i) (Some (course.Copy None)) = refl
+still_copied (Some i) (Some (course.Copy (Some w))) =
+    cond_both (w.index == i) (course.Copy (Some (record w { sets = false }))) (course.Copy (Some w)) (λ (c : Course). is_copying (Some c) ≡ true) (λ e. refl) (λ e. refl)
+still_copied (Some i) (Some course.Head) = refl
+still_copied (Some i) (Some (course.Gate failed)) = refl
 
 -- twice is once
 pub appended_again : (o : Option ℕ) (c : Option Course) → appended_at o (appended_at o c) ≡ appended_at o c

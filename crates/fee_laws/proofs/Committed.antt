@@ -79,6 +79,7 @@ use Rattle.fee_laws.proofs.Page.{in_work, h, work_is, a, old_is, body, log, appe
 use Rattle.fee_laws.proofs.Shown.{after_is, counted, j, open_is, mark as its_mark, head_is, kind_is, job_of, content_fits, something, no_read}
 use Rattle.fee_laws.proofs.GoneOn.{if_else, no_seal}
 use Rattle.fee_laws.proofs.Left.{l, asked, keeps, run_on, facts_ended}
+use Rattle.fee_laws.proofs.PageTraits.{record_takes}
 
 -- a record is committed by its last page alone
 pub record Last (log : LogState) : Type 0 where
@@ -401,6 +402,7 @@ module _ (m : Making) (entry : Told) (s : Parts) (listed : List (DeviceNumber ×
     job_turns = subst (λ (o : Option FeeJob). JobTurns First (at o) (Ended JobOk []) (told_of d) (told_of e) (clock_of e)) (sym job_at) (ends, λ failed. cc);
     nearer = inl falls_at;
     ready = readies;
+    takes = record_takes m entry s listed kept count Done f is;
   })
 
 pub appends_commit : AppendsCommit

@@ -41,6 +41,7 @@ use Rattle.fee_laws.proofs.Page.{h, work_is, a, at_work, log, old_is, appending}
 use Rattle.fee_laws.proofs.Shown.{j, open_is, pages, job_of, something, no_read}
 use Rattle.fee_laws.proofs.Appended.{pages_few, open_work}
 use Rattle.fee_laws.proofs.Left.{asked, keeps, run_on}
+use Rattle.fee_laws.proofs.PageTraits.{record_seals, record_takes}
 
 torn_fits : (ns : List (DeviceNumber × ℕ)) (ps : List Place) (p : ℕ) (x : Log) (t : LogTail) → x.tail ≡ t → (stand : Stand) → IsWorkOf ns ps stand (failed_with p x t).tail
 torn_fits ns ps p x LogOpen is stand = subst (λ (y : LogTail). IsWorkOf ns ps stand y) (sym is) (none_open ns ps stand)
@@ -130,14 +131,15 @@ module _ (m : Making) (entry : Told) (s : Parts) (listed : List (DeviceNumber ×
     run = run_then;
     behind = behind;
     work = work_then;
-    at_work = record { active = was_at_work.active; job = was_at_work.job; work = was_at_work.work; ready = was_at_work.ready; switch = was_at_work.switch };
+    at_work = record { active = was_at_work.active; job = was_at_work.job; work = was_at_work.work; kept = was_at_work.kept; ready = was_at_work.ready; switch = was_at_work.switch };
     shut = λ since worn. (is.on.sound.worn since worn).shut;
+    seals = λ sealed. absurd (record_seals m entry s listed kept count Off f is sealed);
     room = λ power. (let off = went_off in absurd (cc (off, power)));
     copies = λ power told. (let off = went_off in absurd (cc (off, power)));
   }
 
   pub was_cut : Turned m entry turn.Off s t listed kept (next_count count) true
-  was_cut = turn_is_cut m entry s listed kept count is.on (work_op s) f is.drives (asked m entry s listed kept count Off f is) t.banks (keeps m entry s listed kept count Off f is) facts (something m entry s listed kept count is.on is.work) (no_read m entry s listed kept count is.on is.work) keeps_all
+  was_cut = turn_is_cut m entry s listed kept count is.on (work_op s) f is.drives (asked m entry s listed kept count Off f is) t.banks (keeps m entry s listed kept count Off f is) (record_takes m entry s listed kept count Off f is) facts (something m entry s listed kept count is.on is.work) (no_read m entry s listed kept count is.on is.work) keeps_all
 
 pub appends_are_cut : AppendsAreCut
 appends_are_cut m entry s listed kept count f is = was_cut m entry s listed kept count f is

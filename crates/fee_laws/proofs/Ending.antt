@@ -21,7 +21,7 @@ use Rattle.fee_told.specs.Figures.{left_of}
 use Rattle.fee_told.proofs.Kept.{same_places}
 use Rattle.fee_told.proofs.Jobs.{jobs_change}
 use Rattle.fee_laws.specs.declared.job.FeeJob.{FeeJob}
-use Rattle.fee_laws.specs.Inside.{Parts, device_of, memory_of, stand_of, fixed_in, HoldsBehind, IsMadeFor, IsAtWork, IsSound, ShowsCopies, TellsCopies, flags_in}
+use Rattle.fee_laws.specs.Inside.{Parts, device_of, memory_of, stand_of, fixed_in, HoldsBehind, IsMadeFor, IsAtWork, IsSound, ShowsCopies, TellsCopies, flags_in, is_copying}
 use Rattle.fee_laws.specs.Record.{IsJobOf}
 use Rattle.fee_laws.specs.Work.{work_of, seal_turns, pages_free, turns_before}
 use Rattle.fee_laws.specs.Parts.{canceled}
@@ -65,6 +65,7 @@ module _ (m : Making) (entry : Told) (s : Parts) (listed : List (DeviceNumber ×
     pub room : s.fls.flash.off ≡ false → KeepsRoom m.reserve b
     pub copies : TellsCopies m entry (canceled b s)
     pub shut : s.banks.course ≡ None → b.course ≡ None
+    pub still : is_copying s.banks.course ≡ false → is_copying b.course ≡ false
     pub switching : (told_of t).switching ≡ (told_of d).switching
     pub few : t.left ≤ (fixed_in m).own
     pub left : t.left ≤ d.left
@@ -80,6 +81,7 @@ module _ (m : Making) (entry : Told) (s : Parts) (listed : List (DeviceNumber ×
     copies = e.copies;
     cuts = sound.cuts;
     worn = λ since at. record { passed = (sound.worn since at).passed; shut = e.shut (sound.worn since at).shut };
+    seals = λ k x many at such. e.still (sound.seals k x many at such);
     numbers = sound.numbers;
     reserve = sound.reserve;
     ops = sound.ops;
@@ -158,6 +160,7 @@ module _ (m : Making) (entry : Told) (s : Parts) (listed : List (DeviceNumber ×
         room = λ on. sound.room started on;
         copies = λ on told. shown_as s.fls.flash.bytes s.banks.course (λ x c. ShowsCopies m s c x.now) (λ x c. ShowsCopies m (canceled s.banks s) c x.now) shows (sound.copies on told);
         shut = λ e. e;
+        still = λ e. e;
         switching = refl;
         few = few;
         left = less;

@@ -30,6 +30,7 @@ use Rattle.fee_laws.proofs.Tails.{shown, failed_shown, failed_idle, failed_place
 use Rattle.fee_laws.proofs.Page.{a, log, appending}
 use Rattle.fee_laws.proofs.Shown.{after_is, j, open_is, writes, something, no_read}
 use Rattle.fee_laws.proofs.Left.{l, asked, keeps, Keeping, behind, keeps_all, copies, facts_ended}
+use Rattle.fee_laws.proofs.PageTraits.{record_takes}
 
 module _ (m : Making) (entry : Told) (s : Parts) (listed : List (DeviceNumber × ℕ)) (kept count : ℕ) (f : FlsState) (is : IsAppending m entry s listed kept count Failed f) where
   abbrev b : BanksState
@@ -79,6 +80,7 @@ module _ (m : Making) (entry : Told) (s : Parts) (listed : List (DeviceNumber ×
         (fails_as jb.op (take jb.length s.content) jb.number.0 old new (writes m entry s listed kept count is.on is.work) (keeps_all m entry s listed kept count Failed f is None JobFailed 0 keeping places refl), λ failed. inl rose));
     nearer = inr rose;
     ready = λ calm. absurd (calm.faults rose);
+    takes = record_takes m entry s listed kept count Failed f is;
   })
 
 pub appends_fail : AppendsFail

@@ -14,7 +14,8 @@ use Rattle.fee_format.proofs.Tests.{eq_is, bytes_are}
 use Rattle.fee_image.specs.BankLaws.{erase_of}
 use Rattle.fee_image.specs.Laws.{place_of_sector}
 use Rattle.promise_device.specs.Bridge.{is_program, is_failed, failed_from}
-use Rattle.promise_device.specs.Wear.{bank_of_op, last_in, failed_in, repeats, is_repeated, is_done, erases_before, leads_to, is_in_order, finds_blank}
+use Rattle.promise_device.specs.Traits.{is_done}
+use Rattle.promise_device.specs.Wear.{bank_of_op, last_in, failed_in, repeats, is_repeated, erases_before, leads_to, is_in_order, finds_blank}
 use Rattle.promise_device.proofs.Wears.{all_two, one_of, last_here, failures_go_on, failed_are_repeated}
 
 -- TESTS

@@ -109,7 +109,7 @@ job_is m number length of Invalidate bytes configured fits = refl
 job_is m number length of Erase bytes configured fits = refl
 
 -- a read, or another job, whose mark has a record
-is_a_read : (op : DeviceOp) → (op ≡ Read) ⊎ (op ≢ Read)
+pub is_a_read : (op : DeviceOp) → (op ≡ Read) ⊎ (op ≢ Read)
 is_a_read Read = inl refl
 is_a_read Write = inr (λ e. cc e)
 is_a_read Invalidate = inr (λ e. cc e)
@@ -151,7 +151,7 @@ at_most : (x : Bool) (n : ℕ) → (if x then n else 0) ≤ n
 at_most true n = omega arith
 at_most false n = omega arith
 
-has_pages : (urgent : Bool) (pages reserve free : ℕ) → pages + (if urgent then 0 else reserve) ≤ free → has_room urgent pages reserve free ≡ true
+pub has_pages : (urgent : Bool) (pages reserve free : ℕ) → pages + (if urgent then 0 else reserve) ≤ free → has_room urgent pages reserve free ≡ true
 has_pages true pages reserve free few = le-leb pages free (omega (arith, few))
 has_pages false pages reserve free few = le-leb (pages + reserve) free few
 
@@ -172,7 +172,7 @@ module _ (m : Making) (entry : Told) (s : Parts) (listed : List (DeviceNumber ×
   shape : s.banks.geometry ≡ m.geometry
   shape = on.sound.made_for.banks_geometry
 
-  idle_work : work_in t ≡ None → pages_with m.geometry.page (work_in t) ≡ 0
+  pub idle_work : work_in t ≡ None → pages_with m.geometry.page (work_in t) ≡ 0
   idle_work idle = ap (pages_with m.geometry.page) idle
 
   module _ (j : FeeJob) (job : s.job ≡ Some j) where
@@ -287,7 +287,7 @@ module _ (m : Making) (entry : Told) (s : Parts) (listed : List (DeviceNumber ×
         not_needed None idle fits = not_second (is_waiting s.banks j) (not (fits_in m.reserve s.banks j)) (ap not (fits refl))
         not_needed (Some h) work fits = ap (λ (x : Bool). x && not (fits_in m.reserve s.banks j)) (waits_none j job h work)
 
-        written : (fits : work_in t ≡ None → fits_in m.reserve s.banks j ≡ true) → left_of (stand (Some j)) (work_of m.reserve s.banks (Some j)) ≤ pages_of_op (p j job) j.op j.length
+        pub written : (fits : work_in t ≡ None → fits_in m.reserve s.banks j ≡ true) → left_of (stand (Some j)) (work_of m.reserve s.banks (Some j)) ≤ pages_of_op (p j job) j.op j.length
         written fits =
             let zero = no_turns (Some j) (not_needed (work_in t) refl (λ idle. fits idle)) in
             let few = pages_few (p j job) (pages_of_op (p j job) j.op j.length) t (λ r some. (let same = work_pages j job r some in omega (arith, same))) in

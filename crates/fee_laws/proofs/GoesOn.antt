@@ -1,5 +1,5 @@
 -- A page is done, and the record goes on.
-use Rattle.std.specs.Prelude.{IfSome, IsSome, is_some}
+use Rattle.std.specs.Prelude.{IfSome, IsSome, is_some, if◌then◌else◌}
 use Rattle.std.proofs.Common.{◌≡◌, ◌≤◌, ◌<◌, ◌+◌, ℕ, false, List, Option, Some, None, refl, sym, ap, ◌∙◌, subst, arith}
 use Rattle.nv_base.specs.Geometry.{sectors_of_bank}
 use Rattle.nv_base.specs.declared.geometry.Geometry.{Geometry}
@@ -23,7 +23,7 @@ use Rattle.fee_laws.specs.Work.{work_of, pages_of_job, pages_of_op, pages_left, 
 use Rattle.fee_laws.specs.Record.{IsInWork, IsReady}
 use Rattle.fee_laws.specs.Appends.{IsAppending, after_page}
 use Rattle.fee_laws.proofs.Before.{power}
-use Rattle.fee_laws.proofs.Tails.{GoesOn, goes_on}
+use Rattle.fee_laws.proofs.Tails.{GoesOn, goes_on, free_on}
 use Rattle.fee_laws.proofs.Heads.{same_head}
 use Rattle.fee_laws.proofs.Page.{h, work_is, in_work, active_is, formats, at_work}
 use Rattle.fee_laws.proofs.Appended.{has_switch, flags_clear, pages_few, open_work}
@@ -68,6 +68,10 @@ module _ (m : Making) (entry : Told) (s : Parts) (listed : List (DeviceNumber ×
     active = subst (IsActiveOf b) (sym (active_is m entry s listed kept count is.on is.work)) (formats m entry s listed kept count is.on is.work);
     job = was_at_work.job;
     work = subst (λ (o : Option RecHead). IfSome o (IsInWork b s.job)) (sym work_on) in_work_on;
+    kept = λ work calm.
+        let free = was_at_work.kept is.work calm in
+        let same = ap (λ (n : ℕ). if is_some s.banks.active then n else 0) (free_on s.banks.log s.banks.log.tail is.work) in
+        omega (arith, free, same);
     ready = each_some s.job (IsReady b) (λ j promised none. (let w = work_on in cc (w, none)));
     switch = switch_on;
   }

@@ -35,6 +35,7 @@ use Rattle.fee_laws.proofs.Shown.{mark, something, no_read}
 use Rattle.fee_laws.proofs.Kept.{kept_on}
 use Rattle.fee_laws.proofs.GoesOn.{b, going, room_on, some_work, at_work_on, w, v, same_switch, jb, job_is, falls, work_then}
 use Rattle.fee_laws.proofs.Left.{asked, keeps, run_on, Keeping, behind, keeps_all, copies}
+use Rattle.fee_laws.proofs.PageTraits.{record_seals, record_takes}
 
 -- by a test
 pub if_else : (x : Bool) (P Q : Type 0) → (x ≡ true → P) → (x ≡ false → Q) → IfElse x P Q
@@ -74,6 +75,7 @@ module _ (m : Making) (entry : Told) (s : Parts) (listed : List (DeviceNumber ×
     work = work_then m entry s listed kept count f is goes;
     at_work = at_work_on m entry s listed kept count f is goes;
     shut = λ since worn. (is.on.sound.worn since worn).shut;
+    seals = λ sealed. absurd (record_seals m entry s listed kept count Done f is sealed);
     room = λ on. room_on m entry s listed kept count f is goes;
     copies = copies m entry s listed kept count Done f is s.job s.last s.given keeping places refl;
   }
@@ -143,6 +145,7 @@ module _ (m : Making) (entry : Told) (s : Parts) (listed : List (DeviceNumber ×
         job_turns = subst (λ (o : Option FeeJob). JobTurns First (at o) (at o) told_old told_new (clock_of (device_of m entry t))) (sym job_at) (refl, keeps_all m entry s listed kept count Done f is s.job s.last s.given keeping places refl, falls_at);
         nearer = inl falls_at;
         ready = readies;
+        takes = record_takes m entry s listed kept count Done f is;
       })
 
 pub appends_go_on : AppendsGoOn

@@ -37,6 +37,7 @@ use Rattle.fee_laws.proofs.Operation.{left, before_told, run, worn_by, started, 
 use Rattle.fee_laws.proofs.Behind.{Facts, held_behind}
 use Rattle.fee_laws.proofs.Page.{active_is, at_work, cut_keeps, formats, keeps_last}
 use Rattle.fee_laws.proofs.Copies.{settled_stays}
+use Rattle.fee_laws.proofs.PageTraits.{record_seals}
 
 module _ (m : Making) (entry : Told) (s : Parts) (listed : List (DeviceNumber × ℕ)) (kept count : ℕ) (answer : FlashAnswer) (f : FlsState) (is : IsAppending m entry s listed kept count answer f) where
   abbrev pub l : Layout
@@ -133,6 +134,7 @@ module _ (m : Making) (entry : Told) (s : Parts) (listed : List (DeviceNumber ×
       work = resting_work m b last [] (record { geometry = is.on.sound.made_for.banks_geometry; shared = is.on.sound.made_for.shared; numbers = numbers ∙ is.on.sound.made_for.numbers }) switch_then;
       at_work = idle_at_work m (t None last 0) idle active_then tt tt switch_then;
       shut = λ since worn. (is.on.sound.worn since worn).shut;
+      seals = λ sealed. absurd (record_seals m entry s listed kept count answer f is sealed);
       room = λ on. room_then;
       copies = copied';
     }

@@ -83,6 +83,7 @@ mod FollowOperations
 mod FollowBytes
 mod FollowBanks
 mod FollowAppends
+mod PageTraits
 mod FollowBegins
 mod FollowTargets
 mod FollowErases
@@ -95,6 +96,7 @@ mod FollowContents
 mod FollowStarts
 mod FollowKnown
 pub mod FollowRoom
+pub mod FollowFree
 pub mod FollowReady
 mod FollowLifts
 pub mod FollowTurned

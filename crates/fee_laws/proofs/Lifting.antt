@@ -9,7 +9,7 @@ use Rattle.memif.specs.Clock.{Clock, SameClock, Past, Ticks, After, CutIn, GoesO
 use Rattle.memif.specs.declared.answer.JobResult.{JobResult}
 use Rattle.memif.specs.declared.answer.JobResult.TheVariants.{JobOk, JobFailed, JobPending, JobCanceled, BlockInconsistent, BlockInvalid}
 use Rattle.nv_base.specs.declared.mark.Mark.{Mark}
-use Rattle.memif.specs.Calls.{Turns, TurnsAs, Works, IsCut, IsOff, JobTurns, TurnsReady, EndsAs, ReadsAt, Writes}
+use Rattle.memif.specs.Calls.{Turns, TurnsAs, Works, IsSealing, IsCut, IsOff, JobTurns, TurnsReady, EndsAs, ReadsAt, Writes}
 use Rattle.fee_told.specs.Device.{told_of, clock_of}
 use Rattle.fee_laws.specs.Inside.{device_of}
 use Rattle.fee_laws.specs.Begins.{HasBegun, BegunTurns}
@@ -23,6 +23,7 @@ past_by ops a b c same past = record {
   worn = λ k n urgent few is. past.worn k n urgent few ((same.worn k n urgent).1 is);
   of_second = λ k few. ((λ is. (same.of_second k).0 ((past.of_second k few).0 is)), (λ is. (past.of_second k few).1 ((same.of_second k).1 is)));
   spare = λ k free few is. (same.spare k free).0 (past.spare k free few is);
+  was = λ t k few is. (same.was t k).0 (past.was t k few is);
 }
 
 off_by : (answer : DeviceTurn) (ops ops' k : ℕ) (a b : Clock) → SameClock a b → (b.off_in k × ((k < ops) ⊎ (last_count ≤ k))) ⊎ GoesOff answer ops ops' k
@@ -34,7 +35,7 @@ is_shut : (a b : Bool) → a ≡ true → not a && not b ≡ true → ⊥
 is_shut true b e h = cc h
 is_shut false b e h = cc e
 
-module _ (old new : DeviceTold) (switching : Bool) (left : ℕ) (clock clock_mid clock_new : Clock) (few : left ≤ old.left) (job : is_open old.stand ≡ true) (on : (old.first.off ≡ false) × (old.second.off ≡ false)) (same : SameClock clock clock_mid) where
+module _ (old new : DeviceTold) (switching : Bool) (left : ℕ) (clock clock_mid clock_new : Clock) (few : left ≤ old.left) (job : is_open old.stand ≡ true) (stays : old.switching ≡ true → switching ≡ true) (on : (old.first.off ≡ false) × (old.second.off ≡ false)) (same : SameClock clock clock_mid) where
   abbrev mid : DeviceTold
   mid = record old { switching = switching; left = left }
 
@@ -49,6 +50,7 @@ module _ (old new : DeviceTold) (switching : Bool) (left : ℕ) (clock clock_mid
     off = λ k is. off_by answer old.ops new.ops k clock clock_mid same (t.off k is);
     failed = λ k le lt is. rose_by p (t.failed k le lt is);
     part = t.part;
+    kept = t.kept;
   }
 
   reads_by : (number : ℕ) (o : Option (List Slot)) (result : JobResult) (given : List ℕ) → ReadsAt number o result given mid → ReadsAt number o result given old
@@ -82,9 +84,13 @@ module _ (old new : DeviceTold) (switching : Bool) (left : ℕ) (clock clock_mid
   ready_by : TurnsReady mid new → TurnsReady old new
   ready_by t calm = t (record { faults = calm.faults; off = calm.off })
 
+  seals_by : (k : ℕ) → ((old.ops ≤ k) ⊎ IsSealing mid → IsSealing new) → (old.ops ≤ k) ⊎ IsSealing old → IsSealing new
+  seals_by k goes (inl now) = goes (inl now)
+  seals_by k goes (inr is) = goes (inr (record { switching = stays is.switching; ready = is.ready }))
+
   works_by : (p : Part) → Works p mid new clock_new → Works p old new clock_new
-  works_by First w = record { only = w.only; up = w.up; of = w.of; part = w.part; job = job_by First old.stand new.stand w.job; read = w.read; nearer = nearer_by old.first.faults new.first.faults w.nearer; ready = ready_by w.ready }
-  works_by Second w = record { only = w.only; up = w.up; of = w.of; part = w.part; job = job_by Second old.stand new.stand w.job; read = w.read; nearer = nearer_by old.second.faults new.second.faults w.nearer; ready = ready_by w.ready }
+  works_by First w = record { only = w.only; up = w.up; of = w.of; part = w.part; job = job_by First old.stand new.stand w.job; read = w.read; nearer = nearer_by old.first.faults new.first.faults w.nearer; ready = ready_by w.ready; seals = λ k is few such. seals_by k (w.seals k is few such) }
+  works_by Second w = record { only = w.only; up = w.up; of = w.of; part = w.part; job = job_by Second old.stand new.stand w.job; read = w.read; nearer = nearer_by old.second.faults new.second.faults w.nearer; ready = ready_by w.ready; seals = λ k is few such. seals_by k (w.seals k is few such) }
 
   cut_by : (p : Part) → IsCut p mid new → IsCut p old new
   cut_by First w = record { only = w.only; of = w.of; part = w.part; no_read = w.no_read; marks = w.marks }
@@ -112,7 +118,7 @@ module _ (old new : DeviceTold) (switching : Bool) (left : ℕ) (clock clock_mid
 begun_by : (answer : DeviceTurn) (old mid new : DeviceTold) (clock clock_mid clock_new : Clock) → HasBegun old mid clock clock_mid → Turns answer mid clock_mid new clock_new → Turns answer old clock new clock_new
 begun_by answer old mid new clock clock_mid clock_new begun turns =
     let t = subst (λ (d : DeviceTold). Turns answer d clock_mid new clock_new) begun.only turns in
-    (as_by old new mid.switching mid.left clock clock_mid clock_new begun.left begun.job begun.on begun.same answer t.0, t.1)
+    (as_by old new mid.switching mid.left clock clock_mid clock_new begun.left begun.job begun.switching begun.on begun.same answer t.0, t.1)
 
 pub begun_turns : BegunTurns
 begun_turns answer m entry s mid t begun turns =

@@ -17,7 +17,7 @@ use Rattle.fee_switch.specs.Banks.{IsMade as AreMade}
 use Rattle.fee_course.specs.declared.course.Course.{Course}
 use Rattle.fee_switch_laws.specs.Space.{HasSpace}
 use Rattle.fee_told.proofs.Whole.{unstarted_finds_now}
-use Rattle.fee_laws.specs.Inside.{Parts, device_of, IsSound, ShowsCopies}
+use Rattle.fee_laws.specs.Inside.{Parts, device_of, IsSound, ShowsCopies, is_copying}
 use Rattle.fee_laws.specs.Parts.{fresh}
 use Rattle.fee_laws.specs.Made.{IsMadeOf}
 use Rattle.fee_laws.proofs.CallOrder.{at_rest}
@@ -82,6 +82,7 @@ module _ (m : Making) (entry : Told) (s : Parts) (legal : IsLegal m.geometry) (a
     copies = λ on told. none_shows s.fls.flash.bytes s.banks.course (λ b c. ShowsCopies m (fresh s) c b.now) made.course;
     cuts = record { before = counted; since = inl (let same : s.fls.flash.planning.unplanned ≡ entry.planning.unplanned = ap (λ (p : Planning). p.unplanned) at.planning in let cuts = at.cuts in omega arith) };
     worn = λ since e. cc e;
+    seals = λ k x many at such. ap is_copying made.course;
     numbers = refl;
     reserve = refl;
     ops = refl;

@@ -11,31 +11,31 @@ use Rattle.nv_base.specs.declared.job.DeviceOp.TheVariants.{Read, Write, Invalid
 use Rattle.nv_base.specs.declared.mark.Mark.{Mark}
 use Rattle.memif.specs.Told.{Stand, Ended, Job, Fixed, figures_at, most_of, op_of, Part, First, Slot, is_open, slot_at, IfElse}
 use Rattle.memif.specs.Clock.{FindsNow}
-use Rattle.memif.specs.Calls.{InOrder, Opens, IsPrompt, ClockStays, is_first}
+use Rattle.memif.specs.Calls.{InOrder, Opens, IsPrompt, ClockStays, is_first, record_pages}
 use Rattle.fls_model.specs.Told.{Told, bytes_now, ToldBytes}
 use Rattle.fee_log.specs.Log.{work_in}
 use Rattle.fee_course.specs.Course.{most_turns}
 use Rattle.fee_switch.specs.Banks.{IsBanksState, BanksState}
-use Rattle.fee_switch_laws.specs.Shown.{old_shown}
+use Rattle.fee_switch_laws.specs.Shown.{old_shown, phase_shown}
 use Rattle.fee_switch_laws.specs.Space.{HasSpace, free_pages}
 use Rattle.promise_device.specs.Making.{Making, banks_of}
 use Rattle.fee_told.specs.Slots.{Memory, HasJob, slots_held, slots_found, settled_in}
 use Rattle.fee_told.specs.SlotLaws.{SamePlaces, IsHeld, Opened}
 use Rattle.fls_told.specs.Device.{slot_with}
 use Rattle.fls_told.proofs.Clocks.{clocks_stay, tells_first}
-use Rattle.fee_told.specs.Device.{Device, tells_now, told_of, clock_of, flash_device}
+use Rattle.fee_told.specs.Device.{Device, tells_now, told_of, clock_of, flash_device, is_switching}
 use Rattle.fee_told.specs.Figures.{Work, fixed_for, left_of, turns_of, Waits, ready_of, wait_of}
 use Rattle.fee_told.proofs.Jobs.{jobs_change}
 use Rattle.fee_told.proofs.Figures.{owed_few, urgent_starts}
 use Rattle.fee_laws.specs.declared.job.FeeJob.{FeeJob}
-use Rattle.fee_laws.specs.Inside.{Parts, device_of, memory_of, stand_of, mark_of, fixed_in, HoldsBehind, IsSound, IsAtWork, ShowsCopies}
+use Rattle.fee_laws.specs.Inside.{Parts, device_of, memory_of, stand_of, mark_of, fixed_in, body_of, HoldsBehind, IsSound, IsAtWork, ShowsCopies}
 use Rattle.fee_laws.specs.Record.{IsJobOf, IsInWork, IsReady}
 use Rattle.fee_laws.specs.Work.{work_of, pages_of_op, switch_turns, seal_turns, pages_free, turns_before, begins_next, takes_append, is_waiting, fits_in, waits_of}
 use Rattle.fee_laws.specs.Parts.{opened}
 use Rattle.fee_laws.proofs.CallsBehind.{no_work, same_body, job_in, finds_now, run_stays, holds_still}
 use Rattle.fee_laws.proofs.Bounds.{part_is, copies_few, calm_waits, pages_are}
 use Rattle.fee_laws.proofs.CallOrder.{few_before, ready_kept}
-use Rattle.fee_laws.proofs.Raising.{raises, adds, base_few, left_wanted, ready_calm, writes_pages}
+use Rattle.fee_laws.proofs.Raising.{raises, raises_beside, adds, base_few, left_wanted, ready_calm, writes_pages}
 use Rattle.fee_laws.proofs.Before.{told_at}
 use Rattle.nv_base.specs.Pages.{record_pages_of}
 use Rattle.memif.specs.Marks.{DoubtsAt}
@@ -193,6 +193,19 @@ module _ (m : Making) (entry : Told) (s : Parts) (listed : List (DeviceNumber ×
       let low = r.0 in let high = r.1 in
       (omega (arith, left_was), omega (arith, left_was, same))
 
+  -- beside an open switch
+  course_open : (c : Option Course) (b : BanksState) (body : List ℕ) → s.started && is_switching (phase_shown c b body) ≡ true → (x : Course) × (c ≡ Some x)
+  course_open None b body switching = (let none : false ≡ true = (λ i. sym started i && false) ∙ switching in cc none)
+  course_open (Some x) b body switching = (x, refl)
+
+  beside : (flash_device d).switching ≡ true → t.left ≤ d.left + (if j.urgent then 2 else 1) * (record_pages (fixed_in m) jb + 1)
+  beside switching =
+      let c = course_open s.banks.course s.banks (body_of (work_in s.banks.copies.tail) s.banks.buffer) switching in
+      let high = raises_beside m.reserve s.banks j of_banks idle works.switch some state.legal.page_low (take j.length content) c.0 c.1 in
+      let same = ap (λ (f : Fixed). record_pages f jb) fixed_same in
+      let both = ap (λ (n : ℕ). (if j.urgent then 2 else 1) * (n + 1)) same in
+      omega (arith, left_was, high, both)
+
   own_same : most_turns s.banks.geometry.page (sectors_of_bank s.banks.geometry s.banks.banks) s.banks.log.numbers ≡ (fixed_in m).own
   own_same = ap (λ (f : Fixed). f.own) fixed_same
 
@@ -274,11 +287,12 @@ module _ (m : Making) (entry : Told) (s : Parts) (listed : List (DeviceNumber ×
             faults = sound.device.faults;
           };
           rests = λ e. cc (e, started);
-          works = λ e. record { active = works.active; job = of; work = none_in (work_in s.banks.log.tail) s.banks j idle; ready = is_ready; switch = works.switch };
+          works = λ e. record { active = works.active; job = of; work = none_in (work_in s.banks.log.tail) s.banks j idle; kept = λ work calm. (let none = ap (λ (o : Option RecHead). is_some o) idle in absurd (cc (work, none))); ready = is_ready; switch = works.switch };
           room = λ e on. sound.room started on;
           copies = λ on told. shown_as s.fls.flash.bytes s.banks.course (λ b c. ShowsCopies m s c b.now) (λ b c. ShowsCopies m u c b.now) shows (sound.copies on told);
           cuts = sound.cuts;
           worn = λ since e. record { passed = (sound.worn since e).passed; shut = (sound.worn since e).shut };
+          seals = sound.seals;
           numbers = sound.numbers;
           reserve = sound.reserve;
           ops = sound.ops;
@@ -348,7 +362,7 @@ module _ (m : Making) (entry : Told) (s : Parts) (listed : List (DeviceNumber ×
   pub opens : (j.urgent ≡ true → pages ≤ ready → j.promised ≡ true) → Opens jb (told_of d) (told_of t)
   opens promises =
       let r = raised in
-      record { only = refl; marks = marks; left_low = r.0; left_high = r.1; ready = ready_at promises j.urgent refl }
+      record { only = refl; marks = marks; left_low = r.0; left_high = r.1; left_beside = λ one switching. beside switching; ready = ready_at promises j.urgent refl }
 
   pub stays : ClockStays (clock_of d) (told_of t) (clock_of t)
   stays = ordered

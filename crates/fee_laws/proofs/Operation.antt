@@ -21,7 +21,7 @@ use Rattle.promise_device.specs.Bridge.{is_program}
 use Rattle.promise_device.specs.Image.{IsOfLastGeneration, is_of_last_generation}
 use Rattle.promise_device.proofs.Readings.{last_generations_compute}
 use Rattle.fls_told.specs.Device.{asked_ops, flash_part}
-use Rattle.fls_told.specs.Clock.{Makes, CutsArePossible, change_of, turn_of}
+use Rattle.fls_told.specs.Clock.{Makes, CutsArePossible, TakesKeptPages, change_of, turn_of}
 use Rattle.fls_told.specs.Parts.{Counts}
 use Rattle.fls_told.specs.Runs.{HasRun, LeavesSound, KeepsWorn, CountsCuts as RunCounts, counts_fault}
 use Rattle.fls_told.specs.Tells.{IsSame, AreTold}
@@ -137,8 +137,8 @@ module _ (m : Making) (entry : Told) (s : Parts) (listed : List (DeviceNumber ×
       pub part_works : answer ≢ Off → PartTurns false (asked_ops (flash_device d)) (asked_ops (flash_device e)) (flash_part (flash_device d)) (flash_part (flash_device e))
       part_works on' = parts_work op answer (flash_device d) (flash_device e) counts on'
 
-      pub ticks : Ticks First (turn_of answer) (told_of d) (clock_of d) (told_of e) (clock_of e)
-      ticks = clocks_tick op answer (flash_device d) (flash_device e) on.sound.device.run.alike makes (failure_counted answer s.faults on.sound.device.faults) are.0
+      pub ticks : TakesKeptPages op answer (flash_device d) → Ticks First (turn_of answer) (told_of d) (clock_of d) (told_of e) (clock_of e)
+      ticks takes = clocks_tick op answer (flash_device d) (flash_device e) on.sound.device.run.alike makes (failure_counted answer s.faults on.sound.device.faults) are.0 takes
 
       pub run : KeepsWorn op (flash_device d) (flash_device e) → HasRun (flash_device e)
       run worn = runs_go_on op answer (flash_device d) (flash_device e) on.sound.device.run makes refl (run_counts entry f.flash cuts) are.1 worn

@@ -1,12 +1,13 @@
 -- By how much the start of a job raises the turns that are left.
 use Rattle.std.specs.Prelude.{◌&&◌, not, nat_le, is_some}
-use Rattle.std.proofs.Common.{◌≡◌, ◌≤◌, ◌<◌, ◌+◌, ◌-◌, ℕ, Bool, true, false, if◌then◌else◌, List, Option, Some, None, refl, ap, ◌∙◌, arith}
+use Rattle.std.proofs.Common.{◌≡◌, ◌≤◌, ◌<◌, ◌+◌, ◌-◌, ◌*◌, ℕ, Bool, true, false, if◌then◌else◌, List, Option, Some, None, refl, sym, ap, ◌∙◌, arith}
 use Rattle.nv_base.specs.Geometry.{sectors_of_bank}
 use Rattle.nv_base.specs.Pages.{record_pages_of}
 use Rattle.nv_base.specs.declared.job.DeviceOp.{DeviceOp}
 use Rattle.nv_base.specs.declared.job.DeviceOp.TheVariants.{Read, Write, Invalidate, Erase}
 use Rattle.nv_base.specs.declared.mark.Mark.{Mark}
 use Rattle.memif.specs.Told.{Job, Open, figures_at, most_of, op_of}
+use Rattle.memif.specs.Calls.{record_pages}
 use Rattle.fee_log.specs.declared.tail.Tail.{Tail}
 use Rattle.fee_log.specs.declared.tail.Tail.TheVariants as tail
 use Rattle.fee_log.specs.Index.{clear_flags}
@@ -18,12 +19,12 @@ use Rattle.fee_course.proofs.Turns.{turns_are_few}
 use Rattle.fee_switch.specs.Banks.{BanksState, begun_again, left_of as switch_left, left_with, index_of}
 use Rattle.fee_switch_laws.specs.Space.{free_pages}
 use Rattle.fee_told.specs.Figures.{Work, fixed_for, ready_of, left_of, turns_of, FitsMark}
-use Rattle.fee_told.proofs.Figures.{starts_raise}
+use Rattle.fee_told.proofs.Figures.{starts_raise, starts_beside}
 use Rattle.fee_laws.specs.declared.job.FeeJob.{FeeJob}
 use Rattle.fee_laws.specs.Inside.{HasSwitch, mark_of}
 use Rattle.fee_laws.specs.Record.{IsJobOf, IsLengthOf}
 use Rattle.fee_laws.specs.Work.{work_of, claimed, pages_free, seal_turns, takes_append, pages_of_op, pages_left, switch_turns, begins_next, needs_switch, turns_beside, is_waiting, fits_in}
-use Rattle.fee_laws.proofs.Bounds.{copy_among}
+use Rattle.fee_laws.proofs.Bounds.{copy_among, pages_are}
 use Rattle.fee_laws.proofs.SwitchFigures.{no_mark}
 
 -- PAGES
@@ -139,3 +140,36 @@ module _ (reserve : ℕ) (b : BanksState) (j : FeeJob) (of : IsJobOf b.log.numbe
       let same = turns_same (mark_of j.op bytes) w a.more in
       let is = a.is in
       (omega arith, (let high = h.1 in omega arith))
+
+  -- and beside an open switch
+  module _ (low : 16 ≤ p) (bytes : List ℕ) where
+    abbrev asked : Job
+    asked = record { number = j.number.0; mark = mark_of j.op bytes; urgent = j.urgent }
+
+    abbrev pages : ℕ
+    pages = record_pages (fixed_for p sectors b.log.numbers reserve) asked
+
+    own_pages : j.op ≡ Write → pages ≡ pages_of_op p j.op j.length
+    own_pages write =
+        ap (λ (op : DeviceOp). if is_some (mark_of op bytes) then (figures_at (fixed_for p sectors b.log.numbers reserve) j.number.0).pages else 0) write
+        ∙ pages_are p own b.log.numbers j.number.0 of.length of.configured
+        ∙ sym (writes_pages p j.op j.length of.length write of.fits)
+
+    copied_anew : (x : Bool) → begins_next b j ≡ x → (if x then pages_of_op p j.op j.length + 1 else 0) ≤ (if j.urgent then pages + 1 else 0)
+    copied_anew true begins =
+        let urgent = second_of _ j.urgent (is_waiting b j) _ begins in
+        let same = own_pages (of.urgent urgent) in
+        let all = ap (λ (x : Bool). if x then pages + 1 else 0) urgent in
+        omega (arith, same, all)
+    copied_anew false none = omega arith
+
+    pub raises_beside : (c : Course) → b.course ≡ Some c → left_of (Open asked) (work_of reserve b (Some j)) ≤ switch_turns reserve b None b.course + (if j.urgent then 2 else 1) * (pages + 1)
+    raises_beside c is =
+        let w = work_of reserve b (Some j) in
+        let before : Work = record { pages = 0; owed = false; switch = switch_turns reserve b None b.course } in
+        let wanted = left_wanted p (pages_of_op p j.op j.length) b.log.tail idle in
+        let fit = fits_mark p j.op j.length of.length bytes w of.fits wanted in
+        let then_is : w.switch ≡ switch_left b + turns_beside b (Some j) = ap (switch_turns reserve b (Some j)) is in
+        let was_is : switch_turns reserve b None b.course ≡ switch_left b + 0 = ap (switch_turns reserve b None) is in
+        let anew = copied_anew (begins_next b j) refl in
+        starts_beside p sectors reserve b.log.numbers asked before w (omega (arith, low)) (of.length, of.configured, fit) (omega (arith, then_is, was_is, anew))

@@ -20,7 +20,7 @@ use Rattle.fee_laws.proofs.Order.{first_of}
 use Rattle.fee_laws.proofs.Figures.{and_false}
 
 same_clock : (c : Clock) → SameClock c c
-same_clock c = record { may_find = λ w m. ((λ h. h), (λ h. h)); off_in = λ k. ((λ h. h), (λ h. h)); failed = λ k. ((λ h. h), (λ h. h)); worn = λ k n urgent. ((λ h. h), (λ h. h)); of_second = λ k. ((λ h. h), (λ h. h)); spare = λ k free. ((λ h. h), (λ h. h)) }
+same_clock c = record { may_find = λ w m. ((λ h. h), (λ h. h)); off_in = λ k. ((λ h. h), (λ h. h)); failed = λ k. ((λ h. h), (λ h. h)); worn = λ k n urgent. ((λ h. h), (λ h. h)); of_second = λ k. ((λ h. h), (λ h. h)); spare = λ k free. ((λ h. h), (λ h. h)); was = λ t k. ((λ h. h), (λ h. h)) }
 
 -- with no job, whether a switch is open
 shut_by : (c : Option Course) (s : BanksState) (body : List ℕ) → c ≡ None → is_switching (phase_shown c s body) ≡ false

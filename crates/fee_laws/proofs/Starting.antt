@@ -1,5 +1,5 @@
 -- A start-up.
-use Rattle.std.specs.Prelude.{IfSome, IsTrue, ◌&&◌}
+use Rattle.std.specs.Prelude.{IfSome, IsTrue, ◌&&◌, is_some}
 use Rattle.std.proofs.Common.{◌≡◌, ◌⊎◌, inl, inr, ◌≤◌, ◌<◌, ◌+◌, ◌*◌, ℕ, Bool, true, false, if◌then◌else◌, List, [], length, Option, Some, None, Ok, Err, refl, sym, ap, ◌∙◌, subst, arith}
 use Rattle.nv_base.specs.Count.{Rose, next_count, last_count}
 use Rattle.nv_base.specs.Geometry.{IsLegal, HasBanks, size_of}
@@ -54,7 +54,7 @@ use Rattle.fee_told.proofs.Held.{images_find}
 use Rattle.fee_told.proofs.Jobs.{banks_start as told_banks_start, no_bank_starts}
 use Rattle.fee_told.proofs.Steps.{places_tell, unstarted_find, unstarted_is_found}
 use Rattle.fee_told.proofs.Whole.{held_finds_now, unstarted_finds_now}
-use Rattle.fee_laws.specs.Inside.{Parts, memory_of, body_of, device_of, IsMadeFor, IsDevice, IsSound, HoldsBehind, HasSwitch, IsAtWork, ShowsCopies}
+use Rattle.fee_laws.specs.Inside.{Parts, memory_of, body_of, device_of, IsMadeFor, IsDevice, IsSound, HoldsBehind, HasSwitch, IsAtWork, ShowsCopies, is_copying}
 use Rattle.fee_laws.specs.Record.{IsInWork}
 use Rattle.fee_laws.specs.Parts.{started_with}
 use Rattle.fee_laws.specs.Work.{work_of}
@@ -191,7 +191,7 @@ module _ (m : Making) (entry : Told) (s : Parts) (made : IsMadeFor m s) (is : Is
   no_switch (Some c) closed clear = cc closed
 
   at_work : (x : BanksState) → b.course ≡ None → AreReady b → IsAtWork m u
-  at_work x closed rdy = record { active = rdy.active; job = tt; work = no_work (work_in b.log.tail) rdy.idle; ready = tt; switch = no_switch b.course closed rdy.clear }
+  at_work x closed rdy = record { active = rdy.active; job = tt; work = no_work (work_in b.log.tail) rdy.idle; kept = λ work calm. (let none = ap (λ (o : Option RecHead). is_some o) rdy.idle in absurd (cc (work, none))); ready = tt; switch = no_switch b.course closed rdy.clear }
 
   -- WHAT IS TOLD
   same : IsSame (flash_device d) (flash_device t)
@@ -233,6 +233,7 @@ module _ (m : Making) (entry : Told) (s : Parts) (made : IsMadeFor m s) (is : Is
     copies = λ on told. none_shows s.fls.flash.bytes b.course (λ x c. ShowsCopies m u c x.now) are.closed;
     cuts = record { before = sound.cuts.before; since = unplanned sound.cuts.since };
     worn = λ since e. record { passed = (sound.worn since e).passed; shut = are.closed };
+    seals = λ k x many at such. ap is_copying are.closed;
     numbers = sound.numbers;
     reserve = sound.reserve;
     ops = sound.ops;

@@ -145,6 +145,7 @@ module _ (m : Making) (entry : Told) (s : Parts) (listed : List (DeviceNumber ×
         room = λ on. record { space = (sound.room started on).space; switch = shut_room m.reserve b s.banks.course shut };
         copies = λ on told. none_shows s.fls.flash.bytes s.banks.course (λ x c. ShowsCopies m (canceled b s) c x.now) shut;
         shut = λ e. e;
+        still = λ e. e;
         switching = ap (λ (p : Phase). s.started && is_switching p) (phase_same s.banks s.banks.course (body_of (work_in s.banks.copies.tail) s.banks.buffer));
         few = omega (arith, none);
         left = omega (arith, none);

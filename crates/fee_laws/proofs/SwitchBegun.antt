@@ -217,6 +217,7 @@ module _ (m : Making) (entry : Told) (s : Parts) (listed : List (DeviceNumber ×
     only = λ i. record (told_of e) { slots = same_slots i; ready = ready_same i; wait = wait_same i };
     left = left_few;
     job = subst (λ (o : Option FeeJob). is_open (stand_of s.content o s.last s.given) ≡ true) (sym may.job) refl;
+    switching = λ is. ap (λ (x : Bool). x && true) on.started;
     on = (power m entry s listed kept count on, refl);
     same = clocks_stay (flash_device d) (flash_device e) (makes_none m entry s listed kept count on t none) (λ n. refl);
   }
@@ -230,6 +231,7 @@ module _ (m : Making) (entry : Told) (s : Parts) (listed : List (DeviceNumber ×
     room = room_on;
     copies = copies;
     worn = λ since worn. (let fresh = may.fresh in absurd (cc (fresh, worn)));
+    still = λ none. refl;
   })
 
 pub switches_begin : SwitchesBegin

@@ -203,6 +203,7 @@ copies_are_read m entry s listed kept count made f is reads wide =
     (subst (λ (x : BanksState). Turned m entry turn.Worked s (record s { fls = record s.fls { flash = record s.fls.flash { faults = s.fls.flash.faults }; result = f.result }; banks = x }) listed kept count false) path
     (went_read m entry s listed kept count c is.course is.on is.idle is.behind f.result (next m entry s listed kept count made Done f is reads) s.banks.log.flags (log_k m entry s listed kept count made Done f is reads) made.buffer (record {
       seals = record { takes = λ more. refl; nearer = λ some'. absurd (omega arith) };
+      copies = refl;
       room = subst (KeepsRoom m.reserve) (sym path) kept';
       lower = subst (λ (x : BanksState). left_of x < left_of s.banks) (sym path) less;
       active = active_on s.banks s.banks.log.flags (Some (next m entry s listed kept count made Done f is reads)) (log_k m entry s listed kept count made Done f is reads) made.buffer s.banks.active (is.on.sound.works is.on.started).active;
@@ -237,6 +238,7 @@ copies_are_not_read m entry s listed kept count made f is reads =
     (subst (λ (y : BanksState). Turned m entry turn.Worked s (failed_with s.job (record s { fls = record s.fls { flash = record s.fls.flash { faults = f.flash.faults }; result = f.result }; banks = y; faults = next_count s.faults })) listed kept count false) path
     (subst (λ (y : Parts). Turned m entry turn.Worked s y listed kept count false) (sym (failed_is s.job (record s { fls = record s.fls { flash = record s.fls.flash { faults = f.flash.faults }; result = f.result }; banks = fb; faults = next_count s.faults }) refl))
     (failed_read m entry s listed kept count c is.course is.on is.idle is.behind f.flash.faults f.result (rose_more s.fls.flash.faults f.flash.faults start.0.0) start.0.0 (Erase 0) flags log made.buffer (record {
+      copies = refl;
       room = subst (KeepsRoom m.reserve) (sym path) kept';
       active = active_on s.banks flags (Some (Erase 0)) log made.buffer s.banks.active (is.on.sound.works is.on.started).active;
       reading = λ old now shows. (

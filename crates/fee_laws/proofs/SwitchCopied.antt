@@ -312,12 +312,12 @@ module _ (m : Making) (entry : Told) (s : Parts) (listed : List (DeviceNumber ×
   pub copy_failed : IsStepping m entry s listed kept count at made Failed f → StepTurned Failed m entry s listed kept count at made f
   copy_failed is =
       page_failed m entry s listed kept count at made f (step_op s.banks at) (q' Failed is) (page' Failed is) (op_is m entry s listed kept count w made Failed f is) (size' Failed is) (inside' Failed is) (log' Failed is)
-      (phase m entry s listed kept count w made Failed f is) (not_gate' Failed is) is (step m entry s listed kept count w made Failed f is) (λ i. after_answer (sym is.makes.1 i) at Failed)
+      (phase m entry s listed kept count w made Failed f is) (not_gate' Failed is) is (step m entry s listed kept count w made Failed f is) refl (λ i. after_answer (sym is.makes.1 i) at Failed)
 
   pub copy_cut : IsStepping m entry s listed kept count at made Off f → StepTurned Off m entry s listed kept count at made f
   copy_cut is =
       page_cut m entry s listed kept count at made f (step_op s.banks at) (q' Off is) (page' Off is) (op_is m entry s listed kept count w made Off f is) (size' Off is) (inside' Off is) (log' Off is)
-      (phase m entry s listed kept count w made Off f is) (not_gate' Off is) is (step m entry s listed kept count w made Off f is) s.banks.copies (sym is.makes.1)
+      (phase m entry s listed kept count w made Off f is) (not_gate' Off is) is (step m entry s listed kept count w made Off f is) s.banks.copies refl (sym is.makes.1)
 
   b_is : (is : IsStepping m entry s listed kept count at made Done f) → b m entry s listed kept count w made Done f is ≡ after_answer made at Done
   b_is is =
@@ -332,5 +332,5 @@ module _ (m : Making) (entry : Told) (s : Parts) (listed : List (DeviceNumber ×
       done_by m entry s listed kept count at made f is tt (step_op s.banks at) (step m entry s listed kept count w made Done f is)
       (torn m entry s listed kept count at made Done f is (step_op s.banks at) (step m entry s listed kept count w made Done f is) (q' Done is) (page' Done is) (op_is m entry s listed kept count w made Done f is) (size' Done is) (inside' Done is) (log' Done is) (phase m entry s listed kept count w made Done f is) (not_gate' Done is))
       (cutting m entry s listed kept count at made Done f is (step_op s.banks at) (step m entry s listed kept count w made Done f is) (q' Done is) (page' Done is) (op_is m entry s listed kept count w made Done f is) (size' Done is) (inside' Done is) (log' Done is) (phase m entry s listed kept count w made Done f is) (not_gate' Done is))
-      (next m entry s listed kept count w made Done f is) (set m entry s listed kept count w made Done f is).flags (after_step s.banks.copies Done) (b_is is) (seals is)
+      (next m entry s listed kept count w made Done f is) (set m entry s listed kept count w made Done f is).flags (after_step s.banks.copies Done) refl (b_is is) (seals is)
       (λ old new sound shows leaves left. record { kept_all = kept_then m entry s listed kept count w made Done f is old new shows leaves left; copying = copying_then m entry s listed kept count w made Done f is old new shows leaves })

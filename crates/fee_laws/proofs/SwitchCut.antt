@@ -15,6 +15,7 @@ use Rattle.fee_switch.specs.Banks.{BanksState}
 use Rattle.promise_device.specs.Making.{Making, banks_of}
 use Rattle.fee_image.specs.Banks.{Old}
 use Rattle.fee_told.specs.Slots.{Memory, HasJob}
+use Rattle.fls_told.specs.Clock.{TakesKeptPages}
 use Rattle.fls_told.specs.Runs.{HasRun}
 use Rattle.fee_told.specs.Device.{Device, tells, told_of, flash_device}
 use Rattle.fee_told.proofs.Kept.{same_places}
@@ -40,6 +41,7 @@ use Rattle.fee_laws.proofs.SwitchShown.{no_job}
 use Rattle.fee_laws.proofs.SwitchNearer.{switch_is_open, all_write, no_read, each_job}
 use Rattle.fee_laws.proofs.Appended.{idle_at_work}
 use Rattle.fee_laws.proofs.Before.{sound_before}
+use Rattle.fee_laws.proofs.PageTraits.{off_seals}
 
 module _ (m : Making) (entry : Told) (s : Parts) (listed : List (DeviceNumber × ℕ)) (kept count : ℕ) (c : Course) (made : BanksState) (f : FlsState) (is : IsStepping m entry s listed kept count c made Off f) (op : Op) (step : IsStep op s.fls.flash Off f.flash) (torn : Memory) (cutting : Cutting m entry s listed kept count c made Off f is op step torn) (same_old : torn.old ≡ (memory_of s).old) (stands : torn.stand ≡ (memory_of s).stand) (log : LogState) where
   abbrev pub b : BanksState
@@ -100,10 +102,11 @@ module _ (m : Making) (entry : Told) (s : Parts) (listed : List (DeviceNumber ×
     work = work_none m s.content b s.job s.last s.given c (record { geometry = is.on.sound.made_for.banks_geometry; shared = is.on.sound.made_for.shared; numbers = is.on.sound.made_for.numbers }) is.course is.idle (switch_by s.banks.course was_at_work.switch) none_then was_at_work.job;
     at_work = idle_at_work m t is.idle was_at_work.active was_at_work.job (each_job (IsReady s.banks) (IsReady b) s.job (λ j x. x) was_at_work.ready) (switch_by s.banks.course was_at_work.switch);
     shut = λ since worn. absurd (not_worn m entry s listed kept count c made Off f is op step since worn);
+    seals = λ sealed. absurd (off_seals m op sealed);
     room = λ power. (let off = went_off in absurd (let z : true ≡ false = sym off ∙ power in cc z));
     copies = λ power told. (let off = went_off in absurd (let z : true ≡ false = sym off ∙ power in cc z));
   }
 
-  pub was_cut : Turned m entry turn.Off s t listed kept (next_count count) true
-  was_cut = turn_is_cut m entry s listed kept count is.on op f is.drives (asked m entry s listed kept count c made Off f is op step) b (keeps m entry s listed kept count c made Off f is op step torn cutting) facts
+  pub was_cut : TakesKeptPages op Off (flash_device (device_of m entry s)) → Turned m entry turn.Off s t listed kept (next_count count) true
+  was_cut takes = turn_is_cut m entry s listed kept count is.on op f is.drives (asked m entry s listed kept count c made Off f is op step) b (keeps m entry s listed kept count c made Off f is op step torn cutting) takes facts
       (switch_is_open m entry s c is.on.started is.course) (no_read s.content s.job s.last s.given (all_write s.banks s.job is.behind)) keeping

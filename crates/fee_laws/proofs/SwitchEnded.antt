@@ -95,6 +95,7 @@ use Rattle.fee_laws.proofs.SwitchHead.{next_is}
 use Rattle.fee_laws.proofs.SwitchGate.{op, log, phase, step, page_leaves, cutting, stood as gate_stood}
 use Rattle.fee_laws.proofs.GoneOn.{if_else}
 use Rattle.fee_laws.proofs.Appended.{idle_at_work}
+use Rattle.fee_laws.proofs.PageTraits.{step_seals, step_takes}
 
 -- THE NEXT TARGET
 pub target_other : (target banks : ℕ) → target < banks → 2 ≤ banks → let next = if target + 1 == banks then 0 else target + 1 in (next < banks) × (next ≡ target → ⊥)
@@ -391,6 +392,7 @@ module _ (m : Making) (entry : Told) (s : Parts) (listed : List (DeviceNumber ×
     work = work_then;
     at_work = at_work_then;
     shut = λ since worn. refl;
+    seals = λ sealed. (let none = step_seals m entry s listed kept count c made Done f is sealed in cc none);
     room = λ on. room_then;
     copies = λ on told. each_now f.flash.bytes (λ (x : List ℕ). Unit {0}) (λ new is'. tt);
   }
@@ -427,6 +429,7 @@ module _ (m : Making) (entry : Told) (s : Parts) (listed : List (DeviceNumber ×
     job_turns = turns_keep s.content s.job s.last s.given (told_of d) (told_of e) (clock_of e) keeping falls;
     nearer = inl falls;
     ready = readies;
+    takes = step_takes m entry s listed kept count c made Done f is;
   })
 
   pub gate_done : StepTurned Done m entry s listed kept count c made f

@@ -26,7 +26,7 @@ module _ (m : Making) (entry : Told) (s : Parts) (listed : List (DeviceNumber ×
   pub erase_done : IsStepping m entry s listed kept count c made Done f → StepTurned Done m entry s listed kept count c made f
   erase_done is =
       done_by m entry s listed kept count c made f is tt (step_op s.banks c) (step m entry s listed kept count n made Done f is) (memory_of s) (cutting m entry s listed kept count n made Done f is)
-      (next m entry s listed kept count n made Done f is) s.banks.log.flags s.banks.copies (b_is m entry s listed kept count n made Done f is)
+      (next m entry s listed kept count n made Done f is) s.banks.log.flags s.banks.copies refl (b_is m entry s listed kept count n made Done f is)
       (record { takes = λ more. refl; nearer = λ some. absurd (omega arith) })
       (λ old new sound shows leaves left. (let both = went m entry s listed kept count n made Done f is old new sound shows leaves left in record { kept_all = both.0; copying = both.1 }))
 
@@ -36,7 +36,7 @@ module _ (m : Making) (entry : Told) (s : Parts) (listed : List (DeviceNumber ×
       let body = body_of (work_in s.banks.copies.tail) s.banks.buffer in
       let stand = stand_of s.content None (last_by s.job s.last) (given_by s.job s.given) in
       failed_by m entry s listed kept count c made f is (step_op s.banks c) (step m entry s listed kept count n made Failed f is) (memory_of s) (cutting m entry s listed kept count n made Failed f is)
-      c s.banks.log.flags s.banks.copies ((λ i. record s.banks { course = Some c; log = record s.banks.log { flags = empty.clear i }; copies = empty.copies i }) ∙ again_is m entry s listed kept count n made Failed f is)
+      c s.banks.log.flags s.banks.copies refl ((λ i. record s.banks { course = Some c; log = record s.banks.log { flags = empty.clear i }; copies = empty.copies i }) ∙ again_is m entry s listed kept count n made Failed f is)
       (λ old new sound shows leaves left.
       (let is' = failed m entry s listed kept count n made Failed f is old new stand sound shows leaves (stand_goes s.content s.job s.last s.given) in
       let path : record (memory_of s) { stand = stand } ≡ record (memory_of s) { phase = phase_shown (Some c) s.banks body; stand = stand } = λ i. record (memory_of s) { phase = phase_shown (is.course i) s.banks body; stand = stand } in
@@ -48,4 +48,4 @@ module _ (m : Making) (entry : Told) (s : Parts) (listed : List (DeviceNumber ×
   pub erase_cut : IsStepping m entry s listed kept count c made Off f → StepTurned Off m entry s listed kept count c made f
   erase_cut is =
       cut_by m entry s listed kept count c made f is (step_op s.banks c) (step m entry s listed kept count n made Off f is) (memory_of s) (cutting m entry s listed kept count n made Off f is)
-      s.banks.copies (sym is.makes.1) refl refl
+      s.banks.copies refl (sym is.makes.1) refl refl

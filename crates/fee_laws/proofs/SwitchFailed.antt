@@ -1,5 +1,5 @@
 -- The turn in which a step of a switch fails, and a job that waits with it.
-use Rattle.std.specs.Prelude.{IfSome, take}
+use Rattle.std.specs.Prelude.{IfSome, IsTrue, take}
 use Rattle.std.proofs.Common.{◌≡◌, ◌≢◌, inl, inr, ◌≤◌, ℕ, Bool, false, List, Option, Some, None, refl, arith}
 use Rattle.nv_base.specs.Count.{next_count}
 use Rattle.nv_base.specs.declared.instance.DeviceNumber.{DeviceNumber}
@@ -7,7 +7,7 @@ use Rattle.memif.specs.declared.answer.DeviceTurn.TheVariants as turn
 use Rattle.memif.specs.declared.answer.JobResult.{JobResult}
 use Rattle.memif.specs.declared.answer.JobResult.TheVariants.{JobFailed}
 use Rattle.memif.specs.Told.{First, DeviceTold}
-use Rattle.memif.specs.Clock.{Clock}
+use Rattle.memif.specs.Clock.{Clock, Seals}
 use Rattle.memif.specs.Marks.{KeepsAll}
 use Rattle.memif.specs.Calls.{JobTurns}
 use Rattle.fls_model.specs.Op.{Op}
@@ -20,10 +20,13 @@ use Rattle.fee_switch.specs.Banks.{BanksState}
 use Rattle.nv_base.specs.declared.job.DeviceOp.TheVariants.{Read}
 use Rattle.fee_switch_laws.specs.KeepsRoom.{KeepsRoom}
 use Rattle.promise_device.specs.Making.{Making}
+use Rattle.promise_device.specs.Traits.{is_such}
 use Rattle.fee_told.specs.Slots.{Memory}
-use Rattle.fee_told.specs.Device.{told_of, clock_of}
+use Rattle.fls_told.specs.Clock.{TakesKeptPages, change_of}
+use Rattle.fee_told.specs.Device.{told_of, clock_of, flash_device}
 use Rattle.fee_laws.specs.declared.job.FeeJob.{FeeJob}
 use Rattle.fee_laws.specs.Inside.{Parts, device_of, stand_of, IsActiveOf, HasSwitch}
+use Rattle.fee_laws.specs.Work.{seal_turns}
 use Rattle.fee_laws.specs.Turn.{Turned, operated}
 use Rattle.fee_laws.specs.Switches.{IsStepping}
 use Rattle.fee_laws.proofs.Operation.{rose_next}
@@ -86,6 +89,8 @@ module _ (m : Making) (entry : Told) (s : Parts) (listed : List (DeviceNumber ×
 
   -- what its kind shows
   pub record Falls : Type 0 where
+    pub sealed : IsTrue (is_such m Seals (change_of op s.fls.flash Failed)) → 1 ≤ seal_turns (Some c')
+    pub takes : TakesKeptPages op Failed (flash_device (device_of m entry s))
     pub room : KeepsRoom m.reserve b
     pub active : IsActiveOf b b.active
     pub showing : Showing m entry s listed kept count c made Failed f is op step torn cutting b c' refl None last given
@@ -102,6 +107,7 @@ module _ (m : Making) (entry : Told) (s : Parts) (listed : List (DeviceNumber ×
       work = work_none m s.content b None last given c' (record { geometry = is.on.sound.made_for.banks_geometry; shared = is.on.sound.made_for.shared; numbers = is.on.sound.made_for.numbers }) refl is.idle switch_then tt tt;
       at_work = idle_at_work m t is.idle falls.active tt tt switch_then;
       shut = λ since worn. absurd (not_worn m entry s listed kept count c made Failed f is op step since worn);
+      seals = falls.sealed;
       room = λ power. falls.room;
       copies = copies m entry s listed kept count c made Failed f is op step torn cutting b c' refl None last given falls.showing;
     }
@@ -121,4 +127,5 @@ module _ (m : Making) (entry : Told) (s : Parts) (listed : List (DeviceNumber ×
           job_turns = turns_fail s.content s.job s.last s.given (told_of (device_of m entry s)) (told_of (device_of m entry t)) (clock_of (device_of m entry t)) writes (keeps_all m entry s listed kept count c made Failed f is op step torn cutting b c' refl None last given falls.showing) rose;
           nearer = inr rose;
           ready = λ calm. absurd (calm.faults rose);
+          takes = falls.takes;
         })

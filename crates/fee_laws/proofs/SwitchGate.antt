@@ -111,7 +111,7 @@ module _ (m : Making) (entry : Told) (s : Parts) (listed : List (DeviceNumber ×
   pub gate_failed : IsStepping m entry s listed kept count c made Failed f → StepTurned Failed m entry s listed kept count c made f
   gate_failed is =
       let stand = stand_of s.content None (last_by s.job s.last) (given_by s.job s.given) in
-      failed_by m entry s listed kept count c made f is op (step Failed is) (memory_of s) (cutting Failed is) (Gate true) s.banks.log.flags s.banks.copies (λ i. after_answer (sym is.makes.1 i) c Failed)
+      failed_by m entry s listed kept count c made f is op (step Failed is) (memory_of s) (cutting Failed is) (Gate true) s.banks.log.flags s.banks.copies refl (λ i. after_answer (sym is.makes.1 i) c Failed)
       (λ old new sound shows leaves left.
       (let is' = failing Failed is old new (copied_of (flags_in m s old)) stand shows.held leaves (stand_goes s.content s.job s.last s.given) in
       let path : record (memory_of s) { stand = stand } ≡ record (memory_of s) { phase = Sealing log; stand = stand } = λ i. record (memory_of s) { phase = phase Failed is i; stand = stand } in
@@ -121,4 +121,4 @@ module _ (m : Making) (entry : Told) (s : Parts) (listed : List (DeviceNumber ×
       }))
 
   pub gate_cut : IsStepping m entry s listed kept count c made Off f → StepTurned Off m entry s listed kept count c made f
-  gate_cut is = cut_by m entry s listed kept count c made f is op (step Off is) (memory_of s) (cutting Off is) s.banks.copies (sym is.makes.1) refl refl
+  gate_cut is = cut_by m entry s listed kept count c made f is op (step Off is) (memory_of s) (cutting Off is) s.banks.copies refl (sym is.makes.1) refl refl

@@ -134,18 +134,18 @@ module _ (m : Making) (entry : Told) (s : Parts) (listed : List (DeviceNumber ×
 
   pub head_failed : IsStepping m entry s listed kept count Head made Failed f → StepTurned Failed m entry s listed kept count Head made f
   head_failed is =
-      page_failed m entry s listed kept count Head made f op 0 page (op_at Failed is) (size Failed is) (inside Failed is) log (phase Failed is) (not_gate Failed is) is (step Failed is)
+      page_failed m entry s listed kept count Head made f op 0 page (op_at Failed is) (size Failed is) (inside Failed is) log (phase Failed is) (not_gate Failed is) is (step Failed is) refl
       (λ i. after_answer (sym is.makes.1 i) Head Failed)
 
   pub head_cut : IsStepping m entry s listed kept count Head made Off f → StepTurned Off m entry s listed kept count Head made f
   head_cut is =
-      page_cut m entry s listed kept count Head made f op 0 page (op_at Off is) (size Off is) (inside Off is) log (phase Off is) (not_gate Off is) is (step Off is) s.banks.copies (sym is.makes.1)
+      page_cut m entry s listed kept count Head made f op 0 page (op_at Off is) (size Off is) (inside Off is) log (phase Off is) (not_gate Off is) is (step Off is) s.banks.copies refl (sym is.makes.1)
 
   pub head_done : IsStepping m entry s listed kept count Head made Done f → StepTurned Done m entry s listed kept count Head made f
   head_done is =
       done_by m entry s listed kept count Head made f is tt op (step Done is) (torn m entry s listed kept count Head made Done f is op (step Done is) 0 page (op_at Done is) (size Done is) (inside Done is) log (phase Done is) (not_gate Done is))
       (cutting m entry s listed kept count Head made Done f is op (step Done is) 0 page (op_at Done is) (size Done is) (inside Done is) log (phase Done is) (not_gate Done is))
-      (Gate false) s.banks.log.flags s.banks.copies (λ i. after_answer (sym is.makes.1 i) Head Done)
+      (Gate false) s.banks.log.flags s.banks.copies refl (λ i. after_answer (sym is.makes.1 i) Head Done)
       (record { takes = λ more. (let z : false ≡ true = more in cc z); nearer = λ some. (omega arith, omega arith) })
       (λ old new sound shows leaves left.
       (let cop = copied_of (flags_in m s old) in

@@ -259,14 +259,14 @@ marks_fail m entry s listed kept count made f is changes =
     page_failed m entry s listed kept count (Copy None) made f (step_op s.banks (Copy None)) (q' m entry s listed kept count made Failed f is changes) (page' m entry s listed kept count made Failed f is changes)
     (op_is m entry s listed kept count made Failed f is changes) (size' m entry s listed kept count made Failed f is changes) (inside' m entry s listed kept count made Failed f is changes)
     (log0 m entry s listed kept count made Failed f is changes) (phase0 m entry s listed kept count made Failed f is changes) (not_gate' m entry s listed kept count made Failed f is changes) is
-    (step m entry s listed kept count made Failed f is changes) (λ i. after_answer (sym (made_is m entry s listed kept count made Failed f is changes) i) (Copy None) Failed)
+    (step m entry s listed kept count made Failed f is changes) refl (λ i. after_answer (sym (made_is m entry s listed kept count made Failed f is changes) i) (Copy None) Failed)
 
 pub marks_are_cut : MarksTurn Off
 marks_are_cut m entry s listed kept count made f is changes =
     page_cut m entry s listed kept count (Copy None) made f (step_op s.banks (Copy None)) (q' m entry s listed kept count made Off f is changes) (page' m entry s listed kept count made Off f is changes)
     (op_is m entry s listed kept count made Off f is changes) (size' m entry s listed kept count made Off f is changes) (inside' m entry s listed kept count made Off f is changes)
     (log0 m entry s listed kept count made Off f is changes) (phase0 m entry s listed kept count made Off f is changes) (not_gate' m entry s listed kept count made Off f is changes) is
-    (step m entry s listed kept count made Off f is changes) (log_k m entry s listed kept count made Off f is) (sym (made_is m entry s listed kept count made Off f is changes))
+    (step m entry s listed kept count made Off f is changes) (log_k m entry s listed kept count made Off f is) refl (sym (made_is m entry s listed kept count made Off f is changes))
 
 pub marks_go_on : MarksTurn Done
 marks_go_on m entry s listed kept count made f is changes =
@@ -274,6 +274,6 @@ marks_go_on m entry s listed kept count made f is changes =
     (torn m entry s listed kept count (Copy None) made Done f is (step_op s.banks (Copy None)) (step m entry s listed kept count made Done f is changes) (q' m entry s listed kept count made Done f is changes) (page' m entry s listed kept count made Done f is changes) (op_is m entry s listed kept count made Done f is changes) (size' m entry s listed kept count made Done f is changes) (inside' m entry s listed kept count made Done f is changes) (log0 m entry s listed kept count made Done f is changes) (phase0 m entry s listed kept count made Done f is changes) (not_gate' m entry s listed kept count made Done f is changes))
     (cutting m entry s listed kept count (Copy None) made Done f is (step_op s.banks (Copy None)) (step m entry s listed kept count made Done f is changes) (q' m entry s listed kept count made Done f is changes) (page' m entry s listed kept count made Done f is changes) (op_is m entry s listed kept count made Done f is changes) (size' m entry s listed kept count made Done f is changes) (inside' m entry s listed kept count made Done f is changes) (log0 m entry s listed kept count made Done f is changes) (phase0 m entry s listed kept count made Done f is changes) (not_gate' m entry s listed kept count made Done f is changes))
     (next m entry s listed kept count made Done f is changes) s.banks.log.flags (after_step (log_k m entry s listed kept count made Done f is) Done)
-    (λ i. after_answer (sym (made_is m entry s listed kept count made Done f is changes) i) (Copy None) Done)
+    refl (λ i. after_answer (sym (made_is m entry s listed kept count made Done f is changes) i) (Copy None) Done)
     (record { takes = λ more. refl; nearer = λ some'. absurd (omega arith) })
     (λ old new sound shows leaves left. record { kept_all = kept_then m entry s listed kept count made Done f is changes old new shows leaves left; copying = copying_then m entry s listed kept count made Done f is changes old new shows leaves })

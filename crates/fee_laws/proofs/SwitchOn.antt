@@ -1,8 +1,10 @@
 -- The turn in which a switch goes on.
-use Rattle.std.proofs.Common.{inl, ◌<◌, ℕ, Bool, false, List, Some, refl}
+use Rattle.std.specs.Prelude.{IsTrue}
+use Rattle.std.proofs.Common.{inl, ◌≤◌, ◌<◌, ℕ, Bool, false, List, Some, refl}
 use Rattle.nv_base.specs.Count.{next_count}
 use Rattle.nv_base.specs.declared.instance.DeviceNumber.{DeviceNumber}
 use Rattle.memif.specs.declared.answer.DeviceTurn.TheVariants as turn
+use Rattle.memif.specs.Clock.{Seals as LeavesSeal}
 use Rattle.fls_model.specs.declared.flash.FlashAnswer.TheVariants.{Done}
 use Rattle.fls_model.specs.Op.{Op}
 use Rattle.fls_model.specs.Step.{IsStep}
@@ -13,9 +15,12 @@ use Rattle.fee_course.specs.declared.course.Course.{Course}
 use Rattle.fee_switch.specs.Banks.{BanksState, left_of}
 use Rattle.fee_switch_laws.specs.KeepsRoom.{KeepsRoom}
 use Rattle.promise_device.specs.Making.{Making}
+use Rattle.promise_device.specs.Traits.{is_such}
 use Rattle.fee_told.specs.Slots.{Memory}
-use Rattle.fee_told.specs.Device.{clock_of}
+use Rattle.fls_told.specs.Clock.{TakesKeptPages, change_of}
+use Rattle.fee_told.specs.Device.{clock_of, flash_device}
 use Rattle.fee_laws.specs.Inside.{Parts, device_of, IsActiveOf, IsAtWork, HasSwitch}
+use Rattle.fee_laws.specs.Work.{seal_turns}
 use Rattle.fee_laws.specs.Turn.{Turned, operated}
 use Rattle.fee_laws.specs.Switches.{IsStepping}
 use Rattle.fee_laws.proofs.Behind.{Facts}
@@ -35,6 +40,8 @@ module _ (m : Making) (entry : Told) (s : Parts) (listed : List (DeviceNumber ×
   -- what its kind shows
   pub record Goes : Type 0 where
     pub seals : Seals c c'
+    pub sealed : IsTrue (is_such m LeavesSeal (change_of op s.fls.flash Done)) → 1 ≤ seal_turns (Some c')
+    pub takes : TakesKeptPages op Done (flash_device (device_of m entry s))
     pub room : KeepsRoom m.reserve b
     pub lower : left_of b < left_of s.banks
     pub active : IsActiveOf b b.active
@@ -58,6 +65,7 @@ module _ (m : Making) (entry : Told) (s : Parts) (listed : List (DeviceNumber ×
       work = work_none m s.content b s.job s.last s.given c' (record { geometry = is.on.sound.made_for.banks_geometry; shared = is.on.sound.made_for.shared; numbers = is.on.sound.made_for.numbers }) refl is.idle switch_then near.none was_at_work.job;
       at_work = idle_at_work m t is.idle goes.active was_at_work.job near.ready switch_then;
       shut = λ since worn. absurd (not_worn m entry s listed kept count c made Done f is op step since worn);
+      seals = goes.sealed;
       room = λ power. goes.room;
       copies = copies m entry s listed kept count c made Done f is op step torn cutting b c' refl s.job s.last s.given goes.showing;
     }
@@ -72,4 +80,5 @@ module _ (m : Making) (entry : Told) (s : Parts) (listed : List (DeviceNumber ×
               (keeps_all m entry s listed kept count c made Done f is op step torn cutting b c' refl s.job s.last s.given goes.showing);
           nearer = inl near.falls;
           ready = readies m s c c' flags log s.banks.buffer is.course is.idle is.behind was_at_work.ready goes.seals entry f s.faults t.operations near;
+          takes = goes.takes;
         })

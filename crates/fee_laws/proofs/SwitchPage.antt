@@ -31,7 +31,7 @@ use Rattle.fee_told.proofs.Places.{programs_keep_settled}
 use Rattle.fee_told.proofs.Switches.{copies_fail}
 use Rattle.fee_laws.specs.Inside.{Parts, memory_of, body_of, flags_in, stand_of}
 use Rattle.fee_laws.specs.Turn.{operated, Turned}
-use Rattle.fee_laws.specs.Switches.{IsStepping}
+use Rattle.fee_laws.specs.Switches.{IsStepping, step_op}
 use Rattle.fee_laws.proofs.Before.{legal}
 use Rattle.fee_laws.proofs.Switching.{Cutting, Showing}
 use Rattle.fee_laws.proofs.SwitchShown.{no_job, standing}
@@ -99,15 +99,15 @@ module _ (m : Making) (entry : Told) (s : Parts) (listed : List (DeviceNumber ×
 
 -- THE TURNS
 module _ (m : Making) (entry : Told) (s : Parts) (listed : List (DeviceNumber × ℕ)) (kept count : ℕ) (c : Course) (made : BanksState) (f : FlsState) (op : Op) (q : ℕ) (page : List ℕ) (op_is : op ≡ program_of (banks_of m) s.banks.target q page) (size : length page ≡ m.geometry.page) (inside : q < (banks_of m).pages) (log : Log) (phase_is : (memory_of s).phase ≡ Copying log) (not_gate : q ≡ 1 → ⊥) where
-  pub page_failed : (is : IsStepping m entry s listed kept count c made Failed f) (step : IsStep op s.fls.flash Failed f.flash)
+  pub page_failed : (is : IsStepping m entry s listed kept count c made Failed f) (step : IsStep op s.fls.flash Failed f.flash) → op ≡ step_op s.banks c
       → record s.banks { course = Some (Erase 0); log = record s.banks.log { flags = clear_flags s.banks.log.numbers }; copies = erased_state s.banks.geometry s.banks.banks s.banks.target s.banks.copies.numbers } ≡ after_answer made c Failed
       → Turned m entry turn.Worked s (failed_with s.job (operated op Failed f (after_answer made c Failed) s)) listed kept (next_count count) false
-  page_failed is step path =
+  page_failed is step of path =
       failed_by m entry s listed kept count c made f is op step (torn m entry s listed kept count c made Failed f is op step q page op_is size inside log phase_is not_gate) (cutting m entry s listed kept count c made Failed f is op step q page op_is size inside log phase_is not_gate)
-      (Erase 0) (clear_flags s.banks.log.numbers) (erased_state s.banks.geometry s.banks.banks s.banks.target s.banks.copies.numbers) path (failing_shows m entry s listed kept count c made Failed f is op step q page op_is size inside log phase_is not_gate)
+      (Erase 0) (clear_flags s.banks.log.numbers) (erased_state s.banks.geometry s.banks.banks s.banks.target s.banks.copies.numbers) of path (failing_shows m entry s listed kept count c made Failed f is op step q page op_is size inside log phase_is not_gate)
 
-  pub page_cut : (is : IsStepping m entry s listed kept count c made Off f) (step : IsStep op s.fls.flash Off f.flash) (copies : LogState) → record s.banks { copies = copies } ≡ after_answer made c Off
+  pub page_cut : (is : IsStepping m entry s listed kept count c made Off f) (step : IsStep op s.fls.flash Off f.flash) (copies : LogState) → op ≡ step_op s.banks c → record s.banks { copies = copies } ≡ after_answer made c Off
       → Turned m entry turn.Off s (operated op Off f (after_answer made c Off) s) listed kept (next_count count) true
-  page_cut is step copies path =
+  page_cut is step copies of path =
       cut_by m entry s listed kept count c made f is op step (torn m entry s listed kept count c made Off f is op step q page op_is size inside log phase_is not_gate) (cutting m entry s listed kept count c made Off f is op step q page op_is size inside log phase_is not_gate)
-      copies path refl refl
+      copies of path refl refl

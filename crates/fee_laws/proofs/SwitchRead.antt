@@ -1,6 +1,6 @@
 -- The turns in which the content is read that is copied next.
 use Rattle.std.specs.Prelude.{IfSome, IsTrue}
-use Rattle.std.proofs.Common.{◌≡◌, ◌≢◌, inl, ◌≤◌, ℕ, List, Option, Some, None, refl, sym, ap, subst, arith}
+use Rattle.std.proofs.Common.{◌≡◌, ◌≢◌, inl, ◌≤◌, ℕ, List, Option, Some, None, refl, sym, ap, subst, arith, true, false, ◌∙◌}
 use Rattle.nv_base.specs.Geometry.{sectors_of_bank}
 use Rattle.nv_base.specs.declared.instance.DeviceNumber.{DeviceNumber}
 use Rattle.fls_model.specs.Told.{Told}
@@ -16,7 +16,7 @@ use Rattle.fee_told.specs.SlotLaws.{IsHeld}
 use Rattle.fee_told.specs.Kept.{IsKept}
 use Rattle.fee_told.proofs.Whole.{kept_is_told}
 use Rattle.fee_laws.specs.Copied.{IsCopying}
-use Rattle.fee_laws.specs.Inside.{Parts, memory_of, flags_in, ShowsCopies, stand_of}
+use Rattle.fee_laws.specs.Inside.{Parts, memory_of, flags_in, ShowsCopies, stand_of, is_copying}
 use Rattle.fee_laws.proofs.Before.{power}
 use Rattle.memif.specs.declared.answer.JobResult.{JobResult}
 use Rattle.memif.specs.Marks.{KeepsAll}
@@ -99,9 +99,9 @@ module _ (m : Making) (entry : Told) (s : Parts) (listed : List (DeviceNumber ×
         subst (λ (o : Option Course). IfSome o (λ y. ShowsCopies m t y old)) (sym at') shown))
 
     -- THE PARTS
-    pub facts_then : IsSameFlash s.banks b → given ≤ 4096 → last ≢ JobPending → IsWork m.geometry.page (sectors_of_bank m.geometry m.banks) m.numbers m.reserve (stand_of s.content job last given) (work_of m.reserve b job) → IsAtWork m t → KeepsRoom m.reserve b
+    pub facts_then : is_copying (Some c) ≡ true → IsSameFlash s.banks b → given ≤ 4096 → last ≢ JobPending → IsWork m.geometry.page (sectors_of_bank m.geometry m.banks) m.numbers m.reserve (stand_of s.content job last given) (work_of m.reserve b job) → IsAtWork m t → KeepsRoom m.reserve b
         → Facts m entry s listed kept count on t none
-    facts_then same few ended work at_work room = record {
+    facts_then copies same few ended work at_work room = record {
       ends = record { same = same; room = on.sound.made_for.room; given_few = few; ended = ended };
       behind = behind_read;
       work = work;
@@ -109,4 +109,5 @@ module _ (m : Making) (entry : Told) (s : Parts) (listed : List (DeviceNumber ×
       room = room;
       copies = copies_then;
       worn = λ since worn. absurd (not_worn' since worn);
+      still = λ none. (let is : true ≡ false = sym copies ∙ sym (ap is_copying course_is) ∙ none in cc is);
     }

@@ -1,6 +1,6 @@
 -- The turn in which it wasn't read.
 use Rattle.std.specs.Prelude.{IfSome}
-use Rattle.std.proofs.Common.{◌≡◌, ◌≢◌, inl, inr, ◌≤◌, ℕ, Bool, true, false, List, Some, None, refl, sym, ◌∙◌}
+use Rattle.std.proofs.Common.{◌≡◌, ◌≢◌, inl, inr, ◌≤◌, ℕ, Bool, true, false, List, Some, None, refl, sym, ◌∙◌, ap}
 use Rattle.nv_base.specs.Count.{next_count}
 use Rattle.nv_base.specs.declared.instance.DeviceNumber.{DeviceNumber}
 use Rattle.memif.specs.declared.answer.DeviceTurn.TheVariants as turn
@@ -13,7 +13,7 @@ use Rattle.nv_base.specs.declared.job.DeviceOp.TheVariants.{Read}
 use Rattle.fee_switch_laws.specs.KeepsRoom.{KeepsRoom}
 use Rattle.promise_device.specs.Making.{Making}
 use Rattle.fee_told.specs.Device.{told_of, clock_of}
-use Rattle.fee_laws.specs.Inside.{Parts, device_of, IsActiveOf, HasSwitch}
+use Rattle.fee_laws.specs.Inside.{Parts, device_of, IsActiveOf, HasSwitch, is_copying}
 use Rattle.fee_laws.specs.Turn.{Turned}
 use Rattle.fee_laws.specs.Switches.{IsBehind}
 use Rattle.fee_laws.proofs.Appended.{idle_at_work}
@@ -42,6 +42,7 @@ module _ (m : Making) (entry : Told) (s : Parts) (listed : List (DeviceNumber ×
 
   -- what its kind shows
   pub record Falls : Type 0 where
+    pub copies : is_copying (Some c) ≡ true
     pub room : KeepsRoom m.reserve b
     pub active : IsActiveOf b b.active
     pub reading : Reading m entry s listed kept count c course_is on idle flash_faults fls_result (next_count s.faults) more (inr (refl, rose_flash)) b c' refl None last given
@@ -52,7 +53,7 @@ module _ (m : Making) (entry : Told) (s : Parts) (listed : List (DeviceNumber ×
 
     facts : Facts m entry s listed kept count on t (none m entry s listed kept count c course_is on idle flash_faults fls_result (next_count s.faults) more (inr (refl, rose_flash)) b c' refl None last given)
     facts =
-        facts_then m entry s listed kept count c course_is on idle flash_faults fls_result (next_count s.faults) more (inr (refl, rose_flash)) b c' refl None last given falls.reading (record { geometry = refl; banks = refl; numbers = refl }) (given_few s.job s.given on.sound.made_for.given) (last_ends s.job s.last on.sound.made_for.ended)
+        facts_then m entry s listed kept count c course_is on idle flash_faults fls_result (next_count s.faults) more (inr (refl, rose_flash)) b c' refl None last given falls.reading falls.copies (record { geometry = refl; banks = refl; numbers = refl }) (given_few s.job s.given on.sound.made_for.given) (last_ends s.job s.last on.sound.made_for.ended)
         (work_none m s.content b None last given c' (record { geometry = on.sound.made_for.banks_geometry; shared = on.sound.made_for.shared; numbers = on.sound.made_for.numbers }) refl idle switch_then tt tt) (idle_at_work m t idle falls.active tt tt switch_then) falls.room
 
     rose : Rose s.faults (next_count s.faults)
@@ -68,5 +69,6 @@ module _ (m : Making) (entry : Told) (s : Parts) (listed : List (DeviceNumber ×
       read = λ read. (let none' = no_read s.content s.job s.last s.given writes in absurd (let z : true ≡ false = sym read ∙ none' in cc z));
       nearer = inr rose;
       ready = λ calm. absurd (calm.faults rose);
+      seals = λ still sealing. (let is : true ≡ false = sym falls.copies ∙ sym (ap is_copying course_is) ∙ still in cc is);
       worn = inl refl;
     })

@@ -1,6 +1,6 @@
 -- The turn in which it was read.
 use Rattle.std.specs.Prelude.{IfSome}
-use Rattle.std.proofs.Common.{◌≡◌, inl, ◌<◌, ℕ, Bool, true, false, List, Some, None, refl, sym, ◌∙◌, arith}
+use Rattle.std.proofs.Common.{◌≡◌, inl, ◌<◌, ℕ, Bool, true, false, List, Some, None, refl, sym, ◌∙◌, arith, ap}
 use Rattle.nv_base.specs.declared.instance.DeviceNumber.{DeviceNumber}
 use Rattle.memif.specs.declared.answer.DeviceTurn.TheVariants as turn
 use Rattle.fls_model.specs.Told.{Told}
@@ -10,7 +10,7 @@ use Rattle.fee_switch.specs.Banks.{BanksState, left_of}
 use Rattle.fee_switch_laws.specs.KeepsRoom.{KeepsRoom}
 use Rattle.promise_device.specs.Making.{Making}
 use Rattle.fee_told.specs.Device.{clock_of}
-use Rattle.fee_laws.specs.Inside.{Parts, device_of, IsActiveOf, IsAtWork, HasSwitch}
+use Rattle.fee_laws.specs.Inside.{Parts, device_of, IsActiveOf, IsAtWork, HasSwitch, is_copying}
 use Rattle.fee_laws.specs.Turn.{Turned}
 use Rattle.fee_laws.specs.Switches.{IsBehind}
 use Rattle.fee_laws.proofs.Appended.{idle_at_work}
@@ -31,6 +31,7 @@ module _ (m : Making) (entry : Told) (s : Parts) (listed : List (DeviceNumber ×
   -- what its kind shows
   pub record Goes : Type 0 where
     pub seals : Seals c c'
+    pub copies : is_copying (Some c) ≡ true
     pub room : KeepsRoom m.reserve b
     pub lower : left_of b < left_of s.banks
     pub active : IsActiveOf b b.active
@@ -48,7 +49,7 @@ module _ (m : Making) (entry : Told) (s : Parts) (listed : List (DeviceNumber ×
 
     facts : Facts m entry s listed kept count on t (none m entry s listed kept count c course_is on idle s.fls.flash.faults fls_result s.faults (omega arith) (inl refl) b c' refl s.job s.last s.given)
     facts =
-        facts_then m entry s listed kept count c course_is on idle s.fls.flash.faults fls_result s.faults (omega arith) (inl refl) b c' refl s.job s.last s.given goes.reading (record { geometry = refl; banks = refl; numbers = refl }) on.sound.made_for.given on.sound.made_for.ended
+        facts_then m entry s listed kept count c course_is on idle s.fls.flash.faults fls_result s.faults (omega arith) (inl refl) b c' refl s.job s.last s.given goes.reading goes.copies (record { geometry = refl; banks = refl; numbers = refl }) on.sound.made_for.given on.sound.made_for.ended
         (work_none m s.content b s.job s.last s.given c' (record { geometry = on.sound.made_for.banks_geometry; shared = on.sound.made_for.shared; numbers = on.sound.made_for.numbers }) refl idle switch_then near.none was_at_work.job)
         (idle_at_work m t idle goes.active was_at_work.job near.ready switch_then) goes.room
 
@@ -59,5 +60,6 @@ module _ (m : Making) (entry : Told) (s : Parts) (listed : List (DeviceNumber ×
       read = λ read. (let none' = no_read s.content s.job s.last s.given near.writes in absurd (let z : true ≡ false = sym read ∙ none' in cc z));
       nearer = inl near.falls;
       ready = readies m s c c' flags log buffer course_is idle behind_is was_at_work.ready goes.seals entry t.fls s.faults s.operations near;
+      seals = λ still sealing. (let is : true ≡ false = sym goes.copies ∙ sym (ap is_copying course_is) ∙ still in cc is);
       worn = inl refl;
     })

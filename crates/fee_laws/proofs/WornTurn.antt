@@ -34,7 +34,7 @@ use Rattle.fee_told.specs.SlotLaws.{IsHeld}
 use Rattle.fls_told.specs.Device.{asked_ops}
 use Rattle.fls_told.specs.Runs.{HasRun, IsWornSince}
 use Rattle.fls_told.proofs.Clocks.{worn_now}
-use Rattle.fee_told.specs.Device.{Device, tells_now, told_of, clock_of, flash_device}
+use Rattle.fee_told.specs.Device.{Device, tells_now, told_of, clock_of, flash_device, is_switching}
 use Rattle.fee_told.specs.Kept.{IsKept}
 use Rattle.fee_told.specs.Figures.{left_of as turns_left, ready_of, turns_of, wait_of}
 use Rattle.fee_told.proofs.Kept.{same_places}
@@ -60,6 +60,7 @@ use Rattle.fee_laws.proofs.Raising.{left_wanted}
 use Rattle.fee_laws.proofs.FollowLifts.{some_of}
 use Rattle.fee_laws.proofs.Appended.{IsShaped, resting_work, idle_at_work}
 use Rattle.fee_laws.proofs.BehindNone.{AsksNone, Facts, run, held_behind, worked}
+use Rattle.fee_switch_laws.specs.Shown.{phase_shown}
 
 no_copies : (m : Making) (t : Parts) (x : List ℕ) (c : Option Course) → c ≡ None → IfSome c (λ y. ShowsCopies m t y x)
 no_copies m t x None e = tt
@@ -231,6 +232,7 @@ module _ (m : Making) (entry : Told) (s : Parts) (listed : List (DeviceNumber ×
     room = on.sound.room on.started (power m entry s listed kept count on);
     copies = λ on' told. each_now s.fls.flash.bytes (λ (x : List ℕ). IfSome s.banks.course (λ y. ShowsCopies m t y x)) (λ bytes at. no_copies m t bytes s.banks.course is.shut);
     worn = λ x at. subst (IsWorn t) (some_is x at) (record { passed = few_now; shut = is.shut });
+    still = λ none. none;
   }
 
   -- THE TURN
@@ -293,6 +295,10 @@ module _ (m : Making) (entry : Told) (s : Parts) (listed : List (DeviceNumber ×
   may_fail : MayFail First asks (told_of d) (told_of e) (clock_of e)
   may_fail = inr (λ none. (let x = mark.1 in cc (x, none)), is_worn)
 
+  -- no switch is open
+  shut_switch : (told_of d).switching ≡ false
+  shut_switch = λ i. on.started i && is_switching (phase_shown (is.shut i) s.banks (body_of (work_in s.banks.copies.tail) s.banks.buffer))
+
   pub worn_out : Turned m entry turn.Worked s t listed kept count false
   worn_out = worked m entry s listed kept count on t asks_none facts (record {
     something = subst (λ (o : Option FeeJob). not (is_open (at o)) && not (told_of d).switching ≡ false) (sym is.job) refl;
@@ -300,6 +306,7 @@ module _ (m : Making) (entry : Told) (s : Parts) (listed : List (DeviceNumber ×
     read = subst (λ (o : Option FeeJob). is_read (at o) ≡ true → ((told_of e).ops ≡ (told_of d).ops) × ((told_of e).slots ≡ (told_of d).slots)) (sym is.job) (λ read. (let none = has_none' in absurd (cc (read, none))));
     nearer = inl falls;
     ready = λ calm. if_else (urgent_first (fixed_in m) (at s.job)) (Nearer (told_of d) (told_of e)) ((told_of d).ready ≤ (told_of e).ready) (λ urgent v wait. (let none = waits_none urgent in absurd (cc (wait, none)))) (λ calm'. ready_same);
+    seals = λ still sealing. (let none : false ≡ true = sym shut_switch ∙ sealing.switching in cc none);
     worn = worn_either s.worn refl;
   })
 

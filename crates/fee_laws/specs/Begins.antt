@@ -23,6 +23,7 @@ pub record HasBegun (old mid : DeviceTold) (clock clock_mid : Clock) : Type 0 wh
   pub only : mid ≡ record old { switching = mid.switching; left = mid.left }
   pub left : mid.left ≤ old.left
   pub job : is_open old.stand ≡ true
+  pub switching : old.switching ≡ true → mid.switching ≡ true
   pub on : (old.first.off ≡ false) × (old.second.off ≡ false)
   pub same : SameClock clock clock_mid
 

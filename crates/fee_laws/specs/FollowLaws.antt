@@ -1,10 +1,11 @@
 -- Laws of a device whose banks follow the bytes of its flash: what that is for, what gives it, and what keeps it.
-use Rattle.std.specs.Prelude.{◌≡◌, ◌⊎◌, ◌≤◌, ◌+◌, ℕ, true, false, IsTrue, List, length, Option, Some, None, IfSome}
+use Rattle.std.specs.Prelude.{◌≡◌, ◌⊎◌, ◌≤◌, ◌+◌, ℕ, min, true, false, IsTrue, List, length, Option, Some, None, IfSome}
 use Rattle.nv_base.specs.declared.instance.DeviceNumber.{DeviceNumber}
 use Rattle.fls_model.specs.declared.flash.FlashAnswer.{FlashAnswer}
 use Rattle.fls_model.specs.declared.flash.FlashAnswer.TheVariants.{Done}
 use Rattle.fls_model.specs.Attach.{AreBytesOf}
-use Rattle.memif.specs.Calls.{pages_open}
+use Rattle.memif.specs.Told.{is_open}
+use Rattle.memif.specs.Calls.{is_read, pages_open, pages_urgent, pages_needed}
 use Rattle.fls_model.specs.Told.{Told, bytes_now}
 use Rattle.fls_jobs.specs.State.{FlsState}
 use Rattle.fee_image.specs.Image.{bank_in}
@@ -16,7 +17,7 @@ use Rattle.fee_course.specs.declared.course.Course.TheVariants.{Copy}
 use Rattle.fee_switch.specs.Banks.{BanksState, IsBanksState, FindsActive, LoadsActive, reads_next, after_answer}
 use Rattle.fee_switch_laws.specs.Shown.{layout_in}
 use Rattle.promise_device.specs.Making.{Making}
-use Rattle.promise_device.specs.Bridge.{may_be_closed, ready_pages, reading_of}
+use Rattle.promise_device.specs.Bridge.{may_be_closed, free_pages, reading_of}
 use Rattle.promise_device.specs.Room.{TellsWork}
 use Rattle.fls_told.specs.Device.{is_told_sound}
 use Rattle.fee_told.specs.Device.{told_of}
@@ -45,13 +46,22 @@ RoomIsTold =
     → IsOn m entry s listed kept count → s.banks.course ≡ None → Follows s
     → IfSome s.fls.flash.bytes (λ b. TellsWork m (may_be_closed s.operations) b.now (told_of (device_of m entry s)))
 
--- and from a sound image on that what the bytes have free for urgent writes is ready, beside the record of the open job
+-- so a job other than a read takes no more turns than the pages of its record, where the bytes have free what it needs
+abbrev pub RoomIsEnough : Type 0
+RoomIsEnough =
+    (m : Making) (entry : Told) (s : Parts) (listed : List (DeviceNumber × ℕ)) (kept count : ℕ)
+    → IsOn m entry s listed kept count → s.banks.course ≡ None → Follows s
+    → let d = told_of (device_of m entry s) in
+    is_open d.stand ≡ true → is_read d.stand ≡ false
+    → IfSome s.fls.flash.bytes (λ b. pages_needed d.fixed d.stand ≤ free_pages m s.operations b.now → d.left ≤ pages_open d.fixed d.stand)
+
+-- and from a sound image on that what the bytes have free is ready, as far as it is kept, beside the record of an urgent job
 abbrev pub FreeIsReady : Type 0
 FreeIsReady =
     (m : Making) (entry : Told) (s : Parts) (listed : List (DeviceNumber × ℕ)) (kept count : ℕ)
     → IsOn m entry s listed kept count → Follows s → IsTrue (is_told_sound (reading_of m) (bytes_now entry))
     → let d = told_of (device_of m entry s) in
-    IfSome s.fls.flash.bytes (λ b. ready_pages m s.operations b.now ≤ d.ready + pages_open d.fixed d.stand)
+    IfSome s.fls.flash.bytes (λ b. min m.reserve (free_pages m s.operations b.now) ≤ d.ready + pages_urgent d.fixed d.stand)
 
 -- WHAT GIVES IT
 -- a device that isn't started, as it was made or behind a start-up that failed

@@ -1,5 +1,5 @@
 -- The fields of a device, and what it is by them.
-use Rattle.std.specs.Prelude.{◌≡◌, ◌≢◌, ◌⊎◌, ◌≤◌, ◌+◌, ℕ, min, Bool, IsTrue, true, false, nat_le, List, [], length, take, Option, Some, None, IfSome}
+use Rattle.std.specs.Prelude.{◌≡◌, ◌≢◌, ◌⊎◌, ◌≤◌, ◌+◌, ℕ, min, Bool, IsTrue, true, false, nat_le, is_some, List, [], length, take, slice_get, Option, Some, None, IfSome}
 use Rattle.nv_base.specs.Count.{last_count}
 use Rattle.nv_base.specs.Geometry.{sectors_of_bank}
 use Rattle.nv_base.specs.declared.instance.DeviceNumber.{DeviceNumber}
@@ -10,6 +10,7 @@ use Rattle.nv_base.specs.declared.mark.Mark.TheVariants as mark
 use Rattle.memif.specs.declared.answer.JobResult.{JobResult}
 use Rattle.memif.specs.declared.answer.JobResult.TheVariants.{JobPending}
 use Rattle.memif.specs.Told.{Stand, Open, Ended, Fixed}
+use Rattle.memif.specs.Clock.{Seals}
 use Rattle.memif.specs.Calls.{InOrder}
 use Rattle.fls_model.specs.Attach.{AreBytesOf}
 use Rattle.fls_model.specs.Told.{Told, Change}
@@ -22,12 +23,14 @@ use Rattle.fee_log.specs.Index.{clear_flags}
 use Rattle.fee_log.specs.Log.{work_in, erased_state}
 use Rattle.fee_switch.specs.declared.active.ActiveBank.{ActiveBank}
 use Rattle.fee_course.specs.declared.course.Course.{Course}
+use Rattle.fee_course.specs.declared.course.Course.TheVariants as course
 use Rattle.fee_switch.specs.Banks.{BanksState, is_worn_out}
 use Rattle.fee_switch_laws.specs.Shown.{old_shown, phase_shown}
 use Rattle.fee_switch_laws.specs.Turns.{IsGoing}
 use Rattle.fee_switch_laws.specs.KeepsRoom.{KeepsRoom}
-use Rattle.fee_switch_laws.specs.Space.{HasSpace}
+use Rattle.fee_switch_laws.specs.Space.{HasSpace, free_pages}
 use Rattle.promise_device.specs.Making.{Making, banks_of}
+use Rattle.promise_device.specs.Traits.{is_such}
 use Rattle.fee_told.specs.Slots.{Memory, HasJob, settled_in}
 use Rattle.fee_told.specs.SlotLaws.{IsHeld, SamePlaces}
 use Rattle.fls_told.specs.Runs.{HasRun}
@@ -37,7 +40,7 @@ use Rattle.fee_told.specs.Figures.{fixed_for, left_of, ready_of, wait_of}
 use Rattle.fee_laws.specs.declared.job.FeeJob.{FeeJob}
 use Rattle.fee_laws.specs.Copied.{flags_of, IsCopying}
 use Rattle.fee_laws.specs.Record.{IsJobOf, IsInWork, IsReady}
-use Rattle.fee_laws.specs.Work.{work_of, waits_of, pages_free, seal_turns}
+use Rattle.fee_laws.specs.Work.{work_of, waits_of, pages_free, is_urgent_job, seal_turns}
 
 pub record Parts : Type 0 where
   pub fls : FlsState
@@ -136,13 +139,26 @@ abbrev pub HasSwitch : BanksState → Option Course → Type 0
 HasSwitch s None = s.log.flags ≡ clear_flags s.log.numbers
 HasSwitch s (Some c) = (is_worn_out s.active ≡ false) × IsGoing s c
 
+-- a record in work that isn't urgent began where the pages that are kept were free beside it
+abbrev pub LeavesKept : ℕ → BanksState → Option FeeJob → Type 0
+LeavesKept reserve s job = is_some (work_in s.log.tail) ≡ true → is_urgent_job job ≡ false → reserve ≤ free_pages s
+
 -- while it is started
 pub record IsAtWork (m : Making) (s : Parts) : Type 0 where
   pub active : IsActiveOf s.banks s.banks.active
   pub job : IfSome s.job (IsJobOf m.numbers)
   pub work : IfSome (work_in s.banks.log.tail) (IsInWork s.banks s.job)
+  pub kept : LeavesKept m.reserve s.banks s.job
   pub ready : IfSome s.job (IsReady s.banks)
   pub switch : HasSwitch s.banks s.banks.course
+
+-- while the target is copied the last operation isn't one that left a switch at its seal
+abbrev pub is_copying : Option Course → Bool
+is_copying (Some (course.Copy work)) = true
+is_copying _ = false
+
+abbrev pub SealsEarlier : Making → Parts → Type 0
+SealsEarlier m s = (k : ℕ) (x : Change) → length s.operations ≡ k + 1 → slice_get s.operations k ≡ Some x → IsTrue (is_such m Seals x) → is_copying s.banks.course ≡ false
 
 -- before nothing is open
 pub record IsAtRest (s : Parts) : Type 0 where
@@ -190,6 +206,7 @@ pub record IsSound (m : Making) (entry : Told) (s : Parts) (listed : List (Devic
   pub copies : TellsCopies m entry s
   pub cuts : CountsCuts entry s.fls.flash
   pub worn : (since : ℕ) → s.worn ≡ Some since → IsWorn s since
+  pub seals : SealsEarlier m s
   pub numbers : listed ≡ m.numbers
   pub reserve : kept ≡ m.reserve
   pub ops : count ≡ min (length s.operations) last_count

@@ -1,18 +1,18 @@
 -- The figures of a device.
-use Rattle.std.specs.Prelude.{◌==◌}
-use Rattle.std.proofs.Common.{◌≡◌, ◌⊎◌, inl, inr, ℕ, ◌<◌, ◌≤◌, ◌+◌, ◌-◌, ◌*◌, Bool, true, false, List, [], ◌∷◌, map, Option, Some, None, refl, ap, arith}
-use Rattle.std.proofs.Math.Nat.{div-le_self}
+use Rattle.std.specs.Prelude.{◌==◌, is_some}
+use Rattle.std.proofs.Common.{◌≡◌, ◌⊎◌, inl, inr, ℕ, ◌<◌, ◌≤◌, ◌+◌, ◌-◌, ◌*◌, ◌/◌, Bool, true, false, if◌then◌else◌, List, [], ◌∷◌, map, Option, Some, None, refl, sym, ap, subst, arith}
+use Rattle.std.proofs.Math.Nat.{div-le_self, div-eq_of_lt-le}
 use Rattle.std.proofs.lemmas.Bool.{cases_Bool}
 use Rattle.nv_base.specs.declared.instance.DeviceNumber.{DeviceNumber}
 use Rattle.nv_base.specs.declared.mark.Mark.{Mark}
 use Rattle.nv_base.specs.declared.mark.Mark.TheVariants.{Content, Invalid, Erased}
 use Rattle.nv_base.specs.Lengths.{AreLengths}
 use Rattle.nv_base.specs.Pages.{record_pages_of}
-use Rattle.memif.specs.Told.{Stand, Open, Ended, at_number, no_figures, length_of, most_of, most_open, op_of}
+use Rattle.memif.specs.Told.{Stand, Open, Ended, Figures, at_number, no_figures, length_of, most_of, most_open, op_of}
 use Rattle.fee_course.specs.Copies.{copies_most, greatest}
 use Rattle.fee_course.specs.Course.{most_turns}
 use Rattle.fee_told.specs.Figures.{figures_for, fixed_for, Work, turns_owed, turns_of, left_of, FitsMark, ready_of, Waits, wait_of}
-use Rattle.fee_told.specs.FigureLaws.{IsWork, IsNearer, LeftIsBounded, LeftFits, StartsRaise, TurnsLower, ReadyIsKept, ReadyStays, UrgentStarts, UrgentNears}
+use Rattle.fee_told.specs.FigureLaws.{IsWork, IsNearer, LeftIsBounded, LeftFits, StartsRaise, StartsBeside, TurnsLower, ReadyIsKept, ReadyStays, UrgentStarts, UrgentNears}
 
 -- FIGURES
 pub figures_found : (p own : ℕ) (ns : List (DeviceNumber × ℕ)) (n length : ℕ) → length_of ns n ≡ Some length → at_number no_figures ns (map (λ (x : DeviceNumber × ℕ). figures_for p own x.1) ns) n ≡ figures_for p own length
@@ -92,6 +92,29 @@ starts_raise p sectors reserve numbers j w next is low read =
       omega (arith, low),
       rw (figures_found p own numbers j.number is.job.0 is.job.1) (job_alone p own is.job.0 j.mark next w.switch is.job.2 is.few read),
     )
+
+-- a mark without content has no more pages than one with
+marks_few : (p length : ℕ) → 1 ≤ p → record_pages_of 0 p ≤ record_pages_of length p
+marks_few p length some =
+    let none : (0 + (p - 1)) / p ≡ 0 = div-eq_of_lt-le p (omega arith) (omega (arith, some)) in
+    omega (arith, none)
+
+-- so a job's turns are those of its number's record, and of an owed gate
+turns_few : (p own length : ℕ) (o : Option Mark) (w : Work) → 1 ≤ p → FitsMark p length o w → turns_of o w ≤ (if is_some o then (figures_for p own length).pages else 0) + 1
+turns_few p own length None w some fits = omega arith
+turns_few p own length (Some (Content bytes)) w some fits = omega (arith, owed_few w.owed)
+turns_few p own length (Some Invalid) w some fits = omega (arith, owed_few w.owed, marks_few p length some)
+turns_few p own length (Some Erased) w some fits = omega (arith, owed_few w.owed, marks_few p length some)
+
+beside_by : (urgent : Bool) (turns switch next pages : ℕ) → turns ≤ pages + 1 → next ≤ switch + (if urgent then pages + 1 else 0) → turns + next ≤ switch + (if urgent then 2 else 1) * (pages + 1)
+beside_by true turns switch next pages few more = omega arith
+beside_by false turns switch next pages few more = omega arith
+
+pub starts_beside : StartsBeside
+starts_beside p sectors reserve numbers j w next some is more =
+    let own = most_turns p sectors numbers in
+    let few = subst (λ (f : Figures). turns_of j.mark next ≤ (if is_some j.mark then f.pages else 0) + 1) (sym (figures_found p own numbers j.number is.0 is.1)) (turns_few p own is.0 j.mark next some is.2) in
+    beside_by j.urgent (turns_of j.mark next) w.switch next.switch _ few more
 
 -- TURNS
 lower_by : (o : Option Mark) (w next : Work) → (o ≡ None → ⊥) → IsNearer w next → turns_of o next + next.switch < turns_of o w + w.switch

@@ -1,8 +1,9 @@
 -- Laws of the figures.
-use Rattle.std.specs.Prelude.{◌≡◌, ◌⊎◌, ◌<◌, ◌≤◌, ◌-◌, ◌+◌, ◌^◌, ℕ, Bool, true, false, List, Some, None}
+use Rattle.std.specs.Prelude.{◌≡◌, ◌⊎◌, ◌<◌, ◌≤◌, ◌-◌, ◌+◌, ◌*◌, ◌^◌, ℕ, Bool, true, false, if◌then◌else◌, List, Some, None}
 use Rattle.nv_base.specs.declared.instance.DeviceNumber.{DeviceNumber}
 use Rattle.nv_base.specs.Lengths.{AreLengths}
 use Rattle.memif.specs.Told.{Job, Stand, Open, Ended, length_of, figures_at, most_of, most_open, op_of}
+use Rattle.memif.specs.Calls.{record_pages}
 use Rattle.fee_told.specs.Figures.{fixed_for, Work, turns_owed, left_of, FitsMark, ready_of, Waits, wait_of}
 
 -- LEFT
@@ -34,6 +35,13 @@ StartsRaise =
     → IsWork p sectors numbers reserve (Open j) next → w.switch ≤ next.switch → (j.mark ≡ None → next.switch ≤ w.switch)
     → let fixed = fixed_for p sectors numbers reserve in
     (w.switch ≤ left_of (Open j) next) × (left_of (Open j) next ≤ w.switch + most_of (figures_at fixed j.number) (op_of j.mark))
+
+-- and beside an open switch by the pages of its record and an owed gate, and once more where it is urgent
+abbrev pub StartsBeside : Type 0
+StartsBeside =
+    (p sectors reserve : ℕ) (numbers : List (DeviceNumber × ℕ)) (j : Job) (w next : Work) → 1 ≤ p → IsOfJob p numbers (Open j) next
+    → let pages = record_pages (fixed_for p sectors numbers reserve) j in
+    next.switch ≤ w.switch + (if j.urgent then pages + 1 else 0) → left_of (Open j) next ≤ w.switch + (if j.urgent then 2 else 1) * (pages + 1)
 
 -- a turn of a job other than a read lowers it where a page, an owed gate or a step of the switch is done
 abbrev pub IsNearer : Work → Work → Type 0

@@ -6,18 +6,18 @@ use Rattle.std.proofs.lemmas.List.{take-append-le, take_all}
 use Rattle.std.proofs.lemmas.Bool.{cases_lt, and_from, and_parts, or_cases, false≢true}
 use Rattle.std.proofs.lemmas.Bool.Decides.{nat_tests}
 use Rattle.nv_base.specs.Count.{last_count, Rose}
-use Rattle.memif.specs.Told.{Held, Slot, slot_at}
+use Rattle.memif.specs.Told.{Held, Slot, slot_at, is_urgent}
 use Rattle.memif.specs.Marks.{IsPossible}
-use Rattle.memif.specs.Clock.{When, After, CutIn, GoesOff, ArePossible}
+use Rattle.memif.specs.Clock.{Trait, TakesKept, When, After, CutIn, GoesOff, ArePossible}
 use Rattle.fls_model.specs.declared.flash.FlashAnswer.{FlashAnswer}
 use Rattle.fls_model.specs.Op.{Op, MayLeave}
 use Rattle.fls_model.specs.Step.{IsChanged}
 use Rattle.fls_model.specs.Told.{Told, ToldBytes, Change, IfBothTold, bytes_now}
-use Rattle.promise_device.specs.Bridge.{may_be_closed}
+use Rattle.promise_device.specs.Bridge.{may_be_closed, IsSuch}
 use Rattle.promise_device.specs.FlashRun.{TellsBytes, HasFailed, bytes_after}
 use Rattle.promise_device.specs.Reading.{Reading}
 use Rattle.fls_told.specs.Device.{FlashDevice, flash_run, is_told_sound, tells_held, told_first, tells_now, slot_with, slots_now, flash_told}
-use Rattle.fls_told.specs.Clock.{IsMapOf, TellsAfter, FindsAfter, FindsInCut, IsWornFor, HasFree, FreeNow, may_find_of, off_in_of, MakesNone, ClocksStay, ClocksPass, WornNow, change_of, Makes, turn_of, ImageIsPossible, CutsArePossible, ToldAlike, CountsFailure, ClocksTick, ClocksFindNow, TellsFirst}
+use Rattle.fls_told.specs.Clock.{IsMapOf, TellsAfter, FindsAfter, FindsInCut, IsWornFor, HasFree, FreeNow, may_find_of, off_in_of, MakesNone, ClocksStay, ClocksPass, WornNow, change_of, Makes, turn_of, ImageIsPossible, CutsArePossible, ToldAlike, CountsFailure, TakesKeptPages, ClocksTick, ClocksFindNow, TellsFirst}
 
 -- LISTS
 get_front : {X : Type 0} (xs : List X) (c : X) (k : ℕ) → k < length xs → slice_get (xs ++ c ∷ []) k ≡ slice_get xs k
@@ -218,9 +218,12 @@ module _ (d t : FlashDevice) (none : MakesNone d t) where
     small = f.small;
     image = f.image;
     is = sym (bytes_same k) ∙ f.is;
-    few = subst (λ (reading : Reading). pages ≤ reading.ready (take k d.operations) f.image) none.reading
-        (subst (λ (l : List Change). pages ≤ t.reading.ready (take k l) f.image) none.operations f.few);
+    few = subst (λ (reading : Reading). pages ≤ reading.free (take k d.operations) f.image) none.reading
+        (subst (λ (l : List Change). pages ≤ t.reading.free (take k l) f.image) none.operations f.few);
   }
+
+  such_back : (trait : Trait) (k : ℕ) → IsSuch t.reading (flash_run t) trait k → IsSuch d.reading (flash_run d) trait k
+  such_back trait k (x, at, is) = (x, subst (λ (l : List Change). slice_get l k ≡ Some x) none.operations at, subst (λ (reading : Reading). IsTrue (reading.is_such trait x)) none.reading is)
 
 back_again : (d t : FlashDevice) → MakesNone d t → MakesNone t d
 back_again d t none = record { reading = sym none.reading; entry = sym none.entry; operations = sym none.operations; bytes = sym none.bytes }
@@ -235,6 +238,7 @@ clocks_stay d t none same =
       worn = λ k n urgent. (worn_back d t none k n urgent (same n), worn_back t d again k n urgent (sym (same n)));
       of_second = λ k. (λ is. is, λ is. is);
       spare = λ k pages. (free_back d t none k pages, free_back t d again k pages);
+      was = λ trait k. (such_back d t none trait k, such_back t d again trait k);
     }
 
 -- an operation that it says the power went off in was made
@@ -257,11 +261,12 @@ worn_kept d t k n urgent none (inr new) w = let no : Some w.since ≡ None = sym
 
 pub clocks_pass : ClocksPass
 clocks_pass answer d t none worn = record {
-  past = record { after = λ k m le f. find_back d t none (After k) m f; cut = λ k m lt f. find_back d t none (CutIn k) m f; failed = λ k lt. (failed_back d t none k, failed_back t d (back_again d t none) k); worn = λ k n urgent le w. worn_kept d t k n urgent none (worn n) w; of_second = λ k lt. (λ is. is, λ is. is); spare = λ k pages le f. free_back d t none k pages f };
+  past = record { after = λ k m le f. find_back d t none (After k) m f; cut = λ k m lt f. find_back d t none (CutIn k) m f; failed = λ k lt. (failed_back d t none k, failed_back t d (back_again d t none) k); worn = λ k n urgent le w. worn_kept d t k n urgent none (worn n) w; of_second = λ k lt. (λ is. is, λ is. is); spare = λ k pages le f. free_back d t none k pages f; was = λ trait k lt f. such_back d t none trait k f };
   cut = λ k m le lt f. no_cut d t k none le lt;
   off = λ k f. inl (off_before d k (off_back d t none k f));
   failed = λ k le lt. no_cut d t k none le lt;
   part = λ k le lt. no_cut d t k none le lt;
+  kept = λ k le lt. no_cut d t k none le lt;
 }
 
 pub worn_now : WornNow
@@ -282,7 +287,7 @@ free_now d pages free =
     let at : min (length d.operations) last_count ≡ length d.operations = omega (arith, f.small) in
     let is : bytes_now d.flash ≡ Some f.image = sym (bytes_at_end d) ∙ ap (bytes_after (flash_run d)) (sym at) ∙ f.is in
     let all : take (min (length d.operations) last_count) d.operations ≡ d.operations = take_all (min (length d.operations) last_count) d.operations (omega (arith, at)) in
-    (f.told, (f.image, is, subst (λ (l : List Change). pages ≤ d.reading.ready l f.image) all f.few))
+    (f.told, (f.image, is, subst (λ (l : List Change). pages ≤ d.reading.free l f.image) all f.few))
 
 -- BY AN OPERATION
 module _ (op : Op) (answer : FlashAnswer) (d t : FlashDevice) (alike : ToldAlike d) (makes : Makes op answer d t) where
@@ -351,6 +356,9 @@ module _ (op : Op) (answer : FlashAnswer) (d t : FlashDevice) (alike : ToldAlike
       let same = early k (omega arith) in
       (λ f. (f.0, sym same ∙ f.1, f.2), λ f. (f.0, same ∙ f.1, f.2))
 
+  such_past : (trait : Trait) (k : ℕ) → k < min count last_count → IsSuch t.reading (flash_run t) trait k → IsSuch d.reading (flash_run d) trait k
+  such_past trait k lt (x, at, is) = (x, sym (early k (omega arith)) ∙ at, subst (λ (reading : Reading). IsTrue (reading.is_such trait x)) makes.reading is)
+
   -- where it is told at the end, it was before
   pub told_before : (x y : Option ToldBytes) (bytes : List ℕ) → IfBothTold x y (IsChanged op answer) → option_map now_of y ≡ Some bytes → IsTold (option_map now_of x)
   told_before (Some x) (Some y) bytes both is = record { bytes = x.now; is = refl }
@@ -384,8 +392,8 @@ module _ (op : Op) (answer : FlashAnswer) (d t : FlashDevice) (alike : ToldAlike
         small = f.small;
         image = f.image;
         is = sym (after_same k b.bytes b.is le2) ∙ f.is;
-        few = subst (λ (reading : Reading). pages ≤ reading.ready (take k d.operations) f.image) makes.reading
-            (subst (λ (l : List Change). pages ≤ t.reading.ready l f.image) (ap (take k) makes.operations ∙ take-append-le k d.operations (change ∷ []) le2) f.few);
+        few = subst (λ (reading : Reading). pages ≤ reading.free (take k d.operations) f.image) makes.reading
+            (subst (λ (l : List Change). pages ≤ t.reading.free l f.image) (ap (take k) makes.operations ∙ take-append-le k d.operations (change ∷ []) le2) f.few);
       }
 
   off_past : (k : ℕ) → off_in_of t k → off_in_of d k ⊎ GoesOff (turn_of answer) (min count last_count) (min (length t.operations) last_count) k
@@ -422,11 +430,18 @@ module _ (op : Op) (answer : FlashAnswer) (d t : FlashDevice) (alike : ToldAlike
       let same : change ≡ f.0 = some_is change f.0 (sym last ∙ ap (λ (n : ℕ). slice_get t.operations n) (sym here) ∙ f.1) in
       counts (ap (λ (c : Change). c.answer) same ∙ f.2)
 
+  such_now : TakesKeptPages op answer d → (k : ℕ) → min count last_count ≤ k → k < min (length t.operations) last_count → IsSuch t.reading (flash_run t) TakesKept k → is_urgent d.stand ≡ true
+  such_now takes k le lt (x, at, is) =
+      let here : k ≡ count = omega (arith, one_more) in
+      let same : change ≡ x = some_is change x (sym last ∙ ap (λ (n : ℕ). slice_get t.operations n) (sym here) ∙ at) in
+      takes (subst (λ (c : Change). IsTrue (d.reading.is_such TakesKept c)) (sym same) (subst (λ (reading : Reading). IsTrue (reading.is_such TakesKept x)) makes.reading is))
+
 pub clocks_tick : ClocksTick
-clocks_tick op answer d t alike makes counts possible = record {
-  past = record { after = λ k m le f. find_past op answer d t alike makes k m le f; cut = λ k m lt f. cut_past op answer d t alike makes k m lt f; failed = λ k lt. failed_past op answer d t alike makes k lt; worn = λ k n urgent le w. worn_past op answer d t alike makes k n urgent le w; of_second = λ k lt. (λ is. is, λ is. is); spare = λ k pages le f. free_past op answer d t alike makes k pages le f };
+clocks_tick op answer d t alike makes counts possible takes = record {
+  past = record { after = λ k m le f. find_past op answer d t alike makes k m le f; cut = λ k m lt f. cut_past op answer d t alike makes k m lt f; failed = λ k lt. failed_past op answer d t alike makes k lt; worn = λ k n urgent le w. worn_past op answer d t alike makes k n urgent le w; of_second = λ k lt. (λ is. is, λ is. is); spare = λ k pages le f. free_past op answer d t alike makes k pages le f; was = λ trait k lt f. such_past op answer d t alike makes trait k lt f };
   cut = λ k m le lt f. cut_now op answer d t alike makes possible k m le lt f;
   off = λ k is. off_told op answer d t alike makes k (off_past op answer d t alike makes k is);
   failed = λ k le lt f. failed_now op answer d t alike makes counts k le lt f;
   part = λ k le lt. (λ no. absurd no, λ is. cc is);
+  kept = λ k le lt f. such_now op answer d t alike makes takes k le lt f;
 }

@@ -23,7 +23,8 @@ reading = record {
   is_last = λ n image. false;
   is_full = λ n urgent image. false;
   may_follow = λ n op. true;
-  ready = λ earlier image. 0;
+  free = λ earlier image. 0;
+  is_such = λ trait x. false;
 }
 
 abbrev pub sound : List ℕ

@@ -3,15 +3,15 @@ use Rattle.std.specs.Prelude.{◌≡◌, ◌⊎◌, ◌<◌, ◌≤◌, ◌++◌
 use Rattle.nv_base.specs.Count.{last_count, Rose}
 use Rattle.memif.specs.declared.answer.DeviceTurn.{DeviceTurn}
 use Rattle.memif.specs.declared.answer.DeviceTurn.TheVariants as turn
-use Rattle.memif.specs.Told.{Held, First}
+use Rattle.memif.specs.Told.{Held, First, is_urgent}
 use Rattle.memif.specs.Marks.{IsPossible}
-use Rattle.memif.specs.Clock.{When, After, CutIn, Clock, SameClock, FindsNow, Ticks}
+use Rattle.memif.specs.Clock.{When, After, CutIn, TakesKept, Clock, SameClock, FindsNow, Ticks}
 use Rattle.fls_model.specs.declared.flash.FlashAnswer.{FlashAnswer}
 use Rattle.fls_model.specs.declared.flash.FlashAnswer.TheVariants.{Done, Failed, Off}
 use Rattle.fls_model.specs.Op.{Op, MayLeave}
 use Rattle.fls_model.specs.Step.{IsAsked}
 use Rattle.fls_model.specs.Told.{Told, Change, IfBothTold, bytes_now}
-use Rattle.promise_device.specs.Bridge.{may_be_closed}
+use Rattle.promise_device.specs.Bridge.{may_be_closed, IsSuch}
 use Rattle.promise_device.specs.FlashRun.{TellsBytes, IsCutImage, HasFailed, bytes_after}
 use Rattle.fls_told.specs.Device.{FlashDevice, flash_run, tells_held, told_first, tells_now, slot_with, asked_ops, flash_told}
 
@@ -57,17 +57,17 @@ pub record IsWornFor (d : FlashDevice) (k n : ℕ) (urgent : Bool) : Type 0 wher
   pub full : TellsBytes (flash_run d) → k < last_count
       → IfSome (bytes_after (flash_run d) k) (λ image. IsTrue (d.reading.is_full n urgent image)) ⊎ IsTrue (may_be_closed (take k d.operations))
 
--- of the bytes once k operations were made: so many pages are free for urgent writes
+-- of the bytes once k operations were made: so many pages are free
 pub record HasFree (d : FlashDevice) (k pages : ℕ) : Type 0 where
   pub told : IsTrue (tells_held d)
   pub made : k ≤ length d.operations
   pub small : k < last_count
   pub image : List ℕ
   pub is : bytes_after (flash_run d) k ≡ Some image
-  pub few : pages ≤ d.reading.ready (take k d.operations) image
+  pub few : pages ≤ d.reading.free (take k d.operations) image
 
 abbrev pub flash_clock : FlashDevice → Clock
-flash_clock d = record { may_find = may_find_of d; off_in = off_in_of d; failed = HasFailed (flash_run d); worn = IsWornFor d; of_second = λ k. ⊥; spare = HasFree d }
+flash_clock d = record { may_find = may_find_of d; off_in = off_in_of d; failed = HasFailed (flash_run d); worn = IsWornFor d; of_second = λ k. ⊥; spare = HasFree d; was = λ trait k. IsSuch d.reading (flash_run d) trait k }
 
 -- WITHOUT AN OPERATION
 pub record MakesNone (d t : FlashDevice) : Type 0 where
@@ -97,7 +97,7 @@ WornNow =
 abbrev pub FreeNow : Type 0
 FreeNow =
     (d : FlashDevice) (pages : ℕ) → (flash_clock d).spare (asked_ops d) pages
-    → IsTrue (tells_held d) × ((image : List ℕ) × (bytes_now d.flash ≡ Some image) × (pages ≤ d.reading.ready d.operations image))
+    → IsTrue (tells_held d) × ((image : List ℕ) × (bytes_now d.flash ≡ Some image) × (pages ≤ d.reading.free d.operations image))
 
 -- BY AN OPERATION
 abbrev pub change_of : Op → Told → FlashAnswer → Change
@@ -133,9 +133,13 @@ ToldAlike d = IfBothTold d.entry.bytes d.flash.bytes (λ first last. Unit {0})
 abbrev pub CountsFailure : FlashAnswer → FlashDevice → FlashDevice → Type 0
 CountsFailure answer d t = answer ≡ Failed → Rose d.faults t.faults
 
+-- a page that is kept for urgent writes is taken by an urgent job
+abbrev pub TakesKeptPages : Op → FlashAnswer → FlashDevice → Type 0
+TakesKeptPages op answer d = IsTrue (d.reading.is_such TakesKept (change_of op d.flash answer)) → is_urgent d.stand ≡ true
+
 abbrev pub ClocksTick : Type 0
 ClocksTick =
-    (op : Op) (answer : FlashAnswer) (d t : FlashDevice) → ToldAlike d → Makes op answer d t → CountsFailure answer d t → CutsArePossible op d
+    (op : Op) (answer : FlashAnswer) (d t : FlashDevice) → ToldAlike d → Makes op answer d t → CountsFailure answer d t → CutsArePossible op d → TakesKeptPages op answer d
     → Ticks First (turn_of answer) (flash_told d) (flash_clock d) (flash_told t) (flash_clock t)
 
 abbrev pub ClocksFindNow : Type 0

@@ -3,6 +3,7 @@ pub mod Image
 pub mod FlashRun
 pub mod Reading
 pub mod Failures
+pub mod Traits
 pub mod Bridge
 pub mod Room
 pub mod Wear

@@ -2,6 +2,7 @@
 use Rattle.std.specs.Prelude.{ℕ, Bool, IsTrue, List, IfSome}
 use Rattle.nv_base.specs.declared.geometry.Geometry.{Geometry}
 use Rattle.memif.specs.Told.{Held}
+use Rattle.memif.specs.Clock.{Trait}
 use Rattle.fls_model.specs.Op.{Op}
 use Rattle.fls_model.specs.Told.{Change, bytes_now}
 use Rattle.promise_device.specs.FlashRun.{FlashRun}
@@ -21,8 +22,10 @@ pub record Reading : Type 0 where
   -- such an image has no room for a record of this number: of an urgent job, or of another
   pub is_full : (number : ℕ) → (urgent : Bool) → List ℕ → Bool
   pub may_follow : ℕ → Op → Bool
-  -- the pages that an urgent write finds free in an image, behind these operations
-  pub ready : List Change → List ℕ → ℕ
+  -- the pages that are free in an image, behind these operations
+  pub free : List Change → List ℕ → ℕ
+  -- what an operation is by itself
+  pub is_such : Trait → Change → Bool
 
 -- the image at the entry is sound
 abbrev pub BeginsSound : Reading → FlashRun → Type 0

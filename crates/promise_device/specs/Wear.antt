@@ -5,8 +5,6 @@ use Rattle.nv_base.specs.declared.geometry.Geometry.{Geometry}
 use Rattle.nv_base.specs.declared.instance.DeviceNumber.{DeviceNumber}
 use Rattle.nv_base.specs.Geometry.{pages_of_bank, sectors_of_bank, size_of_bank}
 use Rattle.nv_base.specs.Pages.{record_pages_of}
-use Rattle.fls_model.specs.declared.flash.FlashAnswer.{FlashAnswer}
-use Rattle.fls_model.specs.declared.flash.FlashAnswer.TheVariants.{Done}
 use Rattle.fls_model.specs.Op.{Op, Program, Erase}
 use Rattle.fls_model.specs.Told.{Change}
 use Rattle.fee_format.specs.declared.bank_head.BankHead.{BankHead}
@@ -17,6 +15,7 @@ use Rattle.fee_image.specs.Image.{bank_in, active_of}
 use Rattle.promise_device.specs.Making.{Making, banks_of}
 use Rattle.promise_device.specs.Image.{lacks_pages}
 use Rattle.promise_device.specs.FlashRun.{FlashRun, TellsBytes, StartsSound}
+use Rattle.promise_device.specs.Traits.{is_done}
 pub use Rattle.promise_device.specs.Failures.{is_program, is_failed, bank_of_op, failed_in}
 
 -- the pages of the longest record of these numbers
@@ -67,10 +66,6 @@ may_erase_beside m earlier k image x =
 -- and where no bank is active
 abbrev pub may_erase : Making → (earlier : List Change) → (k : ℕ) → List ℕ → Bool
 may_erase m earlier k image = option_map_or (may_erase_beside m earlier k image) (active_of (banks_of m) image) true
-
-abbrev pub is_done : FlashAnswer → Bool
-is_done Done = true
-is_done answer = false
 
 -- an erase ends where this address begins
 abbrev pub erases_before : (address : ℕ) → Op → Bool
