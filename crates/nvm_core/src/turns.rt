@@ -4,6 +4,7 @@ ghost use Rattle.nvm_laws.specs.memif.Told.{faults_of};
 ghost use Rattle.nvm_laws.specs.memif.Trials.{Lasts};
 ghost use Rattle.nvm_laws.specs.Keeps.{StaysKept};
 ghost use Rattle.nvm_laws.specs.DueCalls.{TurnServesDue};
+ghost use Rattle.nvm_laws.specs.Traits.{KeepsSeal, TakesKeptInHand};
 ghost use Rattle.nvm_core.specs.Turns.{Turns};
 ghost use Rattle.nvm_core.specs.Work.{Lowers, TakesTurns};
 ghost use Rattle.nvm_core.specs.Due.{now_of};
@@ -27,6 +28,8 @@ impl<D: MemDevice, C: SyncCalls + Drop> Stack<D, C> {
         ensures lasts { Lasts (D.told self.old.device) (D.clock self.old.device) (D.told self.new.device) (D.clock self.new.device) }
         ensures pays { TurnPays D.told D.clock self.old self.new }
         ensures due { TurnServesDue (now_of D.told self.old) (now_of D.told self.new) }
+        ensures seals { KeepsSeal (D.told self.old.device) (D.clock self.old.device) (D.told self.new.device) (D.clock self.new.device) }
+        ensures kept { TakesKeptInHand self.old.desk (D.told self.old.device) (D.told self.new.device) (D.clock self.new.device) }
     {
         match first_half(
             &mut self.front,
@@ -39,6 +42,7 @@ impl<D: MemDevice, C: SyncCalls + Drop> Stack<D, C> {
                 turned
             }
             Act::Device => {
+                let _status = self.device.status();
                 let turned = device_turn(&mut self.front.desk, &mut self.hand, &mut self.device);
                 let _blocks = self.front.desk.config().blocks();
                 let _count = self.front.desk.history().len();

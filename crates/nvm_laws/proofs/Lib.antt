@@ -23,3 +23,4 @@ pub mod DueInterrupting
 pub mod DueTurning
 pub mod DueHalves
 pub mod DueCalling
+pub mod Traits

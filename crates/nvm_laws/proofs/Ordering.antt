@@ -1,22 +1,20 @@
 -- Which operation is of which part, and which start-up is told by which Found.
 use Rattle.std.specs.Prelude.{nat_le, IfSome, ◌↔◌}
-use Rattle.std.specs.List.{Contains, list_any}
+use Rattle.std.specs.List.{list_any}
 use Rattle.std.specs.Option.{option_map_or}
-use Rattle.std.proofs.Common.{◌≡◌, ◌⊎◌, ◌≤◌, ◌<◌, ℕ, ◌+◌, ◌*◌, Bool, true, false, IsTrue, List, [], ◌∷◌, ◌++◌, Option, Some, None, refl, sym, ap, ◌∙◌, subst, inl, inr, arith}
+use Rattle.std.proofs.Common.{◌≡◌, ◌⊎◌, ◌≤◌, ◌<◌, ℕ, ◌+◌, true, false, IsTrue, List, [], ◌∷◌, ◌++◌, Option, Some, None, refl, sym, ap, ◌∙◌, subst, inl, inr, arith}
 use Rattle.std.proofs.lemmas.Bool.{cases_Bool, cases_lt, lt-leb, or_parts}
 use Rattle.std.proofs.lemmas.Bool.Decides.{nat_tests}
 use Rattle.block_machine.specs.nv_base.Count.{last_count, Rose, WereCounted}
 use Rattle.block_machine.specs.nv_base.Entry as entry
 use Rattle.block_machine.specs.nv_base.Marks.{instance_of}
-use Rattle.block_machine.specs.nv_base.declared.instance.DeviceNumber.{DeviceNumber}
 use Rattle.memif.specs.Told as device
 use Rattle.memif.specs.Told.{DeviceTold, Fixed, Part, First, Second, PartTold, Stand, Open, Ended, is_open, is_part, part_at, part_of, part_of_block, figures_at}
-use Rattle.memif.specs.Clock.{Clock, Ticks}
+use Rattle.memif.specs.Clock.{Clock}
 use Rattle.memif.specs.Calls.{IsOf, Works, IsCut, Turns}
 use Rattle.memif.specs.declared.answer.DeviceTurn.{DeviceTurn}
 use Rattle.memif.specs.declared.answer.DeviceTurn.TheVariants as turn
 use Rattle.memif.specs.declared.answer.JobResult.TheVariants.{JobOk}
-use Rattle.block_machine.specs.block_config.Lengths.{lengths_of}
 use Rattle.block_machine.specs.Words.{Instance, Mark, Entry, Ask, Pick, Wrote, Post, Off, Found, Configuration}
 use Rattle.block_machine.specs.State.{State, Job}
 use Rattle.block_machine.specs.Blocks.{job_block}
@@ -35,7 +33,7 @@ use Rattle.nvm_device_laws.proofs.DeviceCalls.{goes_cut, goes_same, goes_worked}
 use Rattle.nvm_device_laws.proofs.Moments.{ops_within}
 use Rattle.nvm_device_laws.proofs.Pushed.{Goes}
 use Rattle.job_progress.proofs.Asking.{asked_hand}
-use Rattle.nvm_laws.proofs.Ending.{index, listed, number_is, small_index}
+use Rattle.nvm_laws.proofs.Ending.{listed, number_is, small_index}
 use Rattle.nvm_laws.proofs.Operations.{is_block}
 
 -- THE JOB IN HAND UP TO AN OPERATION

@@ -1,16 +1,16 @@
 -- What each call of a device leaves of what it tells.
 use Rattle.std.specs.Prelude.{is_none, is_some, if◌then◌else◌, ◌==◌}
-use Rattle.std.proofs.Common.{◌≡◌, ℕ, Bool, true, false, List, Option, Some, None, Result, Ok, Err, refl, sym, ap, ◌∙◌, subst, inl, inr, arith}
+use Rattle.std.proofs.Common.{◌≡◌, ℕ, Bool, true, false, List, Option, Some, None, Result, Ok, Err, refl, sym, ap, ◌∙◌, inl, inr, arith}
 use Rattle.block_machine.specs.nv_base.declared.mark.Mark.{Mark}
 use Rattle.memif.specs.declared.answer.DeviceRefusal.{DeviceRefusal}
 use Rattle.memif.specs.declared.answer.DeviceTurn.{DeviceTurn}
 use Rattle.memif.specs.declared.answer.DeviceTurn.TheVariants as turn
 use Rattle.memif.specs.declared.answer.JobResult.{JobResult}
 use Rattle.memif.specs.declared.answer.JobResult.TheVariants.{JobOk, JobFailed}
-use Rattle.memif.specs.Told.{DeviceTold, Slot, Held, Part, First, Second, Stand, Open, Ended, IfElse, armed, plans, is_open}
+use Rattle.memif.specs.Told.{DeviceTold, Slot, Held, Part, First, Second, Stand, Open, Ended, IfElse, plans, is_open}
 use Rattle.memif.specs.Marks.{Keeps, Doubts, SettlesAs, DoubtsAt}
 use Rattle.memif.specs.Clock.{Clock, SameClock, Past, After}
-use Rattle.memif.specs.Calls.{Wish, Accepts, Cancels, IsCanceled, Arms, ClockStays, Turns, Works, IsCut, JobTurns, EndsAs, InOrder, is_read}
+use Rattle.memif.specs.Calls.{Wish, Accepts, Cancels, IsCanceled, Arms, Turns, Works, IsCut, JobTurns, EndsAs, InOrder, is_read}
 use Rattle.memif.proofs.Turning.{told_before}
 use Rattle.nvm_device_laws.specs.Turn.{TellsSlots}
 use Rattle.nvm_laws.proofs.Keeping.{StillTells}

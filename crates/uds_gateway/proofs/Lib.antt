@@ -16,3 +16,5 @@ pub use Rattle.nvm_core.proofs.memif.Turning as Turning
 pub use Rattle.nvm_core.proofs.nvm_laws.DueTurning as DueTurning
 pub use Rattle.nvm_core.proofs.nvm_laws.Paying as Paying
 pub use Rattle.nvm_core.proofs.ram_blocks.FreshCopies as FreshCopies
+pub use Rattle.nvm_core.proofs.Operations as Operations
+pub use Rattle.nvm_core.proofs.job_progress.Powering as Powering
