@@ -1,15 +1,20 @@
 -- A planned cut that comes, and one that is missed.
 use Rattle.std.specs.Prelude.{map}
-use Rattle.std.proofs.Common.{◌≡◌, ◌≤◌, ◌+◌, ℕ, zero, suc, true, List, [], ◌∷◌, Option, Some, None, refl, sym, ap, ◌∙◌, subst, inl, inr, arith, rules}
+use Rattle.std.proofs.Common.{◌≡◌, ◌≤◌, ◌<◌, ◌+◌, ℕ, zero, suc, true, List, [], ◌∷◌, Option, Some, None, refl, sym, ap, ◌∙◌, subst, inl, inr, arith, rules}
 use Rattle.script_walks.specs.Words.{Step, Cut, Turn}
 use Rattle.block_machine.specs.Words.{Entry, Off, Found, Configuration}
 use Rattle.block_machine.specs.State.{State}
 use Rattle.block_machine.specs.Steps.{after, after_from}
+use Rattle.memif.specs.Clock.{TakesKept}
 use Rattle.promise_device.specs.FlashRun.{HasFailed}
+use Rattle.promise_device.specs.Bridge.{IsSuch, IsWornOut, reading_of}
+use Rattle.promise_run.specs.Promise.{making_of}
+use Rattle.promise_run.specs.Operations.{HadRoom, HasWork, costs_of}
 use Rattle.promise_run.specs.Turns.{Moment, Move, Planned, entry_list, entries_of, moment_behind, moment_after, AreMoves, CountsOwn, IsInTime, AreInTime, CutsCome, HasTurns}
 use Rattle.promise_run.specs.Cases.{small, picks_one, written_at, always, cut_comes, cut_missed}
 use Rattle.promise_run.proofs.PlannedCuts.{from_more}
-use Rattle.promise_run.proofs.OneByOne.{asked_one, asks_step, at_ops, no_count, no_sweep, at_work, some_same, none_urgent}
+use Rattle.promise_run.proofs.OneByOne.{asked_one, asks_step, at_ops, no_count, no_sweep, at_work, some_same, none_urgent, none_kept, may_try, one_adds}
+use Rattle.promise_run.proofs.Efforts.{none_began, began, rests, goes, begins}
 
 -- IT COMES
 none_failed : (k : ℕ) → HasFailed cut_comes.flash k → ⊥
@@ -19,6 +24,18 @@ none_failed (suc (suc k)) (x, at, is) = cc at
 
 none_fails : (n m : ℕ) {o : Option Entry} → n ≤ m → CountsOwn (HasFailed cut_comes.flash) (at_ops n) (record { entry = o; behind = at_ops m })
 none_fails n m more = record { later = more; own = λ k le lt failed. absurd (none_failed k failed) }
+
+no_page : {P : Type 0} {from to : ℕ} → (k : ℕ) → from ≤ k → k < to → IsSuch (reading_of (making_of small)) cut_comes.flash TakesKept k → P
+no_page k le lt kept = absurd (none_kept cut_comes.flash k kept)
+
+comes_work : HasWork (costs_of small) (HadRoom (making_of small) cut_comes.flash) (IsWornOut (making_of small) cut_comes.flash) small (at_ops 0) (after small (Found [] 0 ∷ []))
+    (record { entry = Some asked_one; behind = at_ops 0 } ∷ record { entry = Some picks_one; behind = at_ops 0 } ∷ record { entry = None; behind = at_ops 1 } ∷ record { entry = Some (Off 2); behind = at_ops 2 } ∷ [])
+comes_work = record {
+  left = 0;
+  few = omega arith;
+  efforts = none_began 0 None ∷ none_began 0 None ∷ began 128 3 ∷ none_began 0 (Some 128) ∷ [];
+  are = (rests _ _ _ _ _ _ _ _ _ refl (omega arith), (rests _ _ _ _ _ _ _ _ _ refl (omega arith), (begins _ _ _ _ _ _ _ _ _ 128 refl may_try (λ test. one_adds (test 4)), (goes _ _ _ _ _ _ _ _ _ 128 refl refl (omega arith), tt))));
+}
 
 pub comes_kept : HasTurns (always 8) cut_comes cut_comes.course
 comes_kept = record {
@@ -45,6 +62,8 @@ comes_kept = record {
   rests = (λ rest idle no_ask. absurd (cc no_ask), (at_work, (at_work, (at_work, tt))));
   drains = λ calm. (λ drain. absurd (cc drain), (λ drain. absurd (cc drain), (λ drain. absurd (cc drain), tt)));
   cuts = (tt, ((inl (omega arith), tt), ((inl (omega arith), (inl (omega arith), (inr (inl refl), tt))), tt)));
+  work = comes_work;
+  kept = (no_page, (no_page, (no_page, (no_page, tt))));
   urgent = λ told sound. (λ id is. absurd (none_urgent id is), (λ id is. absurd (none_urgent id is), (λ id is. absurd (none_urgent id is), (λ id is. absurd (none_urgent id is), tt))));
   paid = λ told sound. (inl (inl (omega arith)), (inl (inl (omega arith)), (inl (inl (omega arith)), (inl (inl (omega arith)), tt))));
 }

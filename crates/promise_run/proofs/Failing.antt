@@ -1,9 +1,10 @@
 -- Operations that failed, in their moves.
 use Rattle.std.specs.Prelude.{map, IfSome}
-use Rattle.std.proofs.Common.{◌≡◌, ◌⊎◌, ◌≤◌, ◌<◌, ◌+◌, ℕ, Bool, zero, suc, false, List, [], ◌∷◌, ◌++◌, Option, Some, None, if◌then◌else◌, refl, sym, ap, ◌∙◌, subst, inl, inr, arith, append-nil, append_assoc, rules}
+use Rattle.std.proofs.Common.{◌≡◌, ◌⊎◌, ◌≤◌, ◌<◌, ◌+◌, ℕ, Bool, zero, suc, true, false, List, [], ◌∷◌, ◌++◌, Option, Some, None, if◌then◌else◌, refl, sym, ap, ◌∙◌, subst, inl, inr, arith, append-nil, append_assoc, rules}
 use Rattle.std.proofs.lemmas.Bool.{cases_lt}
 use Rattle.block_machine.specs.nv_base.Count.{Rose, WereCounted}
 use Rattle.block_machine.specs.nv_base.Entry.{ops_of}
+use Rattle.memif.specs.Clock.{TakesKept}
 use Rattle.memif.proofs.Turning.{rose_before, rose_since}
 use Rattle.fee_image.specs.Laws.{SoundImagesCompute}
 use Rattle.script_walks.specs.Words.{Step, StepKind, AskStep, Store, Turn, Drain, Cut, Refuse, Restart, Await}
@@ -13,12 +14,14 @@ use Rattle.block_machine.specs.Steps.{step, after, after_from}
 use Rattle.promise_blocks.specs.Payment.{Worn}
 use Rattle.promise_device.specs.Making.{banks_of}
 use Rattle.promise_device.specs.FlashRun.{HasFailed, StartsSound}
-use Rattle.promise_device.specs.Bridge.{IsWornOut}
+use Rattle.promise_device.specs.Bridge.{IsWornOut, IsSuch, reading_of}
 use Rattle.promise_run.specs.Promise.{making_of}
+use Rattle.promise_run.specs.Operations.{HadRoom, HasWork, costs_of}
 use Rattle.promise_run.specs.Turns.{Moment, Move, entry_list, entries_of, moment_behind, moment_after, AreTurnsMade, AreMovesOf, AreMoves, CountsOwn, CountFailed, IsPaidSince, ArePaidSince, HasTurns, is_picked, all_moves}
 use Rattle.promise_run.specs.Cases.{small, one, blank, picks_one, always, CountsFailed, mended, posts_on_credit, starts_on_credit, untold}
 use Rattle.promise_run.proofs.Counted.{behind_more, all_behind}
-use Rattle.promise_run.proofs.OneByOne.{two_lists, asked_one, asks_step, at_ops, no_sweep, at_work, none_urgent}
+use Rattle.promise_run.proofs.OneByOne.{two_lists, asked_one, asks_step, at_ops, no_sweep, at_work, none_urgent, none_kept, may_try}
+use Rattle.promise_run.proofs.Efforts.{none_began, began, rests, goes, ends, begins}
 
 -- A FAULT THAT WAS COUNTED
 -- no move takes a fault back
@@ -169,6 +172,22 @@ to n o = record { entry = o; behind = after_fault n }
 abbrev behind_pick : List Move
 behind_pick = to 1 None ∷ to 2 None ∷ to 3 None ∷ to 4 None ∷ to 5 (Some wrote_five) ∷ to 5 (Some posted_five) ∷ []
 
+no_page : {P : Type 0} {from to : ℕ} → (k : ℕ) → from ≤ k → k < to → IsSuch (reading_of (making_of small)) mended.flash TakesKept k → P
+no_page k le lt kept = absurd (none_kept mended.flash k kept)
+
+-- with a fault it may need a switch more
+fault_adds : (room : Bool) → 5 ≤ 0 + ((if room then 4 else 27) + 23)
+fault_adds true = omega arith
+fault_adds false = omega arith
+
+mended_work : HasWork (costs_of small) (HadRoom (making_of small) mended.flash) (IsWornOut (making_of small) mended.flash) small (at_ops 0) (after small (Found [] 0 ∷ [])) (asks_move ∷ picks_move ∷ behind_pick)
+mended_work = record {
+  left = 0;
+  few = omega arith;
+  efforts = none_began 0 None ∷ none_began 0 None ∷ began 128 4 ∷ none_began 3 (Some 128) ∷ none_began 2 (Some 128) ∷ none_began 1 (Some 128) ∷ none_began 0 None ∷ none_began 0 None ∷ [];
+  are = (rests _ _ _ _ _ _ _ _ _ refl (omega arith), (rests _ _ _ _ _ _ _ _ _ refl (omega arith), (begins _ _ _ _ _ _ _ _ _ 128 refl may_try (λ test. fault_adds (test 4)), (goes _ _ _ _ _ _ _ _ _ 128 refl refl (omega arith), (goes _ _ _ _ _ _ _ _ _ 128 refl refl (omega arith), (goes _ _ _ _ _ _ _ _ _ 128 refl refl (omega arith), (ends _ _ _ _ _ _ _ _ _ 128 refl refl (omega arith) (inl refl), (rests _ _ _ _ _ _ _ _ _ refl (omega arith), tt))))))));
+}
+
 pub mended_kept : HasTurns (always 8) mended mended.course
 mended_kept = record {
   first = at_ops 0;
@@ -221,6 +240,8 @@ mended_kept = record {
   rests = (λ rest idle no_ask. absurd (cc no_ask), (at_work, (at_work, (at_work, (at_work, (at_work, (at_work, (at_work, tt))))))));
   drains = λ calm. (λ drain. absurd (cc drain), (λ drain. absurd (cc drain), tt));
   cuts = ((tt, tt), ((tt, (tt, (tt, (tt, (tt, (tt, (tt, tt))))))), tt));
+  work = mended_work;
+  kept = (no_page, (no_page, (no_page, (no_page, (no_page, (no_page, (no_page, (no_page, tt))))))));
   urgent = λ told sound. (λ id is. absurd (none_urgent id is), (λ id is. absurd (none_urgent id is), (λ id is. absurd (none_urgent id is), (λ id is. absurd (none_urgent id is), (λ id is. absurd (none_urgent id is), (λ id is. absurd (none_urgent id is), (λ id is. absurd (none_urgent id is), (λ id is. absurd (none_urgent id is), tt))))))));
   paid = λ told sound. (free, (free, (free_behind, (free_behind, (free_behind, (free_behind, (free_behind, (free_behind, tt))))))));
 }

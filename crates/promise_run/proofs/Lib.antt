@@ -5,7 +5,11 @@ pub mod Paid
 mod RefusedRuns
 pub mod RefusalsPaid
 pub mod Counted
+pub mod Operations
+pub mod OperationLaws
+mod Efforts
 pub mod UrgentPosts
+pub mod TakenPages
 pub mod CalmPosts
 pub mod Composition
 pub mod InRoom
@@ -21,7 +25,10 @@ mod TwoFlashes
 mod LostWrite
 mod WrongCalls
 mod OneByOne
+mod RunTurns
 mod UrgentCases
+mod OperationCases
+mod KeptCases
 mod Failing
 pub mod Callers
 pub mod RunHalves

@@ -1,8 +1,12 @@
 -- Turns, one by one.
-use Rattle.std.specs.Prelude.{map, IfSome}
-use Rattle.std.proofs.Common.{◌≡◌, ◌⊎◌, ◌≤◌, ◌<◌, ◌-◌, ℕ, zero, suc, true, false, IsTrue, List, [], ◌∷◌, ◌++◌, length, Option, Some, None, refl, sym, ap, ◌∙◌, subst, inl, inr, arith, append-nil, rules}
+use Rattle.std.specs.Prelude.{map, IfSome, nat_le, if◌then◌else◌, Bool}
+use Rattle.std.proofs.lemmas.Bool.{and_parts, leb-true}
+use Rattle.std.proofs.Common.{◌≡◌, ◌⊎◌, ◌≤◌, ◌<◌, ◌+◌, ◌-◌, ℕ, zero, suc, true, false, IsTrue, List, [], ◌∷◌, ◌++◌, length, Option, Some, None, refl, sym, ap, ◌∙◌, subst, inl, inr, arith, append-nil, rules}
 use Rattle.block_machine.specs.nv_base.Count.{WereCounted}
 use Rattle.block_machine.specs.nv_base.Entry.{ops_of}
+use Rattle.block_machine.specs.nv_base.Geometry.{pages_of_bank}
+use Rattle.memif.specs.Clock.{TakesKept}
+use Rattle.fls_model.specs.Op.{Op, Program, Erase}
 use Rattle.script_walks.specs.Words.{Step, AskStep, Turn}
 use Rattle.script_walks.specs.Walk.{begins_with_pick_or_post}
 use Rattle.block_machine.specs.Words.{Fine, Content, Write, Accepted, Entry, Ask, Wrote, Post, Found}
@@ -10,7 +14,13 @@ use Rattle.block_machine.specs.State.{State, Job, Sweep}
 use Rattle.block_machine.specs.Blocks.{job_block}
 use Rattle.block_machine.specs.Steps.{after, after_from}
 use Rattle.promise_run.specs.Turns.{Moment, Move, entry_list, entries_of, moment_behind, moment_after, AreTurnsMade, AreMoves, IsPostedWithin, EachMove, ServesTurn, CountsOwn, HasTurns, is_asked, is_found, is_picked, all_moves}
-use Rattle.promise_device.specs.FlashRun.{HasFailed}
+use Rattle.promise_device.specs.FlashRun.{FlashRun, HasFailed}
+use Rattle.promise_device.specs.Making.{Making}
+use Rattle.promise_device.specs.Traits.{page_in_bank, is_kept_page, is_such_op}
+use Rattle.promise_device.specs.Bridge.{IsSuch, IsWornOut, reading_of}
+use Rattle.promise_run.specs.Promise.{making_of}
+use Rattle.promise_run.specs.Operations.{HadRoom, HasWork, MayBegin, costs_of}
+use Rattle.promise_run.proofs.Efforts.{none_began, began, rests, goes, ends, begins}
 use Rattle.promise_run.specs.Cases.{small, one, picks_one, always, six_turns, lazy, leaps}
 
 -- LISTS
@@ -82,7 +92,7 @@ passes id n ops ms some later = inr (inr (inr (inr (inr (some, later)))))
 abbrev pub asked_one : Entry
 asked_one = Ask 0 (Write 2 (Some one) 0) Accepted
 
-abbrev wrote_one : Entry
+abbrev pub wrote_one : Entry
 wrote_one = Wrote (record { block = 2; index = 0 }) (Content one) 4
 
 abbrev posted_one : Entry
@@ -91,7 +101,7 @@ posted_one = Post 2 Fine None 0 4
 abbrev no_entry : ℕ → Move
 no_entry n = record { entry = None; behind = at_ops n }
 
-abbrev behind_pick : List Move
+abbrev pub behind_pick : List Move
 behind_pick = no_entry 1 ∷ no_entry 2 ∷ no_entry 3 ∷ record { entry = Some wrote_one; behind = at_ops 4 } ∷ record { entry = Some posted_one; behind = at_ops 4 } ∷ []
 
 abbrev wrote_move : Move
@@ -124,6 +134,21 @@ picked_block j hand = sym (ap job_block (some_same _ j hand))
 pub none_urgent : (id : ℕ) → None ≡ Some id → ⊥
 none_urgent id is = cc is
 
+-- none of its pages is kept
+no_reserve : (m : Making) → m.reserve ≡ 0 → (page : ℕ) → is_kept_page m page ≡ true → ⊥
+no_reserve m none page kept =
+    let n = pages_of_bank m.geometry m.banks in
+    let (from, to) = and_parts (nat_le (n - m.reserve) page) (nat_le (page + 1) n) kept in
+    let low = leb-true (n - m.reserve) page from in
+    let high = leb-true (page + 1) n to in omega (arith, none, low, high)
+
+pub none_kept : (f : FlashRun) (k : ℕ) → IsSuch (reading_of (making_of small)) f TakesKept k → ⊥
+none_kept f k (x, at, is) = by x.op is
+  where
+    by : (op : Op) → IsTrue (is_such_op (making_of small) TakesKept op x.answer) → ⊥
+    by (Program address page) is = no_reserve (making_of small) refl (page_in_bank small.geometry (making_of small).banks address) is
+    by (Erase address n) is = cc is
+
 -- no fault is due, and none was counted
 free : {E : Type 0} → WereCounted 0 0 0 ⊎ E
 free = inl (inl (omega arith))
@@ -135,8 +160,28 @@ all_done (suc (suc zero)) (x, at, is) = cc (at, is)
 all_done (suc (suc (suc zero))) (x, at, is) = cc (at, is)
 all_done (suc (suc (suc (suc k)))) (x, at, is) = cc at
 
-none_fails : (n m : ℕ) {o : Option Entry} → n ≤ m → CountsOwn (HasFailed six_turns.flash) (at_ops n) (record { entry = o; behind = at_ops m })
+pub none_fails : (n m : ℕ) {o : Option Entry} → n ≤ m → CountsOwn (HasFailed six_turns.flash) (at_ops n) (record { entry = o; behind = at_ops m })
 none_fails n m more = record { later = more; own = λ k le lt failed. absurd (all_done k failed) }
+
+pub no_page : {P : Type 0} {from to : ℕ} → (k : ℕ) → from ≤ k → k < to → IsSuch (reading_of (making_of small)) six_turns.flash TakesKept k → P
+no_page k le lt kept = absurd (none_kept six_turns.flash k kept)
+
+-- the try of its record adds its pages, and a switch where these are not free
+pub may_try : MayBegin small picked (record { left = 0; trying = None }) 128
+may_try = record { none = refl; job = _; hand = refl; writes = λ is. cc is; index = 0; one = (0, omega arith, refl); number_is = refl }
+
+pub one_adds : (room : Bool) → 4 ≤ 0 + ((if room then 4 else 27) + 0)
+one_adds true = omega arith
+one_adds false = omega arith
+
+pub six_work : HasWork (costs_of small) (HadRoom (making_of small) six_turns.flash) (IsWornOut (making_of small) six_turns.flash) small (at_ops 0) (after small (Found [] 0 ∷ []))
+    (record { entry = Some asked_one; behind = at_ops 0 } ∷ record { entry = Some picks_one; behind = at_ops 0 } ∷ behind_pick)
+six_work = record {
+  left = 0;
+  few = omega arith;
+  efforts = none_began 0 None ∷ none_began 0 None ∷ began 128 3 ∷ none_began 2 (Some 128) ∷ none_began 1 (Some 128) ∷ none_began 0 None ∷ none_began 0 None ∷ [];
+  are = (rests _ _ _ _ _ _ _ _ _ refl (omega arith), (rests _ _ _ _ _ _ _ _ _ refl (omega arith), (begins _ _ _ _ _ _ _ _ _ 128 refl may_try (λ test. one_adds (test 4)), (goes _ _ _ _ _ _ _ _ _ 128 refl refl (omega arith), (goes _ _ _ _ _ _ _ _ _ 128 refl refl (omega arith), (ends _ _ _ _ _ _ _ _ _ 128 refl refl (omega arith) (inl refl), (rests _ _ _ _ _ _ _ _ _ refl (omega arith), tt)))))));
+}
 
 pub six_kept : HasTurns (always 8) six_turns six_turns.course
 six_kept = record {
@@ -172,6 +217,8 @@ six_kept = record {
   rests = (λ rest idle no_ask. absurd (cc no_ask), (at_work, (at_work, (at_work, (at_work, (at_work, (at_work, tt)))))));
   drains = λ calm. (λ drain. absurd (cc drain), (λ drain. absurd (cc drain), tt));
   cuts = ((tt, tt), ((tt, (tt, (tt, (tt, (tt, (tt, tt)))))), tt));
+  work = six_work;
+  kept = (no_page, (no_page, (no_page, (no_page, (no_page, (no_page, (no_page, tt)))))));
   urgent = λ told sound. (λ id is. absurd (none_urgent id is), (λ id is. absurd (none_urgent id is), (λ id is. absurd (none_urgent id is), (λ id is. absurd (none_urgent id is), (λ id is. absurd (none_urgent id is), (λ id is. absurd (none_urgent id is), (λ id is. absurd (none_urgent id is), tt)))))));
   paid = λ told sound. (free, (free, (free, (free, (free, (free, (free, tt)))))));
 }

@@ -142,6 +142,7 @@ uncut_bridges clock r f before now none b = record {
   off = b.off;
   withheld = b.withheld;
   worn = b.worn;
+  was = b.was;
   spare = b.spare;
 }
 

@@ -14,7 +14,8 @@ use Rattle.fee_format.proofs.Tests.{eq_is}
 use Rattle.fee_image.specs.Laws.{place_of_sector}
 use Rattle.promise_device.specs.Making.{Making}
 use Rattle.promise_device.specs.Bridge.{is_failed}
-use Rattle.promise_device.specs.Wear.{bank_of_op, last_in, same_op, repeats, is_done, erases_before, leads_to, is_in_order, may_erase, is_due_by, is_due, are_due}
+use Rattle.promise_device.specs.Traits.{is_done}
+use Rattle.promise_device.specs.Wear.{bank_of_op, last_in, same_op, repeats, erases_before, leads_to, is_in_order, may_erase, is_due_by, is_due, are_due}
 use Rattle.promise_device.proofs.Wears.{lasts_go_on}
 use Rattle.promise_run.specs.SectorErases.{erases_at, is_erase_done, erases_done, FirstSectorsLead}
 

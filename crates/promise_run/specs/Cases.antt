@@ -95,7 +95,8 @@ holds_block_2 flash = record {
     is_last = λ n image. false;
     is_full = λ n urgent image. false;
     may_follow = λ n op. false;
-    ready = λ earlier image. 0;
+    free = λ earlier image. 0;
+    is_such = λ trait x. false;
   };
   blocks = λ block. block == 2;
 }
@@ -339,6 +340,13 @@ lazy = plays (asks_one ∷ (Turn 9, picks_one ∷ []) ∷ []) at_rest
 -- two turns make four operations
 abbrev pub leaps : Run
 leaps = plays (asks_one ∷ (Turn 2, picks_one ∷ Wrote (record { block = 2; index = 0 }) (Content one) 4 ∷ []) ∷ []) at_rest
+
+-- six turns of a driver beside callers, and one whose entry tells more operations than the flash made
+abbrev pub six_beside : Run
+six_beside = record six_turns { course = Ran [] [] }
+
+abbrev pub ahead : Run
+ahead = record leaps { course = Ran [] [] }
 
 -- a flash that counted so many faults
 abbrev pub faulty : ℕ → FlashRun

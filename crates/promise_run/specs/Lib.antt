@@ -8,7 +8,10 @@ pub mod Life
 pub mod Call
 pub mod Completeness
 pub mod RunHalves
+pub mod Moves
+pub mod Operations
 pub mod Turns
+pub mod OperationLaws
 pub mod JobTurns
 pub mod SectorErases
 pub mod InRoom
@@ -16,3 +19,5 @@ pub mod Texts
 pub mod Cases
 pub mod RefusedCases
 pub mod UrgentCases
+pub mod OperationCases
+pub mod KeptCases

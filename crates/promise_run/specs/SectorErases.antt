@@ -5,7 +5,8 @@ use Rattle.fls_model.specs.Op.{Op, Erase}
 use Rattle.fls_model.specs.Told.{Change}
 use Rattle.fee_image.specs.Laws.{place_of_sector}
 use Rattle.promise_device.specs.Making.{Making}
-use Rattle.promise_device.specs.Wear.{is_done, are_due}
+use Rattle.promise_device.specs.Traits.{is_done}
+use Rattle.promise_device.specs.Wear.{are_due}
 
 -- the erases of the sector at an address that were done
 abbrev pub erases_at : (address : ℕ) → Op → Bool

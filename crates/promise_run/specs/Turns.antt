@@ -1,51 +1,26 @@
--- The turns that a run of `play` made, one by one.
+-- The turns that a run made, one by one.
 use Rattle.std.specs.Prelude.{◌≡◌, ◌⊎◌, ◌<◌, ◌≤◌, ◌+◌, ◌-◌, ◌==◌, ℕ, zero, suc, not, ◌&&◌, ◌||◌, if◌then◌else◌, Bool, true, false, IsTrue, List, [], ◌∷◌, ◌++◌, length, map, take, min, Option, Some, None, IfSome}
 use Rattle.std.specs.List.{list_all}
-use Rattle.std.specs.Option.{option_map_or}
 use Rattle.block_machine.specs.nv_base.Count.{last_count, Rose, WereCounted}
 use Rattle.block_machine.specs.nv_base.Entry.{ops_of}
 use Rattle.script_walks.specs.Words.{Step, StepKind, AskStep, Turn, Drain, Restart, Cut}
-use Rattle.block_machine.specs.Words.{Canceled, JobKind, ReadJob, RestoreJob, WriteAllJob, TookNothing, Accepted, Entry, Ask, Pick, Post, Off, Found, Configuration}
+use Rattle.block_machine.specs.Words.{Canceled, WriteAllJob, TookNothing, Accepted, Entry, Ask, Pick, Post, Off, Found, Configuration}
 use Rattle.block_machine.specs.State.{State, Job, Sweep, jobs_of}
-use Rattle.block_machine.specs.Blocks.{asked_block, is_immediate, job_block, kind_of, rank_of}
+use Rattle.block_machine.specs.Blocks.{asked_block, is_immediate, job_block, rank_of}
 use Rattle.block_machine.specs.Steps.{after, after_from}
 use Rattle.block_machine.specs.Prices.{price_in_faults, sum_from}
 use Rattle.promise_blocks.specs.Payment.{Worn, IsExcused}
 use Rattle.script_walks.specs.Walk.{is_due, is_at_rest, begins_with_pick_or_post}
 use Rattle.promise_run.specs.Completeness.{is_calm_entry, IsCalm, ends_job}
 use Rattle.promise_run.specs.Promise.{making_of}
+pub use Rattle.promise_run.specs.Moves.{Moment, Move, entry_list, entries_of, moment_behind, is_asked, is_found, is_picked, is_off}
 use Rattle.promise_run.specs.JobTurns.{write_pages}
+use Rattle.promise_run.specs.Operations.{HadRoom, HasWork, costs_of}
+use Rattle.memif.specs.Clock.{Seals, TakesKept}
 use Rattle.promise_device.specs.Making.{Making}
 use Rattle.promise_device.specs.FlashRun.{FlashRun, TellsBytes, StartsSound, HasFailed, bytes_after}
-use Rattle.promise_device.specs.Bridge.{IsWornOut, ready_pages}
+use Rattle.promise_device.specs.Bridge.{IsWornOut, IsSuch, free_pages, reading_of}
 use Rattle.promise_run.specs.Run.{Run, Course, Played, Ran, End, FlashFault}
-
--- MOMENTS AND MOVES
--- what the device told at a moment: its faults and its operations so far, and whether a job of it or work of its own, as a
--- switch of banks, is open
-pub record Moment : Type 0 where
-  pub faults : ℕ
-  pub ops : ℕ
-  pub busy : Bool
-
--- what a step did at once, a turn, a request or a start-up: the entry that it added, if it added one, and the moment behind it
-pub record Move : Type 0 where
-  pub entry : Option Entry
-  pub behind : Moment
-
-abbrev pub entry_list : Option Entry → List Entry
-entry_list None = []
-entry_list (Some e) = e ∷ []
-
--- the entries of moves, one after another
-abbrev pub entries_of : List Move → List Entry
-entries_of [] = []
-entries_of (m ∷ ms) = entry_list m.entry ++ entries_of ms
-
--- the moment behind moves
-abbrev pub moment_behind : Moment → List Move → Moment
-moment_behind before [] = before
-moment_behind before (m ∷ ms) = moment_behind m.behind ms
 
 -- TURNS
 -- a turn makes at most one changing operation, and takes no fault back; its entry tells the operations behind it
@@ -97,18 +72,6 @@ pub record HasMoves (made : List Step) (pieces : List (List Entry)) (first last 
   pub behind : moment_after first moves ≡ last
 
 -- WITHIN ITS TURNS
-abbrev pub is_asked : Option Entry → Bool
-is_asked (Some (Ask caller r reply)) = true
-is_asked e = false
-
-abbrev pub is_found : Option Entry → Bool
-is_found (Some (Found marks ops)) = true
-is_found e = false
-
-abbrev pub is_picked : Option Entry → Bool
-is_picked (Some (Pick block kind t ops)) = true
-is_picked e = false
-
 -- the power goes off, or a copy is refused or stale
 abbrev pub fails : Option Entry → Bool
 fails (Some e) = not (is_calm_entry e)
@@ -228,10 +191,6 @@ all_moves [] = []
 all_moves (ms ∷ mss) = ms ++ all_moves mss
 
 -- URGENT WRITES
-abbrev pub is_off : Option Entry → Bool
-is_off (Some (Off ops)) = true
-is_off e = false
-
 -- a job of this block is posted, or one of another block
 abbrev pub posts : ℕ → Option Entry → Bool
 posts id (Some (Post block r given refused ops)) = block == id
@@ -241,18 +200,19 @@ abbrev pub posts_other : ℕ → Option Entry → Bool
 posts_other id (Some (Post block r given refused ops)) = not (block == id)
 posts_other id e = false
 
--- A job of this block is posted by the last of so many turns, where a request is no turn and the Post of another job isn't
--- counted, unless before it a restart comes, a fault is counted, or the power goes off. Behind all of the moves `still` holds of
--- the turns that are left.
-abbrev pub IsPostedSoon : (still : ℕ → Type 0) → ℕ → ℕ → ℕ → List Move → Type 0
-IsPostedSoon still id turns faults [] = still turns
-IsPostedSoon still id turns faults (m ∷ ms) =
+-- A job of this block is posted by the last of so many turns, where a request is no turn, and the Post of another job, at most one,
+-- isn't counted where `one` says so, unless before it a restart comes, a fault is counted, or the power goes off. Behind all of the
+-- moves `still` holds of the turns that are left.
+abbrev pub IsPostedSoon : (still : Bool → ℕ → Type 0) → Bool → ℕ → ℕ → ℕ → List Move → Type 0
+IsPostedSoon still one id turns faults [] = still one turns
+IsPostedSoon still one id turns faults (m ∷ ms) =
     IsTrue (is_found m.entry)
-    ⊎ ((IsTrue (is_asked m.entry || posts_other id m.entry) × IsPostedSoon still id turns m.behind.faults ms)
+    ⊎ ((IsTrue (is_asked m.entry) × IsPostedSoon still one id turns m.behind.faults ms)
+    ⊎ ((IsTrue (one && posts_other id m.entry) × IsPostedSoon still false id turns m.behind.faults ms)
     ⊎ (Rose faults m.behind.faults
     ⊎ (IsTrue (is_off m.entry)
     ⊎ (IsTrue (posts id m.entry)
-    ⊎ ((1 < turns) × IsPostedSoon still id (turns - 1) m.behind.faults ms)))))
+    ⊎ ((1 < turns) × IsPostedSoon still one id (turns - 1) m.behind.faults ms))))))
 
 -- the block of an immediate write that is accepted while the power is on, and no other immediate job is pending or in hand
 abbrev pub urgent_block : Configuration → State → Option Entry → Option ℕ
@@ -260,27 +220,52 @@ urgent_block c s (Some (Ask caller r Accepted)) =
     if not s.off && (is_immediate c r && list_all (λ j. not (rank_of c j).immediate) (jobs_of s)) then Some (asked_block r) else None
 urgent_block c s e = None
 
--- the pages that a job of this kind may still need of so many, where it is in hand: a read and a restore have no record
-abbrev pub pages_by : JobKind → ℕ → ℕ
-pages_by ReadJob pages = 0
-pages_by RestoreJob pages = 0
-pages_by kind pages = pages
+-- what each move keeps, with the operations that were made before the last start-up
+abbrev pub EachMoveSince : Configuration → (ℕ → State → Move → List Move → Type 0) → ℕ → State → List Move → Type 0
+EachMoveSince c P since s [] = Unit {0}
+EachMoveSince c P since s (m ∷ ms) = P since s m ms × EachMoveSince c P (if is_found m.entry then m.behind.ops else since) (after_from c s (entry_list m.entry)) ms
 
--- those that are wanted for an urgent write of a block: of its records, and of those of the job in hand
-abbrev pub pages_wanted : (pages : State → ℕ → ℕ) → State → ℕ → ℕ
-pages_wanted pages s id = pages s id + option_map_or (λ j. pages_by (kind_of j) (pages s (job_block j))) s.hand 0
+-- those behind these moves
+abbrev pub found_behind : ℕ → List Move → ℕ
+found_behind since [] = since
+found_behind since (m ∷ ms) = found_behind (if is_found m.entry then m.behind.ops else since) ms
 
--- Where so many pages are spare at its moment, it is posted within the pages of its own records and four turns.
-abbrev pub PostsUrgent : Configuration → (pages : State → ℕ → ℕ) → (spare : ℕ → ℕ → Type 0) → (still : ℕ → ℕ → Type 0) → State → Move → List Move → Type 0
-PostsUrgent c pages spare still s m ms =
-    (id : ℕ) → urgent_block c s m.entry ≡ Some id → spare m.behind.ops (pages_wanted pages s id) → IsPostedSoon (still id) id (pages s id + 4) m.behind.faults ms
+-- Where so many pages are free for it at its moment, it is posted within the pages of its own records and so many turns more, behind
+-- the Post of a job that was finished.
+abbrev pub PostsUrgent : Configuration → (more : ℕ) → (pages : State → ℕ → ℕ) → (free : (since operations pages : ℕ) → Type 0) → (still : ℕ → Bool → ℕ → Type 0) → ℕ → State → Move → List Move → Type 0
+PostsUrgent c more pages free still since s m ms =
+    (id : ℕ) → urgent_block c s m.entry ≡ Some id → free since m.behind.ops (pages s id) → IsPostedSoon (still id) true id (pages s id + more) m.behind.faults ms
 
--- Once so many operations were made the bytes had so many pages free for an urgent write, in a bank of which no program failed.
+-- Once so many operations were made the bytes had so many pages free, of those that are kept, in a bank of which no program failed.
 pub record HadFree (making : Making) (f : FlashRun) (operations pages : ℕ) : Type 0 where
   pub counted : operations < last_count
   pub image : List ℕ
   pub bytes : bytes_after f operations ≡ Some image
-  pub free : pages ≤ ready_pages making (take operations f.operations) image
+  pub free : pages ≤ min making.reserve (free_pages making (take operations f.operations) image)
+
+-- Once so many operations were made the last one, made since the last start-up, had left a switch of banks at its seal: it
+-- programmed a bank's head, or left its gate in doubt.
+pub record IsAtSeal (making : Making) (f : FlashRun) (since operations : ℕ) : Type 0 where
+  pub counted : operations < last_count
+  pub last : ℕ
+  pub is_last : operations ≡ last + 1
+  pub later : since ≤ last
+  pub such : IsSuch (reading_of making) f Seals last
+
+-- an urgent write of so many pages may go on: they are free, or a switch is at its seal, and they are kept for it
+abbrev pub MayGoOn : Making → FlashRun → (since operations pages : ℕ) → Type 0
+MayGoOn making f since operations pages = HadFree making f operations pages ⊎ (IsAtSeal making f since operations × (pages ≤ making.reserve))
+
+-- KEPT PAGES
+-- the job in hand is an immediate one
+abbrev pub HasImmediate : Configuration → State → Type 0
+HasImmediate c s = (j : Job) × (s.hand ≡ Some j) × ((rank_of c j).immediate ≡ true)
+
+-- an operation that takes a page of those that are kept for urgent writes is made with such a job in hand
+abbrev pub TakeKept : Configuration → (kept : ℕ → Type 0) → Moment → State → List Move → Type 0
+TakeKept c kept before s [] = Unit {0}
+TakeKept c kept before s (m ∷ ms) =
+    ((k : ℕ) → before.ops ≤ k → k < m.behind.ops → kept k → HasImmediate c s) × TakeKept c kept m.behind (after_from c s (entry_list m.entry)) ms
 
 -- THE ENDS OF A RUN
 -- the first start-up tells the operations of the first moment
@@ -298,9 +283,9 @@ EndsBy last f end = Unit {0}
 -- the flash, and each that failed is counted in its own move; the flash counted the faults that they tell, and one more where
 -- a start-up failed behind them. Each job is posted within its most turns, counted from its Pick, a turn with nothing to do does
 -- nothing, and each power cut that is planned comes at its operation; where nothing fails a `drain` leaves nothing open at the
--- device. Over a flash that tells its bytes, from a sound image on, an urgent write is posted within its pages and four turns,
--- where these pages are free in the bytes of its moment beside those of the job in hand, and each Post is paid since the last Pick
--- before it, or the flash was worn out.
+-- device. A page that is kept for urgent writes is programmed with an immediate job in hand alone. Over a flash that tells its bytes,
+-- from a sound image on, an urgent write is posted within its pages and four turns, where these pages are free in the bytes of its
+-- moment, or a switch of banks is at its seal, and each Post is paid since the last Pick before it, or the flash was worn out.
 pub record KeepsTurns (most : State → Job → ℕ) (r : Run) (made : List Step) (pieces : List (List Entry)) : Type 0 where
   pub first : Moment
   pub last : Moment
@@ -314,12 +299,48 @@ pub record KeepsTurns (most : State → Job → ℕ) (r : Run) (made : List Step
   pub rests : StaysAtRest r.configuration first (after r.configuration (take 1 r.history)) (all_moves moves.moves)
   pub drains : IsCalm r → ClosesAtDrains first made moves.moves
   pub cuts : CutsCome r.configuration None first (after r.configuration (take 1 r.history)) made moves.moves
+  pub work : HasWork (costs_of r.configuration) (HadRoom (making_of r.configuration) r.flash) (IsWornOut (making_of r.configuration) r.flash) r.configuration first
+      (after r.configuration (take 1 r.history)) (all_moves moves.moves)
+  pub kept : TakeKept r.configuration (IsSuch (reading_of (making_of r.configuration)) r.flash TakesKept) first (after r.configuration (take 1 r.history)) (all_moves moves.moves)
   pub urgent : TellsBytes r.flash → StartsSound (making_of r.configuration) r.flash
-      → EachMove r.configuration (PostsUrgent r.configuration (write_pages r.configuration) (HadFree (making_of r.configuration) r.flash) (λ id left. Unit {0}))
+      → EachMoveSince r.configuration (PostsUrgent r.configuration 4 (write_pages r.configuration) (MayGoOn (making_of r.configuration) r.flash) (λ id one left. Unit {0})) first.ops
       (after r.configuration (take 1 r.history)) (all_moves moves.moves)
   pub paid : TellsBytes r.flash → StartsSound (making_of r.configuration) r.flash
       → ArePaidSince r.configuration (IsWornOut (making_of r.configuration) r.flash) first.faults first (after r.configuration (take 1 r.history)) (all_moves moves.moves)
 
+-- REQUESTS BETWEEN TURNS
+-- In `run` a request leaves the moment as it is, and else the driver makes a turn; a request that came within one stands before it.
+abbrev pub IsMoveMade : Moment → Move → Type 0
+IsMoveMade before m = (IsTrue (is_asked m.entry) × (m.behind ≡ before)) ⊎ IsTurnMade before m
+
+abbrev pub AreMovesMade : Moment → List Move → Type 0
+AreMovesMade before [] = Unit {0}
+AreMovesMade before (m ∷ ms) = IsMoveMade before m × AreMovesMade m.behind ms
+
+-- The entries of `run` behind its start-up have moves, which make all operations of the flash, and each that failed is counted in its
+-- own move; the flash counted the faults that they tell, and each move keeps to the work that was open before it. A page that is kept
+-- for urgent writes is programmed with an immediate job in hand alone. Over a flash that tells its bytes, from a sound image on, an
+-- urgent write is posted within its pages and five turns, where these pages are free in the bytes of its moment, or a switch of banks
+-- is at its seal: with the turn within which it came.
+pub record KeepsRunTurns (r : Run) : Type 0 where
+  pub first : Moment
+  pub last : Moment
+  pub moves : List Move
+  pub tell : r.history ≡ take 1 r.history ++ entries_of moves
+  pub are : AreMovesMade first moves
+  pub behind : moment_behind first moves ≡ last
+  pub begins : BeginsAt first r.history
+  pub operations : last.ops ≡ min (length r.flash.operations) last_count
+  pub failed : CountFailed (HasFailed r.flash) first moves
+  pub counted : WereCounted last.faults r.flash.entry.faults r.flash.exit.faults
+  pub ends : EndsBy last r.flash r.end
+  pub work : HasWork (costs_of r.configuration) (HadRoom (making_of r.configuration) r.flash) (IsWornOut (making_of r.configuration) r.flash) r.configuration first
+      (after r.configuration (take 1 r.history)) moves
+  pub kept : TakeKept r.configuration (IsSuch (reading_of (making_of r.configuration)) r.flash TakesKept) first (after r.configuration (take 1 r.history)) moves
+  pub urgent : TellsBytes r.flash → StartsSound (making_of r.configuration) r.flash
+      → EachMoveSince r.configuration (PostsUrgent r.configuration 5 (write_pages r.configuration) (MayGoOn (making_of r.configuration) r.flash) (λ id one left. Unit {0})) first.ops
+      (after r.configuration (take 1 r.history)) moves
+
 abbrev pub HasTurns : (State → Job → ℕ) → Run → Course → Type 0
 HasTurns most r (Played made pieces left) = KeepsTurns most r made pieces
-HasTurns most r (Ran steps looks) = Unit {0}
+HasTurns most r (Ran steps looks) = KeepsRunTurns r

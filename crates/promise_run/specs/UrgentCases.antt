@@ -1,12 +1,13 @@
 -- An urgent write, turn by turn.
-use Rattle.std.specs.Prelude.{ℕ, ◌++◌, zero, suc, false, List, [], ◌∷◌, replicate, Some, None}
+use Rattle.std.specs.Prelude.{ℕ, ◌++◌, zero, suc, true, false, List, [], ◌∷◌, replicate, Some, None}
 use Rattle.block_machine.specs.block_config.Block.{plain_block}
 use Rattle.block_machine.specs.Words.{Fine, Content, Write, Accepted, WriteJob, TookContent, Ask, Pick, Wrote, Post, Found, Configuration}
+use Rattle.block_machine.specs.State.{State}
 use Rattle.block_machine.specs.Steps.{after}
 use Rattle.promise_device.specs.FlashRun.{FlashRun}
 use Rattle.promise_run.specs.JobTurns.{write_pages}
 use Rattle.promise_run.specs.Promise.{making_of}
-use Rattle.promise_run.specs.Turns.{Moment, Move, EachMove, IsPostedSoon, PostsUrgent, HadFree}
+use Rattle.promise_run.specs.Turns.{Moment, Move, EachMoveSince, IsPostedSoon, PostsUrgent, MayGoOn}
 use Rattle.promise_run.specs.Cases.{with_block_2, image_of, record_of, one, unchanged}
 
 -- block 2 is an immediate one, with a record of four pages
@@ -22,6 +23,14 @@ roomy = holding (replicate 128 255)
 
 abbrev pub full : FlashRun
 full = holding (record_of 77 one ++ record_of 77 one)
+
+-- or just four that are free
+abbrev pub half_full : FlashRun
+half_full = holding (record_of 77 one ++ replicate 64 255)
+
+-- another job is in hand
+abbrev pub at_another : State
+at_another = after urgent (Found [] 0 ∷ Ask 0 (Write 1 (Some one) 0) Accepted ∷ Pick 1 WriteJob (TookContent one 0) 0 ∷ [])
 
 -- behind so many faults and operations
 abbrev pub at : ℕ → ℕ → Moment
@@ -52,12 +61,22 @@ picks = record { entry = Some (Pick 2 WriteJob (TookContent one 0) 0); behind = 
 abbrev pub posted_with : ℕ → ℕ → List Move
 posted_with faults more = accepts ∷ picks ∷ idle faults more (writes faults)
 
--- over such a flash it is posted soon
-abbrev pub IsInTime : FlashRun → List Move → Type 0
-IsInTime f ms =
-    EachMove urgent (PostsUrgent urgent (write_pages urgent) (HadFree (making_of urgent) f) (λ id left. Unit {0})) (after urgent (Found [] 0 ∷ [])) ms
+-- over such a flash it is posted soon, from a state on
+abbrev pub IsInTimeFrom : FlashRun → State → List Move → Type 0
+IsInTimeFrom f s ms = EachMoveSince urgent (PostsUrgent urgent 4 (write_pages urgent) (MayGoOn (making_of urgent) f) (λ id one left. Unit {0})) 0 s ms
 
--- behind the Post of another job so many turns post it, of so many
-abbrev pub IsBehindAnother : ℕ → ℕ → Type 0
-IsBehindAnother more turns =
-    IsPostedSoon (λ left. Unit {0}) 2 turns 0 (record { entry = Some (Post 1 Fine None 0 0); behind = at 0 0 } ∷ picks ∷ idle 0 more (writes 0))
+abbrev pub IsInTime : FlashRun → List Move → Type 0
+IsInTime f ms = IsInTimeFrom f (after urgent (Found [] 0 ∷ [])) ms
+
+-- beside callers it has a turn more, since it may be accepted within one
+abbrev pub IsInTimeBeside : FlashRun → List Move → Type 0
+IsInTimeBeside f ms = EachMoveSince urgent (PostsUrgent urgent 5 (write_pages urgent) (MayGoOn (making_of urgent) f) (λ id one left. Unit {0})) 0 (after urgent (Found [] 0 ∷ [])) ms
+
+-- so many jobs of another block are posted before these
+abbrev pub others : ℕ → List Move → List Move
+others zero ms = ms
+others (suc n) ms = record { entry = Some (Post 1 Fine None 0 0); behind = at 0 0 } ∷ others n ms
+
+-- behind the Posts of so many other jobs so many turns post it, of so many
+abbrev pub IsBehindOthers : (posts more turns : ℕ) → Type 0
+IsBehindOthers posts more turns = IsPostedSoon (λ one left. Unit {0}) true 2 turns 0 (others posts (picks ∷ idle 0 more (writes 0)))

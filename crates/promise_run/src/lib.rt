@@ -7,7 +7,9 @@
 
 mod cap;
 mod cases;
+mod kept_cases;
 mod life;
+mod operation_cases;
 mod refused_cases;
 mod turn_cases;
 mod urgent_cases;
@@ -20,7 +22,9 @@ pub use cases::{
     runs_that_keep_it, turns_one_by_one, wrong_causes_break_it, wrong_marks_break_it,
     wrong_operations_break_it, wrong_orders_break_it,
 };
+pub use kept_cases::{kept_pages_are_for_urgent_writes, urgent_writes_go_on_at_the_seal};
 pub use life::units_hold_marks;
+pub use operation_cases::operations_are_bounded;
 pub use refused_cases::{copies_not_refused_as_asked, copies_refused_as_asked};
 pub use turn_cases::turns_of_jobs;
 pub use urgent_cases::urgent_writes_are_posted_soon;

@@ -1,0 +1,145 @@
+-- Operations of an urgent write, one by one.
+use Rattle.std.specs.Prelude.{if◌then◌else◌, slice_index_or, length, Contains, ◌*◌}
+use Rattle.std.proofs.Common.{◌≡◌, ◌⊎◌, ◌≤◌, ◌<◌, ◌+◌, ℕ, zero, suc, Bool, true, false, IsTrue, List, [], ◌∷◌, is_some, Option, Some, None, refl, sym, ap, subst, ◌∙◌, inl, inr, arith}
+use Rattle.block_machine.specs.nv_base.Marks.{number_of}
+use Rattle.block_machine.specs.State.{State, Job}
+use Rattle.block_machine.specs.Blocks.{indices_of, job_block}
+use Rattle.block_machine.specs.Words.{Found}
+use Rattle.block_machine.specs.Steps.{after, after_from}
+use Rattle.promise_device.specs.FlashRun.{FlashRun}
+use Rattle.promise_run.specs.Promise.{making_of}
+use Rattle.promise_run.specs.Moves.{Moment, Move, entry_list}
+use Rattle.promise_run.specs.Operations.{Work, Effort, IsWorked, AreWorked, EndsTry, MayBegin, HasWork, costs_of, has_free, adds_most, begun_adds, loss_adds}
+use Rattle.promise_run.specs.UrgentCases.{urgent, roomy, full, at, accepts, picks}
+use Rattle.promise_run.specs.OperationCases.{AreWorkedOver, HasWorkOver, operation, written_with}
+use Rattle.promise_run.proofs.OneByOne.{some_same}
+use Rattle.promise_run.proofs.Efforts.{none_began, began, rests, goes, ends, begins, none_some}
+
+abbrev first_state : State
+first_state = after urgent (Found [] 0 ∷ [])
+
+abbrev asked_state : State
+asked_state = after_from urgent first_state (entry_list accepts.entry)
+
+abbrev picked_state : State
+picked_state = after_from urgent asked_state (entry_list picks.entry)
+
+may_try : MayBegin urgent picked_state (record { left = 0; trying = None }) 128
+may_try = record { none = refl; job = _; hand = refl; writes = λ is. cc is; index = 0; one = (0, omega arith, refl); number_is = refl }
+
+-- WITH ROOM
+one_adds : (room : Bool) → 4 ≤ 0 + ((if room then 4 else 27) + 0)
+one_adds true = omega arith
+one_adds false = omega arith
+
+pub four : HasWorkOver roomy (written_with [] 4)
+four = (
+  none_began 0 None ∷ none_began 0 None ∷ began 128 3 ∷ none_began 2 (Some 128) ∷ none_began 1 (Some 128) ∷ none_began 0 None ∷ none_began 0 None ∷ [],
+  (rests _ _ _ _ _ _ _ _ _ refl (omega arith), (rests _ _ _ _ _ _ _ _ _ refl (omega arith), (begins _ _ _ _ _ _ _ _ _ 128 refl may_try (λ test. one_adds (test 4)), (goes _ _ _ _ _ _ _ _ _ 128 refl refl (omega arith), (goes _ _ _ _ _ _ _ _ _ 128 refl refl (omega arith), (ends _ _ _ _ _ _ _ _ _ 128 refl refl (omega arith) (inl refl), (rests _ _ _ _ _ _ _ _ _ refl (omega arith), tt))))))),
+)
+
+-- WITHOUT ROOM
+switch_adds : (room : Bool) → (room ≡ true → false ≡ true) → 27 ≤ 0 + ((if room then 4 else 27) + 0)
+switch_adds true none = let never = none refl in cc never
+switch_adds false none = omega arith
+
+pub switches : HasWorkOver full (written_with (operation 4 ∷ []) 5)
+switches = (
+  none_began 0 None ∷ none_began 0 None ∷ record { begins = Some 128; behind = record { left = 26; trying = Some 128 } } ∷ none_began 25 (Some 128) ∷ none_began 24 (Some 128) ∷ none_began 23 (Some 128) ∷ none_began 22 None ∷ none_began 22 None ∷ [],
+  (rests _ _ _ _ _ _ _ _ _ refl (omega arith), (rests _ _ _ _ _ _ _ _ _ refl (omega arith), (switch, (goes _ _ _ _ _ _ _ _ _ 128 refl refl (omega arith), (goes _ _ _ _ _ _ _ _ _ 128 refl refl (omega arith), (goes _ _ _ _ _ _ _ _ _ 128 refl refl (omega arith), (ends _ _ _ _ _ _ _ _ _ 128 refl refl (omega arith) (inl refl), (rests _ _ _ _ _ _ _ _ _ refl (omega arith), tt)))))))),
+)
+  where
+    switch : IsWorked (costs_of urgent) (λ k n. has_free (making_of urgent) full k n ≡ true) (λ k n urgent. ⊥) urgent (at 0 0) picked_state (record { left = 0; trying = None }) (operation 1) (began 128 26)
+    switch = record {
+      begins = λ k is. let same : 128 ≡ k = cc is in subst (MayBegin urgent picked_state (record { left = 0; trying = None })) same may_try;
+      adds = λ test has. switch_adds (test 4) (has 4);
+      ends = λ k is. inl is;
+      none = λ is. none_some 128 (sym is);
+      over = λ posted. cc posted;
+    }
+
+-- A SWITCH FOR NOTHING
+abbrev Steps : ℕ → State → Work → Move → Effort → Type 0
+Steps k s w m e = IsWorked (costs_of urgent) (λ k n. has_free (making_of urgent) roomy k n ≡ true) (λ k n urgent. ⊥) urgent (at 0 k) s w m e
+
+no_more : (k : ℕ) (s : State) (w : Work) (m : Move) (e : Effort) → loss_adds (costs_of urgent) (at 0 k) m ≡ 0 → Steps k s w m e → e.begins ≡ None → m.behind.ops + e.behind.left ≤ k + w.left
+no_more k s w m e lossless one none =
+    let sum : m.behind.ops + e.behind.left ≤ k + w.left + adds_most (costs_of urgent) (λ p. false) urgent (at 0 k) s m e = one.adds (λ p. false) (λ p is. cc is) in
+    let begun : begun_adds (costs_of urgent) (λ p. false) urgent (at 0 k) s e.begins ≡ 0 = ap (begun_adds (costs_of urgent) (λ p. false) urgent (at 0 k) s) none in omega (arith, sum, lossless, begun)
+
+-- while one is open none begins
+none_begins : (k b : ℕ) (s : State) (w : Work) (m : Move) (e : Effort) → w.trying ≡ Some b → Steps k s w m e → e.begins ≡ None
+none_begins k b s w m e trying one = by e.begins refl
+  where
+    by : (o : Option ℕ) → e.begins ≡ o → e.begins ≡ None
+    by None none = none
+    by (Some c) some = none_some b (sym (one.begins c some).none ∙ trying)
+
+-- and it goes on
+on : (k n b : ℕ) (s : State) (w : Work) (e : Effort) → w.trying ≡ Some b → Steps k s w (operation n) e → (e.behind.trying ≡ Some b) × (n + e.behind.left ≤ k + w.left)
+on k n b s w e trying one =
+    let none = none_begins k b s w (operation n) e trying one in
+    (still (one.ends b (ap (λ (o : Option ℕ). if is_some o then o else w.trying) none ∙ trying)), no_more k s w (operation n) e refl one none)
+  where
+    still : (e.behind.trying ≡ Some b) ⊎ ((e.behind.trying ≡ None) × EndsTry (λ k n urgent. ⊥) urgent s b (at 0 k) (operation n)) → e.behind.trying ≡ Some b
+    still (inl is) = is
+    still (inr (over, inl why)) = cc why
+    still (inr (over, inr never)) = absurd never.2
+
+-- where no job is in hand none begins
+quiet : (s : State) (w : Work) (m : Move) (e : Effort) → s.hand ≡ None → w.trying ≡ None → Steps 0 s w m e → (e.behind.trying ≡ None) × (e.begins ≡ None)
+quiet s w m e hand trying one = by e.begins refl
+  where
+    by : (o : Option ℕ) → e.begins ≡ o → (e.behind.trying ≡ None) × (e.begins ≡ None)
+    by None none = (one.none (ap (λ (o : Option ℕ). if is_some o then o else w.trying) none ∙ trying), none)
+    by (Some c) some = let may = one.begins c some in let never : None ≡ Some may.job = sym hand ∙ may.hand in cc never
+
+one_index : (index : ℕ) → Contains (0 ∷ []) index → index ≡ 0
+one_index index (zero, few, is) = sym is
+one_index index (suc k, few, is) = absurd (omega (arith, few))
+
+number_is : (w : Work) (b : ℕ) → MayBegin urgent picked_state w b → b ≡ 128
+number_is w b may =
+    let block : job_block may.job ≡ 2 = sym (ap job_block (some_same _ may.job may.hand)) in
+    let index = one_index may.index (subst (λ (id : ℕ). Contains (indices_of urgent picked_state id) may.index) block may.one) in
+    may.number_is ∙ ap (λ (id : ℕ). id * 64 + may.index) block ∙ ap (λ (i : ℕ). 2 * 64 + i) index
+
+-- the first operation is one of a try, which adds the pages of its record
+begun : (w : Work) (e : Effort) → w.left ≤ 0 → Steps 0 picked_state w (operation 1) e → (e.behind.trying ≡ Some 128) × (1 + e.behind.left ≤ 4)
+begun w e few one = by e.begins refl
+  where
+    still : (e.behind.trying ≡ Some 128) ⊎ ((e.behind.trying ≡ None) × EndsTry (λ k n urgent. ⊥) urgent picked_state 128 (at 0 0) (operation 1)) → e.behind.trying ≡ Some 128
+    still (inl is) = is
+    still (inr (over, inl why)) = cc why
+    still (inr (over, inr never)) = absurd never.2
+
+    by : (o : Option ℕ) → e.begins ≡ o → (e.behind.trying ≡ Some 128) × (1 + e.behind.left ≤ 4)
+    by None none = let less = no_more 0 picked_state w (operation 1) e refl one none in absurd (omega (arith, less, few))
+    by (Some b) some =
+        let is : e.begins ≡ Some 128 = some ∙ ap (λ (n : ℕ). Some n) (number_is w b (one.begins b some)) in
+        let sum = one.adds (has_free (making_of urgent) roomy 0) (λ p free. free) in
+        let four : begun_adds (costs_of urgent) (has_free (making_of urgent) roomy 0) urgent (at 0 0) picked_state e.begins ≡ 4 = ap (begun_adds (costs_of urgent) (has_free (making_of urgent) roomy 0) urgent (at 0 0) picked_state) is in
+        (still (one.ends 128 (ap (λ (o : Option ℕ). if is_some o then o else w.trying) is)), omega (arith, sum, four, few))
+
+pub not_for_nothing : HasWorkOver roomy (written_with (operation 4 ∷ []) 5) → ⊥
+not_for_nothing has = by has.0 has.1
+  where
+    by : (es : List Effort) → AreWorkedOver roomy (written_with (operation 4 ∷ []) 5) es → ⊥
+    by (a ∷ b ∷ c ∷ d ∷ e ∷ f ∷ g ∷ es) (one, (two, (three, (four, (five, (six, (seven, rest))))))) =
+        let asks = quiet first_state _ accepts a refl refl one in
+        let asked = no_more 0 first_state _ accepts a refl one asks.1 in
+        let picks_it = quiet asked_state _ picks b refl asks.0 two in
+        let picked = no_more 0 asked_state _ picks b refl two picks_it.1 in
+        let first = begun b.behind c (omega (arith, asked, picked)) three in
+        let second = on 1 2 128 _ c.behind d first.0 four in
+        let third = on 2 3 128 _ d.behind e second.0 five in
+        let fourth = on 3 4 128 _ e.behind f third.0 six in
+        let last = no_more 4 _ f.behind _ g refl seven (none_begins 4 128 _ f.behind _ g fourth.0 seven) in
+        omega (arith, first.1, second.1, third.1, fourth.1, last)
+    by [] are = are
+    by (a ∷ []) are = are.1
+    by (a ∷ b ∷ []) are = are.1.1
+    by (a ∷ b ∷ c ∷ []) are = are.1.1.1
+    by (a ∷ b ∷ c ∷ d ∷ []) are = are.1.1.1.1
+    by (a ∷ b ∷ c ∷ d ∷ e ∷ []) are = are.1.1.1.1.1
+    by (a ∷ b ∷ c ∷ d ∷ e ∷ f ∷ []) are = are.1.1.1.1.1.1
