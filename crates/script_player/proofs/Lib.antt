@@ -8,6 +8,8 @@ pub mod Causes
 pub mod Walking
 pub mod Served
 pub mod Grown
+pub mod Working
+pub mod PlainWork
 pub mod Paying
 pub mod Moves
 pub mod Coming
@@ -28,8 +30,9 @@ pub mod PlainBehind
 pub mod PlainMostTurns
 pub mod PlainServing
 pub mod JobNumbers
-pub mod PlainPages
 pub mod PlainDue
+pub mod PlainSeals
+pub mod PlainTurnWork
 pub mod PlainPaying
 pub mod PlannedCuts
 pub mod Fresh

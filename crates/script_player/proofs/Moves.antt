@@ -3,14 +3,14 @@ use Rattle.std.specs.Prelude.{IfSome, not, ◌||◌}
 use Rattle.script_walks.specs.Walk.{is_due, begins_with_pick_or_post}
 use Rattle.std.specs.List.{list_any}
 use Rattle.std.proofs.lemmas.Bool.{cases_Bool}
-use Rattle.std.proofs.Common.{◌≡◌, ℕ, Bool, true, false, inl, inr, Option, None, List, [], ◌∷◌, ◌++◌, IsTrue, map, Some, refl, sym, ap, ◌∙◌, subst, append_assoc, append-nil}
+use Rattle.std.proofs.Common.{◌≡◌, ℕ, Bool, false, inl, inr, Option, None, List, [], ◌∷◌, ◌++◌, IsTrue, map, Some, refl, sym, ap, ◌∙◌, subst, append_assoc, append-nil}
 use Rattle.std.proofs.lemmas.List.{map-append}
 use Rattle.uds_gateway.specs.nv_base.Entry.{ops_of}
 use Rattle.uds_gateway.specs.block_machine.Words.{Instance, Mark, Request, Reply, Entry, Ask, Pick, Wrote, Post, Off, Found, Configuration}
 use Rattle.uds_gateway.specs.block_machine.State.{State}
 use Rattle.script_walks.specs.Words.{Step, Drain}
 use Rattle.script_walks.specs.Turn.{IsTurn}
-use Rattle.promise_run.specs.Turns.{Moment, Move, entry_list, entries_of, moment_behind, moment_after, AreTurnsMade, AreMovesOf, AreMoves, HasMoves, ClosesAtDrains, is_asked, is_picked, is_off, posts_other, urgent_block, IsPostedSoon, all_moves, IsInTime, AreInTime}
+use Rattle.promise_run.specs.Turns.{Moment, Move, entry_list, entries_of, moment_behind, moment_after, AreTurnsMade, AreMovesOf, AreMoves, HasMoves, ClosesAtDrains, is_asked, is_found, is_picked, is_off, urgent_block, IsPostedSoon, all_moves, IsInTime, AreInTime}
 use Rattle.uds_gateway.specs.block_machine.Steps.{after_from}
 use Rattle.script_player.specs.Told.{StackTold, state_of, moment_of, IsGrown}
 use Rattle.script_player.specs.Paying.{Payer, PaysTurn, PaysBy}
@@ -88,6 +88,16 @@ no_ask c s stores (Off ops ∷ es) turn is = cc is
 no_ask c s stores (Found marks ops ∷ es) turn is = cc is
 no_ask c s stores (Ask caller r reply ∷ f ∷ es) turn is = turn.entry
 
+no_found : (c : Configuration) (s : State) (stores : List (ℕ × List ℕ)) (es : List Entry) → IsTurn c s stores es → is_found (first_of es) ≡ false
+no_found c s stores [] turn = refl
+no_found c s stores (Ask caller r reply ∷ es) turn = refl
+no_found c s stores (Pick block kind t ops ∷ es) turn = refl
+no_found c s stores (Wrote i mark ops ∷ es) turn = refl
+no_found c s stores (Post block r given refused ops ∷ es) turn = refl
+no_found c s stores (Off ops ∷ es) turn = refl
+no_found c s stores (Found marks ops ∷ []) turn = absurd turn.entry
+no_found c s stores (Found marks ops ∷ f ∷ es) turn = absurd turn.entry
+
 some_pick : (es : List Entry) → IsTrue (is_picked (first_of es)) → IsTrue (list_any (λ e. is_picked (Some e)) es)
 some_pick [] is = absurd (cc is)
 some_pick (Ask caller r reply ∷ es) is = absurd (cc is)
@@ -122,25 +132,22 @@ no_urgent (Some (Off ops)) c s id no_ask is = cc is
 no_urgent (Some (Found marks ops)) c s id no_ask is = cc is
 no_urgent None c s id no_ask is = cc is
 
-or_true : (a b : Bool) → IsTrue b → IsTrue (a || b)
-or_true true b is = refl
-or_true false b is = is
-
 -- what is due is posted in a turn, or stays due
-turn_soon : (p q : Payer) (old new : StackTold) (turn : MakesTurn old new) → PaysTurn p q old new → (id turns : ℕ) → p.due id turns → IsPostedSoon (q.due id) id turns old.faults (move_to turn.entries new ∷ [])
-turn_soon p q old new turn pays id turns due =
+turn_soon : (p q : Payer) (old new : StackTold) (turn : MakesTurn old new) → PaysTurn p q old new → (id : ℕ) (one : Bool) (turns : ℕ) → p.due id one turns
+    → IsPostedSoon (q.due id) one id turns old.faults (move_to turn.entries new ∷ [])
+turn_soon p q old new turn pays id one turns due =
     let e = first_of turn.entries in
-    inr (elim (rose_or old.faults new.faults) [
+    inr (inr (elim (rose_or old.faults new.faults) [
       | inl rose ↦ inr (inl rose)
       | inr calm ↦ elim (cases_Bool (is_off e)) [
         | inl off ↦ inr (inr (inl off))
-        | inr on ↦ elim (pays.serves id turns e due (ap (λ t. t.entries) turn.grows ∙ ap (λ (es : List Entry). old.entries ++ es) (all_first old.configuration (state_of old) old.stores turn.entries turn.turn)) calm on) [
+        | inr on ↦ elim (pays.serves id one turns e due (ap (λ t. t.entries) turn.grows ∙ ap (λ (es : List Entry). old.entries ++ es) (all_first old.configuration (state_of old) old.stores turn.entries turn.turn)) calm on) [
           | inl posted ↦ inr (inr (inr (inl posted)))
-          | inr (inl (other, still)) ↦ inl (or_true (is_asked e) (posts_other id e) other, still)
+          | inr (inl free) ↦ inl free
           | inr (inr nearer) ↦ inr (inr (inr (inr nearer)))
         ]
       ]
-    ])
+    ]))
 
 turn_pays : (p q : Payer) (old new : StackTold) (turn : MakesTurn old new) → PaysTurn p q old new → PaysBy p q old (move_to turn.entries new ∷ [])
 turn_pays p q old new turn pays =
@@ -150,11 +157,19 @@ turn_pays p q old new turn pays =
       failed = pays.failed;
       counts = (record { later = turn.operations.later; own = pays.counts }, tt);
       spare = pays.spare;
+      traits = pays.traits;
+      kept = (pays.kept, tt);
+      sealing = λ since sealing. rw (no_found old.configuration (state_of old) old.stores turn.entries turn.turn) (pays.sealing since sealing);
       pages = pays.pages;
-      dues = λ id turns due. turn_soon p q old new turn pays id turns due;
-      urgent = (λ id is free. absurd (no_urgent (first_of turn.entries) old.configuration (state_of old) id (no_ask old.configuration (state_of old) old.stores turn.entries turn.turn) is), tt);
+      dues = turn_soon p q old new turn pays;
+      urgent = λ since sealing. (λ id is free. absurd (no_urgent (first_of turn.entries) old.configuration (state_of old) id (no_ask old.configuration (state_of old) old.stores turn.entries turn.turn) is), tt);
       pays = λ tells since owes.
           let (paid, now) = pays.pays tells since (move_to turn.entries new) owes refl (ap (λ t. t.entries) turn.grows ∙ ap (λ (es : List Entry). old.entries ++ es) first) in ((paid, tt), now);
+      work = record {
+        known = pays.work.known;
+        along = λ w is.
+            let (e, one, now) = pays.work.moves w (move_to turn.entries new) is refl (ap (λ t. t.entries) turn.grows ∙ ap (λ (es : List Entry). old.entries ++ es) first) in (e ∷ [], (one, tt), now);
+      };
     }
 
 pub turn_moved : (p q : Payer) (old new : StackTold) (turn : MakesTurn old new) → PaysTurn p q old new → AreMade p q turn.entries (move_to turn.entries new ∷ []) old new

@@ -1,16 +1,38 @@
 -- Moves pay, one after another.
-use Rattle.std.proofs.Common.{◌≡◌, ◌≤◌, ◌+◌, ℕ, Some, None, List, [], ◌∷◌, ◌++◌, if◌then◌else◌, refl, sym, subst, ◌∙◌, inl, inr, arith}
+use Rattle.std.proofs.Common.{◌≡◌, ◌≤◌, ◌+◌, ℕ, true, Some, None, List, [], ◌∷◌, ◌++◌, if◌then◌else◌, refl, sym, subst, ◌∙◌, inl, inr, arith}
 use Rattle.uds_gateway.specs.block_machine.Words.{Instance, Mark, Request, Reply, Entry, Ask, Found, Configuration}
 use Rattle.uds_gateway.specs.block_machine.State.{State}
 use Rattle.uds_gateway.specs.block_machine.Steps.{after_from}
 use Rattle.uds_gateway.specs.promise_blocks.Payment.{Worn}
-use Rattle.promise_run.specs.Turns.{Moment, Move, entry_list, entries_of, moment_behind, is_picked, urgent_block, pages_wanted, EachMove, PostsUrgent, ArePaidSince}
+use Rattle.promise_run.specs.Turns.{Moment, Move, entry_list, entries_of, moment_behind, is_picked, urgent_block, found_behind, EachMoveSince, PostsUrgent, ArePaidSince}
 use Rattle.promise_run.proofs.Paid.{since_too}
 use Rattle.promise_run.proofs.UrgentPosts.{soon_more, urgent_more, urgent_by}
+use Rattle.promise_run.proofs.TakenPages.{found_more, taken_by, taken_more}
 use Rattle.promise_run.proofs.Counted.{behind_later, counted_by, counted_more}
 use Rattle.uds_gateway.proofs.HistoryLaws.{histories_go_on}
 use Rattle.script_player.specs.Told.{StackTold, state_of, moment_of}
-use Rattle.script_player.specs.Paying.{Payer, AcceptsUrgent, OwesNothing, PaysNothing, since_behind, Pays, PaysBy}
+use Rattle.script_player.proofs.Working.{along_more, along_none, along_ask, along_found}
+use Rattle.script_player.specs.Paying.{Payer, SparesNoMore, TraitsNoMore, IsAtSeal, FreeBy, AcceptsUrgent, OwesNothing, PaysNothing, since_behind, Pays, PaysBy}
+
+-- what is left at a seal was known to be
+at_seal_before : (p q : Payer) (ops k : ℕ) → TraitsNoMore ops p q → k ≤ ops → (since wanted : ℕ) → IsAtSeal q since k wanted → IsAtSeal p since k wanted
+at_seal_before p q ops k traits few since wanted seal = record {
+  counted = seal.counted;
+  last = seal.last;
+  is_last = seal.is_last;
+  later = seal.later;
+  seals = traits.seals seal.last wanted (let last = seal.is_last in omega (arith, few, last)) seal.seals;
+}
+
+-- once any of these operations were made no more was free than was known
+pub frees_no_more : (p q : Payer) (ops : ℕ) → SparesNoMore ops p q → TraitsNoMore ops p q → (since k wanted : ℕ) → k ≤ ops → FreeBy q since k wanted → FreeBy p since k wanted
+frees_no_more p q ops spares traits since k wanted few (inl free) = inl (spares k wanted few free)
+frees_no_more p q ops spares traits since k wanted few (inr seal) = inr (at_seal_before p q ops k traits few since wanted seal)
+
+-- what is free was known to be
+pub frees_before : (p q : Payer) (ops : ℕ) → ((k n : ℕ) → q.spare k n → p.spare k n) → TraitsNoMore ops p q → (since wanted : ℕ) → FreeBy q since ops wanted → FreeBy p since ops wanted
+frees_before p q ops spares traits since wanted (inl free) = inl (spares ops wanted free)
+frees_before p q ops spares traits since wanted (inr seal) = inr (at_seal_before p q ops ops traits (omega arith) since wanted seal)
 
 -- NONE
 pub none_pays : (p : Payer) (t : StackTold) → PaysBy p p t []
@@ -20,10 +42,14 @@ none_pays p t = record {
   failed = λ k few is. is;
   counts = tt;
   spare = λ k n few is. is;
+  traits = record { kept = λ k few is. is; seals = λ k n few is. is; reserve = refl };
+  kept = tt;
+  sealing = λ since sealing. sealing;
   pages = refl;
-  dues = λ id turns due. due;
-  urgent = tt;
+  dues = λ id one turns due. due;
+  urgent = λ since sealing. tt;
   pays = λ tells since owes. (tt, owes);
+  work = along_none p.worn p.work p.work t.configuration (moment_of t) (state_of t) (record { costs = refl; room = λ k n few is. is }) (λ w is. is);
 }
 
 pub nothing_pays : (p q : Payer) (old new : StackTold) → PaysNothing p q new → PaysBy p q old []
@@ -33,10 +59,14 @@ nothing_pays p q old new nothing = record {
   failed = λ k few. nothing.own.failed k;
   counts = tt;
   spare = λ k n few. nothing.own.spare k n;
+  traits = nothing.own.traits old.ops;
+  kept = tt;
+  sealing = nothing.sealing;
   pages = nothing.own.pages;
   dues = nothing.due;
-  urgent = tt;
+  urgent = λ since sealing. tt;
   pays = λ tells since owes. (tt, (nothing.own.owes since owes).0);
+  work = along_none q.worn p.work q.work old.configuration (moment_of old) (state_of old) (nothing.own.work.known old.ops) nothing.works;
 }
 
 -- ONE THAT HAS NOTHING TO PAY
@@ -44,11 +74,11 @@ nothing_due : (since now : ℕ) → since ≤ now → since + 0 ≤ now
 nothing_due since now less = omega (arith, less)
 
 -- what a request makes due, with the pages of the payer behind it
-accepted : (p q : Payer) (old new : StackTold) (e : Entry) → new.entries ≡ old.entries ++ e ∷ [] → q.pages ≡ p.pages → ((k n : ℕ) → q.spare k n → p.spare k n) → AcceptsUrgent p q old new
-    → (id : ℕ) → urgent_block old.configuration (state_of old) (Some e) ≡ Some id → q.spare old.ops (pages_wanted q.pages (state_of old) id) → q.due id (q.pages (state_of old) id + 4)
-accepted p q old new e adds same spares accepts =
-    subst (λ (f : State → ℕ → ℕ). (id : ℕ) → urgent_block old.configuration (state_of old) (Some e) ≡ Some id → q.spare old.ops (pages_wanted f (state_of old) id) → q.due id (f (state_of old) id + 4)) (sym same)
-    (λ id is free. accepts e id adds is (spares old.ops (pages_wanted p.pages (state_of old) id) free))
+accepted : (p q : Payer) (old new : StackTold) (e : Entry) → new.entries ≡ old.entries ++ e ∷ [] → OwesNothing p q new → AcceptsUrgent p q old new
+    → (since : ℕ) → p.sealing since → (id : ℕ) → urgent_block old.configuration (state_of old) (Some e) ≡ Some id → FreeBy q since old.ops (q.pages (state_of old) id) → q.due id true (q.pages (state_of old) id + 4)
+accepted p q old new e adds own accepts since sealing =
+    subst (λ (f : State → ℕ → ℕ). (id : ℕ) → urgent_block old.configuration (state_of old) (Some e) ≡ Some id → FreeBy q since old.ops (f (state_of old) id) → q.due id true (f (state_of old) id + 4)) (sym own.pages)
+    (λ id is free. accepts e id since adds is sealing (frees_before p q old.ops own.spare (own.traits old.ops) since (p.pages (state_of old) id) free))
 
 pub ask_pays : (p q : Payer) (caller : ℕ) (r : Request) (reply : Reply) (old new : StackTold) → new.faults ≡ old.faults → new.entries ≡ old.entries ++ Ask caller r reply ∷ [] → PaysNothing p q new → AcceptsUrgent p q old new
     → PaysBy p q old (record { entry = Some (Ask caller r reply); behind = moment_of old } ∷ [])
@@ -58,11 +88,15 @@ ask_pays p q caller r reply old new same adds nothing accepts = record {
   failed = λ k few. nothing.own.failed k;
   counts = (record { later = omega arith; own = λ k le lt failed. absurd (omega (arith, le, lt)) }, tt);
   spare = λ k n few. nothing.own.spare k n;
+  traits = nothing.own.traits old.ops;
+  kept = (λ k le lt is. absurd (omega (arith, le, lt)), tt);
+  sealing = nothing.sealing;
   pages = nothing.own.pages;
-  dues = λ id turns due. inr (inl (refl, nothing.due id turns due));
-  urgent = (accepted p q old new (Ask caller r reply) adds nothing.own.pages nothing.own.spare accepts, tt);
+  dues = λ id one turns due. inr (inl (refl, nothing.due id one turns due));
+  urgent = λ since sealing. (accepted p q old new (Ask caller r reply) adds nothing.own accepts since sealing, tt);
   pays = λ tells since owes.
       let (now, less) = nothing.own.owes since owes in ((inl (inl (nothing_due since old.faults (omega (arith, less, same)))), tt), now);
+  work = along_ask q.worn p.work q.work old.configuration (moment_of old) (state_of old) caller r reply (nothing.own.work.known old.ops) nothing.works;
 }
 
 none_urgent : (id : ℕ) → None ≡ Some id → ⊥
@@ -76,11 +110,15 @@ found_pays p q marks ops old new none nothing = record {
   failed = λ k few. nothing.failed k;
   counts = (record { later = omega (arith, none); own = λ k le lt failed. absurd (omega (arith, none, le, lt)) }, tt);
   spare = λ k n few. nothing.spare k n;
+  traits = nothing.traits old.ops;
+  kept = (λ k le lt is. absurd (omega (arith, none, le, lt)), tt);
+  sealing = λ since sealing. nothing.sealing;
   pages = nothing.pages;
-  dues = λ id turns due. inl refl;
-  urgent = (λ id is free. absurd (none_urgent id is), tt);
+  dues = λ id one turns due. inl refl;
+  urgent = λ since sealing. (λ id is free. absurd (none_urgent id is), tt);
   pays = λ tells since owes.
       let (now, less) = nothing.owes since owes in ((inl (inl (nothing_due since new.faults less)), tt), now);
+  work = along_found q.worn p.work q.work old.configuration (moment_of old) (moment_of new) (state_of old) marks ops none nothing.work;
 }
 
 -- MORE
@@ -105,12 +143,20 @@ pays_more c p q r before s xs ys one two = record {
   worn = λ k n urgent is. two.worn k n urgent (one.worn k n urgent is);
   failed = λ k few is. one.failed k few (two.failed k (let later = behind_later q.failed before xs one.counts in omega (arith, few, later)) is);
   spare = λ k n few is. one.spare k n few (two.spare k n (let later = behind_later q.failed before xs one.counts in omega (arith, few, later)) is);
+  traits = record {
+    kept = λ k few is. one.traits.kept k few (two.traits.kept k (let later = behind_later q.failed before xs one.counts in omega (arith, few, later)) is);
+    seals = λ k n few is. one.traits.seals k n few (two.traits.seals k n (let later = behind_later q.failed before xs one.counts in omega (arith, few, later)) is);
+    reserve = two.traits.reserve ∙ one.traits.reserve;
+  };
+  kept = taken_more c r.kept before s xs ys (taken_by c q.failed q.kept r.kept (moment_behind before xs).ops two.traits.kept before s xs (omega arith) one.counts one.kept) two.kept;
+  sealing = λ since sealing. subst (λ (n : ℕ). r.sealing n) (sym (found_more since xs ys)) (two.sealing (found_behind since xs) (one.sealing since sealing));
   pages = two.pages ∙ one.pages;
-  dues = λ id turns due. soon_more (q.due id) (r.due id) id turns before xs ys (one.dues id turns due) (λ left. two.dues id left);
-  urgent = urgent_more c r.pages r.spare q.due r.due before s xs ys
-      (urgent_by c r.pages q.failed q.spare r.spare q.due q.due (moment_behind before xs).ops two.spare (λ id left due. due) before s xs (omega arith) one.counts
-      (subst (λ (f : State → ℕ → ℕ). EachMove c (PostsUrgent c f q.spare q.due) s xs) (sym two.pages) one.urgent))
-      two.dues two.urgent;
+  dues = λ id free turns due. soon_more (q.due id) (r.due id) free id turns before xs ys (one.dues id free turns due) (two.dues id);
+  urgent = λ since sealing.
+      urgent_more c 4 r.pages (FreeBy r) q.due r.due since before s xs ys
+      (urgent_by c 4 r.pages q.failed (FreeBy q) (FreeBy r) q.due q.due (moment_behind before xs).ops (frees_no_more q r (moment_behind before xs).ops two.spare two.traits) (λ id free left due. due) since before s xs (omega arith) one.counts
+      (subst (λ (f : State → ℕ → ℕ). EachMoveSince c (PostsUrgent c 4 f (FreeBy q) q.due) since s xs) (sym two.pages) (one.urgent since sealing)))
+      two.dues (two.urgent (found_behind since xs) (one.sealing since sealing));
   counts = counted_more r.failed before xs ys (counted_by q.failed r.failed (moment_behind before xs).ops two.failed before xs (omega arith) one.counts) two.counts;
   pays = λ tells since owes.
       let (paid, then_owes) = one.pays (two.tells tells) since owes in
@@ -118,6 +164,7 @@ pays_more c p q r before s xs ys one two = record {
         are_more c r.worn since before s xs ys (since_too c q.worn r.worn two.worn since before s xs paid) more,
         subst (λ (n : ℕ). r.owes n) (sym (since_more since before xs ys)) now,
       );
+  work = along_more q.worn p.work q.work r.work r.worn q.failed c before s xs ys two.worn one.counts one.work two.work;
 }
 
 -- of a stack

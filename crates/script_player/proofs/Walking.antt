@@ -1,12 +1,12 @@
 -- Step after step.
 use Rattle.std.specs.Prelude.{take}
-use Rattle.std.proofs.Common.{◌≡◌, ◌<◌, ◌≤◌, ◌+◌, ◌*◌, ◌^◌, ℕ, zero, suc, List, [], ◌∷◌, ◌++◌, Option, None, length, map, replicate, refl, sym, ap, ◌∙◌, subst, arith, add-one, length-append, append_assoc, append-nil}
+use Rattle.std.proofs.Common.{◌≡◌, ◌<◌, ◌≤◌, ◌+◌, ◌*◌, ◌^◌, ℕ, List, [], ◌∷◌, ◌++◌, Option, None, length, map, replicate, refl, sym, ap, ◌∙◌, subst, arith, add-one, length-append, append_assoc, append-nil}
 use Rattle.std.proofs.lemmas.List.{length-map}
 use Rattle.std.proofs.lemmas.List.Sums.{sum_by_push, sum_by-append, sum_by-cons}
 use Rattle.std.proofs.Math.Seq.{get_or-append_seam}
 use Rattle.uds_gateway.specs.nv_base.Count.{WereCounted}
 use Rattle.uds_gateway.specs.nv_base.Entry.{ops_behind}
-use Rattle.uds_gateway.specs.block_machine.Words.{Instance, Mark, Entry, Found, Configuration}
+use Rattle.uds_gateway.specs.block_machine.Words.{Entry, Found, Configuration}
 use Rattle.uds_gateway.specs.block_machine.State.{State}
 use Rattle.uds_gateway.specs.block_machine.StartUp.{at_first}
 use Rattle.uds_gateway.specs.block_machine.Steps.{after, after_from}
@@ -28,12 +28,14 @@ use Rattle.script_player.specs.Kept.{IsKept}
 use Rattle.script_player.specs.Made.{cuts_in, cuts_of, IsExplained, IsMade, IsLeft, IsFresh, Makes, HasWalked, WereLeft, WasBroken}
 use Rattle.script_player.specs.Walking.{IsWalking, AreUnderWay, planned_behind}
 use Rattle.script_player.specs.Table.{HasLastStores}
-use Rattle.promise_run.specs.Turns.{Moment, Move, entries_of, moment_behind, moment_after, Planned, planned_by, AreInTime, EachMove, PostsUrgent, all_moves}
+use Rattle.promise_run.specs.Turns.{Moment, Move, entries_of, moment_behind, moment_after, Planned, planned_by, AreInTime, found_behind, EachMoveSince, PostsUrgent, all_moves}
 use Rattle.promise_run.proofs.Paid.{since_too}
 use Rattle.promise_run.proofs.UrgentPosts.{soon_by, urgent_by}
+use Rattle.promise_run.proofs.TakenPages.{taken_by}
 use Rattle.promise_run.proofs.Counted.{all_behind, behind_later, counted_by}
-use Rattle.script_player.specs.Paying.{Payer, PaysBy, since_behind}
-use Rattle.script_player.proofs.Paying.{none_pays, by_more}
+use Rattle.script_player.specs.Paying.{Payer, FreeBy, PaysBy, since_behind}
+use Rattle.script_player.proofs.Working.{along_end, along_nothing}
+use Rattle.script_player.proofs.Paying.{none_pays, by_more, frees_no_more}
 use Rattle.script_player.specs.Coming.{IsPending}
 use Rattle.script_player.proofs.Coming.{planned_more, come_more}
 use Rattle.script_player.specs.Chain.{shown_of}
@@ -180,10 +182,18 @@ has_walked p q r made old mid new same counted operations cuts came power pays w
     failed = λ k few is. walking.pays.failed k few (pays.failed k (let later = behind_later q.failed (moment_of old) (all_moves walking.moves.moves) walking.pays.counts in omega (arith, few, later, ends)) is);
     counts = counted_by q.failed r.failed mid.ops pays.failed (moment_of old) (all_moves walking.moves.moves) (omega (arith, ends)) walking.pays.counts;
     spare = λ k n few is. walking.pays.spare k n few (pays.spare k n (let later = behind_later q.failed (moment_of old) (all_moves walking.moves.moves) walking.pays.counts in omega (arith, few, later, ends)) is);
+    traits = record {
+      kept = λ k few is. walking.pays.traits.kept k few (pays.traits.kept k (let later = behind_later q.failed (moment_of old) (all_moves walking.moves.moves) walking.pays.counts in omega (arith, few, later, ends)) is);
+      seals = λ k n few is. walking.pays.traits.seals k n few (pays.traits.seals k n (let later = behind_later q.failed (moment_of old) (all_moves walking.moves.moves) walking.pays.counts in omega (arith, few, later, ends)) is);
+      reserve = pays.traits.reserve ∙ walking.pays.traits.reserve;
+    };
+    kept = taken_by old.configuration q.failed q.kept r.kept mid.ops pays.traits.kept (moment_of old) (state_of old) (all_moves walking.moves.moves) (omega (arith, ends)) walking.pays.counts walking.pays.kept;
+    sealing = λ since sealing. pays.sealing (found_behind since (all_moves walking.moves.moves)) (walking.pays.sealing since sealing);
     pages = pays.pages ∙ walking.pays.pages;
-    dues = λ id turns due. soon_by (q.due id) (r.due id) id turns old.faults (all_moves walking.moves.moves) (pays.dues id) (walking.pays.dues id turns due);
-    urgent = urgent_by old.configuration r.pages q.failed q.spare r.spare q.due r.due mid.ops pays.spare pays.dues (moment_of old) (state_of old) (all_moves walking.moves.moves) (omega (arith, ends)) walking.pays.counts
-        (subst (λ (f : State → ℕ → ℕ). EachMove old.configuration (PostsUrgent old.configuration f q.spare q.due) (state_of old) (all_moves walking.moves.moves)) (sym pays.pages) walking.pays.urgent);
+    dues = λ id one turns due. soon_by (q.due id) (r.due id) one id turns old.faults (all_moves walking.moves.moves) (pays.dues id) (walking.pays.dues id one turns due);
+    urgent = λ since sealing.
+        urgent_by old.configuration 4 r.pages q.failed (FreeBy q) (FreeBy r) q.due r.due mid.ops (frees_no_more q r mid.ops pays.spare pays.traits) pays.dues since (moment_of old) (state_of old) (all_moves walking.moves.moves) (omega (arith, ends)) walking.pays.counts
+        (subst (λ (f : State → ℕ → ℕ). EachMoveSince old.configuration (PostsUrgent old.configuration 4 f (FreeBy q) q.due) since (state_of old) (all_moves walking.moves.moves)) (sym pays.pages) (walking.pays.urgent since sealing));
     worn = λ k n urgent is. pays.worn k n urgent (walking.pays.worn k n urgent is);
     pays = λ tells since owes.
         let (paid, then_owes) = walking.pays.pays (pays.tells tells) since owes in
@@ -191,6 +201,8 @@ has_walked p q r made old mid new same counted operations cuts came power pays w
           since_too old.configuration q.worn r.worn pays.worn since (moment_of old) (state_of old) moves paid,
           (pays.pays tells (since_behind since (moment_of old) moves) then_owes).1,
         );
+    work = along_end q.worn p.work q.work r.work r.worn q.failed mid.ops old.configuration (moment_of old) (state_of old) (all_moves walking.moves.moves) (omega (arith, ends)) pays.worn walking.pays.counts walking.pays.work
+        pays.work.known (along_nothing r.worn q.work r.work mid.configuration (moment_of mid) (state_of mid) pays.work);
   };
 }
   where

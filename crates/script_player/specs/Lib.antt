@@ -7,10 +7,12 @@ pub mod Kept
 pub mod Made
 pub mod Walking
 pub mod Requests
+pub mod Working
 pub mod Paying
 pub mod PlainTold
 pub mod PlainKept
 pub mod PlainDue
+pub mod PlainWork
 pub mod PlainPaying
 pub use Rattle.uds_gateway.specs.ram_blocks as ram_blocks
 pub use Rattle.uds_gateway.specs as uds_gateway

@@ -1,11 +1,12 @@
 -- An urgent write that is due, of a stack whose application stores in memory.
-use Rattle.std.specs.Prelude.{◌≡◌, ◌≤◌, ◌<◌, ◌+◌, ℕ, false, IfSome}
+use Rattle.std.specs.Prelude.{◌≡◌, ◌<◌, ◌+◌, ℕ, Bool, false, if◌then◌else◌, Option, IfSome}
 use Rattle.uds_gateway.specs.memif.Told.{Fixed, First, figures_at}
 use Rattle.uds_gateway.specs.block_machine.Words.{Configuration}
 use Rattle.uds_gateway.specs.block_machine.State.{State}
 use Rattle.uds_gateway.specs.block_machine.Blocks.{indices_of, job_block}
 use Rattle.uds_gateway.specs.block_laws.Consistent.{Each}
 use Rattle.uds_gateway.specs.nv_desk.Desk.{state_of}
+use Rattle.uds_gateway.specs.job_progress.Hand.{HandState}
 use Rattle.uds_gateway.specs.nvm_figures.Urgent.{pages_of}
 use Rattle.uds_gateway.specs.nvm_laws.Due.{StackNow, IsDue, post_first}
 
@@ -22,10 +23,14 @@ pub record IsOfBlock (number id : ℕ) (s : State) : Type 0 where
   pub jobs : AreAll (λ n block. n ≡ number → block ≡ id) s
 
 -- WHAT IS DUE
--- an urgent write of a block is due within so many turns, where that to the Post of a finished job isn't counted
-pub record IsDueFor (id turns : ℕ) (now : StackNow) : Type 0 where
+-- the turn that isn't counted: that to the Post of a finished job, where one is free
+abbrev pub free_turns : Bool → Option HandState → ℕ
+free_turns one hand = if one then post_first hand else 0
+
+-- an urgent write of a block is due within so many turns, beside that one
+pub record IsDueFor (id : ℕ) (one : Bool) (turns : ℕ) (now : StackNow) : Type 0 where
   pub number : ℕ
-  pub due : IsDue number (turns + post_first now.hand) now
+  pub due : IsDue number (turns + free_turns one now.hand) now
   pub block : IsOfBlock number id (state_of now.desk)
   pub on : (state_of now.desk).off ≡ false
 

@@ -74,7 +74,10 @@ impl<D: MemDevice> PlayedStack for PlainStack<D> {
     }
 
     fn restart(&mut self, alloc: Global) -> FoundAnswer {
-        self.stack.restart(alloc)
+        let answer = self.stack.restart(alloc);
+        let behind = self.stack.device();
+        let _status = behind.status();
+        answer
     }
 
     fn arm(&mut self, nth: u32, keep: u32) {

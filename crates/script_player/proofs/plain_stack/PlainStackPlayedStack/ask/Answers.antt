@@ -40,11 +40,9 @@ returns-clause-urgent g c =
     let reply = c.in_ok-reply.reply in
     let ready = ap (λ (t : StackState g.row.D.Denot (List PlainBlock)). t.ready) c.self.view_is ∙ c.requires.ready in
     subst (λ (t : StackState g.row.D.Denot (List PlainBlock)). AcceptsUrgent (payer_by told clock t) (payer_by told clock new) (told_by told t) (told_by told new)) c.self.view_is
-    (λ e id adds urgent spare.
-    accepts_urgent told clock s new (c.device-device.ensures.tied ready) (c.device-device.ensures.power ready) (subst (λ (x : g.row.D.Denot). FreesReady (told x) (clock x)) c.device-device.ensures.device c.status-status.ensures.ready) c.args.caller c.args.request reply
+    (accepts_urgent told clock s new (c.device-device.ensures.tied ready) (c.device-device.ensures.power ready) (subst (λ (x : g.row.D.Denot). FreesReady (told x) (clock x)) c.device-device.ensures.device c.status-status.ensures.ready) c.args.caller c.args.request reply
     (subst (λ (r : Result Reply AskFault). IfOk r (λ x. new ≡ record s { desk = record s.desk { entries = s.desk.entries ++ Ask c.args.caller c.args.request x ∷ [] } })) c.in_ok-reply.was c.ask.ensures.ok)
-    (subst (λ (r : Result Reply AskFault). AcceptsDue told c.args.request r s new) c.in_ok-reply.was c.ask.ensures.accepted)
-    e id adds urgent (told s.device).ops refl spare.1)
+    (subst (λ (r : Result Reply AskFault). AcceptsDue told c.args.request r s new) c.in_ok-reply.was c.ask.ensures.accepted))
 
 pub returns-clause-pays : goal.returns-clause-pays
 returns-clause-pays g c =

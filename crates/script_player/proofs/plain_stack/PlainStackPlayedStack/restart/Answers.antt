@@ -1,6 +1,7 @@
-use Rattle.std.proofs.Common.{rules, ◌≡◌, ℕ, Bool, true, false, List, Option, Some, None, refl, sym, ap, subst, inl}
+use Rattle.std.proofs.Common.{rules, ◌≡◌, Bool, true, false, List, Option, sym, ap, subst, inl}
 use Rattle.uds_gateway.specs.memif.Told.{DeviceTold, Part, PartTold}
 use Rattle.uds_gateway.specs.memif.Clock.{Clock}
+use Rattle.uds_gateway.specs.memif.Calls.{InOrder}
 use Rattle.uds_gateway.specs.promise_blocks.OverDevice.{HasStarted}
 use Rattle.uds_gateway.specs.job_progress.Hand.{HandState}
 use Rattle.uds_gateway.specs.nv_desk.Desk.{DeskState}
@@ -13,6 +14,7 @@ use Rattle.uds_gateway.specs.nvm_core.Stack.{StackState}
 use Rattle.uds_gateway.specs.nvm_core.StartUps.{DownKeepsAsTold, Restarts, StartsKeep}
 use Rattle.uds_gateway.specs.block_laws.Laws.{EntriesAreCounted, HistoriesGoOn, HistoriesStep, SumsGrow}
 use Rattle.uds_gateway.proofs.HistoryLaws.{entries_are_counted, histories_go_on, histories_step, sums_grow}
+use Rattle.script_player.specs.Calls as calls
 use Rattle.script_player.specs.Paying.{StartPays}
 use Rattle.script_player.specs.PlainTold.{told_by}
 use Rattle.script_player.specs.PlainKept.{IsKept}
@@ -63,25 +65,42 @@ returns-clause-keeps g c before kept =
     let told = g.D.MemDevice.told in
     let clock = g.D.MemDevice.clock in
     let s = c.self.inside.stack in
-    restart_keeps told clock before s c.restart.new.self (c.restart.ensures.down before)
+    restart_keeps told clock before s c.restart-answer.new.self (c.restart-answer.ensures.down before)
     (subst (λ (t : StackState g.row.D.Denot (List PlainBlock)). IsKept t.ready before t.desk t.hand (told t.device) (clock t.device)) (sym c.self.view_is) kept)
-    c.restart.result c.restart.ensures.restarts c.restart.ensures.keeps
+    c.restart-answer.result c.restart-answer.ensures.restarts c.restart-answer.ensures.keeps
 
 pub returns-clause-pays : goal.returns-clause-pays
 returns-clause-pays g c =
     let s = c.self.inside.stack in
-    let new = c.restart.new.self in
+    let new = c.restart-answer.new.self in
     let told = g.D.MemDevice.told in
     let clock = g.D.MemDevice.clock in
-    subst (λ (t : StackState g.row.D.Denot (List PlainBlock)). StartPays c.restart.result (payer_by told clock t) (payer_by told clock new) (told_by told new)) c.self.view_is
+    subst (λ (t : StackState g.row.D.Denot (List PlainBlock)). StartPays c.restart-answer.result (payer_by told clock t) (payer_by told clock new) (told_by told new)) c.self.view_is
     (restart_paid told clock s new
-    (λ before kept. restart_keeps told clock before s new (c.restart.ensures.down before) kept c.restart.result c.restart.ensures.restarts c.restart.ensures.keeps)
-    c.restart.ensures.lasts c.restart.result c.restart.ensures.restarts)
+    (λ before kept. restart_keeps told clock before s new (c.restart-answer.ensures.down before) kept c.restart-answer.result c.restart-answer.ensures.restarts c.restart-answer.ensures.keeps)
+    c.restart-answer.ensures.lasts (subst (λ (x : g.row.D.Denot). InOrder (told x) (clock x)) c.device-behind.ensures.device c.status-status.ensures.order) c.device-behind.ensures.tied c.restart-answer.result c.restart-answer.ensures.restarts)
 
-pub returns-clause-restarts : goal.returns-clause-restarts
-returns-clause-restarts g c =
+-- what is told of it, by what it came to
+restarts_told : {D : Type 0} (told : D → DeviceTold) (old new : StackState D (List PlainBlock)) (answer : FoundAnswer) → Restarts told answer old new → calls.Restarts answer (told_by told old) (told_by told new)
+restarts_told told old new found.Ready restarts =
     let steps : HistoriesStep = histories_step in
     let goes_on : HistoriesGoOn = histories_go_on in
     let counted : EntriesAreCounted = entries_are_counted in
     let prices : SumsGrow = sums_grow in
     search rules
+restarts_told told old new found.Failed restarts =
+    let steps : HistoriesStep = histories_step in
+    let goes_on : HistoriesGoOn = histories_go_on in
+    let counted : EntriesAreCounted = entries_are_counted in
+    let prices : SumsGrow = sums_grow in
+    search rules
+restarts_told told old new found.NoRoom restarts =
+    let counted : EntriesAreCounted = entries_are_counted in
+    search rules
+restarts_told told old new found.Memory restarts = ap (told_by told) restarts
+
+pub returns-clause-restarts : goal.returns-clause-restarts
+returns-clause-restarts g c =
+    let told = g.D.MemDevice.told in
+    subst (λ (t : StackState g.row.D.Denot (List PlainBlock)). calls.Restarts c.restart-answer.result (told_by told t) (told_by told c.restart-answer.new.self)) c.self.view_is
+    (restarts_told told c.self.inside.stack c.restart-answer.new.self c.restart-answer.result c.restart-answer.ensures.restarts)

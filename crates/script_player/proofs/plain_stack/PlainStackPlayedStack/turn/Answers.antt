@@ -52,9 +52,10 @@ returns-clause-pays g c =
     subst (λ (t : StackState g.row.D.Denot (List PlainBlock)). PaysTurn (payer_by told clock t) (payer_by told clock new) (told_by told t) (told_by told new)) c.self.view_is
     (turn_paid told clock s new
     (keeps_by s.ready new.ready s.desk new.desk s.hand new.hand (told s.device) (told new.device) (clock s.device) (clock new.device) ready (turned_ready told clock s new c.turn-turned.result c.turn-turned.ensures.turns) c.turn-turned.ensures.keeps)
-    c.turn-turned.ensures.keeps.told c.turn-turned.ensures.lasts c.turn-turned.result c.turn-turned.ensures.turns c.turn-turned.ensures.due (c.device-device.ensures.tied ready)
+    c.turn-turned.ensures.keeps.told c.turn-turned.ensures.lasts c.turn-turned.result c.turn-turned.ensures.turns c.turn-turned.ensures.due (c.device-device.ensures.tied ready) (c.device-device.ensures.power ready)
     (c.device-behind.ensures.power (turned_ready told clock s new c.turn-turned.result c.turn-turned.ensures.turns ∙ ready)) (subst (λ (x : g.row.D.Denot). InOrder (told x) (clock x)) c.device-behind.ensures.device c.status-status.ensures.order)
-    (subst (λ (t : StackState g.row.D.Denot (List PlainBlock)). Turns c.turn-turned.result (told_by told t) (told_by told new)) (sym c.self.view_is) (returns-clause-turns g c)).made ready c.turn-turned.ensures.pays)
+    (subst (λ (t : StackState g.row.D.Denot (List PlainBlock)). Turns c.turn-turned.result (told_by told t) (told_by told new)) (sym c.self.view_is) (returns-clause-turns g c)).made ready c.turn-turned.ensures.pays
+    c.turn-turned.ensures.seals c.turn-turned.ensures.kept)
 
 pub returns-clause-keeps : goal.returns-clause-keeps
 returns-clause-keeps g c =

@@ -1,0 +1,165 @@
+-- What moves do at the device, one after another.
+use Rattle.std.specs.Prelude.{◌||◌}
+use Rattle.std.proofs.Common.{◌≡◌, ◌⊎◌, ◌≤◌, ◌+◌, ℕ, Bool, true, false, Some, None, List, [], ◌∷◌, ◌++◌, refl, sym, ◌∙◌, subst, inl, inr, arith}
+use Rattle.uds_gateway.specs.block_machine.Words.{Instance, Mark, Request, Reply, Ask, Found, Configuration}
+use Rattle.uds_gateway.specs.block_machine.State.{State}
+use Rattle.uds_gateway.specs.block_machine.Steps.{after_from}
+use Rattle.uds_gateway.specs.promise_blocks.Payment.{Worn}
+use Rattle.promise_run.specs.Moves.{Moment, Move, entry_list, entries_of, moment_behind}
+use Rattle.promise_run.specs.Turns.{CountFailed}
+use Rattle.promise_run.specs.Operations.{Costs, Work, Effort, EndsTry, IsWorked, AreWorked, work_behind, has_risen}
+use Rattle.promise_run.proofs.Counted.{behind_later}
+use Rattle.uds_gateway.proofs.HistoryLaws.{histories_go_on}
+use Rattle.script_player.specs.Working.{AtWork, KnowsNoMore, WorksNot, WorksAlong}
+
+-- WHERE LESS IS FREE
+-- a move with less room, and where the device is worn out sooner
+one_by : (f : Costs) (room other : ℕ → ℕ → Type 0) (worn more : Worn) (c : Configuration) (before : Moment) (s : State) (w : Work) (m : Move) (e : Effort) → ((p : ℕ) → other before.ops p → room before.ops p)
+    → ((k p : ℕ) (urgent : Bool) → worn k p urgent → more k p urgent) → IsWorked f room worn c before s w m e → IsWorked f other more c before s w m e
+one_by f room other worn more c before s w m e less sooner one = record {
+  begins = one.begins;
+  adds = λ test has. one.adds test (λ n is. less n (has n is));
+  ends = λ n is. ended n (one.ends n is);
+  none = one.none;
+  over = one.over;
+}
+  where
+    why : (n : ℕ) → EndsTry worn c s n before m → EndsTry more c s n before m
+    why n (inl here) = inl here
+    why n (inr (j, hand, is)) = inr (j, hand, sooner m.behind.ops n _ is)
+
+    ended : (n : ℕ) → (e.behind.trying ≡ Some n) ⊎ ((e.behind.trying ≡ None) × EndsTry worn c s n before m) → (e.behind.trying ≡ Some n) ⊎ ((e.behind.trying ≡ None) × EndsTry more c s n before m)
+    ended n (inl on) = inl on
+    ended n (inr (over, is)) = inr (over, why n is)
+
+pub worked_by : (f : Costs) (room other : ℕ → ℕ → Type 0) (worn more : Worn) (failed : ℕ → Type 0) (n : ℕ) → ((k p : ℕ) → k ≤ n → other k p → room k p) → ((k p : ℕ) (urgent : Bool) → worn k p urgent → more k p urgent)
+    → (c : Configuration) (before : Moment) (s : State) (w : Work) (ms : List Move) (es : List Effort) → (moment_behind before ms).ops ≤ n → CountFailed failed before ms → AreWorked f room worn c before s w ms es
+    → AreWorked f other more c before s w ms es
+worked_by f room other worn more failed n less sooner c before s w [] [] within counts are = tt
+worked_by f room other worn more failed n less sooner c before s w [] (e ∷ es) within counts are = absurd are
+worked_by f room other worn more failed n less sooner c before s w (m ∷ ms) [] within counts are = absurd are
+worked_by f room other worn more failed n less sooner c before s w (m ∷ ms) (e ∷ es) within counts (one, rest) =
+    let later = behind_later failed before (m ∷ ms) counts in (
+      one_by f room other worn more c before s w m e (λ p. less before.ops p (omega (arith, later, within))) sooner one,
+      worked_by f room other worn more failed n less sooner c m.behind (after_from c s (entry_list m.entry)) e.behind ms es within counts.1 rest,
+    )
+
+-- MORE MOVES
+work_more : (w : Work) (xs ys : List Effort) → work_behind w (xs ++ ys) ≡ work_behind (work_behind w xs) ys
+work_more w [] ys = refl
+work_more w (x ∷ xs) ys = work_more x.behind xs ys
+
+worked_more : (f : Costs) (room : ℕ → ℕ → Type 0) (worn : Worn) (c : Configuration) (before : Moment) (s : State) (w : Work) (xs ys : List Move) (es fs : List Effort) → AreWorked f room worn c before s w xs es
+    → AreWorked f room worn c (moment_behind before xs) (after_from c s (entries_of xs)) (work_behind w es) ys fs → AreWorked f room worn c before s w (xs ++ ys) (es ++ fs)
+worked_more f room worn c before s w [] ys [] fs one two = two
+worked_more f room worn c before s w [] ys (e ∷ es) fs one two = absurd one
+worked_more f room worn c before s w (m ∷ ms) ys [] fs one two = absurd one
+worked_more f room worn c before s w (m ∷ ms) ys (e ∷ es) fs (here, rest) two = (
+  here,
+  worked_more f room worn c m.behind (after_from c s (entry_list m.entry)) e.behind ms ys es fs rest
+      (subst (λ (t : State). AreWorked f room worn c (moment_behind m.behind ms) t (work_behind e.behind es) ys fs) (histories_go_on c s (entry_list m.entry) (entries_of ms)) two),
+)
+
+module _ (worn : Worn) (p q : AtWork) where
+  known_more : (r : AtWork) (ops later : ℕ) → ops ≤ later → KnowsNoMore ops p q → KnowsNoMore later q r → KnowsNoMore ops p r
+  known_more r ops later less one two = record {
+    costs = two.costs ∙ one.costs;
+    room = λ k n few is. one.room k n few (two.room k n (omega (arith, few, less)) is);
+  }
+
+  -- behind these moves, whose operations that failed were counted
+  pub along_more : (r : AtWork) (more : Worn) (failed : ℕ → Type 0) (c : Configuration) (before : Moment) (s : State) (xs ys : List Move) → ((k n : ℕ) (urgent : Bool) → worn k n urgent → more k n urgent) → CountFailed failed before xs
+      → WorksAlong worn c before s xs p q → WorksAlong more c (moment_behind before xs) (after_from c s (entries_of xs)) ys q r → WorksAlong more c before s (xs ++ ys) p r
+  along_more r more failed c before s xs ys sooner counts one two = record {
+    known = known_more r before.ops (moment_behind before xs).ops (behind_later failed before xs counts) one.known two.known;
+    along = λ w is.
+        let (es, are, there) = one.along w is in
+        let (fs, ares, now) = two.along (work_behind w es) there in (
+          es ++ fs,
+          worked_more r.costs r.room more c before s w xs ys es fs
+              (worked_by r.costs q.room r.room worn more failed (moment_behind before xs).ops two.known.room sooner c before s w xs es (omega arith) counts
+              (subst (λ (f : Costs). AreWorked f q.room worn c before s w xs es) (sym two.known.costs) are)) ares,
+          subst r.is (sym (work_more w es fs)) now,
+        );
+  }
+
+  -- a call behind them that makes no move
+  pub along_end : (r : AtWork) (more : Worn) (failed : ℕ → Type 0) (n : ℕ) (c : Configuration) (before : Moment) (s : State) (xs : List Move) → (moment_behind before xs).ops ≤ n → ((k n : ℕ) (urgent : Bool) → worn k n urgent → more k n urgent) → CountFailed failed before xs
+      → WorksAlong worn c before s xs p q → KnowsNoMore n q r → ((w : Work) → q.is w → r.is w) → WorksAlong more c before s xs p r
+  along_end r more failed n c before s xs within sooner counts one known rests = record {
+    known = known_more r before.ops n (let later = behind_later failed before xs counts in omega (arith, later, within)) one.known known;
+    along = λ w is.
+        let (es, are, there) = one.along w is in (
+          es,
+          worked_by r.costs q.room r.room worn more failed n known.room sooner c before s w xs es within counts (subst (λ (f : Costs). AreWorked f q.room worn c before s w xs es) (sym known.costs) are),
+          rests (work_behind w es) there,
+        );
+  }
+
+  -- what no moves leave
+  pub along_nothing : (c : Configuration) (before : Moment) (s : State) → WorksAlong worn c before s [] p q → (w : Work) → p.is w → q.is w
+  along_nothing c before s none w is =
+      let (es, are, now) = none.along w is in by es are now
+    where
+      by : (es : List Effort) → AreWorked q.costs q.room worn c before s w [] es → q.is (work_behind w es) → q.is w
+      by [] are now = now
+      by (e ∷ es) are now = absurd are
+
+  -- NO MOVE
+  pub along_none : (c : Configuration) (before : Moment) (s : State) → KnowsNoMore before.ops p q → ((w : Work) → p.is w → q.is w) → WorksAlong worn c before s [] p q
+  along_none c before s known rests = record { known = known; along = λ w is. ([], tt, rests w is) }
+
+  -- a request
+  pub along_ask : (c : Configuration) (before : Moment) (s : State) (caller : ℕ) (r : Request) (reply : Reply) → KnowsNoMore before.ops p q → ((w : Work) → p.is w → q.is w)
+      → WorksAlong worn c before s (record { entry = Some (Ask caller r reply); behind = before } ∷ []) p q
+  along_ask c before s caller r reply known rests = record {
+    known = known;
+    along = λ w is. (
+      record { begins = None; behind = w } ∷ [],
+      (
+        record {
+          begins = λ n none. none_some n none;
+          adds = λ test has. omega arith;
+          ends = λ n on. inl on;
+          none = λ none. none;
+          over = λ posted. cc posted;
+        },
+        tt,
+      ),
+      rests w is,
+    );
+  }
+    where
+      none_some : {X : Type 0} (n : ℕ) → None ≡ Some n → X
+      none_some n none = cc none
+
+  -- a start-up
+  pub along_found : (c : Configuration) (before behind : Moment) (s : State) (marks : List (Instance × Mark)) (ops : ℕ) → behind.ops ≡ before.ops → WorksNot p q
+      → WorksAlong worn c before s (record { entry = Some (Found marks ops); behind = behind } ∷ []) p q
+  along_found c before behind s marks ops same works = record {
+    known = works.known before.ops;
+    along = λ w is. elim (works.rests w is) [
+      | inl stays ↦ (record { begins = None; behind = w } ∷ [], (found w w (omega arith) (λ n on. inl on) (λ none. none), tt), stays)
+      | inr drops ↦ (record { begins = None; behind = record { left = drops.left; trying = None } } ∷ [], (found w (record { left = drops.left; trying = None }) (let few = drops.few in omega (arith, few)) (λ n on. inr (refl, inl (found_ends n))) (λ none. refl), tt), drops.is)
+    ];
+  }
+    where
+      none_some : {X : Type 0} (n : ℕ) → None ≡ Some n → X
+      none_some n none = cc none
+
+      or_last : (b : Bool) → (b || true) ≡ true
+      or_last true = refl
+      or_last false = refl
+
+      found_ends : (n : ℕ) → (false || (has_risen before.faults behind.faults || (false || true))) ≡ true
+      found_ends n = or_last (has_risen before.faults behind.faults)
+
+      found : (w u : Work) → u.left ≤ w.left + q.costs.switch → ((n : ℕ) → w.trying ≡ Some n → (u.trying ≡ Some n) ⊎ ((u.trying ≡ None) × EndsTry worn c s n before (record { entry = Some (Found marks ops); behind = behind }))) → (w.trying ≡ None → u.trying ≡ None)
+          → IsWorked q.costs q.room worn c before s w (record { entry = Some (Found marks ops); behind = behind }) (record { begins = None; behind = u })
+      found w u less ends none = record {
+        begins = λ n none. none_some n none;
+        adds = λ test has. omega (arith, less, same);
+        ends = ends;
+        none = none;
+        over = λ posted. cc posted;
+      }
