@@ -10,6 +10,7 @@ use Rattle.nvm_core.specs.memif.Clock.{Clock}
 use Rattle.nvm_core.specs.block_machine.Words.{Entry, Ask, Pick, Wrote, Post, Off, Found}
 use Rattle.nvm_core.specs.block_machine.Steps.{after}
 use Rattle.nvm_core.specs.ram_blocks.Told.{Told}
+use Rattle.nvm_core.specs.nv_desk.Desk.{DeskState}
 use Rattle.nvm_core.specs.nv_desk_copies.Front.{AreSynchronized}
 use Rattle.nvm_core.specs.nvm_laws.declared.turned.Turned.{Turned}
 use Rattle.script_walks.specs.Runs.{is_found}
@@ -123,19 +124,22 @@ module _ {D C : Type 0} (told : D → DeviceTold) (clock : D → Clock) (copies 
 
   sees : (seen seen_new : List Entry) (old new : DriverState D C) → SeesOn told clock copies is_store looked over stands t seen seen_new old new → Added seen seen_new old new
   sees seen seen_new old new is = subst (λ (s : DriverState D C). Added seen seen_new old s) (sym is.same) (record {
-    more = is.more;
-    grows = is.grows;
-    no_start = asks_all (λ e. not (is_found e)) ask_starts_none is.more is.are;
-    no_refusal = λ are none. (none, asks_all tells_no_refusal ask_refuses_none is.more is.are);
+    more = is.sees.asks;
+    grows = grown;
+    no_start = asks_all (λ e. not (is_found e)) ask_starts_none is.sees.asks is.sees.are;
+    no_refusal = λ are none. (none, asks_all tells_no_refusal ask_refuses_none is.sees.asks is.sees.are);
     cuts = λ uncut. (
       record {
         one = uncut.one;
         unplanned = uncut.unplanned;
-        power = λ off. ap (λ (l : List Entry). (after t.config l).off) is.grows ∙ asks_power t.config seen is.more is.are ∙ uncut.power off;
+        power = λ off. ap (λ (l : List Entry). (after t.config l).off) grown ∙ asks_power t.config seen is.sees.asks is.sees.are ∙ uncut.power off;
       },
-      let none = asks_offs is.more is.are in inl (omega (arith, none)),
+      let none = asks_offs is.sees.asks is.sees.are in inl (omega (arith, none)),
     );
   })
+    where
+      grown : seen_new ≡ seen ++ is.sees.asks
+      grown = ap (λ (d : DeskState). d.entries) is.sees.grows
 
   on : (seen seen_new : List Entry) (old new : DriverState D C) → DrivesOn told clock copies is_store looked over stands t seen seen_new old new → Added seen seen_new old new
   on seen seen_new old new (inl turns) = turn turns.answer seen seen_new old new (turn_adds told clock copies is_store looked t turns.answer seen seen_new old new turns.turns)

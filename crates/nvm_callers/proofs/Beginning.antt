@@ -74,6 +74,7 @@ module _ {D : Type 0} (told : D → DeviceTold) (clock : D → Clock) (copies : 
         hand = own.hand;
         keeps = own.keeps;
         cuts = own.cuts;
+        moved = own.moved;
         ends = own.ends;
       }
 

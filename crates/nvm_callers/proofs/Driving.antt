@@ -1,13 +1,14 @@
 -- What the driver did beside the callers, call by call.
-use Rattle.std.proofs.Common.{◌≡◌, inl, inr, ℕ, true, List, refl, ◌∙◌}
+use Rattle.std.proofs.Common.{◌≡◌, inl, inr, ℕ, List, refl, ◌∙◌}
 use Rattle.nvm_core.specs.memif.Told.{DeviceTold}
 use Rattle.nvm_core.specs.memif.Clock.{Clock}
 use Rattle.nvm_core.specs.block_machine.Words.{Entry}
 use Rattle.nvm_core.specs.ram_blocks.Told.{Told}
 use Rattle.turn_gate.specs.declared.pass.View.{View}
 use Rattle.nvm_shared.specs.declared.terms.Terms.{Terms}
+use Rattle.nvm_shared.specs.Locked.{desk_with}
 use Rattle.nvm_shared.specs.Passes.{LearnsMore, LearnsTurn}
-use Rattle.nvm_shared.specs.Driving.{DriverState}
+use Rattle.nvm_shared.specs.Driving.{DriverState, Drives, SeesRequests}
 use Rattle.nvm_callers.specs.Driven.{StaysKeptOver, TurnsOn}
 use Rattle.nvm_callers.proofs.Following.{drives_follow}
 use Rattle.nvm_callers.proofs.JoinedPasses.{turns_collect}
@@ -41,12 +42,10 @@ module _ {D C : Type 0} (told : D → DeviceTold) (clock : D → Clock) (copies 
   }
 
   -- no turn, but more that was seen
-  pub count_steers : (v w : V) (old : DriverState D C) → v.mark ≡ true → LearnsMore v w → LearnsTurn v w
+  pub count_steers : (v w : V) (old : DriverState D C) → LearnsMore v w → LearnsTurn v w → Drives told clock copies t.tells (desk_with t v.seen) old → SeesRequests told clock (desk_with t v.seen) (desk_with t w.seen) old
       → StaysKeptOver told clock copies is_store looked over stands t v.seen w.seen old old → Steers v w old old
-  count_steers v w old mark more learns keeps = record {
-    driven =
-        let asks = more.open_since mark in
-        (1, (v.seen, old, (refl, refl), inr (record { more = asks.0; are = asks.1; grows = asks.2; same = refl; keeps = keeps })));
+  count_steers v w old more learns drives sees keeps = record {
+    driven = (1, (v.seen, old, (refl, refl), inr (record { drives = drives; sees = sees; same = refl; keeps = keeps })));
     shares = λ shares collects. turns_collect shares v w learns collects;
     parts = more.parts;
   }

@@ -33,6 +33,7 @@ use Rattle.nvm_callers.specs.declared.ending.Ending.{Ending}
 use Rattle.nvm_callers.specs.declared.ending.Ending.TheVariants as ending
 use Rattle.nvm_callers.proofs.Keeping.{driving_keeps}
 use Rattle.nvm_callers.proofs.Adding.{driving_adds}
+use Rattle.nvm_callers.proofs.Moved.{driving_moves, was_moved}
 use Rattle.nvm_callers.proofs.Looking.{driving_looks}
 use Rattle.nvm_callers.proofs.KeptSteps.{callers_ask, callers_keep_steps}
 use Rattle.nvm_callers.specs.TakenCopies.{StoresAreTaken}
@@ -63,6 +64,8 @@ module _ {D C : Type 0} (told : D → DeviceTold) (clock : D → Clock) (copies 
         hand = now.hand;
         keeps = kept.keeps;
         cuts = added.cuts;
+        moved = was_moved told clock (desk_with t begin) (desk_with t seen) (driver_of first.device m first.hand) now
+            (driving_moves told clock copies is_store looked over stands t begin seen (driver_of first.device m first.hand) now driven);
         ends = λ other. ended;
       } in
       subst (λ (y : DeskState). WasRun told clock (stack_of (desk_with t begin) first) e y device) (sym is_desk)

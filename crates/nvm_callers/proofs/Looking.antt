@@ -10,6 +10,7 @@ use Rattle.nvm_core.specs.block_machine.Words.{JobKind, Taken, TookNothing, Took
 use Rattle.nvm_core.specs.block_machine.Next.{next_of}
 use Rattle.nvm_core.specs.block_machine.Steps.{after}
 use Rattle.nvm_core.specs.ram_blocks.Told.{Told}
+use Rattle.nvm_core.specs.nv_desk.Desk.{DeskState}
 use Rattle.nvm_core.specs.nvm_laws.declared.turned.Turned.TheVariants as turned
 use Rattle.script_walks.specs.Looks.{Look, AreInOrder}
 use Rattle.script_walks.specs.Turn.{copies_next}
@@ -212,8 +213,8 @@ module _ {D C : Type 0} (told : D → DeviceTold) (clock : D → Clock) (copies 
   sees : (seen b c : List Entry) (old s new : DriverState D C) → Looked seen b old s → SeesOn told clock copies is_store looked over stands t b c s new → Looked seen c old new
   sees seen b c old s new one is = subst (λ (x : DriverState D C). Looked seen c old x) (sym is.same)
       (let same : one.looks ++ [] ≡ one.looks = append-nil one.looks in
-      goes_on seen b c is.more old s s one [] is.grows (ordered.itself s.copies) (λ x has. has) (λ k n x has. has) (subst AreInOrder (sym same) one.in_order) (λ l has. absurd (no_look l has))
-      (asks_took (one.looks ++ []) (is_store s.copies) t.config b is.more is.are))
+      goes_on seen b c is.sees.asks old s s one [] (ap (λ (d : DeskState). d.entries) is.sees.grows) (ordered.itself s.copies) (λ x has. has) (λ k n x has. has) (subst AreInOrder (sym same) one.in_order) (λ l has. absurd (no_look l has))
+      (asks_took (one.looks ++ []) (is_store s.copies) t.config b is.sees.asks is.sees.are))
 
   on_more : (seen b c : List Entry) (old s new : DriverState D C) → Looked seen b old s → over old.copies s.copies → DrivesOn told clock copies is_store looked over stands t b c s new → Looked seen c old new
   on_more seen b c old s new one since (inl turns) =

@@ -117,7 +117,7 @@ uncut_on desk desk_new d d_new fixed first power uncut = record {
 none_counted : (p q : PartTold) → q ≡ p → WereCounted 0 p.planning.unplanned q.planning.unplanned
 none_counted p q same = let count = ap (λ (x : PartTold). x.planning.unplanned) same in inl (omega (arith, count))
 
-fixed_stays : (answer : Turned) (old new : DeviceTold) (clock clock_new : Clock) → TurnsDevice answer old clock new clock_new → new.fixed ≡ old.fixed
+pub fixed_stays : (answer : Turned) (old new : DeviceTold) (clock clock_new : Clock) → TurnsDevice answer old clock new clock_new → new.fixed ≡ old.fixed
 fixed_stays turned.Idle old new clock clock_new is = (has_turned turn.Idle old clock new clock_new is).fixed
 fixed_stays turned.Worked old new clock clock_new is = (has_turned turn.Worked old clock new clock_new is).fixed
 fixed_stays turned.Off old new clock clock_new is = (has_turned turn.Off old clock new clock_new is).fixed
@@ -205,7 +205,7 @@ module _ {D C : Type 0} (told : D → DeviceTold) (clock : D → Clock) (copies 
     post_next Nothing ops is = absurd is
 
   ended : (answer : Turned) (seen seen_new : List Entry) (old new : DriverState D C)
-      → BeginsTurn told copies is_store looked (Ended answer) (desk_with t seen) (desk_with t seen_new) old new → TurnAdds answer seen seen_new old new
+      → BeginsTurn told clock copies is_store looked (Ended answer) (desk_with t seen) (desk_with t seen_new) old new → TurnAdds answer seen seen_new old new
   ended turned.Off seen seen_new old new begins = nothing turned.Off seen seen_new begins.asks begins.are old new begins.half.device begins.half.half.0.0 begins.half.half.0.1
   ended turned.Idle seen seen_new old new begins = nothing turned.Idle seen seen_new begins.asks begins.are old new begins.half.device begins.half.half.0.0 begins.half.half.0.1
   ended turned.Worked seen seen_new old new begins = absurd begins.half.half
@@ -225,7 +225,7 @@ module _ {D C : Type 0} (told : D → DeviceTold) (clock : D → Clock) (copies 
 
   -- WITH THE DEVICE'S TURN
   behind : (answer : Turned) (seen seen_new : List Entry) (desk : DeskState) (old between new : DriverState D C)
-      → BeginsTurn told copies is_store looked Device (desk_with t seen) desk old between → EndsTurn told clock answer desk (desk_with t seen_new) between new → TurnAdds answer seen seen_new old new
+      → BeginsTurn told clock copies is_store looked Device (desk_with t seen) desk old between → EndsTurn told clock answer desk (desk_with t seen_new) between new → TurnAdds answer seen seen_new old new
   behind answer seen seen_new desk old between new begins ends =
       let c = t.config in
       let a = (told between.device).stand in

@@ -1,5 +1,5 @@
 -- What a driver's turns did, one behind another, with requests of others between them.
-use Rattle.std.specs.Prelude.{◌≡◌, ◌≤◌, ◌⊎◌, ℕ, zero, suc, List, ◌++◌}
+use Rattle.std.specs.Prelude.{◌≡◌, ◌≤◌, ◌⊎◌, ℕ, zero, suc, List}
 use Rattle.nvm_core.specs.memif.Told.{DeviceTold, faults_of}
 use Rattle.nvm_core.specs.memif.Clock.{Clock}
 use Rattle.nvm_core.specs.memif.Trials.{Lasts}
@@ -9,10 +9,9 @@ use Rattle.nvm_core.specs.nvm_laws.Keeps.{StaysKept}
 use Rattle.nvm_core.specs.nvm_laws.declared.turned.Turned.{Turned}
 use Rattle.nvm_core.specs.nvm_laws.declared.turned.Turned.TheVariants as turned
 use Rattle.nvm_shared.specs.declared.terms.Terms.{Terms}
-use Rattle.nvm_shared.specs.Behind.{AreAsks}
 use Rattle.nvm_shared.specs.Locked.{desk_with}
 use Rattle.nvm_shared.specs.Noted.{PickIsShown}
-use Rattle.nvm_shared.specs.Driving.{DriverState, TurnsBehind}
+use Rattle.nvm_shared.specs.Driving.{DriverState, Drives, SeesRequests, TurnsBehind}
 
 module _ {D C : Type 0} (told : D → DeviceTold) (clock : D → Clock) (copies : C → List Told) (is_store : C → ℕ → ℕ → List ℕ → Type 0) (looked : C → C → ℕ → ℕ → Type 0) (over : C → C → Type 0) (stands : C → ℕ → ℕ → List Entry → Type 0) (t : Terms) where
   -- from a list that was seen, with the driver's parts, the promise stays kept to a later one
@@ -23,6 +22,7 @@ module _ {D C : Type 0} (told : D → DeviceTold) (clock : D → Clock) (copies 
   -- a turn, as its contract tells it
   pub record TurnsOn (seen seen_new : List Entry) (old new : DriverState D C) : Type 0 where
     pub answer : Turned
+    pub drives : Drives told clock copies t.tells (desk_with t seen) old
     pub turns : TurnsBehind told clock copies is_store looked answer (desk_with t seen) (desk_with t seen_new) old new
     pub keeps : StaysKeptOver seen seen_new old new
     pub counted : faults_of (told old.device) ≤ faults_of (told new.device)
@@ -33,9 +33,8 @@ module _ {D C : Type 0} (told : D → DeviceTold) (clock : D → Clock) (copies 
 
   -- no turn, and requests alone
   pub record SeesOn (seen seen_new : List Entry) (old new : DriverState D C) : Type 0 where
-    pub more : List Entry
-    pub are : AreAsks more
-    pub grows : seen_new ≡ seen ++ more
+    pub drives : Drives told clock copies t.tells (desk_with t seen) old
+    pub sees : SeesRequests told clock (desk_with t seen) (desk_with t seen_new) old
     pub same : new ≡ old
     pub keeps : StaysKeptOver seen seen_new old new
 

@@ -18,6 +18,7 @@ use Rattle.script_walks.specs.Runs.{AskedAll, has_ended, is_found}
 use Rattle.promise_run.specs.Run.{End, Whole, HistoryFull, Memory, RunsBy}
 use Rattle.promise_run.specs.RunHalves.{offs_in, tells_no_refusal}
 use Rattle.nvm_callers.specs.Added.{IsUncut}
+use Rattle.nvm_callers.specs.Moved.{WasMoved}
 use Rattle.nvm_callers.specs.declared.ending.Ending.{Ending}
 use Rattle.nvm_callers.specs.declared.ending.Ending.TheVariants as ending
 
@@ -29,7 +30,8 @@ end_of ending.Memory = Memory
 
 -- What was kept over any device, from a stack behind its first start-up on. The history went on, without a start-up; no copy was
 -- refused. The promise stays kept, as far as the device tells what it holds. Where no power cut is planned, none that was came, and
--- each Off is a cut that was counted. Nothing is pending at the end or the power is off, unless memory was wanting.
+-- each Off is a cut that was counted. Its entries have moves, one by one. Nothing is pending at the end or the power is off, unless
+-- memory was wanting.
 pub record WasRun {D : Type 0} (told : D → DeviceTold) (clock : D → Clock) (s : StackState D (List PlainBlock)) (e : Ending) (desk : DeskState) (device : D) : Type 0 where
   pub config : desk.config ≡ s.desk.config
   pub cap : desk.cap ≡ s.desk.cap
@@ -41,6 +43,7 @@ pub record WasRun {D : Type 0} (told : D → DeviceTold) (clock : D → Clock) (
   pub keeps : StaysKept s.desk s.hand (told s.device) (clock s.device) desk hand (told device) (clock device)
   pub cuts : IsUncut s.desk (told s.device)
       → IsUncut desk (told device) × WereCounted (offs_in more) (told s.device).first.planning.unplanned (told device).first.planning.unplanned
+  pub moved : WasMoved s.desk desk (told s.device) (told device) (clock device)
   pub ends : e ≢ ending.Memory → IsTrue (has_ended desk.config desk.entries)
 
 -- Each caller asked for what its steps ask for, in that order; and nobody else asked.

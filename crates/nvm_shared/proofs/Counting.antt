@@ -17,9 +17,9 @@ use Rattle.nvm_shared.specs.Behind.{AreAsks, StandsBehind, with_more}
 use Rattle.nvm_shared.specs.declared.terms.Terms.{Terms}
 use Rattle.nvm_shared.specs.Locked.{LockedState, desk_with, terms_of}
 use Rattle.nvm_shared.specs.Passes.{LearnsMore, LearnsTurn}
-use Rattle.nvm_shared.specs.Driving.{DriverState, Drives}
+use Rattle.nvm_shared.specs.Driving.{DriverState, Drives, SeesRequests, TellsReady}
 use Rattle.nvm_shared.proofs.Asking.{V}
-use Rattle.nvm_shared.proofs.Turning.{same_terms}
+use Rattle.nvm_shared.proofs.Turning.{replied_by, same_terms}
 use Rattle.nvm_shared.proofs.WritingLegal.{rests_are_written}
 use Rattle.nvm_shared.proofs.Opened.{open_are_asks}
 use Rattle.nvm_shared.proofs.Standing.{asks_stand_behind}
@@ -61,6 +61,17 @@ module _ {D C : Type 0} (told : D → DeviceTold) (clock : D → Clock) (copies 
 
   pub kept_on : StaysKept (desk_with t v.seen) s.hand (told s.device) (clock s.device) (desk_with t w.seen) s.hand (told s.device) (clock s.device)
   kept_on = stands.kept
+
+  pub sees_requests : TellsReady (told s.device) (clock s.device) → SeesRequests told clock (desk_with t v.seen) (desk_with t w.seen) s
+  sees_requests ready =
+      let (more, are, is) = learns.open_since mark in record {
+        asks = more;
+        are = are;
+        replied = replied_by t.tells t.config t.cap (state_of (desk_with t v.seen)) more are
+            (rests_are_written t.tells t.config t.cap at_first v.seen more (subst (λ (l : List Entry). AreWritten t.tells t.config t.cap at_first l) is written));
+        grows = ap (desk_with t) is;
+        ready = ready;
+      }
 
   pub drives_on : NextIsPending t.config (state_of (desk_with t w.seen)) → Drives told clock copies t.tells (desk_with t w.seen) s
   drives_on next = record {

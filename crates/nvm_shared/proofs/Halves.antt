@@ -24,7 +24,6 @@ use Rattle.nvm_core.proofs.TurnedBehind.{asked_is, has_turned, turns_device}
 use Rattle.nvm_core.proofs.Serving.{nearer_by}
 use Rattle.nvm_core.proofs.Working.{turned_works}
 use Rattle.nvm_core.proofs.nvm_laws.Working.{hands_are_small}
-use Rattle.nvm_core.proofs.nvm_laws.DueAsking.{requests_keep_due_in_hand}
 use Rattle.nvm_core.proofs.nvm_laws.Keeping.{stays_more}
 use Rattle.nvm_shared.specs.Behind.{HandIsPending}
 use Rattle.nvm_shared.specs.declared.terms.Terms.{Terms}
@@ -36,7 +35,7 @@ use Rattle.nvm_shared.proofs.Serving.{lowers_behind}
 
 -- behind a first half that adds nothing, and the device's turn, the second half is due
 pub may_end : {D C : Type 0} (told : D → DeviceTold) (clock : D → Clock) (copies : C → List Told) (is_store : C → ℕ → ℕ → List ℕ → Type 0) (looked : C → C → ℕ → ℕ → Type 0)
-    (tells : Bool) (turned : DeviceTurn) (desk desk_new : DeskState) (old between now : DriverState D C) → BeginsTurn told copies is_store looked Device desk desk_new old between
+    (tells : Bool) (turned : DeviceTurn) (desk desk_new : DeskState) (old between now : DriverState D C) → BeginsTurn told clock copies is_store looked Device desk desk_new old between
     → Drives told clock copies tells desk_new between → IsTurned told clock turned between now → MayEnd told clock copies tells turned desk_new between now
 may_end told clock copies is_store looked tells turned desk desk_new old between now begins drives turns = record {
   drives = drives;
@@ -112,6 +111,9 @@ module _ {D C : Type 0} (told : D → DeviceTold) (clock : D → Clock) (copies 
       ends legal within = record {
         asks = stood.asks;
         are = stood.are;
+        replied = stood.replied;
+        tied = subst (λ (z : DeskState). IsTied z s.hand (told s.device)) stood.desk stood.stands.tied;
+        ready = may.turned.ready;
         turns = turns;
         adds = subst (λ (z : DeskState). AddsBy (asked_by answer (told s.device).stand (told now.device).stand (ops_of (told now.device))) z (desk_with t seen)) stood.desk
             (subst (λ (z : DeskState). AddsBy (asked_by answer (told s.device).stand (told now.device).stand (ops_of (told now.device))) x.desk z) desk asked);
@@ -126,7 +128,6 @@ module _ {D C : Type 0} (told : D → DeviceTold) (clock : D → Clock) (copies 
             subst (λ (z : DeskState). IsNearer number left (now_of told (stack_of z (driver_of now.device now.copies hand)))) desk
             (nearer_by number left (told s.device) x.desk y.desk s.hand hand (told s.device) (told now.device) (clock s.device) (clock now.device) stood.stands.tied started open_now goes refl faultless
             (subst (λ (z : DeskState). (state_of z).off ≡ false) (sym desk) on)
-            (subst (λ (z : DeskState). IsDueInHand number left (record { desk = z; hand = s.hand; device = told s.device })) (sym stood.desk)
-            (requests_keep_due_in_hand (desk_with t v.seen) s.hand (told s.device) stood.asks number left stood.replied due))
+            (subst (λ (z : DeskState). IsDueInHand number left (record { desk = z; hand = s.hand; device = told s.device })) (sym stood.desk) due)
             answer turns asked);
       }

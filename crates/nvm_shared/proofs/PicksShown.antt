@@ -2,6 +2,7 @@
 use Rattle.std.specs.Prelude.{◌&&◌, not, is_some, IfSome}
 use Rattle.std.proofs.Common.{◌≡◌, ◌<◌, ℕ, Bool, true, false, List, [], ◌∷◌, ◌++◌, length, length-append, Option, Some, None, refl, sym, ap, ◌∙◌, subst, arith}
 use Rattle.nvm_core.specs.memif.Told.{DeviceTold}
+use Rattle.nvm_core.specs.memif.Clock.{Clock}
 use Rattle.nvm_core.specs.block_machine.Words.{JobKind, WriteJob, Taken, TookNothing, TookContent, TookRefused, TookStale, BlockDesc, Configuration, Entry, Pick}
 use Rattle.nvm_core.specs.block_machine.State.{State, BlockState, Job, Sweep}
 use Rattle.nvm_core.specs.block_machine.Blocks.{desc_of, block_at, is_synchronized, names_ram, job_block, kind_of}
@@ -120,11 +121,11 @@ Holds looked over stands front entries old new =
     (before : List Entry) (block ops : ℕ) (kind : JobKind) (t : Taken) → entries ≡ before ++ Pick block kind t ops ∷ [] → front ≡ before
     → ((m : ℕ) → looked old new block m → stands new block m before) × over new new
 
-pub pick_shown : {D C : Type 0} (told : D → DeviceTold) (copies : C → List Told) (is_store : C → ℕ → ℕ → List ℕ → Type 0) (looked : C → C → ℕ → ℕ → Type 0) (over : C → C → Type 0)
-    (stands : C → ℕ → ℕ → List Entry → Type 0) (act : Act) (desk desk_new : DeskState) (old new : DriverState D C) (begins : BeginsTurn told copies is_store looked act desk desk_new old new)
+pub pick_shown : {D C : Type 0} (told : D → DeviceTold) (clock : D → Clock) (copies : C → List Told) (is_store : C → ℕ → ℕ → List ℕ → Type 0) (looked : C → C → ℕ → ℕ → Type 0) (over : C → C → Type 0)
+    (stands : C → ℕ → ℕ → List Entry → Type 0) (act : Act) (desk desk_new : DeskState) (old new : DriverState D C) (begins : BeginsTurn told clock copies is_store looked act desk desk_new old new)
     → act ≡ Ended turned.Picked → Holds looked over stands (desk.entries ++ begins.asks) desk_new.entries old.copies new.copies
     → PickIsShown is_store looked over stands desk.config desk_new.entries old.copies new.copies
-pick_shown told copies is_store looked over stands act desk desk_new old new begins is_picked holds before block ops kind t last =
+pick_shown told clock copies is_store looked over stands act desk desk_new old new begins is_picked holds before block ops kind t last =
     let d : DeskState = with_more desk begins.asks in
     let c : Configuration = d.config in
     let half : IsFirstHalf told copies is_store looked (Ended turned.Picked) (stack_of d old) (stack_of desk_new new) =
@@ -146,7 +147,7 @@ pick_shown told copies is_store looked over stands act desk desk_new old new beg
           (subst (λ (u : Taken). Took P (copies_next c (next_of c (after c d.entries))) u) (took_it ∙ is) has)) in
           subst (λ (k : ℕ). is_store new.copies k number bytes × looked old.copies new.copies k number) is_at here;
       stale = λ wanted got count is. (
-        stale_shown told copies is_store looked desk desk_new old new (subst (λ (a : Act). BeginsTurn told copies is_store looked a desk desk_new old new) is_picked begins) before block wanted got count ops kind (last ∙ ap (λ (u : Taken). before ++ Pick block kind u ops ∷ []) is),
+        stale_shown told clock copies is_store looked desk desk_new old new (subst (λ (a : Act). BeginsTurn told clock copies is_store looked a desk desk_new old new) is_picked begins) before block wanted got count ops kind (last ∙ ap (λ (u : Taken). before ++ Pick block kind u ops ∷ []) is),
         late wanted got count c (state_of d) at picked.kind (next_of c (state_of d))
             (subst (λ (u : Taken). MayPick c (state_of d) at picked.kind u (next_of c (state_of d))) (took_it ∙ is) picked.allowed.1),
       );

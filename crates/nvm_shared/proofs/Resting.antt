@@ -116,11 +116,11 @@ second_rests turned.Posted hand x y z asks d clock d_new clock_new turns adds op
 
 -- A TURN
 module _ {D C : Type 0} (told : D → DeviceTold) (clock : D → Clock) (copies : C → List Told) (is_store : C → ℕ → ℕ → List ℕ → Type 0) (looked : C → C → ℕ → ℕ → Type 0) (answer : Turned) (desk : DeskState) (old : DriverState D C) where
-  pub ended_rests : (desk_new : DeskState) (new : DriverState D C) → BeginsTurn told copies is_store looked (Ended answer) desk desk_new old new
+  pub ended_rests : (desk_new : DeskState) (new : DriverState D C) → BeginsTurn told clock copies is_store looked (Ended answer) desk desk_new old new
       → (Ended answer ≡ Ended turned.Off → (state_of desk_new).off ≡ true) → NeedsNoMore answer old.hand → HasEnded (state_of desk_new)
   ended_rests desk_new new begins off no_more = half_rests answer old.hand _ _ (with_more desk begins.asks) desk_new _ _ _ begins.half.half off no_more
 
-  pub device_rests : (desk_between desk_new : DeskState) (between new : DriverState D C) → BeginsTurn told copies is_store looked Device desk desk_between old between
+  pub device_rests : (desk_between desk_new : DeskState) (between new : DriverState D C) → BeginsTurn told clock copies is_store looked Device desk desk_between old between
       → EndsTurn told clock answer desk_between desk_new between new → IsPaired desk.config (state_of desk) old.hand (told old.device)
       → IsDrivenOn desk.entries desk_between.entries → IsDrivenOn desk_between.entries desk_new.entries → NeedsNoMore answer old.hand → HasEnded (state_of desk_new)
   device_rests desk_between desk_new between new begins ends paired first second =

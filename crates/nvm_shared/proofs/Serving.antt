@@ -18,13 +18,12 @@ use Rattle.nvm_core.specs.nvm_laws.declared.turned.Act.{Act}
 use Rattle.nvm_core.specs.nvm_laws.declared.turned.Act.TheVariants.{Ended}
 use Rattle.nvm_core.specs.nvm_laws.Work.{stack_work}
 use Rattle.nvm_core.specs.nvm_laws.Due.{StackNow, IsDue, IsNearer, PostsDue}
-use Rattle.nvm_core.specs.nvm_laws.DueLaws.{AreReplied, IsServed, NextIsPending}
+use Rattle.nvm_core.specs.nvm_laws.DueLaws.{IsServed}
 use Rattle.nvm_core.specs.nvm_laws.DueCalls.{IsCalmTurn}
 use Rattle.nvm_core.specs.nvm_laws.AtDevice.{GoesOn}
 use Rattle.nvm_core.specs.Stack.{StackState}
 use Rattle.nvm_core.specs.Work.{Lowers, work_of}
 use Rattle.nvm_core.proofs.Serving.{served_by}
-use Rattle.nvm_core.proofs.nvm_laws.DueAsking.{requests_keep_due}
 use Rattle.nvm_shared.specs.Behind.{AreAsks, with_more}
 use Rattle.nvm_shared.specs.Driving.{DriverState, stack_of}
 
@@ -32,15 +31,15 @@ abbrev at_once : DeskState → Option HandState → DeviceTold → StackNow
 at_once desk hand d = record { desk = desk; hand = hand; device = d }
 
 -- THE FIRST HALF
--- what it serves at the desk x, it serves behind requests at the desk that the driver knows
+-- what it serves at the desk x, it serves at the desk that the driver knows behind requests
 pub begins_served : (desk : DeskState) (asks : List Entry) (x y desk_new : DeskState) (hand hand_new : Option HandState) (d d_new : DeviceTold) (act : Act)
-    → x ≡ with_more desk asks → y ≡ desk_new → AreReplied desk.config desk.cap (state_of desk) asks → NextIsPending desk.config (state_of desk)
+    → x ≡ with_more desk asks → y ≡ desk_new
     → ((number turns : ℕ) → IsDue number turns (at_once x hand d) → IsServed act number turns (at_once x hand d) (at_once y hand_new d_new))
-    → (number turns : ℕ) → IsDue number turns (at_once desk hand d) → IsServed act number turns (at_once (with_more desk asks) hand d) (at_once desk_new hand_new d_new)
-begins_served desk asks x y desk_new hand hand_new d d_new act behind same replied next serves number turns due =
+    → (number turns : ℕ) → IsDue number turns (at_once (with_more desk asks) hand d) → IsServed act number turns (at_once (with_more desk asks) hand d) (at_once desk_new hand_new d_new)
+begins_served desk asks x y desk_new hand hand_new d d_new act behind same serves number turns due =
     subst (λ (z : DeskState). IsServed act number turns (at_once z hand d) (at_once desk_new hand_new d_new)) behind
     (subst (λ (z : DeskState). IsServed act number turns (at_once x hand d) (at_once z hand_new d_new)) same
-    (serves number turns (subst (λ (z : DeskState). IsDue number turns (at_once z hand d)) (sym behind) (requests_keep_due desk hand d asks number turns replied next due))))
+    (serves number turns (subst (λ (z : DeskState). IsDue number turns (at_once z hand d)) (sym behind) due)))
 
 -- a turn that ends with it posts what is due, behind requests, or brings it nearer
 pub ended_serves : (answer : Turned) (number turns : ℕ) (desk : DeskState) (asks : List Entry) (desk_new : DeskState) (hand hand_new : Option HandState) (d d_new : DeviceTold)

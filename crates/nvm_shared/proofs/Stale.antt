@@ -1,6 +1,7 @@
 -- A Pick that found a store too old was shown that store.
 use Rattle.std.proofs.Common.{◌≡◌, ℕ, Bool, true, false, List, [], ◌∷◌, ◌++◌, length, length-append, Option, Some, None, sym, ap, ◌∙◌, subst, arith}
 use Rattle.nvm_core.specs.memif.Told.{DeviceTold}
+use Rattle.nvm_core.specs.memif.Clock.{Clock}
 use Rattle.nvm_core.specs.block_machine.Words.{JobKind, WriteJob, Taken, TookNothing, TookStale, BlockDesc, Configuration, Entry, Pick}
 use Rattle.nvm_core.specs.block_machine.State.{State, BlockState, Job}
 use Rattle.nvm_core.specs.block_machine.Blocks.{desc_of, block_at, is_synchronized, job_block, kind_of}
@@ -65,10 +66,10 @@ module _ (IsStore : ℕ → List ℕ → Type 0) (c : Configuration) (block : �
   older s kind Nothing is may = absurd may
 
 -- THE FIRST HALF OF A TURN
-pub stale_shown : {D C : Type 0} (told : D → DeviceTold) (copies : C → List Told) (is_store : C → ℕ → ℕ → List ℕ → Type 0) (looked : C → C → ℕ → ℕ → Type 0)
-    (desk desk_new : DeskState) (old new : DriverState D C) → BeginsTurn told copies is_store looked (Ended turned.Picked) desk desk_new old new
+pub stale_shown : {D C : Type 0} (told : D → DeviceTold) (clock : D → Clock) (copies : C → List Told) (is_store : C → ℕ → ℕ → List ℕ → Type 0) (looked : C → C → ℕ → ℕ → Type 0)
+    (desk desk_new : DeskState) (old new : DriverState D C) → BeginsTurn told clock copies is_store looked (Ended turned.Picked) desk desk_new old new
     → StaleIsShown looked desk_new.entries old.copies new.copies
-stale_shown told copies is_store looked desk desk_new old new begins front block wanted got count ops kind last =
+stale_shown told clock copies is_store looked desk desk_new old new begins front block wanted got count ops kind last =
     let d : DeskState = with_more desk begins.asks in
     let n : Next = next_of d.config (state_of d) in
     let (at, picked) = begins.half.half in

@@ -52,7 +52,7 @@ pub record Behind (t : Terms) (seen : List Entry) (x : LockedState) (hand : Opti
   pub stands : StandsBehind (desk_with t seen) x.desk hand d clock
 
 -- requests that were written have the machine's replies
-replied_by : (tells : Bool) (c : Configuration) (cap : ℕ) (s : State) (es : List Entry) → AreAsks es → AreWritten tells c cap s es → AreReplied c cap s es
+pub replied_by : (tells : Bool) (c : Configuration) (cap : ℕ) (s : State) (es : List Entry) → AreAsks es → AreWritten tells c cap s es → AreReplied c cap s es
 replied_by tells c cap s [] are written = tt
 replied_by tells c cap s (Ask caller r reply ∷ es) are written = (written.0.replies, replied_by tells c cap (step c s (Ask caller r reply)) es are.1 written.1)
 replied_by tells c cap s (e ∷ es) are written = let off : false ≡ true = are.0 in cc

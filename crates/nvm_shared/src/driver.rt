@@ -21,7 +21,7 @@ ghost use Rattle.nvm_shared.specs.Noted.{PickIsShown};
 ghost use Rattle.nvm_shared.specs.Stale.{StaleIsShown};
 ghost use Rattle.nvm_core.specs.nvm_device_laws.Turn.{TellsSlots};
 ghost use Rattle.script_walks.specs.Runs.{has_ended};
-ghost use Rattle.nvm_shared.specs.Driving.{DriverState, IsDriverOf, BeginsTurn, IsTurned, EndsTurn, MayEnd, NeedsNoMore, ServesDue, TurnsBehind, driver_of, stack_of};
+ghost use Rattle.nvm_shared.specs.Driving.{DriverState, IsDriverOf, BeginsTurn, IsTurned, EndsTurn, MayEnd, NeedsNoMore, SeesRequests, ServesDue, TurnsBehind, driver_of, stack_of};
 
 use crate::noted::{NotedCopies, hold_picked};
 use crate::shared::{Shared, StackPass};
@@ -108,7 +108,9 @@ impl<D: MemDevice, C: NotedCopies + Drop> Driver<D, C> {
         ensures keeps { StaysKept (desk_with shared.now.terms (knows pass.old).seen) self.now.hand (D.told self.now.device) (D.clock self.now.device) (desk_with shared.now.terms (knows pass.new).seen) self.now.hand (D.told self.now.device) (D.clock self.now.device) }
         ensures learns { LearnsTurn (knows pass.old) (knows pass.new) }
         ensures more { LearnsMore (knows pass.old) (knows pass.new) }
+        ensures sees { SeesRequests D.told D.clock (desk_with shared.now.terms (knows pass.old).seen) (desk_with shared.now.terms (knows pass.new).seen) self.now }
     {
+        let _status = self.device.status();
         shared.count(rt, pass)
     }
 
@@ -118,7 +120,7 @@ impl<D: MemDevice, C: NotedCopies + Drop> Driver<D, C> {
         requires telling { shared.now.terms.tells ≡ true → TellsSlots (D.told self.old.device) }
         requires lock { C.is_of shared.now.gate }
         ensures driver { IsDriverOf D.told D.clock C.told shared.now pass.new self.new }
-        ensures begins { BeginsTurn D.told C.told C.is_store C.looked result (desk_with shared.now.terms (knows pass.old).seen) (desk_with shared.now.terms (knows pass.new).seen) self.old self.new }
+        ensures begins { BeginsTurn D.told D.clock C.told C.is_store C.looked result (desk_with shared.now.terms (knows pass.old).seen) (desk_with shared.now.terms (knows pass.new).seen) self.old self.new }
         ensures keeps { StaysKept (desk_with shared.now.terms (knows pass.old).seen) self.old.hand (D.told self.old.device) (D.clock self.old.device) (desk_with shared.now.terms (knows pass.new).seen) self.new.hand (D.told self.new.device) (D.clock self.new.device) }
         ensures left { HalfLeft result (program_in_hand self.old.hand) (D.told self.old.device) (program_in_hand self.new.hand) (D.told self.new.device) }
         ensures stale { result ≡ Act.Ended Turned.Picked → StaleIsShown C.looked (knows pass.new).seen self.old.copies self.new.copies }
@@ -130,6 +132,7 @@ impl<D: MemDevice, C: NotedCopies + Drop> Driver<D, C> {
     {
         let mut value = shared.gate.enter(rt, pass);
         let number = value.len();
+        let _before = self.device.status();
         let act = value.first_half(&mut self.hand, &mut self.device, &mut self.copies);
         let picked = value.picked_behind(number);
         hold_picked(&mut self.copies, picked, shared, pass);
@@ -143,6 +146,7 @@ impl<D: MemDevice, C: NotedCopies + Drop> Driver<D, C> {
     pub fn device_turn(&mut self) -> DeviceTurn
         ensures turns { IsTurned D.told D.clock result self.old self.new }
     {
+        let _status = self.device.status();
         self.device.turn()
     }
 

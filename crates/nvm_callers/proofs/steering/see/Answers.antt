@@ -7,7 +7,7 @@ returns-then-entries-count-clause-steers g c =
     steered_more g.D.MemDevice.told g.D.MemDevice.clock g.C.SyncCalls.told g.C.SyncCalls.is_store g.C.SyncCalls.looked g.C.SyncCalls.over g.C.NotedCopies.stands c.args.shared.now.terms
     (knows c.args.pass.now) (knows c.loop.pass) (knows c.count.new.pass) c.args.driver.now c.args.driver.now c.args.driver.now c.loop.invariant.1
     (count_steers g.D.MemDevice.told g.D.MemDevice.clock g.C.SyncCalls.told g.C.SyncCalls.is_store g.C.SyncCalls.looked g.C.SyncCalls.over g.C.NotedCopies.stands c.args.shared.now.terms
-    (knows c.loop.pass) (knows c.count.new.pass) c.args.driver.now c.loop.invariant.0.mark c.count.ensures.more c.count.ensures.learns c.count.ensures.keeps)
+    (knows c.loop.pass) (knows c.count.new.pass) c.args.driver.now c.count.ensures.more c.count.ensures.learns c.loop.invariant.0.drives c.count.ensures.sees c.count.ensures.keeps)
 
 pub loop-preserved : goal.loop-preserved
 loop-preserved g c = (
@@ -15,5 +15,5 @@ loop-preserved g c = (
   steered_more g.D.MemDevice.told g.D.MemDevice.clock g.C.SyncCalls.told g.C.SyncCalls.is_store g.C.SyncCalls.looked g.C.SyncCalls.over g.C.NotedCopies.stands c.args.shared.now.terms
       (knows c.args.pass.now) (knows c.loop.pass) (knows c.count.new.pass) c.args.driver.now c.args.driver.now c.args.driver.now c.loop.invariant.1
       (count_steers g.D.MemDevice.told g.D.MemDevice.clock g.C.SyncCalls.told g.C.SyncCalls.is_store g.C.SyncCalls.looked g.C.SyncCalls.over g.C.NotedCopies.stands c.args.shared.now.terms
-      (knows c.loop.pass) (knows c.count.new.pass) c.args.driver.now c.loop.invariant.0.mark c.count.ensures.more c.count.ensures.learns c.count.ensures.keeps),
+      (knows c.loop.pass) (knows c.count.new.pass) c.args.driver.now c.count.ensures.more c.count.ensures.learns c.loop.invariant.0.drives c.count.ensures.sees c.count.ensures.keeps),
 )

@@ -88,19 +88,24 @@ returns g c =
     let held_in = g.C.NotedCopies.stands in
     let behind_it = driver_of new.device new.copies new.hand in
     let same : c.hold_picked.new.copies ≡ new.copies = c.hold_picked.ensures.same in
-    let made : BeginsTurn told copies is looked c.first_half-act.result (desk_with t v.seen) (desk_with t w.seen) now behind_it =
+    let made : BeginsTurn told clocks copies is looked c.first_half-act.result (desk_with t v.seen) (desk_with t w.seen) now behind_it =
     record {
       asks = b.asks;
       are = b.are;
+      replied = b.replied;
+      tied = subst (λ (y : DeskState). IsTied y inside.hand d) b.desk b.stands.tied;
+      ready = record { order = c.status-before.ensures.order; frees = c.status-before.ensures.ready; room = c.status-before.ensures.room };
+      clock_stays = half.clock;
+      order = c.status-status.ensures.order;
       half = subst (λ (y : DeskState). IsFirstHalf told copies is looked c.first_half-act.result (stack_with y inside.hand inside.device inside.copies) (stack_with (desk_with t w.seen) new.hand new.device new.copies)) b.desk
           (subst (λ (y : DeskState). IsFirstHalf told copies is looked c.first_half-act.result (stack_with x.desk inside.hand inside.device inside.copies) (stack_with y new.hand new.device new.copies)) desk first);
       served = begins_served (desk_with t v.seen) b.asks x.desk new.self.desk (desk_with t w.seen) inside.hand new.hand d (told new.device) c.first_half-act.result
-          b.desk desk b.replied drive.next
+          b.desk desk
           (λ number turns due. first_halves_serve (told new.device) clock_new c.first_half-act.result x.desk new.self.desk _ _ inside.hand new.hand d number turns (λ picked. c.status-status.ensures.order)
           (half_adds c.first_half-act.result _ _ x.desk new.self.desk _ _ _ first.half) first.at_device half.first b.stands.tied first.tied due);
     } in
-    let begins : BeginsTurn told copies is looked c.first_half-act.result (desk_with t v.seen) (desk_with t w.seen) c.args.self.now behind_it =
-    subst (λ (s : DriverState g.row.D.Denot g.row.C.Denot). BeginsTurn told copies is looked c.first_half-act.result (desk_with t v.seen) (desk_with t w.seen) s behind_it) c.self.view_is made in
+    let begins : BeginsTurn told clocks copies is looked c.first_half-act.result (desk_with t v.seen) (desk_with t w.seen) c.args.self.now behind_it =
+    subst (λ (s : DriverState g.row.D.Denot g.row.C.Denot). BeginsTurn told clocks copies is looked c.first_half-act.result (desk_with t v.seen) (desk_with t w.seen) s behind_it) c.self.view_is made in
     let holds : Holds looked over held_in (v.seen ++ b.asks) w.seen inside.copies new.copies =
     λ before block ops kind taken last front.
     let stood : x.desk.entries ≡ before = ap (λ (d : DeskState). d.entries) b.desk ∙ front in
@@ -110,13 +115,13 @@ returns g c =
     subst (λ (o : Option ℕ). IfSome o (λ k. ((since : g.row.C.Denot) (m : ℕ) → looked since new.copies k m → held_in new.copies k m u.seen) × over new.copies new.copies)) picked c.hold_picked.ensures.stands in
     ((λ m shown. subst (λ (log : List Entry). held_in new.copies block m log) (e.seen ∙ stood) (has.0 inside.copies m shown)), has.1) in
     record {
-      begins = subst (λ (z : g.row.C.Denot). BeginsTurn told copies is looked c.first_half-act.result (desk_with t v.seen) (desk_with t w.seen) c.args.self.now (driver_of new.device z new.hand)) (sym same) begins;
+      begins = subst (λ (z : g.row.C.Denot). BeginsTurn told clocks copies is looked c.first_half-act.result (desk_with t v.seen) (desk_with t w.seen) c.args.self.now (driver_of new.device z new.hand)) (sym same) begins;
       stale = λ picked. subst (λ (z : g.row.C.Denot). StaleIsShown looked w.seen c.args.self.now.copies z) (sym same)
-          (stale_shown told copies is looked (desk_with t v.seen) (desk_with t w.seen) c.args.self.now behind_it
-          (subst (λ (a : Act). BeginsTurn told copies is looked a (desk_with t v.seen) (desk_with t w.seen) c.args.self.now behind_it) picked begins));
+          (stale_shown told clocks copies is looked (desk_with t v.seen) (desk_with t w.seen) c.args.self.now behind_it
+          (subst (λ (a : Act). BeginsTurn told clocks copies is looked a (desk_with t v.seen) (desk_with t w.seen) c.args.self.now behind_it) picked begins));
       shown = λ picked. subst (λ (z : g.row.C.Denot). PickIsShown is looked over held_in t.config w.seen c.args.self.now.copies z) (sym same)
           (subst (λ (s : DriverState g.row.D.Denot g.row.C.Denot). PickIsShown is looked over held_in t.config w.seen s.copies new.copies) c.self.view_is
-          (pick_shown told copies is looked over held_in c.first_half-act.result (desk_with t v.seen) (desk_with t w.seen) now behind_it made picked holds));
+          (pick_shown told clocks copies is looked over held_in c.first_half-act.result (desk_with t v.seen) (desk_with t w.seen) now behind_it made picked holds));
       driver = record {
         own = record { own = c.leave.ensures.own; outside = c.leave.ensures.outside; root = l.root ∙ c.requires.driver.own.root };
         mark = l.learns.mark ∙ c.requires.driver.mark;

@@ -1,12 +1,19 @@
-use Rattle.std.proofs.Common.{◌∙◌}
+use Rattle.std.proofs.Common.{◌∙◌, subst}
 use Rattle.turn_gate.specs.Pass.{knows}
-use Rattle.nvm_shared.proofs.Counting.{drives_on, kept_on, more_learns}
+use Rattle.nvm_shared.proofs.Counting.{drives_on, kept_on, more_learns, sees_requests}
+use Rattle.nvm_shared.specs.Driving.{DriverState, TellsReady}
 use Rattle.nvm_shared.proofs.driver.Driver.count.Goals as goal
 
 pub returns-clause-keeps : goal.returns-clause-keeps
 returns-clause-keeps g c =
     let is = c.count.ensures in
     kept_on g.D.MemDevice.told g.D.MemDevice.clock g.C.SyncCalls.told c.args.shared.now.terms (knows c.args.pass.now) (knows c.count.new.pass) c.args.self.now is.learns c.requires.driver.mark is.written c.requires.driver.drives
+
+pub returns-clause-sees : goal.returns-clause-sees
+returns-clause-sees g c =
+    let is = c.count.ensures in
+    sees_requests g.D.MemDevice.told g.D.MemDevice.clock g.C.SyncCalls.told c.args.shared.now.terms (knows c.args.pass.now) (knows c.count.new.pass) c.args.self.now is.learns c.requires.driver.mark is.written c.requires.driver.drives
+    (subst (λ (s : DriverState g.row.D.Denot g.row.C.Denot). TellsReady (g.D.MemDevice.told s.device) (g.D.MemDevice.clock s.device)) c.self.view_is (record { order = c.status-status.ensures.order; frees = c.status-status.ensures.ready; room = c.status-status.ensures.room }))
 
 pub returns-clause-driver : goal.returns-clause-driver
 returns-clause-driver g c =

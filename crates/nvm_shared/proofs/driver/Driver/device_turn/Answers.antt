@@ -10,5 +10,5 @@ returns g c =
     let new : DriverState g.row.D.Denot g.row.C.Denot = record { device = c.turn.new.self; copies = c.self.inside.copies; hand = c.self.inside.hand } in
     record {
       turns = subst (λ (s : DriverState g.row.D.Denot g.row.C.Denot). IsTurned g.D.MemDevice.told g.D.MemDevice.clock c.turn.result s new) c.self.view_is
-          (record { turns = c.turn.ensures; keeps = device_turns_keep _ _ _ _ c.turn.result c.turn.ensures; cuts = cuts_keep c.turn.result _ _ _ _ c.turn.ensures; stand = asks_stand_behind _ _; only = refl });
+          (record { turns = c.turn.ensures; keeps = device_turns_keep _ _ _ _ c.turn.result c.turn.ensures; cuts = cuts_keep c.turn.result _ _ _ _ c.turn.ensures; stand = asks_stand_behind _ _; ready = record { order = c.status-status.ensures.order; frees = c.status-status.ensures.ready; room = c.status-status.ensures.room }; only = refl });
     }

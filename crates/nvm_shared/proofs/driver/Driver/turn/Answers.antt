@@ -4,6 +4,7 @@ use Rattle.nvm_core.specs.memif.Told.{DeviceTold}
 use Rattle.nvm_core.proofs.memif.Turning.{lasts_more}
 use Rattle.nvm_core.specs.nvm_device_laws.Cuts.{CutsInATurnKeep}
 use Rattle.turn_gate.specs.Pass.{knows}
+use Rattle.nvm_core.proofs.nvm_laws.DueAsking.{requests_keep_due, requests_keep_due_in_hand}
 use Rattle.nvm_core.proofs.nvm_laws.Keeping.{stays_more}
 use Rattle.nvm_shared.specs.Locked.{desk_with}
 use Rattle.nvm_shared.specs.Behind.{with_more}
@@ -53,7 +54,7 @@ returns-in-Ended g c =
       lowers = lowers_ended told desk is.begins.asks old answer (stack_of desk_new new) never (ended_lowers told (stack_of asked old) answer (stack_of desk_new new) never half.lowers);
       due = λ number turns calm due.
           ended_serves answer number turns desk is.begins.asks desk_new old.hand new.hand (told old.device) (told new.device) _ _ _ _ _ is.begins.are
-          (off_before answer _ _ _ _ _ _ _ half.half is.off) half.half calm (is.begins.served number turns due);
+          (off_before answer _ _ _ _ _ _ _ half.half is.off) half.half calm (is.begins.served number turns (requests_keep_due desk old.hand (told old.device) is.begins.asks number turns is.begins.replied c.requires.driver.drives.next due));
       left = takes_with told answer desk asked old (stack_of desk_new new) (ended_takes told (stack_of asked old) (stack_of desk_new new) answer _ _ _ _ half.half half.at_device is.left);
       rests = λ alone. ended_rests told clocks g.C.SyncCalls.told g.C.SyncCalls.is_store g.C.SyncCalls.looked answer desk old desk_new new is.begins is.off;
       stores_stay = half.stores_stay;
@@ -102,7 +103,9 @@ returns-in-Device g c =
           (none_before desk old.hand between.hand (told old.device) (told between.device) half.at_device c.requires.driver.drives.tied.paired)
           (λ worked. ends.lowers worked (half.started refl));
       due = λ number turns calm due.
-          inr (ends.nearer number turns (half.started refl) half.half.1 (subst (λ (n : ℕ). ¬ Rose n (told new.device).first.faults) (sym faults) calm.faultless) calm.on (is.begins.served number turns due));
+          inr (ends.nearer number turns (half.started refl) half.half.1 (subst (λ (n : ℕ). ¬ Rose n (told new.device).first.faults) (sym faults) calm.faultless) calm.on
+          (requests_keep_due_in_hand desk_between between.hand (told between.device) ends.asks number turns ends.replied
+          (is.begins.served number turns (requests_keep_due desk old.hand (told old.device) is.begins.asks number turns is.begins.replied c.requires.driver.drives.next due))));
       left = turn_takes told (stack_of desk old) (stack_of desk_new new) (stack_of desk_between between) (clocks between.device) (clocks new.device) half.at_device is.left same ends.hand answer ends.turns;
       rests = λ alone.
           device_rests told clocks g.C.SyncCalls.told g.C.SyncCalls.is_store g.C.SyncCalls.looked answer desk old desk_between desk_new between new is.begins ends c.requires.driver.drives.tied.paired

@@ -1,0 +1,147 @@
+-- What is due, in the device's own turn.
+use Rattle.std.specs.Prelude.{IfSome}
+use Rattle.std.specs.Option.{option_map_or}
+use Rattle.std.proofs.Common.{◌≡◌, ◌⊎◌, inl, inr, ℕ, ◌+◌, ◌<◌, ◌≤◌, min, Bool, true, false, List, length, Option, Some, None, refl, sym, ap, ◌∙◌, subst, arith, length-append}
+use Rattle.std.proofs.lemmas.Bool.{cases_Bool}
+use Rattle.std.proofs.lemmas.Bool.Decides.{leb_tells}
+use Rattle.nvm_core.specs.nv_base.Count.{Rose, last_count}
+use Rattle.nvm_core.specs.memif.Told.{DeviceTold, Fixed, Part, First, Second, Stand, Open, Ended as Closed, IfElse, faults_of, is_urgent, part_at}
+use Rattle.nvm_core.specs.memif.Clock.{Clock}
+use Rattle.nvm_core.specs.memif.Calls.{Nearer, Works, urgent_first}
+use Rattle.nvm_core.specs.memif.declared.answer.JobResult.{JobResult}
+use Rattle.nvm_core.specs.memif.declared.answer.JobResult.TheVariants.{JobOk, JobFailed, JobPending, JobCanceled, BlockInconsistent, BlockInvalid}
+use Rattle.nvm_core.specs.memif.Told as device
+use Rattle.nvm_core.specs.block_machine.Words.{Mark, Instance, Configuration}
+use Rattle.nvm_core.specs.block_machine.State.{State, Job}
+use Rattle.nvm_core.specs.block_machine.Blocks.{block_at, indices_of, job_block, rank_of}
+use Rattle.nvm_core.specs.block_machine.Next.{next_in}
+use Rattle.nvm_core.specs.block_machine.Steps.{after_from, wrote}
+use Rattle.nvm_core.specs.nv_desk.Desk.{DeskState, state_of}
+use Rattle.nvm_core.specs.job_progress.Hand.{HandState}
+use Rattle.nvm_core.specs.job_progress.JobInHand.{IsPaired}
+use Rattle.nvm_core.specs.nvm_device_laws.Tries.{is_hand_urgent}
+use Rattle.nvm_core.specs.nvm_device_laws.Turn.{settled_by, wrote_by}
+use Rattle.nvm_core.specs.nvm_laws.Due.{IsDueNext, pages_now, post_first}
+use Rattle.nvm_core.specs.nvm_figures.Urgent.{pages_of}
+use Rattle.nvm_core.proofs.memif.Turning.{works_fixed}
+use Rattle.nvm_core.proofs.nvm_laws.DueBlocks.{same_pages}
+use Rattle.nvm_core.proofs.nvm_laws.Traits.{urgent_in_hand}
+use Rattle.promise_run.specs.Turns.{entry_list}
+use Rattle.nvm_callers.proofs.DueAsked.{IsStandard}
+use Rattle.nvm_callers.proofs.TurnEntries.{AddsOne, state_behind}
+
+-- COUNTS
+pub rose_or : (a b : ℕ) → Rose a b ⊎ ¬ Rose a b
+rose_or a b = elim (leb_tells b a) [
+  | inl past ↦ elim (leb_tells last_count a) [
+    | inl full ↦ elim (leb_tells a b) [
+      | inl same ↦ inl (inr (full.1, same.1))
+      | inr less ↦ inr (λ rose. fell a b rose less.1)
+    ]
+    | inr few ↦ inr (λ rose. neither a b rose past.1 few.1)
+  ]
+  | inr more ↦ inl (inl more.1)
+]
+  where
+    fell : (a b : ℕ) → Rose a b → b < a → ⊥
+    fell a b (inl up) less = omega (arith, up, less)
+    fell a b (inr full) less = omega (arith, full.1, less)
+
+    neither : (a b : ℕ) → Rose a b → b ≤ a → a < last_count → ⊥
+    neither a b (inl up) past few = omega (arith, up, past)
+    neither a b (inr full) past few = omega (arith, full.0, few)
+
+-- one count of a sum that doesn't fall
+pub rose_in : (a b s t : ℕ) → s ≤ t → Rose a b → Rose (min (a + s) last_count) (min (b + t) last_count)
+rose_in a b s t more (inl up) = elim (leb_tells last_count (a + s)) [
+  | inl full ↦ let end = full.1 in inr (omega (arith, end), omega (arith, end, up, more))
+  | inr few ↦ let less = few.1 in inl (omega (arith, less, up, more))
+]
+rose_in a b s t more (inr full) = inr (omega (arith, full.0), omega (arith, full.0, full.1, more))
+
+-- THE STATE BEHIND A WROTE
+record LeavesNext (c : Configuration) (s t : State) : Type 0 where
+  waiting : t.waiting ≡ s.waiting
+  index : (id : ℕ) → (block_at t id).index ≡ (block_at s id).index
+  standard : IsStandard c s → IsStandard c t
+
+wrote_leaves : (c : Configuration) (s : State) (i : Instance) (mark : Mark) (ops : ℕ) (o : Option Job) → s.hand ≡ o → LeavesNext c s (wrote s i mark o)
+wrote_leaves c s i mark ops None held = record { waiting = refl; index = λ id. refl; standard = λ is. is }
+wrote_leaves c s i mark ops (Some j) held = record { waiting = refl; index = λ id. refl; standard = λ is. subst (λ (o : Option Job). IfSome o (λ x. (rank_of c x).immediate ≡ false)) held is }
+
+same_leaves : (c : Configuration) (s : State) → LeavesNext c s s
+same_leaves c s = record { waiting = refl; index = λ id. refl; standard = λ is. is }
+
+mark_leaves : (c : Configuration) (s : State) (number : ℕ) (mark : Option Mark) (ops : ℕ) → LeavesNext c s (after_from c s (entry_list (wrote_by number mark ops)))
+mark_leaves c s number None ops = same_leaves c s
+mark_leaves c s number (Some mark) ops =
+    let by = wrote_leaves c s _ mark ops s.hand refl in record { waiting = by.waiting; index = by.index; standard = by.standard }
+
+ended_leaves : (c : Configuration) (s : State) (j : device.Job) (r : JobResult) (given : List ℕ) (ops : ℕ) → LeavesNext c s (after_from c s (entry_list (settled_by (Open j) (Closed r given) ops)))
+ended_leaves c s j JobOk given ops = mark_leaves c s j.number j.mark ops
+ended_leaves c s j JobFailed given ops = same_leaves c s
+ended_leaves c s j JobPending given ops = same_leaves c s
+ended_leaves c s j JobCanceled given ops = same_leaves c s
+ended_leaves c s j BlockInconsistent given ops = same_leaves c s
+ended_leaves c s j BlockInvalid given ops = same_leaves c s
+
+settled_leaves : (c : Configuration) (s : State) (a b : Stand) (ops : ℕ) → LeavesNext c s (after_from c s (entry_list (settled_by a b ops)))
+settled_leaves c s (Open j) (Closed r given) ops = ended_leaves c s j r given ops
+settled_leaves c s (Open j) (Open k) ops = same_leaves c s
+settled_leaves c s (Closed r given) b ops = same_leaves c s
+
+-- A STANDARD JOB AT THE DEVICE
+never_both : {t : Bool} → t ≡ true → t ≡ false → ⊥
+never_both {t} on off = never (sym on ∙ off)
+  where
+    never : true ≡ false → ⊥
+    never e = cc
+
+standard_hand : (c : Configuration) (s : State) → IsStandard c s → is_hand_urgent c s ≡ false
+standard_hand c s standard = by s.hand standard
+  where
+    by : (o : Option Job) → IfSome o (λ j. (rank_of c j).immediate ≡ false) → option_map_or (λ j. (rank_of c j).immediate) o false ≡ false
+    by None is = refl
+    by (Some j) is = is
+
+pub not_urgent : (c : Configuration) (s : State) (hand : Option HandState) (d : DeviceTold) → IsPaired c s hand d → IsStandard c s → is_urgent d.stand ≡ false
+not_urgent c s hand d paired standard = elim (cases_Bool (is_urgent d.stand)) [
+  | inl urgent ↦ absurd (never_both (urgent_in_hand c s hand d paired urgent) (standard_hand c s standard))
+  | inr is ↦ is
+]
+
+none_first : (f : Fixed) (stand : Stand) → is_urgent stand ≡ false → urgent_first f stand ≡ false
+none_first f (Open j) is = rw is refl
+none_first f (Closed r given) is = refl
+
+-- what is ready stays ready
+ready_on : (f : Fixed) (stand : Stand) (N L : Type 0) → is_urgent stand ≡ false → IfElse (urgent_first f stand) N L → L
+ready_on f stand N L is has = rw (none_first f stand is) at has
+
+-- THE NEXT JOB
+-- a turn on another job leaves it the next one, where no fault was counted and the power stays on
+pub next_on : (p : Part) (number turns : ℕ) (desk desk_new : DeskState) (hand hand_new : Option HandState) (old new : DeviceTold) (clock : Clock) → Works p old new clock → AddsOne new.ops desk desk_new (settled_by old.stand new.stand new.ops)
+    → IsPaired desk.config (state_of desk) hand old → ¬ Rose old.first.faults new.first.faults → new.first.off ≡ false → post_first hand ≡ 0
+    → IsDueNext number turns (record { desk = desk; hand = hand; device = old }) → IsDueNext number (turns + post_first hand_new) (record { desk = desk_new; hand = hand_new; device = new })
+next_on p number turns desk desk_new hand hand_new old new clock works adds paired calm on none due =
+    let c = desk.config in
+    let s = state_of desk in
+    let e = settled_by old.stand new.stand new.ops in
+    let behind = state_behind new.ops desk desk_new e adds in
+    let leaves : LeavesNext c s (state_of desk_new) = subst (LeavesNext c s) (sym behind) (settled_leaves c s old.stand new.stand new.ops) in
+    let config : desk_new.config ≡ c = ap (λ (x : DeskState). x.config) adds.adds in
+    let fixed = works_fixed p old new clock works in
+    let count = ap (λ (x : DeskState). length x.entries) adds.adds ∙ length-append desk.entries (entry_list e) in
+    let pages : pages_of old.fixed (job_block due.job) (indices_of c (state_of desk_new) (job_block due.job)) ≡ pages_now desk old.fixed (job_block due.job) =
+    same_pages c s (state_of desk_new) old.fixed (job_block due.job) (leaves.index (job_block due.job)) in
+    let pages' : pages_now desk_new new.fixed (job_block due.job) ≡ pages_now desk old.fixed (job_block due.job) = ap (λ (f : Fixed). pages_of f (job_block due.job) (indices_of desk_new.config (state_of desk_new) (job_block due.job))) fixed
+    ∙ ap (λ (x : Configuration). pages_of old.fixed (job_block due.job) (indices_of x (state_of desk_new) (job_block due.job))) config ∙ pages in
+    let ready = ready_on old.fixed old.stand (Nearer old new) (old.ready ≤ new.ready) (not_urgent c s hand old paired due.standard) (works.ready (record { faults = calm; off = on })) in record {
+      job = due.job;
+      is = rw (config, fixed) due.is;
+      earlier = let earlier = due.earlier in omega (arith, count, earlier);
+      next = subst (λ (x : Configuration). next_in x (state_of desk_new).waiting ≡ Some due.job) (sym config) (ap (next_in c) leaves.waiting ∙ due.next);
+      standard = subst (λ (x : Configuration). IfSome (state_of desk_new).hand (λ h. (rank_of x h).immediate ≡ false)) (sym config) (leaves.standard due.standard);
+      ready = let was = due.ready in omega (arith, pages', was, ready);
+      within = let was = due.within in omega (arith, pages', was, none);
+    }

@@ -1,0 +1,134 @@
+-- The entry of a driver's turn, if it adds one.
+use Rattle.std.specs.Prelude.{IfSome}
+use Rattle.std.proofs.Common.{◌≡◌, ◌⊎◌, inl, inr, ℕ, true, false, List, Option, Some, None, refl, sym, ap, ◌∙◌}
+use Rattle.nvm_core.specs.nv_base.Entry.{ops_of}
+use Rattle.nvm_core.specs.memif.Told.{DeviceTold, Stand, Open, Ended as Closed}
+use Rattle.nvm_core.specs.memif.Told as device
+use Rattle.nvm_core.specs.memif.declared.answer.JobResult.{JobResult}
+use Rattle.nvm_core.specs.memif.declared.answer.JobResult.TheVariants.{JobOk, JobFailed, JobPending, JobCanceled, BlockInconsistent, BlockInvalid}
+use Rattle.nvm_core.specs.block_machine.Words.{Mark, Taken, Entry, Ask, Pick, Wrote, Post, Off, Found, Configuration}
+use Rattle.nvm_core.specs.block_machine.State.{State}
+use Rattle.nvm_core.specs.block_machine.Next.{Next, Nothing, PickJob, BeginSweep, PickMember, PostMember, EndSweep, next_of}
+use Rattle.nvm_core.specs.block_machine.Steps.{step, after_from}
+use Rattle.nvm_core.specs.ram_blocks.Told.{Told}
+use Rattle.nvm_core.specs.nv_desk.Desk.{DeskState, state_of}
+use Rattle.nvm_core.specs.nv_desk_copies.Posts.{IsPostedNext}
+use Rattle.nvm_core.specs.job_progress.Asks.{is_of_jobs}
+use Rattle.nvm_core.specs.nvm_device_laws.Turn.{settled_by, wrote_by}
+use Rattle.nvm_core.specs.nvm_laws.Halves.{IsHalf}
+use Rattle.nvm_core.specs.nvm_laws.Turns.{AddsBy}
+use Rattle.nvm_core.specs.nvm_laws.declared.turned.Turned.{Turned}
+use Rattle.nvm_core.specs.nvm_laws.declared.turned.Turned.TheVariants as turned
+use Rattle.nvm_core.specs.nvm_laws.declared.turned.Act.TheVariants.{Ended}
+use Rattle.nvm_core.specs.BehindDevice.{asked_by}
+use Rattle.nvm_core.proofs.block_laws.HistoryLaws.{histories_go_on}
+use Rattle.nvm_core.proofs.job_progress.Powering.{jobs_keep_power}
+use Rattle.nvm_shared.specs.Behind.{with_more}
+use Rattle.promise_run.specs.Turns.{entry_list, is_asked, is_found, is_off, urgent_block}
+use Rattle.nvm_callers.proofs.DueAsked.{none_more}
+
+-- an entry of a job, or an Off, with the operations so far
+pub record IsOfTurn (ops : ℕ) (e : Entry) : Type 0 where
+  pub told : ops_of e ≡ Some ops
+  pub kind : (is_of_jobs e ≡ true) ⊎ (is_off (Some e) ≡ true)
+
+-- at most one entry more, of a turn
+pub record AddsOne (ops : ℕ) (old new : DeskState) (e : Option Entry) : Type 0 where
+  pub adds : new ≡ with_more old (entry_list e)
+  pub of : IfSome e (IsOfTurn ops)
+
+-- WHAT IT ISN'T
+no_ask : (e : Entry) → (is_of_jobs e ≡ true) ⊎ (is_off (Some e) ≡ true) → is_asked (Some e) ≡ false
+no_ask (Ask caller r reply) (inl is) = cc is
+no_ask (Ask caller r reply) (inr is) = cc is
+no_ask e kind = refl
+
+no_start : (e : Entry) → (is_of_jobs e ≡ true) ⊎ (is_off (Some e) ≡ true) → is_found (Some e) ≡ false
+no_start (Found marks ops) (inl is) = cc is
+no_start (Found marks ops) (inr is) = cc is
+no_start e kind = refl
+
+pub isnt_found : (ops : ℕ) (e : Option Entry) → IfSome e (IsOfTurn ops) → is_found e ≡ false
+isnt_found ops None of = refl
+isnt_found ops (Some e) of = no_start e of.kind
+
+never_asks : (c : Configuration) (s : State) (e : Entry) (id : ℕ) → is_asked (Some e) ≡ false → urgent_block c s (Some e) ≡ Some id → ⊥
+never_asks c s (Ask caller r reply) id none is = cc none
+never_asks c s (Pick block kind t ops) id none is = let P : ⊥ = cc is in P
+never_asks c s (Wrote i mark ops) id none is = let P : ⊥ = cc is in P
+never_asks c s (Post block r given refused ops) id none is = let P : ⊥ = cc is in P
+never_asks c s (Off ops) id none is = let P : ⊥ = cc is in P
+never_asks c s (Found marks ops) id none is = let P : ⊥ = cc is in P
+
+-- no urgent write is accepted in a turn
+pub never_urgent : (c : Configuration) (s : State) (ops : ℕ) (e : Option Entry) (id : ℕ) → IfSome e (IsOfTurn ops) → urgent_block c s e ≡ Some id → ⊥
+never_urgent c s ops None id of is = let P : ⊥ = cc is in P
+never_urgent c s ops (Some e) id of is = never_asks c s e id (no_ask e of.kind) is
+
+-- THE STATE BEHIND IT
+pub state_behind : (ops : ℕ) (old new : DeskState) (e : Option Entry) → AddsOne ops old new e → state_of new ≡ after_from old.config (state_of old) (entry_list e)
+state_behind ops old new e one = ap (λ (d : DeskState). state_of d) one.adds ∙ histories_go_on old.config _ old.entries (entry_list e)
+
+on_by : (c : Configuration) (s : State) (e : Entry) → (is_of_jobs e ≡ true) ⊎ (is_off (Some e) ≡ true) → is_off (Some e) ≡ false → (step c s e).off ≡ s.off
+on_by c s e (inl jobs) on = (jobs_keep_power c s e jobs).off
+on_by c s e (inr off) on = absurd (let P : true ≡ false = sym off ∙ on in cc P)
+
+-- the power stays on through any entry of a turn but an Off
+pub on_behind : (ops : ℕ) (old new : DeskState) (e : Option Entry) → AddsOne ops old new e → is_off e ≡ false → (state_of new).off ≡ (state_of old).off
+on_behind ops old new None one on = ap (λ (s : State). s.off) (state_behind ops old new None one)
+on_behind ops old new (Some e) one on = ap (λ (s : State). s.off) (state_behind ops old new (Some e) one) ∙ on_by old.config (state_of old) e one.of.kind on
+
+-- THE FIRST HALF
+none_added : (ops : ℕ) (old new : DeskState) → new ≡ old → AddsOne ops old new None
+none_added ops old new same = record { adds = same ∙ none_more old; of = tt }
+
+posted_next : (n : Next) (ops : ℕ) (old new : DeskState) (before after : List Told) → IsPostedNext n ops old new before after → (e : Option Entry) × AddsOne ops old new e × (is_off e ≡ false)
+posted_next (PostMember sw id) ops old new before after is = (Some (Post id is.result is.given is.refused ops), record { adds = is.adds; of = record { told = refl; kind = inl refl } }, refl)
+posted_next (EndSweep sw) ops old new before after is = (Some (Post 0 is.result is.given is.refused ops), record { adds = is.adds; of = record { told = refl; kind = inl refl } }, refl)
+posted_next (PickJob j) ops old new before after is = absurd is
+posted_next (BeginSweep sw) ops old new before after is = absurd is
+posted_next (PickMember sw id) ops old new before after is = absurd is
+posted_next Nothing ops old new before after is = absurd is
+
+pub half_adds_one : (answer : Turned) (Holds : ℕ → Taken → Type 0) (Fits : Type 0) (old new : DeskState) (before after : List Told) (d : DeviceTold) → IsHalf (Ended answer) Holds Fits old new before after d
+    → (e : Option Entry) × AddsOne (device.ops_of d) old new e × (is_off e ≡ false)
+half_adds_one turned.Off Holds Fits old new before after d half = (None, none_added (device.ops_of d) old new half.0.0, refl)
+half_adds_one turned.Idle Holds Fits old new before after d half = (None, none_added (device.ops_of d) old new half.0.0, refl)
+half_adds_one turned.Worked Holds Fits old new before after d half = absurd half
+half_adds_one turned.Picked Holds Fits old new before after d (block, is) =
+    (Some (Pick block is.kind is.taken (device.ops_of d)), record { adds = is.adds; of = record { told = refl; kind = inl refl } }, refl)
+half_adds_one turned.Posted Holds Fits old new before after d (inl held) =
+    (Some (Post _ held.is.result held.is.given held.is.refused (device.ops_of d)), record { adds = held.is.adds; of = record { told = refl; kind = inl refl } }, refl)
+half_adds_one turned.Posted Holds Fits old new before after d (inr next) = posted_next (next_of old.config (state_of old)) (device.ops_of d) old new before after next.1
+
+-- THE DEVICE'S TURN
+by_one : (ops : ℕ) (o : Option Entry) (old new : DeskState) → IfSome o (IsOfTurn ops) → AddsBy o old new → AddsOne ops old new o
+by_one ops None old new of is = none_added ops old new is
+by_one ops (Some e) old new of is = record { adds = is.0; of = of }
+
+wrote_of : (number : ℕ) (mark : Option Mark) (ops : ℕ) → IfSome (wrote_by number mark ops) (IsOfTurn ops)
+wrote_of number None ops = tt
+wrote_of number (Some mark) ops = record { told = refl; kind = inl refl }
+
+ended_of : (j : device.Job) (r : JobResult) (given : List ℕ) (ops : ℕ) → IfSome (settled_by (Open j) (Closed r given) ops) (IsOfTurn ops)
+ended_of j JobOk given ops = wrote_of j.number j.mark ops
+ended_of j JobFailed given ops = tt
+ended_of j JobPending given ops = tt
+ended_of j JobCanceled given ops = tt
+ended_of j BlockInconsistent given ops = tt
+ended_of j BlockInvalid given ops = tt
+
+settled_of : (old new : Stand) (ops : ℕ) → IfSome (settled_by old new ops) (IsOfTurn ops)
+settled_of (Open j) (Closed r given) ops = ended_of j r given ops
+settled_of (Open j) (Open k) ops = tt
+settled_of (Closed r given) new ops = tt
+
+asked_of : (answer : Turned) (old new : Stand) (ops : ℕ) → IfSome (asked_by answer old new ops) (IsOfTurn ops)
+asked_of turned.Off old new ops = record { told = refl; kind = inr refl }
+asked_of turned.Idle old new ops = settled_of old new ops
+asked_of turned.Worked old new ops = settled_of old new ops
+asked_of turned.Picked old new ops = settled_of old new ops
+asked_of turned.Posted old new ops = settled_of old new ops
+
+pub device_adds_one : (answer : Turned) (a b : Stand) (ops : ℕ) (old new : DeskState) → AddsBy (asked_by answer a b ops) old new → AddsOne ops old new (asked_by answer a b ops)
+device_adds_one answer a b ops old new adds = by_one ops (asked_by answer a b ops) old new (asked_of answer a b ops) adds
