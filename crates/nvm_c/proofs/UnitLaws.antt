@@ -1,80 +1,44 @@
 -- The stack of a unit: what is kept from its first start-up on, and what its flash comes back with.
-use Rattle.std.proofs.Common.{◌≡◌, ◌<◌, ◌≤◌, ◌+◌, ◌*◌, ◌⊎◌, ℕ, Bool, true, false, IsTrue, List, [], ◌∷◌, Option, Some, None, Result, Ok, Err, IsSome, refl, sym, ap, ◌∙◌, subst, inl, inr, arith}
-use Rattle.std.specs.Prelude.{slice_get, IfErr}
-use Rattle.std.proofs.lemmas.Bool.Decides.{leb_tells}
-use Rattle.nvm.specs.nv_base.Count.{last_count, WereCounted}
-use Rattle.nvm.specs.nv_base.Marks.{instance_of}
+use Rattle.std.proofs.Common.{◌≡◌, ◌+◌, ◌*◌, ℕ, Bool, true, false, List, Option, Some, None, Result, Ok, Err, IsSome, refl, sym, ap, ◌∙◌, subst, arith}
+use Rattle.std.specs.Prelude.{IfErr}
+use Rattle.nvm.specs.nv_base.Count.{WereCounted}
 use Rattle.nvm.specs.block_config.Config.{Configuration}
 use Rattle.nvm.specs.block_config.Rules.{IsLegalConfig}
-use Rattle.nvm.specs.memif.Told.{Part, PartTold, DeviceTold, First, Second, part_at as at_part}
+use Rattle.nvm.specs.memif.Told.{Part, PartTold}
 use Rattle.nvm.specs.memif.Calls.{InOrder}
-use Rattle.nvm.specs.fls_model.Told.{Told, Change, bytes_now}
+use Rattle.nvm.specs.fls_model.Told.{Told, bytes_now}
 use Rattle.nvm.specs.nvm_flash.promise_device.Making.{Making}
-use Rattle.nvm.specs.nvm_flash.promise_device.Reading.{Reading}
 use Rattle.nvm.specs.nvm_flash.promise_device.Bridge.{Bridges, reading_of, cuts_of}
-use Rattle.nvm.specs.nvm_flash.fls_told.Clock.{off_in_of}
-use Rattle.nvm.specs.nvm_flash.fee_told.Device.{Device, flash_device, told_of, clock_of}
+use Rattle.nvm.specs.nvm_flash.fee_told.Device.{Device, told_of, clock_of}
 use Rattle.nvm.specs.nvm_flash.fee_core.Tells.{told_clock}
-use Rattle.nvm.specs.nvm_flash.fee_laws.Made.{IsMadeOf, part_at}
-use Rattle.nvm.specs.nvm_flash.nvm_device_laws.Turn.{Keeps, BeginsKept, TellsSlots, down}
+use Rattle.nvm.specs.nvm_flash.fee_laws.Made.{part_at}
+use Rattle.nvm.specs.nvm_flash.nvm_device_laws.Turn.{BeginsKept, TellsSlots, down}
 use Rattle.nvm.specs.nvm_flash.promise_blocks.OverDevice.{KeepsOver, KeepsEarly}
-use Rattle.nvm.specs.nvm_flash.nvm_laws.Keeps.{StackKeepsAsTold, KeepsAsTold, KeepsWhileDown}
+use Rattle.nvm.specs.nvm_flash.nvm_laws.Keeps.{StackKeepsAsTold}
 use Rattle.nvm.specs.nvm_flash.nvm_laws.declared.turned.FoundAnswer.TheVariants as found
 use Rattle.nvm.specs.nvm_flash.nvm_core.StartUps.{StartsUp, StartsKeep}
-use Rattle.nvm.specs.nvm_flash.Made.{IsOrigin, IsMadeStack, AreOfFirst, IsBack, ComesBack}
+use Rattle.nvm.specs.nvm_flash.Made.{IsOrigin, IsMadeStack, IsBack, ComesBack, one_part}
 use Rattle.nvm.specs.nvm_flash.declared.device.MakeFault.{MakeFault}
 use Rattle.nvm.specs.nvm_flash.promise_run.Run.{Course, has_cutter}
 use Rattle.nvm.specs.nvm_flash.promise_run.Promise.{making_of}
 use Rattle.nvm.specs.nvm_flash.promise_run.Halves.{beyond_end}
 use Rattle.nvm.specs.nvm_flash.job_progress.Hand.{HandState}
 use Rattle.nvm.specs.nv_desk.Desk.{DeskState}
+use Rattle.nvm.proofs.nvm_flash.FirstStart.{begins_up, told_bridge}
 use Rattle.nvm.proofs.nvm_flash.nvm_device_laws.DownCalls.{over_with}
-use Rattle.nvm.proofs.nvm_flash.nvm_laws.StartingUp.{stacks_begin}
-use Rattle.nvm.proofs.nvm_flash.promise_device.FlashRun.{seen_more}
 use Rattle.nvm.proofs.nvm_flash.promise_device.Readings.{sound_starts_compute}
 use Rattle.nvm.proofs.nvm_flash.promise_run.Composition.{begins_well, halves_make_the_promise}
 use Rattle.script_player.specs.PlainKept.{IsKept}
-use Rattle.nvm.specs.block_machine.Words.{Request, Reply, Entry}
+use Rattle.nvm.specs.block_machine.Words.{Request, Reply}
 use Rattle.nvm.specs.nv_desk.declared.ask.AskFault.{AskFault}
 use Rattle.nvm.specs.nv_desk.declared.ask.AskFault.TheVariants as fault
 use Rattle.nvm.specs.nvm_flash.nvm_laws.declared.turned.Turned.{Turned}
 use Rattle.nvm.specs.nvm_flash.nvm_laws.declared.turned.FoundAnswer.{FoundAnswer}
 use Rattle.script_player.specs.Calls.{Arms, Asks, Restarts, Turns}
 use Rattle.script_player.specs.Told.{StackTold}
-use Rattle.nvm_c.specs.Unit.{UnitState, CameBack, Closes, IsUnit, one_part, run_of, unit_told}
+use Rattle.nvm_c.specs.Unit.{UnitState, CameBack, Closes, IsUnit, run_of, unit_told}
 
 -- THE FIRST START-UP
--- before it the empty history keeps all
-fresh_down : (d : Device) (c : Configuration) (inner : Told) (cuts : ℕ) (making : Making) (entry : Told) (most : ℕ) → BeginsKept (told_of d) (told_clock d) → InOrder (told_of d) (told_clock d) → IsOrigin c inner cuts making entry → IsLegalConfig c
-    → IsMadeOf making entry d → AreOfFirst d → Keeps c most [] (one_part (part_at entry)) (down (told_of d)) (told_clock d)
-fresh_down d c inner cuts making entry most begins order origin legal made parts =
-    subst (λ (x : DeviceTold). Keeps c most [] (one_part (part_at entry)) x (told_clock d)) (ap (λ b. record (told_of d) { started = b }) made.started)
-    (begins c most (one_part (part_at entry)) same
-    (record { rules = legal; numbers = ap (λ m. m.numbers) (made.making ∙ origin.made_for); parts = λ x has. parts x.0.0 ∙ sym (parts ((instance_of x.0).block * 64)) })
-    (record { ops = made.ops; on = λ k off. never k off.0 off.1; finds = λ held finds. order.now held finds }))
-  where
-    none_off : (k : ℕ) (xs : List Change) → xs ≡ [] → (x : Change) → slice_get xs k ≡ Some x → ⊥
-    none_off k [] none x at = cc at
-    none_off k (y ∷ ys) none x at = cc none
-
-    never : (k : ℕ) → k < last_count → off_in_of (flash_device d) k → ⊥
-    never k small (inl full) = absurd (omega (arith, small, full))
-    never k small (inr (x, at, is)) = none_off k d.operations made.made.operations x at
-
-    same : (p : Part) → (one_part (part_at entry) p).faults ≡ (at_part p (told_of d)).faults
-    same First = sym (ap (λ p. p.faults) made.part)
-    same Second = refl
-
--- behind it all is kept
-starts_kept : (making : Making) (entry : Told) (m s : UnitState) → IsMadeStack m.desk.config making entry m → BeginsKept (told_of m.device) (told_clock m.device) → InOrder (told_of m.device) (told_clock m.device)
-    → StartsUp told_of m s → StartsKeep found.Ready m.desk (told_of m.device) (told_clock m.device) s.desk (told_of s.device) (told_clock s.device)
-    → (inner : Told) (cuts : ℕ) → IsLegalConfig m.desk.config → IsOrigin m.desk.config inner cuts making entry → StackKeepsAsTold (one_part (part_at entry)) s.desk None (told_of s.device) (told_clock s.device)
-starts_kept making entry m s made begins order starts keeps inner cuts legal origin =
-    keeps (one_part (part_at entry)) (λ told. inr (starts.finds.up.restarted.ops ∙ made.device.ops))
-    (subst (λ (h : List Entry). KeepsAsTold (KeepsWhileDown m.desk.config m.desk.cap h (one_part (part_at entry)) (told_of m.device) (told_clock m.device)) m.desk.config m.desk.cap h (told_of m.device) (told_clock m.device)) (sym (ap (λ x. x.desk.entries) made.only))
-    (stacks_begin (told_of m.device) (told_clock m.device) m.desk.config m.desk.cap (one_part (part_at entry)) order made.device.ops made.device.starts
-    (fresh_down m.device m.desk.config inner cuts making entry m.desk.cap begins order origin legal made.device made.parts)))
-
 pub is_unit : (making : Making) (entry : Told) (m s : UnitState) → IsMadeStack m.desk.config making entry m → BeginsKept (told_of m.device) (told_clock m.device) → InOrder (told_of m.device) (told_clock m.device)
     → StartsUp told_of m s → StartsKeep found.Ready m.desk (told_of m.device) (told_clock m.device) s.desk (told_of s.device) (told_clock s.device)
     → (inner : Told) (cuts : ℕ) → IsLegalConfig m.desk.config → IsOrigin m.desk.config inner cuts making entry → IsUnit making entry true s
@@ -85,7 +49,7 @@ is_unit making entry m s made begins order starts keeps inner cuts legal origin 
   kept =
       subst (λ (b : Bool). IsKept b (one_part (part_at entry)) s.desk s.hand (told_of s.device) (told_clock s.device)) (sym (ap (λ x. x.ready) starts.only))
       (subst (λ (h : Option HandState). StackKeepsAsTold (one_part (part_at entry)) s.desk h (told_of s.device) (told_clock s.device)) (sym (ap (λ x. x.hand) starts.only))
-      (starts_kept making entry m s made begins order starts keeps inner cuts legal origin));
+      (begins_up m.desk.config making entry m s made begins order starts keeps inner cuts refl legal origin));
 }
 
 -- where it failed the flash comes back as that of the configuration
@@ -103,36 +67,6 @@ over_of false before desk hand d keeps told = over_with (told_of d).started desk
 early_of : (b : Bool) (before : Part → PartTold) (desk : DeskState) (hand : Option HandState) (d : Device) → IsKept b before desk hand (told_of d) (told_clock d) → (told_of d).tells ≡ true → KeepsEarly desk.config desk.cap desk.entries (told_clock d)
 early_of true before desk hand d keeps tells = keeps.early tells
 early_of false before desk hand d keeps tells = keeps.keeps.early tells
-
--- what the device told of its operations, by the clock that it tells
-told_bridge : (r : Reading) (inner exit : Told) (operations : List Change) (before : PartTold) (d : Device) → Bridges r true (record { entry = inner; exit = exit; operations = operations }) before (told_of d) (clock_of d)
-    → Bridges r true (record { entry = inner; exit = exit; operations = operations }) before (told_of d) (beyond_end (told_clock d))
-told_bridge r inner exit operations before d b = record {
-  after = b.after;
-  cut = b.cut;
-  tells = b.tells;
-  slots = b.slots;
-  sound = b.sound;
-  sound_cut = b.sound_cut;
-  operations = record {
-    told_alike = b.operations.told_alike;
-    chain = b.operations.chain;
-    seen = λ t. seen_more (λ k. IsTrue true × off_in_of (flash_device d) k) (λ k. IsTrue true × ((last_count ≤ k) ⊎ ((k < last_count) × off_in_of (flash_device d) k))) 0 t.bytes.last operations (cuts_of true (told_of d)) t.changes (λ k is. (is.0, later k is.1)) (b.operations.seen t);
-    counted = b.operations.counted;
-    told = b.operations.told;
-  };
-  ops = b.ops;
-  faults = b.faults;
-  cuts = b.cuts;
-  off = b.off;
-  withheld = b.withheld;
-  failed = b.failed;
-  worn = b.worn;
-  spare = b.spare;
-}
-  where
-    later : (k : ℕ) → off_in_of (flash_device d) k → (last_count ≤ k) ⊎ ((k < last_count) × off_in_of (flash_device d) k)
-    later k off = elim (leb_tells last_count k) [ inl past_end ↦ inl past_end.1 | inr before_end ↦ inr (before_end.1, off) ]
 
 -- its flash comes back so
 pub closes : (inner : Told) (cuts : ℕ) (making : Making) (entry exit : Told) (up : Bool) (s : UnitState) (bytes : List ℕ) → IsUnit making entry up s → IsOrigin s.desk.config inner cuts making entry → bytes_now exit ≡ Some bytes

@@ -1,5 +1,5 @@
 -- What a call of C does.
-use Rattle.std.specs.Prelude.{◌≡◌, ◌≢◌, ◌⊎◌, ◌≤◌, ℕ, List, take, length, Option, None, Some, IsSomeAnd, IfSome, IfOk, Result, Ok, Err}
+use Rattle.std.specs.Prelude.{◌≡◌, ◌≢◌, ◌⊎◌, ◌<◌, ◌≤◌, ℕ, List, take, drop, length, Option, None, Some, IsSomeAnd, IfSome, IfOk, Result, Ok, Err}
 use Rattle.nvm.specs.block_config.Config.{Configuration}
 use Rattle.nvm.specs.block_config.Reading.{meaning_of}
 use Rattle.nvm.specs.block_machine.Blocks.{block_at}
@@ -103,11 +103,13 @@ IsStopped text bytes code back =
     ⊎ (((c : Configuration) × (meaning_of text ≡ Ok c) × IsNotOpened c (flash_over bytes) code back) ⊎ (code ≡ 4))
 
 -- CONTENTS
--- so many bytes of a content, as many as there is room for, stand at the front
+-- so many bytes of a content stand at the front, where there is room for them; all else stays
 pub record IsFilled (content : List ℕ) (size : ℕ) (old new : List ℕ) : Type 0 where
   pub size_is : size ≡ length content
   pub room : length new ≡ length old
   pub front : size ≤ length old → take size new ≡ content
+  pub rest : size ≤ length old → drop size new ≡ drop size old
+  pub none : length old < size → new ≡ old
 
 -- of a block's RAM, or there was no memory
 abbrev pub IsRam : (block code size : ℕ) → List ℕ → List ℕ → UnitState → Type 0

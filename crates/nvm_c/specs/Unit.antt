@@ -3,12 +3,11 @@ use Rattle.std.specs.Prelude.{◌≡◌, ◌-◌, ℕ, Bool, true, List, length,
 use Rattle.nvm.specs.block_config.Config.{Configuration}
 use Rattle.nvm.specs.fls_devices.Cutter.{cutting, told_cutting}
 use Rattle.nvm.specs.fls_model.Told.{Told, bytes_now}
-use Rattle.nvm.specs.memif.Told.{Part, First, Second, PartTold, no_part}
 use Rattle.nvm.specs.ram_blocks.declared.plain_block.PlainBlock.{PlainBlock}
 use Rattle.nvm.specs.nvm_core.Stack.{StackState}
 use Rattle.nvm.specs.nvm_core.StartUps.{StartsUp}
 use Rattle.nvm.specs.nvm_core.nv_desk_copies.Front.{given_at}
-use Rattle.nvm.specs.nvm_flash.Made.{IsMadeStack}
+use Rattle.nvm.specs.nvm_flash.Made.{IsMadeStack, one_part}
 use Rattle.nvm.specs.nvm_flash.fee_core.Tells.{told_clock}
 use Rattle.nvm.specs.nvm_flash.fee_laws.Made.{part_at}
 use Rattle.nvm.specs.nvm_flash.fee_told.Device.{Device, told_of}
@@ -28,11 +27,6 @@ UnitState = StackState Device (List PlainBlock)
 -- what a player of steps is told of it
 abbrev pub unit_told : UnitState → StackTold
 unit_told = told_by told_of
-
--- a device of one part
-abbrev pub one_part : PartTold → Part → PartTold
-one_part p First = p
-one_part p Second = no_part
 
 -- at any time: its device was made for its configuration, its history has the most entries of a run, it knows whether its last
 -- start-up stands, and what its calls keep is kept

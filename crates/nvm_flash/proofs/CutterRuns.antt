@@ -172,9 +172,10 @@ devices_bridge r inner cuts c d before only hands first none b =
       ops = b.ops;
       faults = λ n more. counted_within n inner.faults c.flash.inner.faults c.flash.faults only.faults (b.faults n more);
       failed = b.failed;
+      was = b.was;
       cuts = λ n more. subst (λ (x : ℕ). WereCounted n x c.flash.inner.cuts) first (subst (WereCounted n before.planning.unplanned) (sym last) more);
       off = λ off. subst (λ (x : Bool). x ≡ true) (ap (λ (x : Told). x.off) hands.told) (off_within c.flash.inner.off c.flash.off only.flash.power off);
       withheld = b.withheld;
       worn = λ k n urgent w. worn_within r inner cuts c d.operations k n urgent only (b.worn k n urgent w);
-      spare = λ t s k few small. as_same (λ image. (flash_clock d).spare k (r.ready (take k d.operations) image)) _ _ (same_after inner cuts c d.operations k) (b.spare (up t) (sound s) k few small);
+      spare = λ t s k few small. as_same (λ image. (flash_clock d).spare k (r.free (take k d.operations) image)) _ _ (same_after inner cuts c d.operations k) (b.spare (up t) (sound s) k few small);
     }

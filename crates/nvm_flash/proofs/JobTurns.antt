@@ -67,7 +67,7 @@ greatest_within p id m (b ∷ bs) have =
     let more = greatest_more p (block_lengths id b) (lengths_from (id + 1) bs) in
     let here = greatest_row p id b.length 0 (instances_of b) have.0 in omega (arith, rest, more, here)
 
-switch_is : (c : Configuration) → IsLegalConfig c → (fixed_by c).own ≡ switch_at_most c
+pub switch_is : (c : Configuration) → IsLegalConfig c → (fixed_by c).own ≡ switch_at_most c
 switch_is c legal =
     let p = c.geometry.page in
     let copies = copies_are p (lengths_of c) in
@@ -82,7 +82,7 @@ chosen : (b : Bool) (f : ℕ → Figures) (length : ℕ) (rest : Figures) (other
 chosen true f length rest others same = refl
 chosen false f length rest others same = same
 
-figures_are : (p own : ℕ) (ns : List (DeviceNumber × ℕ)) (n : ℕ)
+pub figures_are : (p own : ℕ) (ns : List (DeviceNumber × ℕ)) (n : ℕ)
     → at_number no_figures ns (map (λ x. figures_for p own x.1) ns) n ≡ option_map_or (figures_for p own) (length_of ns n) no_figures
 figures_are p own [] n = refl
 figures_are p own (x ∷ xs) n =
@@ -102,7 +102,7 @@ by_length c RestoreJob length works = cc
 by_length c ReadAllJob length works = cc
 by_length c WriteAllJob length works = cc
 
-try_is : (c : Configuration) → IsLegalConfig c → (block : ℕ) (kind : JobKind) → works kind ≡ true → (i : ℕ)
+pub try_is : (c : Configuration) → IsLegalConfig c → (block : ℕ) (kind : JobKind) → works kind ≡ true → (i : ℕ)
     → most_at (fixed_by c) block kind i ≡ try_on c kind (record { block = block; index = i })
 try_is c legal block kind works i =
     let n = number_of (record { block = block; index = i }) in
@@ -119,7 +119,7 @@ tries_are count retries (i ∷ is) =
     ∙ ap (λ (n : ℕ). (retries + 1) * n) (sym (sum_by-cons count i is))
 
 -- a restore has none
-none_at : (length : Option ℕ) → ◌≡◌ {A = ℕ} (option_map_or (λ (n : ℕ). 0) length 0) 0
+pub none_at : (length : Option ℕ) → ◌≡◌ {A = ℕ} (option_map_or (λ (n : ℕ). 0) length 0) 0
 none_at None = refl
 none_at (Some n) = refl
 
@@ -162,7 +162,7 @@ by_pages : (p own : ℕ) (length : Option ℕ) → (option_map_or (figures_for p
 by_pages p own None = refl
 by_pages p own (Some n) = refl
 
-pages_at : (c : Configuration) (i : Instance) → (figures_at (fixed_by c) (number_of i)).pages ≡ pages_on c i
+pub pages_at : (c : Configuration) (i : Instance) → (figures_at (fixed_by c) (number_of i)).pages ≡ pages_on c i
 pages_at c i =
     ap (λ (f : Figures). f.pages) (figures_are c.geometry.page (fixed_by c).own (lengths_of c) (number_of i))
     ∙ by_pages c.geometry.page (fixed_by c).own (length_of (lengths_of c) (number_of i))

@@ -1,5 +1,6 @@
 pub mod Made
 pub mod Turns
+pub mod Costs
 pub mod CutterLaws
 pub mod CutterUnmade
 pub use Rattle.fee_core.specs.nv_base as nv_base

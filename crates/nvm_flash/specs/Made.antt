@@ -3,7 +3,7 @@ use Rattle.std.specs.Prelude.{◌≡◌, ◌≢◌, ◌≤◌, ℕ, true, false,
 use Rattle.fee_core.specs.nv_base.Count.{Rose}
 use Rattle.fee_core.specs.nv_base.Geometry.{size_of}
 use Rattle.nvm_core.specs.block_config.Config.{Configuration}
-use Rattle.fee_core.specs.memif.Told.{PartTold, DeviceTold, First, figures_at}
+use Rattle.fee_core.specs.memif.Told.{Part, PartTold, DeviceTold, First, Second, no_part, figures_at}
 use Rattle.fee_core.specs.memif.Clock.{Clock}
 use Rattle.fee_core.specs.fls_model.Told.{Told, Change}
 use Rattle.fee_core.specs.fls_model.declared.flash.AttachFault.{AttachFault}
@@ -59,6 +59,11 @@ pub record IsBack (c : Configuration) (inner exit : Told) (before : PartTold) (n
   pub none : now.ops ≡ 0 → now.first.planning.unplanned ≡ inner.cuts → (operations ≡ []) × (exit.ops ≡ inner.ops) × (exit.cuts ≡ inner.cuts)
 
 -- THE STACK
+-- a device of one part
+abbrev pub one_part : PartTold → Part → PartTold
+one_part p First = p
+one_part p Second = no_part
+
 -- all numbers are of its one part
 abbrev pub AreOfFirst : Device → Type 0
 AreOfFirst d = (n : ℕ) → (figures_at (told_of d).fixed n).part ≡ First

@@ -1,65 +1,69 @@
 -- The stack over a flash: what it is behind its first start-up, and what its flash comes back with.
-use Rattle.std.specs.Prelude.{◌||◌, not, IfSome, IfOk, slice_get, take, option_map, min}
-use Rattle.std.proofs.Common.{◌≡◌, ◌≢◌, ◌<◌, ◌≤◌, ◌+◌, ◌*◌, ◌⊎◌, ℕ, Bool, true, false, IsTrue, List, [], ◌∷◌, Option, Some, None, Result, Ok, Err, length, refl, sym, ap, ◌∙◌, subst, inl, inr, arith}
-use Rattle.std.proofs.lemmas.Bool.Decides.{leb_tells}
+use Rattle.std.specs.Prelude.{◌||◌, not, IfSome, IfOk, take, option_map, min, nat_lt, nat_le}
+use Rattle.std.specs.Option.{option_map_or}
+use Rattle.std.proofs.lemmas.Bool.{and_parts, leb-true, ltb-true}
+use Rattle.std.proofs.Common.{◌≡◌, ◌≢◌, ◌≤◌, ◌+◌, ◌*◌, ◌⊎◌, ℕ, Bool, true, false, List, [], Option, Some, None, Result, Ok, Err, length, refl, sym, ap, ◌∙◌, subst, inl, inr, arith}
 use Rattle.std.proofs.Math.Nat.{eq-or-lt_of_le}
 use Rattle.nvm_flash.specs.nv_base.Count.{last_count, Rose, WereCounted}
 use Rattle.nvm_flash.specs.nv_base.Geometry.{size_of}
-use Rattle.nvm_flash.specs.nv_base.Marks.{instance_of}
 use Rattle.nvm_flash.specs.nv_base.declared.geometry.Geometry.{Geometry}
 use Rattle.nvm_flash.specs.block_config.Config.{Configuration}
 use Rattle.nvm_flash.specs.block_config.Rules.{IsLegalConfig}
-use Rattle.nvm_flash.specs.block_machine.Words.{Entry}
 use Rattle.nvm_flash.specs.block_machine.State.{State, Job}
-use Rattle.nvm_flash.specs.memif.Told.{Part, PartTold, DeviceTold, Fixed, First, Second, faults_of, figures_at, part_at as at_part}
+use Rattle.nvm_flash.specs.memif.Told.{Part, PartTold, Fixed, First, faults_of, figures_at}
 use Rattle.nvm_flash.specs.memif.Calls.{InOrder}
 use Rattle.nvm_flash.specs.fls_model.Told.{Told, ToldBytes, Change, IfBothTold, bytes_now}
 use Rattle.nvm_flash.specs.fls_devices.Cutter.{cutting, told_cutting}
 use Rattle.nvm_flash.specs.promise_device.Making.{Making}
-use Rattle.nvm_flash.specs.promise_device.Reading.{Reading}
-use Rattle.nvm_flash.specs.promise_device.Bridge.{Bridges, reading_of, cuts_of, ready_pages}
+use Rattle.nvm_flash.specs.memif.Clock.{Trait, Seals, TakesKept}
+use Rattle.nvm_flash.specs.promise_device.Bridge.{Bridges, IsSuch, reading_of, free_pages}
 use Rattle.nvm_flash.specs.promise_device.Wear.{OperationsAreDue}
 use Rattle.nvm_flash.specs.promise_device.FlashRun.{HasFailed, TellsBytes, StartsSound, bytes_after}
-use Rattle.nvm_flash.specs.fls_told.Clock.{off_in_of}
-use Rattle.nvm_flash.specs.fee_told.Device.{Device, flash_device, told_of, clock_of}
+use Rattle.nvm_flash.specs.fee_told.Device.{Device, told_of, clock_of}
 use Rattle.nvm_flash.specs.fee_core.Tells.{told_clock}
-use Rattle.nvm_flash.specs.fee_laws.Made.{IsMadeOf, part_at}
+use Rattle.nvm_flash.specs.fee_laws.Made.{part_at}
 use Rattle.nvm_flash.specs.ram_blocks.declared.plain_block.PlainBlock.{PlainBlock}
 use Rattle.nvm_flash.specs.ram_blocks.Plain.{plain_blocks_of}
-use Rattle.nvm_flash.specs.nv_desk.Desk.{DeskState}
+use Rattle.nvm_flash.specs.nv_desk.Desk.{DeskState, state_of}
+use Rattle.nvm_flash.specs.nvm_laws.Ties.{IsTied}
 use Rattle.nvm_flash.specs.job_progress.Hand.{HandState}
 use Rattle.nvm_flash.specs.promise_blocks.OverDevice.{KeepsOver, KeepsEarly}
-use Rattle.nvm_flash.specs.nvm_device_laws.Turn.{Keeps, BeginsKept, TellsSlots, down}
+use Rattle.nvm_flash.specs.nvm_device_laws.Turn.{TellsSlots, down}
 use Rattle.nvm_flash.specs.nvm_core.Stack.{StackState}
-use Rattle.nvm_flash.specs.nvm_core.StartUps.{StartsUp, StartsKeep}
-use Rattle.nvm_flash.specs.nvm_laws.Keeps.{StackKeepsAsTold, KeepsAsTold, KeepsWhileDown}
+use Rattle.nvm_flash.specs.nvm_core.StartUps.{StartsUp}
+use Rattle.nvm_flash.specs.nvm_laws.Keeps.{StackKeepsAsTold}
 use Rattle.nvm_flash.specs.nvm_laws.declared.turned.FoundAnswer.TheVariants as found
 use Rattle.nvm_flash.specs.promise_run.Run.{Played, cap}
 use Rattle.nvm_flash.specs.promise_run.Promise.{making_of}
-use Rattle.nvm_flash.specs.promise_run.Halves.{HalvesMakeIt, beyond_end}
+use Rattle.nvm_flash.specs.promise_run.Halves.{HalvesMakeIt}
 use Rattle.script_walks.specs.Texts.{AreValues}
 use Rattle.script_player.specs.Made.{IsFresh}
 use Rattle.script_player.specs.PlainTold.{told_by}
 use Rattle.script_player.specs.PlainKept.{IsKept}
 use Rattle.nvm_flash.specs.declared.device.MakeFault.{MakeFault}
 use Rattle.nvm_flash.specs.declared.device.MakeFault.TheVariants as fault
-use Rattle.nvm_flash.specs.job_progress.JobInHand.{program_for}
+use Rattle.nvm_flash.specs.job_progress.JobInHand.{IsPaired, program_for}
+use Rattle.nvm_flash.specs.promise_run.Operations.{costs_of}
+use Rattle.nvm_flash.proofs.Costs.{costs_are_figures, reads_take_one}
+use Rattle.script_player.specs.Working.{IsBegun}
+use Rattle.script_player.specs.PlainWork.{IsSimple, costs_in}
+use Rattle.script_player.proofs.PlainTurnWork.{start_work}
 use Rattle.nvm_flash.specs.nvm_figures.Left.{most_turns}
 use Rattle.nvm_flash.specs.Turns.{fixed_by}
 use Rattle.nvm_flash.proofs.JobTurns.{job_turns_are_figures, write_pages_are_figures}
 use Rattle.nvm_flash.specs.promise_run.JobTurns.{write_pages}
+use Rattle.nvm_flash.proofs.FirstStart.{told_bridge}
 use Rattle.script_player.proofs.Fresh.{is_fresh}
+use Rattle.script_player.proofs.PlainSeals.{none_sealed}
 use Rattle.nvm_flash.proofs.nvm_device_laws.DownCalls.{over_with}
-use Rattle.nvm_flash.proofs.nvm_laws.StartingUp.{stacks_begin}
-use Rattle.nvm_flash.proofs.promise_device.FlashRun.{seen_more}
 use Rattle.nvm_flash.proofs.promise_device.Readings.{sound_starts_compute, worn_banks_compute}
 use Rattle.nvm_flash.proofs.promise_run.Composition.{begins_well}
-use Rattle.nvm_flash.specs.Made.{IsOrigin, IsMadeStack, AreOfFirst, ComesBack, IsBack}
+use Rattle.nvm_flash.specs.Made.{IsOrigin, IsMadeStack, AreOfFirst, ComesBack, IsBack, one_part}
 use Rattle.nvm_flash.specs.promise_device.Bridge.{IsWornOut}
 use Rattle.nvm_flash.specs.nvm_core.Paying.{counted_of, TriesSince, has_urgent}
 use Rattle.script_player.specs.PlainPaying.{payer_by}
 use Rattle.script_player.specs.PlainDue.{pages_in}
-use Rattle.nvm_top.specs.Stack.{IsKeptFrom, IsStarted, StopsAtStart, Vouches, run_of, one_part, stop_of_make}
+use Rattle.nvm_top.specs.Stack.{IsKeptFrom, IsStarted, StopsAtStart, Vouches, run_of, stop_of_make}
 use Rattle.nvm_flash.specs.fls_model.Attach.{IsFilled}
 use Rattle.nvm_top.specs.Play.{IsRightSize, IsWrongSize}
 use Rattle.nvm_top.specs.declared.stop.Stop.{Stop}
@@ -90,37 +94,6 @@ stops c fault.Memory s t back = record { why = tt; end = tt; flash = back.flash;
 pub if_ok : {X E : Type 0} {P Q R : X → Type 0} (r : Result X E) → IfOk r P → IfOk r Q → ((x : X) → P x → Q x → R x) → IfOk r R
 if_ok (Ok x) p q from = from x p q
 if_ok (Err e) p q from = tt
-
-none_off : (k : ℕ) (xs : List Change) → xs ≡ [] → (x : Change) → slice_get xs k ≡ Some x → ⊥
-none_off k [] none x at = cc at
-none_off k (y ∷ ys) none x at = cc none
-
--- before it the empty history keeps all
-pub fresh_down : (d : Device) (c : Configuration) (inner : Told) (cuts : ℕ) (making : Making) (entry : Told) (most : ℕ) → BeginsKept (told_of d) (told_clock d) → InOrder (told_of d) (told_clock d) → IsOrigin c inner cuts making entry → IsLegalConfig c
-    → IsMadeOf making entry d → AreOfFirst d → Keeps c most [] (one_part (part_at entry)) (down (told_of d)) (told_clock d)
-fresh_down d c inner cuts making entry most begins order origin legal made parts =
-    subst (λ (x : DeviceTold). Keeps c most [] (one_part (part_at entry)) x (told_clock d)) (ap (λ b. record (told_of d) { started = b }) made.started)
-    (begins c most (one_part (part_at entry)) same
-    (record { rules = legal; numbers = ap (λ m. m.numbers) (made.making ∙ origin.made_for); parts = λ x has. parts x.0.0 ∙ sym (parts ((instance_of x.0).block * 64)) })
-    (record { ops = made.ops; on = λ k off. never k off.0 off.1; finds = λ held finds. order.now held finds }))
-  where
-    never : (k : ℕ) → k < last_count → off_in_of (flash_device d) k → ⊥
-    never k small (inl full) = absurd (omega (arith, small, full))
-    never k small (inr (x, at, is)) = none_off k d.operations made.made.operations x at
-
-    same : (p : Part) → (one_part (part_at entry) p).faults ≡ (at_part p (told_of d)).faults
-    same First = sym (ap (λ p. p.faults) made.part)
-    same Second = refl
-
-pub begins_up : (c : Configuration) (making : Making) (entry : Told) (m s : StackState Device (List PlainBlock)) → IsMadeStack m.desk.config making entry m → BeginsKept (told_of m.device) (told_clock m.device) → InOrder (told_of m.device) (told_clock m.device)
-    → StartsUp told_of m s → StartsKeep found.Ready m.desk (told_of m.device) (told_clock m.device) s.desk (told_of s.device) (told_clock s.device)
-    → (inner : Told) (cuts : ℕ) → m.desk.config ≡ c → IsLegalConfig c → IsOrigin c inner cuts making entry → StackKeepsAsTold (one_part (part_at entry)) s.desk None (told_of s.device) (told_clock s.device)
-begins_up c making entry m s made begins order starts keeps inner cuts same legal origin =
-    keeps (one_part (part_at entry)) (λ told. inr (starts.finds.up.restarted.ops ∙ made.device.ops))
-    (subst (λ (h : List Entry). KeepsAsTold (KeepsWhileDown m.desk.config m.desk.cap h (one_part (part_at entry)) (told_of m.device) (told_clock m.device)) m.desk.config m.desk.cap h (told_of m.device) (told_clock m.device)) (sym (ap (λ x. x.desk.entries) made.only))
-    (subst (λ (x : Configuration). KeepsAsTold (KeepsWhileDown x m.desk.cap [] (one_part (part_at entry)) (told_of m.device) (told_clock m.device)) x m.desk.cap [] (told_of m.device) (told_clock m.device)) (sym same)
-    (stacks_begin (told_of m.device) (told_clock m.device) c m.desk.cap (one_part (part_at entry)) order made.device.ops made.device.starts
-    (fresh_down m.device c inner cuts making entry m.desk.cap begins order origin legal made.device made.parts))))
 
 -- WHERE THE FLASH TELLS ITS BYTES
 
@@ -202,10 +175,30 @@ pages_up c making entry m s t same starts made =
     ∙ ap (λ (x : Configuration). pages_in (fixed_by x) t.desk.config) (sym config)
     ∙ (λ i x id. write_pages_are_figures t.desk.config x id i)
 
-pub kept_up : (c : Configuration) (making : Making) (entry : Told) (before : Part → PartTold) (m s t : StackState Device (List PlainBlock)) → t ≡ s → StartsUp told_of m s → IsMadeStack c making entry m → StackKeepsAsTold before s.desk None (told_of s.device) (told_clock s.device)
+-- and those that are kept
+reserve_up : (c : Configuration) (making : Making) (entry : Told) (m s t : StackState Device (List PlainBlock)) → t ≡ s → StartsUp told_of m s → IsMadeStack c making entry m → (payer_by told_of told_clock t).reserve ≡ (making_of (told_by told_of t).configuration).reserve
+reserve_up c making entry m s t same starts made =
+    let fixed : (told_of t.device).fixed ≡ fixed_by c = ap (λ x. (told_of x.device).fixed) same ∙ starts.finds.up.restarted.fixed ∙ made.fixed in
+    let config : t.desk.config ≡ c = ap (λ x. x.desk.config) same ∙ ap (λ x. x.desk.config) starts.only ∙ ap (λ x. x.desk.config) made.only in
+    ap (λ (f : Fixed). f.reserve) fixed ∙ ap (λ (x : Configuration). (making_of x).reserve) (sym config)
+
+-- what it makes of its work is the configuration's, and no try is open
+work_up : (c : Configuration) (making : Making) (entry : Told) (m s t : StackState Device (List PlainBlock)) → IsLegalConfig c → InOrder (told_of t.device) (told_clock t.device) → IsTied t.desk t.hand (told_of t.device) → t ≡ s → StartsUp told_of m s → IsMadeStack c making entry m
+    → ((payer_by told_of told_clock t).work.costs ≡ costs_of (told_by told_of t).configuration) × IsBegun (payer_by told_of told_clock t).work
+work_up c making entry m s t legal order tied same starts made =
+    let fixed : (told_of t.device).fixed ≡ fixed_by c = ap (λ x. (told_of x.device).fixed) same ∙ starts.finds.up.restarted.fixed ∙ made.fixed in
+    let config : t.desk.config ≡ c = ap (λ x. x.desk.config) same ∙ ap (λ x. x.desk.config) starts.only ∙ ap (λ x. x.desk.config) made.only in
+    let none : t.hand ≡ None = ap (λ x. x.hand) same ∙ ap (λ x. x.hand) starts.only in
+    let simple : IsSimple (told_of t.device).fixed = subst IsSimple (sym fixed) (record { one = refl; reads = reads_take_one c }) in (
+      ap costs_in fixed ∙ costs_are_figures c legal ∙ ap costs_of (sym config),
+      start_work told_of told_clock (record t { ready = false }) t refl order (subst (λ (h : Option HandState). IsPaired t.desk.config (state_of t.desk) h (told_of t.device)) none tied.paired) (record { left = 0; trying = None })
+          (simple, λ ready. absurd (let never : false ≡ true = ready in cc never)),
+    )
+
+pub kept_up : (c : Configuration) (making : Making) (entry : Told) (before : Part → PartTold) (m s t : StackState Device (List PlainBlock)) → IsLegalConfig c → InOrder (told_of t.device) (told_clock t.device) → IsTied t.desk t.hand (told_of t.device) → t ≡ s → StartsUp told_of m s → IsMadeStack c making entry m → StackKeepsAsTold before s.desk None (told_of s.device) (told_clock s.device)
     → IsKeptFrom (IsKept t.ready before t.desk t.hand (told_of t.device) (told_clock t.device)) (payer_by told_of told_clock t) (told_by told_of t)
-kept_up c making entry before m s t same starts made keeps =
-    let kept = is_kept before m s t same starts keeps in (kept, (((before, kept), (omega arith, none_owed before m s t same starts)), pages_up c making entry m s t same starts made))
+kept_up c making entry before m s t legal order tied same starts made keeps =
+    let kept = is_kept before m s t same starts keeps in (kept, (((before, kept), (omega arith, none_owed before m s t same starts)), pages_up c making entry m s t same starts made, reserve_up c making entry m s t same starts made, λ ready. none_sealed (told_of t.device) (told_clock t.device), (work_up c making entry m s t legal order tied same starts made).0, (work_up c making entry m s t legal order tied same starts made).1))
 
 -- ITS END
 
@@ -217,36 +210,6 @@ over_of false before desk hand d keeps told = over_with (told_of d).started desk
 early_of : (b : Bool) (before : Part → PartTold) (desk : DeskState) (hand : Option HandState) (d : Device) → IsKept b before desk hand (told_of d) (told_clock d) → (told_of d).tells ≡ true → KeepsEarly desk.config desk.cap desk.entries (told_clock d)
 early_of true before desk hand d keeps tells = keeps.early tells
 early_of false before desk hand d keeps tells = keeps.keeps.early tells
-
--- what the device told of its operations, by the clock that it tells
-pub told_bridge : (r : Reading) (inner exit : Told) (operations : List Change) (before : PartTold) (d : Device) → Bridges r true (record { entry = inner; exit = exit; operations = operations }) before (told_of d) (clock_of d)
-    → Bridges r true (record { entry = inner; exit = exit; operations = operations }) before (told_of d) (beyond_end (told_clock d))
-told_bridge r inner exit operations before d b = record {
-  after = b.after;
-  cut = b.cut;
-  tells = b.tells;
-  slots = b.slots;
-  sound = b.sound;
-  sound_cut = b.sound_cut;
-  operations = record {
-    told_alike = b.operations.told_alike;
-    chain = b.operations.chain;
-    seen = λ t. seen_more (λ k. IsTrue true × off_in_of (flash_device d) k) (λ k. IsTrue true × ((last_count ≤ k) ⊎ ((k < last_count) × off_in_of (flash_device d) k))) 0 t.bytes.last operations (cuts_of true (told_of d)) t.changes (λ k is. (is.0, later k is.1)) (b.operations.seen t);
-    counted = b.operations.counted;
-    told = b.operations.told;
-  };
-  ops = b.ops;
-  faults = b.faults;
-  cuts = b.cuts;
-  off = b.off;
-  withheld = b.withheld;
-  failed = b.failed;
-  worn = b.worn;
-  spare = b.spare;
-}
-  where
-    later : (k : ℕ) → off_in_of (flash_device d) k → (last_count ≤ k) ⊎ ((k < last_count) × off_in_of (flash_device d) k)
-    later k off = elim (leb_tells last_count k) [ inl past_end ↦ inl past_end.1 | inr before_end ↦ inr (before_end.1, off) ]
 
 counted_rose : (a b : ℕ) → WereCounted 1 a b → a ≤ b → Rose a b
 counted_rose a b (inl more) less = inl (omega (arith, more))
@@ -262,9 +225,18 @@ in_first a f t n is (inl more) = inl (omega (arith, is, more))
 in_first a f t n is (inr full) = inr (omega (arith, is, full))
 
 -- what is free in its bytes is spare
-had_free : {P : Type 0} (o : Option (List ℕ)) (spare : ℕ → ℕ → Type 0) (k n : ℕ) (ready : List ℕ → ℕ) (image : List ℕ) → o ≡ Some image → n ≤ ready image → IfSome o (λ x. spare k (ready x)) → P → (free : ℕ) × spare k free × (n ≤ free) × P
-had_free None spare k n ready image is few told first = absurd (let Q : ⊥ = cc is in Q)
-had_free (Some x) spare k n ready image is few told first = let same : x ≡ image = cc is in (ready x, told, subst (λ (y : List ℕ). n ≤ ready y) (sym same) few, first)
+both_less : (n a b : ℕ) → n ≤ a → n ≤ b → n ≤ min a b
+both_less n a b first second = omega (arith, first, second)
+
+had_free : {P : Type 0} (o : Option (List ℕ)) (spare : ℕ → ℕ → Type 0) (k n reserve : ℕ) (ready : List ℕ → ℕ) (image : List ℕ) → o ≡ Some image → n ≤ ready image → n ≤ reserve → IfSome o (λ x. spare k (ready x)) → P
+    → (free : ℕ) × spare k free × (n ≤ min reserve free) × P
+had_free None spare k n reserve ready image is few kept told first = absurd (let Q : ⊥ = cc is in Q)
+had_free (Some x) spare k n reserve ready image is few kept told first =
+    let same : x ≡ image = cc is in (ready x, told, both_less n reserve (ready x) kept (subst (λ (y : List ℕ). n ≤ ready y) (sym same) few), first)
+
+pub had_room : (o : Option (List ℕ)) (spare : ℕ → ℕ → Type 0) (k n : ℕ) (free : List ℕ → ℕ) → option_map_or (λ image. nat_le n (free image)) o false ≡ true → IfSome o (λ x. spare k (free x)) → (x : ℕ) × spare k x × (n ≤ x)
+had_room None spare k n free fits told = cc fits
+had_room (Some x) spare k n free fits told = (free x, told, leb-true n (free x) fits)
 
 pub vouched : (c : Configuration) (inner : Told) (cuts : ℕ) (making : Making) (entry exit : Told) (s : StackState Device (List PlainBlock)) (e : Device) → e ≡ s.device → HalvesMakeIt (told_clock e) → AreValues s.desk.entries → IsOrigin c inner cuts making entry → s.desk.config ≡ c → s.desk.cap ≡ cap
     → IsBack c inner exit (part_at entry) (told_of e) (clock_of e)
@@ -285,12 +257,22 @@ vouched c inner cuts making entry exit s e same halves values origin config most
   cuts = λ n counted. own.cuts n (subst (λ (k : ℕ). WereCounted n (part_at entry).planning.unplanned k) one_part_cuts counted);
   worn = λ k n urgent (few, is).
       subst (λ (x : Configuration). IsWornOut (making_of x) (record { entry = inner; exit = exit; operations = back.operations }) k n urgent) (sym config) (worn_banks_compute (making_of c) (record { entry = inner; exit = exit; operations = back.operations }) k n urgent (own.worn k n urgent is));
-  spare = λ told sound k n few free.
+  kept = λ k few such. (few, own.was TakesKept k (let all = own.ops in omega (arith, few, all)) (of_own TakesKept k such));
+  seals = λ k n few such wanted. (few, own.was Seals k (let all = own.ops in omega (arith, few, all)) (of_own Seals k such), wanted, subst AreOfFirst same back.parts);
+  spare = λ told sound k n few free kept.
       let all = bridge.ops in
       let begins = sound_starts_compute (making_of s.desk.config) (record { entry = inner; exit = exit; operations = back.operations }) sound in (
         few,
-        had_free (bytes_after (record { entry = inner; exit = exit; operations = back.operations }) k) (told_clock s.device).spare k n (ready_pages (making_of s.desk.config) (take k back.operations)) free.image free.bytes free.free
+        had_free (bytes_after (record { entry = inner; exit = exit; operations = back.operations }) k) (told_clock s.device).spare k n (told_of s.device).fixed.reserve (free_pages (making_of s.desk.config) (take k back.operations)) free.image free.bytes (let wanted = free.free in omega (arith, wanted)) kept
             (bridge.spare told begins k (omega (arith, few, all)) free.counted) (subst AreOfFirst same back.parts),
+      );
+  room = λ told sound k n few free.
+      let all = bridge.ops in
+      let begins = sound_starts_compute (making_of s.desk.config) (record { entry = inner; exit = exit; operations = back.operations }) sound in
+      let (counted, fits) = and_parts (nat_lt k last_count) (option_map_or (λ image. nat_le n (free_pages (making_of s.desk.config) (take k back.operations) image)) (bytes_after (record { entry = inner; exit = exit; operations = back.operations }) k) false) free in (
+        few,
+        had_room (bytes_after (record { entry = inner; exit = exit; operations = back.operations }) k) (told_clock s.device).spare k n (free_pages (making_of s.desk.config) (take k back.operations)) fits
+            (bridge.spare told begins k (omega (arith, few, all)) (ltb-true k last_count counted)),
       );
   values = values;
   tells = λ told sound. slots told sound;
@@ -313,6 +295,11 @@ vouched c inner cuts making entry exit s e same halves values origin config most
       (subst (λ (x : Configuration). OperationsAreDue (making_of x) (record { entry = inner; exit = exit; operations = back.operations })) (sym config) back.wear);
 }
   where
+    -- by the configuration that the device was made for
+    of_own : (x : Trait) (k : ℕ) → IsSuch (reading_of (making_of s.desk.config)) (record { entry = inner; exit = exit; operations = back.operations }) x k
+        → IsSuch (reading_of (making_of c)) (record { entry = inner; exit = exit; operations = back.operations }) x k
+    of_own x k = subst (λ (d : Configuration). IsSuch (reading_of (making_of d)) (record { entry = inner; exit = exit; operations = back.operations }) x k) config
+
     own : Bridges (reading_of (making_of c)) true (record { entry = inner; exit = exit; operations = back.operations }) (part_at entry) (told_of s.device) (clock_of s.device)
     own = subst (λ (d : Device). Bridges (reading_of (making_of c)) true (record { entry = inner; exit = exit; operations = back.operations }) (part_at entry) (told_of d) (clock_of d)) same back.bridges
 

@@ -102,6 +102,8 @@ early_turns c steps entry exit end more ends = record {
   rests = tt;
   drains = λ calm. tt;
   cuts = tt;
+  work = record { left = 0; few = omega arith; efforts = []; are = tt };
+  kept = tt;
   urgent = λ told sound. tt;
   paid = λ told sound. tt;
 }
@@ -118,7 +120,22 @@ early_ends mode.Run c steps entry exit end order = callers_are_served (run_of c 
 early_moves : (m : Mode) (c : Configuration) (steps : List Step) (entry exit : Told) (end : End) → entry.faults ≤ exit.faults → EndsAtStart (record { entry = entry; exit = exit; operations = [] }) end
     → HasTurns (job_turns c) (run_of c [] entry exit [] [] (nothing m steps) end) (nothing m steps)
 early_moves mode.Play c steps entry exit end more ends = early_turns c steps entry exit end more ends
-early_moves mode.Run c steps entry exit end more ends = tt
+early_moves mode.Run c steps entry exit end more ends = record {
+  first = record { faults = 0; ops = 0; busy = false };
+  last = record { faults = 0; ops = 0; busy = false };
+  moves = [];
+  tell = refl;
+  are = tt;
+  behind = refl;
+  begins = tt;
+  operations = refl;
+  failed = tt;
+  counted = inl (omega (arith, more));
+  ends = one_fault (record { entry = entry; exit = exit; operations = [] }) end ends;
+  work = record { left = 0; few = omega arith; efforts = []; are = tt };
+  kept = tt;
+  urgent = λ told sound. tt;
+}
 
 pub early_has : (m : Mode) (c : Configuration) (steps : List Step) (Tells : Run → Type 0) (entry exit : Told) (stop : Stop) (end : End) → StopsAtStart c entry exit stop → EndsAtStart (record { entry = entry; exit = exit; operations = [] }) end
     → Tells (run_of c [] entry exit [] [] (nothing m steps) end) → HasRun m c steps Tells entry exit

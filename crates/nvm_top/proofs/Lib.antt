@@ -12,6 +12,7 @@ pub mod PlayLemmas
 pub mod Printing
 pub mod Promised
 pub mod RunLines
+pub mod RunMoves
 pub mod Running
 pub mod Scripts
 pub mod ServedCuts

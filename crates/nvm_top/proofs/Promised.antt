@@ -20,14 +20,18 @@ use Rattle.nvm_flash.specs.promise_run.Run.{Memory}
 use Rattle.nvm_flash.specs.promise_run.Promise.{making_of}
 use Rattle.nvm_script.specs.declared.script.Mode.TheVariants as mode
 use Rattle.nvm_flash.specs.promise_run.JobTurns.{job_turns, write_pages}
+use Rattle.nvm_flash.specs.promise_run.Operations.{Costs, HadRoom as HadPages, HasWork, AreWorked, costs_of}
+use Rattle.script_player.proofs.Working.{worked_by}
 use Rattle.nvm_top.specs.Play.{IsRightSize}
-use Rattle.nvm_flash.specs.promise_run.Turns.{Moment, moment_behind, BeginsAt, EndsBy, ArePaidSince, EachMove, ServesTurn, StaysAtRest, PostsUrgent, HadFree, all_moves, CutsCome}
+use Rattle.nvm_flash.specs.promise_run.Turns.{Moment, moment_behind, BeginsAt, EndsBy, ArePaidSince, EachMove, EachMoveSince, ServesTurn, StaysAtRest, PostsUrgent, MayGoOn, TakeKept, all_moves, CutsCome}
 use Rattle.nvm_flash.proofs.promise_run.Paid.{since_too}
 use Rattle.nvm_flash.proofs.promise_run.CalmPosts.{calm_posts}
 use Rattle.nvm_flash.proofs.promise_run.UrgentPosts.{urgent_by}
+use Rattle.nvm_flash.proofs.promise_run.TakenPages.{taken_by}
 use Rattle.nvm_flash.proofs.promise_run.Counted.{all_behind, counted_by}
-use Rattle.nvm_flash.specs.promise_device.Bridge.{IsWornOut}
-use Rattle.script_player.specs.Paying.{Payer}
+use Rattle.nvm_flash.specs.memif.Clock.{TakesKept}
+use Rattle.nvm_flash.specs.promise_device.Bridge.{IsSuch, IsWornOut, reading_of}
+use Rattle.script_player.specs.Paying.{Payer, FreeBy}
 use Rattle.script_player.specs.Told.{StackTold, moment_of}
 use Rattle.script_player.specs.Made as steps
 use Rattle.script_player.specs.Made.{HasWalked, WereLeft, WasBroken}
@@ -142,6 +146,8 @@ has_run Kept p q c cuts all made left end before old t entry exit Tells started 
         entries = calm.entries;
       });
       cuts = in_time;
+      work = work;
+      kept = taken;
       urgent = λ told sound. urgent told sound;
       paid = λ told sound. paid told sound;
     };
@@ -207,14 +213,57 @@ has_run Kept p q c cuts all made left end before old t entry exit Tells started 
         (subst (λ (x : Configuration). ArePaidSince x q.worn old.faults (moment_of old) (after x old.entries) (all_moves walked.moves.moves)) (sym same)
         (walked.pays.pays (v.tells told sound) old.faults owes.0).0))
 
+    costs : q.work.costs ≡ costs_of t.configuration
+    costs = walked.pays.work.known.costs ∙ owes.4 ∙ ap costs_of (sym same)
+
+    work : HasWork (costs_of t.configuration) (HadPages (making_of t.configuration) (record { entry = entry; exit = exit; operations = v.operations })) (IsWornOut (making_of t.configuration) (record { entry = entry; exit = exit; operations = v.operations })) t.configuration
+        (moment_of old) (after t.configuration (take 1 t.entries)) (all_moves walked.moves.moves)
+    work =
+        let begun = owes.5 in
+        let (es, are, now) = walked.pays.work.along (record { left = begun.left; trying = None }) begun.is in
+        let worn = IsWornOut (making_of t.configuration) (record { entry = entry; exit = exit; operations = v.operations }) in
+        let room = HadPages (making_of t.configuration) (record { entry = entry; exit = exit; operations = v.operations }) in record {
+          left = begun.left;
+          few = let few = begun.few in let switch : p.work.costs.switch ≡ (costs_of t.configuration).switch = ap (λ (f : Costs). f.switch) (owes.4 ∙ ap costs_of (sym same)) in omega (arith, few, switch);
+          efforts = es;
+          are =
+              subst (λ (h : List Entry). AreWorked (costs_of t.configuration) room worn t.configuration (moment_of old) (after t.configuration h) (record { left = begun.left; trying = None }) (all_moves walked.moves.moves) es) (sym first)
+              (subst (λ (x : Configuration). AreWorked (costs_of t.configuration) room worn x (moment_of old) (after x old.entries) (record { left = begun.left; trying = None }) (all_moves walked.moves.moves) es) (sym same)
+              (subst (λ (f : Costs). AreWorked f room worn old.configuration (moment_of old) (after old.configuration old.entries) (record { left = begun.left; trying = None }) (all_moves walked.moves.moves) es) costs
+              (worked_by q.work.costs q.work.room room q.worn worn q.failed t.ops (λ k n few had. v.room had.tells had.sound k n few had.free) v.worn old.configuration (moment_of old) (after old.configuration old.entries)
+              (record { left = begun.left; trying = None }) (all_moves walked.moves.moves) es (omega (arith, moves_end)) walked.pays.counts are)));
+        }
+
+    reserve : q.reserve ≡ (making_of t.configuration).reserve
+    reserve = walked.pays.traits.reserve ∙ owes.2 ∙ ap (λ (x : Configuration). (making_of x).reserve) (sym same)
+
+    -- what may go on in the bytes is free by what the stack was told
+    goes_on : TellsBytes (record { entry = entry; exit = exit; operations = v.operations }) → StartsSound (making_of t.configuration) (record { entry = entry; exit = exit; operations = v.operations })
+        → (since k n : ℕ) → k ≤ t.ops → MayGoOn (making_of t.configuration) (record { entry = entry; exit = exit; operations = v.operations }) since k n → FreeBy q since k n
+    goes_on told sound since k n few (inl free) = inl (v.spare told sound k n few free (let wanted = free.free in omega (arith, wanted, reserve)))
+    goes_on told sound since k n few (inr (seal, wanted)) = inr (record {
+      counted = seal.counted;
+      last = seal.last;
+      is_last = seal.is_last;
+      later = seal.later;
+      seals = v.seals seal.last n (let last = seal.is_last in omega (arith, few, last)) seal.such (omega (arith, wanted, reserve));
+    })
+
     urgent : TellsBytes (record { entry = entry; exit = exit; operations = v.operations }) → StartsSound (making_of t.configuration) (record { entry = entry; exit = exit; operations = v.operations })
-        → EachMove t.configuration (PostsUrgent t.configuration (write_pages t.configuration) (HadFree (making_of t.configuration) (record { entry = entry; exit = exit; operations = v.operations })) (λ id left. Unit {0})) (after t.configuration (take 1 t.entries)) (all_moves walked.moves.moves)
+        → EachMoveSince t.configuration (PostsUrgent t.configuration 4 (write_pages t.configuration) (MayGoOn (making_of t.configuration) (record { entry = entry; exit = exit; operations = v.operations })) (λ id one left. Unit {0})) old.ops (after t.configuration (take 1 t.entries)) (all_moves walked.moves.moves)
     urgent told sound =
-        urgent_by t.configuration (write_pages t.configuration) q.failed q.spare (HadFree (making_of t.configuration) (record { entry = entry; exit = exit; operations = v.operations })) q.due (λ id left. Unit {0}) t.ops (v.spare told sound) (λ id left due. tt)
-        (moment_of old) (after t.configuration (take 1 t.entries)) (all_moves walked.moves.moves) (omega (arith, moves_end)) walked.pays.counts
-        (subst (λ (h : List Entry). EachMove t.configuration (PostsUrgent t.configuration (write_pages t.configuration) q.spare q.due) (after t.configuration h) (all_moves walked.moves.moves)) (sym first)
-        (subst (λ (x : Configuration). EachMove x (PostsUrgent x (write_pages x) q.spare q.due) (after x old.entries) (all_moves walked.moves.moves)) (sym same)
-        (subst (λ (f : State → ℕ → ℕ). EachMove old.configuration (PostsUrgent old.configuration f q.spare q.due) (after old.configuration old.entries) (all_moves walked.moves.moves)) (walked.pays.pages ∙ owes.1) walked.pays.urgent)))
+        urgent_by t.configuration 4 (write_pages t.configuration) q.failed (FreeBy q) (MayGoOn (making_of t.configuration) (record { entry = entry; exit = exit; operations = v.operations })) q.due (λ id one left. Unit {0}) t.ops (goes_on told sound) (λ id one left due. tt)
+        old.ops (moment_of old) (after t.configuration (take 1 t.entries)) (all_moves walked.moves.moves) (omega (arith, moves_end)) walked.pays.counts
+        (subst (λ (h : List Entry). EachMoveSince t.configuration (PostsUrgent t.configuration 4 (write_pages t.configuration) (FreeBy q) q.due) old.ops (after t.configuration h) (all_moves walked.moves.moves)) (sym first)
+        (subst (λ (x : Configuration). EachMoveSince x (PostsUrgent x 4 (write_pages x) (FreeBy q) q.due) old.ops (after x old.entries) (all_moves walked.moves.moves)) (sym same)
+        (subst (λ (f : State → ℕ → ℕ). EachMoveSince old.configuration (PostsUrgent old.configuration 4 f (FreeBy q) q.due) old.ops (after old.configuration old.entries) (all_moves walked.moves.moves)) (walked.pays.pages ∙ owes.1) (walked.pays.urgent old.ops owes.3))))
+
+    taken : TakeKept t.configuration (IsSuch (reading_of (making_of t.configuration)) (record { entry = entry; exit = exit; operations = v.operations }) TakesKept) (moment_of old) (after t.configuration (take 1 t.entries)) (all_moves walked.moves.moves)
+    taken =
+        taken_by t.configuration q.failed q.kept (IsSuch (reading_of (making_of t.configuration)) (record { entry = entry; exit = exit; operations = v.operations }) TakesKept) t.ops v.kept (moment_of old) (after t.configuration (take 1 t.entries)) (all_moves walked.moves.moves)
+        (omega (arith, moves_end)) walked.pays.counts
+        (subst (λ (h : List Entry). TakeKept t.configuration q.kept (moment_of old) (after t.configuration h) (all_moves walked.moves.moves)) (sym first)
+        (subst (λ (x : Configuration). TakeKept x q.kept (moment_of old) (after x old.entries) (all_moves walked.moves.moves)) (sym same) walked.pays.kept))
 
 -- of the status, the output and the steps
 end_runs : (text : RunText) (Kept : Type 0) (p q : Payer) (c : Configuration) (cuts : ℕ) (all made left : List Step) (end : End) (before : PartTold) (old t : StackTold) (entry exit : Told) (x : Status) (w w' : Written) (input : Option (List ℕ))

@@ -28,21 +28,26 @@ use Rattle.nvm_flash.specs.nvm_device_laws.Turn.{TellsSlots}
 use Rattle.nvm_flash.specs.nvm_laws.Keeps.{StackKeepsAsTold}
 use Rattle.nvm_flash.specs.nvm_core.Stack.{StackState}
 use Rattle.nvm_flash.specs.promise_run.Halves.{beyond_end}
+use Rattle.nvm_flash.specs.promise_run.JobTurns.{write_pages}
+use Rattle.nvm_flash.specs.promise_run.Operations.{costs_of}
 use Rattle.nvm_flash.specs.promise_run.Promise.{making_of}
 use Rattle.nvm_flash.specs.promise_run.Run.{Run, Ran, End, Whole, FlashFault, HistoryFull, Memory, RunsBy, cap}
 use Rattle.nvm_flash.specs.promise_run.RunHalves.{KeepsCallers, offs_in, tells_no_refusal}
-use Rattle.nvm_flash.specs.Made.{IsBack}
+use Rattle.nvm_flash.specs.Made.{IsBack, one_part}
 use Rattle.nvm_flash.proofs.promise_device.Readings.{sound_starts_compute}
 use Rattle.nvm_flash.proofs.promise_run.Composition.{begins_well}
 use Rattle.nvm_flash.proofs.promise_run.RunHalves.{as_asked, unplanned, uncut_bridges, callers_keep_promise}
 use Rattle.nvm_script.specs.declared.script.Mode.TheVariants as mode
 use Rattle.nvm_callers.specs.Ran.{KeepsOrder, WasRun, end_of}
 use Rattle.nvm_callers.specs.Added.{IsUncut}
+use Rattle.nvm_callers.specs.Moved.{pages_in}
 use Rattle.nvm_callers.specs.declared.ending.Ending.{Ending}
 use Rattle.nvm_callers.specs.declared.ending.Ending.TheVariants as ending
 use Rattle.script_player.proofs.InHand.{power_on}
 use Rattle.script_player.specs.PlainKept.{IsKept}
 use Rattle.script_player.specs.PlainTold.{plan_from, told_by}
+use Rattle.script_player.specs.PlainPaying.{payer_by}
+use Rattle.script_player.specs.Working.{IsBegun}
 use Rattle.script_walks.specs.Callers.{KeepsAwait, KeepsAwaitBy, asks_of, program_of, requests_of}
 use Rattle.script_walks.specs.Looks.{CopyIsShown, Look}
 use Rattle.script_walks.specs.Runs.{AskedAll, IsRun, has_ended, is_found}
@@ -54,14 +59,15 @@ use Rattle.nvm_top.specs.Play.{IsBeforeAttach, IsRightSize}
 use Rattle.nvm_top.specs.Promised.{EndsIn, FollowsCallers, FollowsScript, HasRun, KeepsRun, WritesText, call_by, lines_in}
 use Rattle.nvm_top.specs.Running.{stop_of_ending}
 use Rattle.nvm_top.specs.Runs.{status_of_run, lines_written}
-use Rattle.nvm_top.specs.Stack.{IsStarted, one_part, run_of}
+use Rattle.nvm_top.specs.Stack.{IsStarted, run_of}
 use Rattle.nvm_top.specs.declared.runs.RunText.TheVariants.{History}
 use Rattle.nvm_top.specs.declared.status.Status.{Status}
 use Rattle.nvm_top.specs.declared.status.Status.TheVariants as status
 use Rattle.nvm_top.specs.declared.stop.Stop.{Stop}
-use Rattle.nvm_top.proofs.Driven.{told_bridge}
+use Rattle.nvm_flash.proofs.FirstStart.{told_bridge}
 use Rattle.nvm_top.proofs.EndsTold.{ends_told, status_at}
 use Rattle.nvm_top.proofs.Promised.{counted_from}
+use Rattle.nvm_top.proofs.RunMoves.{BeginsWork, HasMovesTo, moves_came, none_moved, run_turns}
 use Rattle.nvm_top.proofs.WholeCalls.{written_late}
 
 -- WHAT CALLERS CAME TO
@@ -80,6 +86,7 @@ pub record CameTo (before : Part → PartTold) (c : Configuration) (most : ℕ) 
   pub all : end ≡ Whole → (caller : ℕ) → AskedAll c steps h caller
   pub ends : end ≢ Memory → IsTrue (has_ended c h)
   pub no_fault : end ≢ FlashFault
+  pub moved : HasMovesTo c h now clock
   pub looks : List Look
   pub order : IsLegal c most h → RunsBy c steps looks end h
 
@@ -105,6 +112,7 @@ wanting before c most steps end h now clock w = record {
   all = λ whole. absurd (cc whole);
   ends = λ other. absurd (other refl);
   no_fault = λ fault. cc fault;
+  moved = w.moved;
   looks = w.looks;
   order = λ legal. any_run c steps w.looks h end (w.order legal);
 }
@@ -148,6 +156,10 @@ less_unplanned c before s started = let less = started.unplanned in omega (arith
 
 -- RUN
 
+-- the pages of the records of a write, and those that are kept for urgent ones, are the configuration's, and no try is open
+abbrev HasFigures : StackState Device (List PlainBlock) → Type 0
+HasFigures s = (pages_in (told_of s.device).fixed s.desk.config ≡ write_pages s.desk.config) × ((told_of s.device).fixed.reserve ≡ (making_of s.desk.config).reserve) × BeginsWork s.desk.config (told_of s.device)
+
 never_fault : (e : Ending) → end_of e ≡ FlashFault → ⊥
 never_fault ending.All is = cc is
 never_fault ending.NoRoom is = cc is
@@ -159,9 +171,9 @@ all_made ending.NoRoom is = absurd (cc is)
 all_made ending.Memory is = absurd (cc is)
 
 came_to : (before : Part → PartTold) (c : Configuration) (steps : List Step) (s : StackState Device (List PlainBlock)) (e : Ending) (desk : DeskState) (d : Device) → IsStarted c 0 (before First) (told_by told_of s)
-    → IsKept s.ready before s.desk s.hand (told_of s.device) (told_clock s.device) → WasRun told_of told_clock s e desk d → KeepsOrder steps e desk
+    → HasFigures s → IsKept s.ready before s.desk s.hand (told_of s.device) (told_clock s.device) → WasRun told_of told_clock s e desk d → KeepsOrder steps e desk
     → CameTo before desk.config desk.cap steps (end_of e) desk.entries (told_of d) (told_clock d)
-came_to before c steps s e desk d started kept was keeps = record {
+came_to before c steps s e desk d started (pages, reserve, begins) kept was keeps = record {
   started = subst HasStarted (sym grown) tt;
   one_start = subst (λ (h : List Entry). IsTrue (list_all (λ x. not (is_found x)) (drop 1 h))) (sym grown) was.no_start;
   no_refusal = subst (λ (h : List Entry). IsTrue (list_all tells_no_refusal h)) (sym grown) was.no_refusal;
@@ -176,6 +188,8 @@ came_to before c steps s e desk d started kept was keeps = record {
   all = λ whole. keeps.all (all_made e whole);
   ends = λ other. was.ends (λ is. other (ap end_of is));
   no_fault = never_fault e;
+  moved =
+      moves_came started.fresh.marks started.fresh.ops s.desk desk (told_of s.device) (told_of d) (told_clock d) started.fresh.entries started.ops pages reserve begins (uncut c (before First) s started) was.config was.moved;
   looks = keeps.looks;
   order = keeps.order;
 }
@@ -189,14 +203,24 @@ came_to before c steps s e desk d started kept was keeps = record {
     cuts : IsUncut desk (told_of d) × WereCounted (offs_in was.more) (told_of s.device).first.planning.unplanned (told_of d).first.planning.unplanned
     cuts = was.cuts (uncut c (before First) s started)
 
+-- by what a stack says of itself behind its start-up
+pub begins_work : (s : StackState Device (List PlainBlock)) → s.ready ≡ true → (payer_by told_of told_clock s).work.costs ≡ costs_of s.desk.config → IsBegun (payer_by told_of told_clock s).work → BeginsWork s.desk.config (told_of s.device)
+begins_work s ready costs begun = record {
+  costs = costs;
+  simple = record { one = begun.is.0.one; reads = begun.is.0.reads };
+  left = begun.left;
+  few = begun.few;
+  is = begun.is.1 ready;
+}
+
 -- of the configuration that was handed in, and the most entries of a history
 pub callers_came : (before : Part → PartTold) (c : Configuration) (steps : List Step) (s : StackState Device (List PlainBlock)) (e : Ending) (desk : DeskState) (d : Device) → IsStarted c 0 (before First) (told_by told_of s)
-    → IsKept s.ready before s.desk s.hand (told_of s.device) (told_clock s.device) → WasRun told_of told_clock s e desk d → KeepsOrder steps e desk
+    → HasFigures s → IsKept s.ready before s.desk s.hand (told_of s.device) (told_clock s.device) → WasRun told_of told_clock s e desk d → KeepsOrder steps e desk
     → CameTo before c cap steps (end_of e) desk.entries (told_of d) (told_clock d)
-callers_came before c steps s e desk d started kept was keeps =
+callers_came before c steps s e desk d started figures kept was keeps =
     subst (λ (n : ℕ). CameTo before c n steps (end_of e) desk.entries (told_of d) (told_clock d)) (was.cap ∙ started.most)
     (subst (λ (x : Configuration). CameTo before x desk.cap steps (end_of e) desk.entries (told_of d) (told_clock d)) (was.config ∙ started.configuration)
-    (came_to before c steps s e desk d started kept was keeps))
+    (came_to before c steps s e desk d started figures kept was keeps))
 
 -- WITHOUT MEMORY TO BEGIN WITH
 
@@ -245,6 +269,7 @@ begun before c steps s started kept = record {
   all = λ whole. absurd (cc whole);
   ends = λ other. absurd (other refl);
   no_fault = λ fault. cc fault;
+  moved = none_moved started.fresh.marks started.fresh.ops s.desk (told_of s.device) (told_clock s.device) one started.ops;
   looks = [];
   order = λ legal. subst (λ (h : List Entry). IsRun s.desk.config steps [] h) (sym one) (begun_run s.desk.config steps started.fresh.marks started.fresh.ops);
 }
@@ -284,7 +309,7 @@ keeps_run c steps end h inner exit entry d back w values size = record {
   counted = subst (λ (ks : List ℕ). CountsAll r.flash ks) w.came back.bridges.operations.counted;
   complete = λ calm. record { ends = w.no_fault; rests = λ other. rests_by (is_at_rest (after c h)) (after c h).off (w.ends other) (power_on c h calm.entries) };
   exit = λ _. record { geometry = back.geometry; off = λ is. w.power (back.bridges.off is); plan = back.no_plan };
-  turns = tt;
+  turns = run_turns r (part_at entry) (told_of d) (told_clock d) bridge refl refl back.parts w.no_fault w.moved;
   values = values;
   early = λ told. begins_well (told_clock d) r (part_at entry) (told_of d) (w.early (bridge.tells told)) (uncut_bridges (beyond_end (told_clock d)) (reading_of (making_of c)) r.flash (part_at entry) (told_of d) w.came bridge) told;
   promise = λ told sound. callers_keep_promise (told_clock d) r steps w.looks (one_part (part_at entry)) (told_of d) (callers (bridge.slots told (sound_starts_compute (making_of c) r.flash sound))) w.came bridge back.wear;

@@ -3,7 +3,7 @@ use Rattle.std.specs.Prelude.{◌≡◌, ◌<◌, ◌≤◌, ℕ, Bool, true, fa
 use Rattle.nvm_flash.specs.nv_base.Count.{last_count, Rose, WereCounted}
 use Rattle.nvm_flash.specs.nv_base.Geometry.{size_of}
 use Rattle.nvm_flash.specs.block_config.Config.{Configuration}
-use Rattle.nvm_flash.specs.memif.Told.{Part, First, Second, PartTold, no_part}
+use Rattle.nvm_flash.specs.memif.Told.{PartTold}
 use Rattle.nvm_flash.specs.fls_model.Told.{Told, Change}
 use Rattle.script_walks.specs.Words.{Step}
 use Rattle.script_walks.specs.Texts.{AreValues}
@@ -11,13 +11,16 @@ use Rattle.nvm_flash.specs.block_machine.Words.{Entry}
 use Rattle.nvm_flash.specs.promise_run.Run.{Run, Course, Played, End, cap, HasOrder, LeavesFlash, CutsExplain}
 use Rattle.nvm_flash.specs.promise_run.Refusals.{RefusesAsAsked}
 use Rattle.nvm_flash.specs.promise_run.Promise.{Promise, BeginsWell, making_of}
-use Rattle.nvm_flash.specs.promise_device.Bridge.{IsWornOut}
+use Rattle.nvm_flash.specs.memif.Clock.{Seals, TakesKept}
+use Rattle.nvm_flash.specs.promise_device.Bridge.{IsSuch, IsWornOut, reading_of}
 use Rattle.nvm_flash.specs.promise_device.FlashRun.{HasFailed, CountsAll, TellsBytes, StartsSound}
 use Rattle.script_player.specs.Told.{StackTold}
 use Rattle.script_player.specs.Paying.{Payer}
+use Rattle.script_player.specs.Working.{IsBegun}
 use Rattle.script_player.specs.Made.{IsFresh}
 use Rattle.nvm_flash.specs.promise_run.Turns.{HadFree}
 use Rattle.nvm_flash.specs.promise_run.JobTurns.{job_turns, write_pages}
+use Rattle.nvm_flash.specs.promise_run.Operations.{costs_of, has_free}
 use Rattle.nvm_flash.specs.declared.device.MakeFault.{MakeFault}
 use Rattle.nvm_flash.specs.declared.device.MakeFault.TheVariants as fault
 use Rattle.nvm_top.specs.declared.stop.Stop.{Stop}
@@ -29,11 +32,6 @@ use Rattle.nvm_top.specs.Stop.{status_of}
 abbrev pub run_of : Configuration → List Entry → Told → Told → List Change → List ℕ → Course → End → Run
 run_of c h entry exit operations cuts course end =
     record { configuration = c; course = course; end = end; history = h; flash = record { entry = entry; exit = exit; operations = operations }; cuts = cuts; beside = None }
-
--- a device of one part
-abbrev pub one_part : PartTold → Part → PartTold
-one_part p First = p
-one_part p Second = no_part
 
 -- behind its first start-up, with so many power cuts that can be planned
 pub record IsStarted (c : Configuration) (cuts : ℕ) (before : PartTold) (t : StackTold) : Type 0 where
@@ -64,16 +62,18 @@ pub record StopsAtStart (c : Configuration) (entry exit : Told) (stop : Stop) : 
   pub faults : entry.faults ≤ exit.faults
   pub cuts : entry.cuts ≤ exit.cuts
 
--- nothing is owed for any fault yet, and the pages of the records of a write are those of the configuration
+-- nothing is owed for any fault yet, the pages of the records of a write, those that are kept for urgent ones and what the device
+-- makes of its work at most are the configuration's, no operation from here on left anything yet, and no try is open
 abbrev pub BeginsPaying : Payer → StackTold → Type 0
-BeginsPaying p t = p.owes t.faults × (p.pages ≡ write_pages t.configuration)
+BeginsPaying p t = p.owes t.faults × (p.pages ≡ write_pages t.configuration) × (p.reserve ≡ (making_of t.configuration).reserve) × p.sealing t.ops × (p.work.costs ≡ costs_of t.configuration) × IsBegun p.work
 
 -- so it is, and all is kept
 abbrev pub IsKeptFrom : Type 0 → Payer → StackTold → Type 0
 IsKeptFrom Kept p t = Kept × BeginsPaying p t
 
 -- The flash is given back: the operations, the faults and the cuts that the stack was told are its own, what failed of them
--- the stack was told of, and what its bytes had free for urgent writes, and where it says that it is worn out the flash is; the flash is off only where the device was, and plans no
+-- the stack was told of, what its bytes had free for urgent writes, and which operations took a page that is kept for them or left a
+-- switch at its seal, and where it says that it is worn out the flash is; the flash is off only where the device was, and plans no
 -- cut while it is on; the numbers and bytes of its history are those of
 -- a program; and where this was kept, a run that followed a script keeps the promise, where its flash tells sound bytes at first and
 -- its steps explain its refused copies and its power cuts; until its first operation it does over any bytes.
@@ -91,7 +91,11 @@ pub record Vouches (Kept : Type 0) (p : Payer) (before : PartTold) (t : StackTol
   pub cuts : (n : ℕ) → WereCounted n before.planning.unplanned t.causes.unplanned → WereCounted n entry.cuts exit.cuts
   pub worn : (k n : ℕ) (urgent : Bool) → p.worn k n urgent → IsWornOut (making_of t.configuration) (record { entry = entry; exit = exit; operations = operations }) k n urgent
   pub spare : TellsBytes (record { entry = entry; exit = exit; operations = operations }) → StartsSound (making_of t.configuration) (record { entry = entry; exit = exit; operations = operations })
-      → (k n : ℕ) → k ≤ t.ops → HadFree (making_of t.configuration) (record { entry = entry; exit = exit; operations = operations }) k n → p.spare k n
+      → (k n : ℕ) → k ≤ t.ops → HadFree (making_of t.configuration) (record { entry = entry; exit = exit; operations = operations }) k n → n ≤ p.reserve → p.spare k n
+  pub room : TellsBytes (record { entry = entry; exit = exit; operations = operations }) → StartsSound (making_of t.configuration) (record { entry = entry; exit = exit; operations = operations })
+      → (k n : ℕ) → k ≤ t.ops → has_free (making_of t.configuration) (record { entry = entry; exit = exit; operations = operations }) k n ≡ true → p.work.room k n
+  pub kept : (k : ℕ) → k < t.ops → IsSuch (reading_of (making_of t.configuration)) (record { entry = entry; exit = exit; operations = operations }) TakesKept k → p.kept k
+  pub seals : (k n : ℕ) → k < t.ops → IsSuch (reading_of (making_of t.configuration)) (record { entry = entry; exit = exit; operations = operations }) Seals k → n ≤ p.reserve → p.seals k n
   pub values : AreValues t.entries
   -- its device tells to the end what it holds, where the flash tells its bytes and these were sound
   pub tells : TellsBytes (record { entry = entry; exit = exit; operations = operations }) → StartsSound (making_of t.configuration) (record { entry = entry; exit = exit; operations = operations }) → p.tells

@@ -10,7 +10,8 @@ ghost use Rattle.nvm_flash.specs.nvm_core.StartUps.{StartsUp};
 ghost use Rattle.nvm_flash.specs.nvm_laws.Keeps.{StackKeepsAsTold};
 ghost use Rattle.nvm_flash.specs.fls_model.Told.{Told};
 ghost use Rattle.nvm_flash.specs.nv_base.Geometry.{IsLegal, size_of};
-ghost use Rattle.nvm_top.specs.Stack.{one_part, stop_of_make};
+ghost use Rattle.nvm_top.specs.Stack.{stop_of_make};
+ghost use Rattle.nvm_flash.specs.Made.{one_part};
 
 use crate::flashes::Flashes;
 use crate::stop::Stop;
@@ -36,7 +37,8 @@ impl<F: Flash, O: Origin> Flashes for OneFlash<F, O> {
     ghost use Rattle.nvm_flash.specs.fee_laws.Made.{part_at};
     ghost use Rattle.nvm_flash.specs.Made.{IsBack, IsOrigin};
     ghost use Rattle.nvm_top.specs.Flashes.{one_flash};
-    ghost use Rattle.nvm_top.specs.Stack.{StopsAtStart, one_part};
+    ghost use Rattle.nvm_top.specs.Stack.{StopsAtStart};
+    ghost use Rattle.nvm_flash.specs.Made.{one_part};
 
     type Device = Fee<Cutter<F>, O>;
 
@@ -60,7 +62,11 @@ impl<F: Flash, O: Origin> Flashes for OneFlash<F, O> {
         let geometry = config.geometry();
         match make_stack(alloc, config, flash, cuts) {
             Ok(stack) => match begin(stack) {
-                Ok(stack) => Ok(stack),
+                Ok(stack) => {
+                    let device = stack.device();
+                    let _status = device.status();
+                    Ok(stack)
+                }
                 Err((fault, flash)) => {
                     Err((stop_of_make(fault, geometry), OneFlash { flash, origin }))
                 }

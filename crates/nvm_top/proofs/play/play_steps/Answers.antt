@@ -11,7 +11,7 @@ use Rattle.script_player.specs.PlainTold.{told_by}
 use Rattle.nvm_top.specs.Flashes.{one_flash}
 use Rattle.nvm_top.specs.Promised.{entries_in}
 use Rattle.nvm_top.specs.Runs.{lines_written}
-use Rattle.nvm_top.specs.Stack.{one_part}
+use Rattle.nvm_flash.specs.Made.{one_part}
 use Rattle.nvm_top.proofs.Driven.{vouched}
 use Rattle.nvm_script.specs.declared.script.Mode.TheVariants as mode
 use Rattle.nvm_top.proofs.Early.{early_in}

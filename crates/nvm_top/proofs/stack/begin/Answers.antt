@@ -3,7 +3,8 @@ use Rattle.nvm_flash.specs.fee_told.Device.{Device, told_of}
 use Rattle.nvm_flash.specs.fee_core.Tells.{told_clock}
 use Rattle.nvm_flash.specs.memif.Calls.{InOrder}
 use Rattle.nvm_flash.proofs.nvm_device_laws.Called.{begins_kept}
-use Rattle.nvm_top.proofs.Driven.{if_ok, begins_up}
+use Rattle.nvm_flash.proofs.FirstStart.{begins_up}
+use Rattle.nvm_top.proofs.Driven.{if_ok}
 use Rattle.nvm_top.proofs.stack.begin.Goals as goal
 
 pub returns-clause-kept : goal.returns-clause-kept

@@ -9,7 +9,7 @@ use Rattle.script_walks.specs.Texts.{AreValues}
 use Rattle.script_player.specs.PlainKept.{IsKept}
 use Rattle.script_player.specs.PlainTold.{told_by}
 use Rattle.nvm_top.specs.Flashes.{one_flash}
-use Rattle.nvm_top.specs.Stack.{one_part}
+use Rattle.nvm_flash.specs.Made.{one_part}
 use Rattle.nvm_top.specs.Uds.{HasPieces, WritesLines, lines_of_history, line_served, status_served}
 use Rattle.nvm_top.proofs.Driven.{vouched}
 use Rattle.nvm_top.proofs.WholeCalls.{stopped_late}
