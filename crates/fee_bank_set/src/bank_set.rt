@@ -9,7 +9,7 @@ ghost use Rattle.fls_jobs.specs.Start.{IsIdle};
 ghost use Rattle.fee_log.specs.Index.{clear_flags};
 ghost use Rattle.fee_log.specs.Log.{IsLogState, IsFor, work_in, free_in, erased_state};
 ghost use Rattle.fee_log.specs.Step.{IsPageOf, IsStepAt, due_bytes, op_of, answer_of, after_step, given_up};
-ghost use Rattle.fee_switch.specs.Banks.{BanksState, IsBanksState, TakesRecord, phase_of, left_of, is_worn_out, reads_next, begun_again, append_begun, FindsActive, LoadsActive, IsSameFlash, IsStartOf};
+ghost use Rattle.fee_switch.specs.Banks.{BanksState, IsBanksState, TakesRecord, phase_of, left_of, left_beside, is_worn_out, reads_next, begun_again, append_begun, FindsActive, LoadsActive, IsSameFlash, IsStartOf};
 ghost use Rattle.fee_switch.specs.Copy.{CanGoOn, IsBankStep};
 
 use fee_course::Course;
@@ -18,7 +18,7 @@ use fee_log::{Log, LogStep};
 use fee_switch::{BankBegin, BankStart, Phase};
 use fls_jobs::Fls;
 use fls_model::{Flash, FlashAnswer};
-use nv_base::Geometry;
+use nv_base::{DeviceNumber, Geometry};
 
 /// The banks of a flash, of which one at most is active.
 pub trait BankSet {
@@ -54,6 +54,10 @@ pub trait BankSet {
     /// that is to be copied.
     fn left(&self) -> u64
         ensures { result ≡ left_of (told self.now) };
+
+    /// The turns that the open switch has left once a record is appended to this number, 0 where none is open.
+    fn left_beside(&self, number: DeviceNumber) -> u64
+        ensures { result ≡ left_beside (told self.now) number.0 };
 
     /// Opens a switch to the next bank, or from a blank flash to the first one: with no flag set, the erase of the target's
     /// first sector comes. `WornOut` exactly where the active bank has the last generation.

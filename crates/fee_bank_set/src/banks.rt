@@ -5,7 +5,7 @@ use fee_log::{Log, LogStep};
 use fee_switch::{BankBegin, BankStart, Banks, Phase};
 use fls_jobs::Fls;
 use fls_model::{Flash, FlashAnswer};
-use nv_base::Geometry;
+use nv_base::{DeviceNumber, Geometry};
 
 impl BankSet for Banks {
     ghost told = { λ b. b };
@@ -32,6 +32,10 @@ impl BankSet for Banks {
 
     fn left(&self) -> u64 {
         Banks::left(self)
+    }
+
+    fn left_beside(&self, number: DeviceNumber) -> u64 {
+        Banks::left_beside(self, number)
     }
 
     fn begin(&mut self) -> BankBegin {

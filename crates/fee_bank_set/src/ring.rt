@@ -5,7 +5,7 @@ use fee_log::{Log, LogStep};
 use fee_switch::{BankBegin, BankStart, Banks, Phase};
 use fls_jobs::Fls;
 use fls_model::{Flash, FlashAnswer};
-use nv_base::Geometry;
+use nv_base::{DeviceNumber, Geometry};
 
 /// Banks that are used in turn, of any number that they were made with.
 #[derive(Drop)]
@@ -38,6 +38,10 @@ impl BankSet for Ring {
 
     fn left(&self) -> u64 {
         self.banks.left()
+    }
+
+    fn left_beside(&self, number: DeviceNumber) -> u64 {
+        self.banks.left_beside(number)
     }
 
     fn begin(&mut self) -> BankBegin {

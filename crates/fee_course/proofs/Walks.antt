@@ -1,5 +1,5 @@
 -- Steps along the numbers.
-use Rattle.std.proofs.Common.{◌≡◌, ◌<◌, ◌+◌, ℕ, suc, Bool, true, List, length, drop, get_or, Option, Some, None, option_map, refl, drop-cons, cond, arith}
+use Rattle.std.proofs.Common.{◌≡◌, ◌<◌, ◌+◌, ℕ, suc, Bool, true, false, List, length, drop, get_or, Option, Some, None, option_map, refl, ◌∙◌, drop-cons, cond, arith}
 use Rattle.std.specs.Prelude.{max}
 use Rattle.std.proofs.lemmas.List.{length-set}
 use Rattle.nv_base.specs.Pages.{record_pages_of}
@@ -7,7 +7,7 @@ use Rattle.nv_base.specs.declared.instance.DeviceNumber.{DeviceNumber}
 use Rattle.fee_image.specs.declared.place.Place.{Place}
 use Rattle.fee_image.specs.declared.place.Place.TheVariants.{Content}
 use Rattle.fee_course.specs.declared.copies.Source.{Source}
-use Rattle.fee_course.specs.Copies.{turns_of, is_left, later, next_copy, copies_left, copies_most, greatest, as_copied, as_appended}
+use Rattle.fee_course.specs.Copies.{turns_of, is_left, later, next_copy, copies_left, copies_most, greatest, as_copied, as_cleared, as_appended}
 
 pub left_step : (p : ℕ) (ns : List (DeviceNumber × ℕ)) (ps : List Place) (cs : List Bool) (i : ℕ) (n : DeviceNumber × ℕ) (x : Place) (c : Bool)
     → i < length ns → i < length ps → i < length cs
@@ -41,3 +41,7 @@ appended_length (Some i) ps = length-set ps i (Content 0 0)
 pub copied_length : (a : Option ℕ) (cs : List Bool) → length (as_copied a cs) ≡ length cs
 copied_length None cs = refl
 copied_length (Some i) cs = length-set cs i true
+
+pub cleared_length : (a b : Option ℕ) (cs : List Bool) → length (as_cleared a (as_copied b cs)) ≡ length cs
+cleared_length None b cs = copied_length b cs
+cleared_length (Some i) b cs = length-set (as_copied b cs) i false ∙ copied_length b cs

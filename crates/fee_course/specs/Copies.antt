@@ -41,6 +41,11 @@ abbrev pub as_copied : Option ℕ → List Bool → List Bool
 as_copied None copied = copied
 as_copied (Some i) copied = set copied i true
 
+-- as if it had no copy
+abbrev pub as_cleared : Option ℕ → List Bool → List Bool
+as_cleared None copied = copied
+as_cleared (Some i) copied = set copied i false
+
 -- as if the number at this place of the list had a content
 abbrev pub as_appended : Option ℕ → List Place → List Place
 as_appended None places = places

@@ -8,7 +8,7 @@ use Rattle.fee_course.specs.declared.copies.Source.{Source}
 use Rattle.fee_course.specs.declared.course.Copying.{Copying}
 use Rattle.fee_course.specs.declared.course.Course.{Course}
 use Rattle.fee_course.specs.declared.course.Course.TheVariants.{Erase, Copy, Head, Gate}
-use Rattle.fee_course.specs.Copies.{next_copy, copies_left, as_copied, as_appended, copies_most, greatest}
+use Rattle.fee_course.specs.Copies.{next_copy, copies_left, as_copied, as_cleared, as_appended, copies_most, greatest}
 
 -- WHAT COMES BEHIND AN OPERATION
 -- a copy is in work: of a content, which was read, all pages of its record are left, of a mark all but the first
@@ -64,9 +64,9 @@ pages_left (Some w) = w.pages
 
 -- those that are left, while a record is appended to a number, which counts as a content without a copy
 abbrev pub turns_left : ℕ → ℕ → List (DeviceNumber × ℕ) → List Place → List Bool → Option ℕ → Course → ℕ
-turns_left p sectors ns places copied appended (Erase done) = (sectors - done) + copies_left p ns (as_appended appended places) copied + 2
+turns_left p sectors ns places copied appended (Erase done) = (sectors - done) + copies_left p ns (as_appended appended places) (as_cleared appended copied) + 2
 turns_left p sectors ns places copied appended (Copy work) =
-    copies_left p ns (as_appended appended places) (as_copied (copied_by work) copied) + pages_left work + 2
+    copies_left p ns (as_appended appended places) (as_cleared appended (as_copied (copied_by work) copied)) + pages_left work + 2
 turns_left p sectors ns places copied appended Head = 2
 turns_left p sectors ns places copied appended (Gate failed) = 1
 

@@ -14,13 +14,13 @@ abbrev pub IsBeforeGate : Course → Type 0
 IsBeforeGate (Gate failed) = ⊥
 IsBeforeGate _ = Unit {0}
 
--- each operation before the gate that is done leaves fewer turns
+-- each operation before the gate that is done leaves one turn less
 abbrev pub TurnsFall : Type 0
 TurnsFall =
     (p sectors : ℕ) (ns : List (DeviceNumber × ℕ)) (places : List Place) (copied : List Bool) (c : Course)
     → 16 ≤ p → IsUnderWay p sectors ns places copied c → IsBeforeGate c
     → let done = as_copied (flag_due c) copied in
-    turns_left p sectors ns places done None (after_done p sectors ns places done c) < turns_left p sectors ns places copied None c
+    turns_left p sectors ns places done None (after_done p sectors ns places done c) + 1 ≡ turns_left p sectors ns places copied None c
 
 -- what comes behind an operation that is done is under way
 abbrev pub StaysUnderWay : Type 0
@@ -30,17 +30,24 @@ StaysUnderWay =
     → let done = as_copied (flag_due c) copied in
     IsUnderWay p sectors ns places done (after_done p sectors ns places done c)
 
--- an append that begins adds no more than the turns of a copy of its content
+-- an append adds no more than the turns of a copy of its content
 abbrev pub AppendsAdd : Type 0
 AppendsAdd =
     (p sectors i : ℕ) (ns : List (DeviceNumber × ℕ)) (places : List Place) (copied : List Bool) (c : Course) (n : DeviceNumber × ℕ)
     → slice_get ns i ≡ Some n → length places ≡ length ns → length copied ≡ length ns
-    → turns_left p sectors ns places (set copied i false) (Some i) (appended_to i c) ≤ turns_left p sectors ns places copied None c + (record_pages_of n.1 p + 1)
+    → turns_left p sectors ns places copied (Some i) c ≤ turns_left p sectors ns places copied None c + (record_pages_of n.1 p + 1)
 
--- once its content is the number's, as many are left as in its course, and where it is given up no more
+-- as many are left once it has begun
+abbrev pub AppendsBegin : Type 0
+AppendsBegin =
+    (p sectors i : ℕ) (ns : List (DeviceNumber × ℕ)) (places : List Place) (copied : List Bool) (c : Course)
+    → turns_left p sectors ns places (set copied i false) (Some i) (appended_to i c) ≡ turns_left p sectors ns places copied (Some i) c
+
+-- and, of one that has, once its content is the number's; where it is given up no more
 abbrev pub AppendsEnd : Type 0
 AppendsEnd =
     (p sectors i at count : ℕ) (ns : List (DeviceNumber × ℕ)) (places : List Place) (copied : List Bool) (c : Course)
+    → set copied i false ≡ copied → appended_to i c ≡ c
     → turns_left p sectors ns (set places i (Content at count)) copied None c ≡ turns_left p sectors ns places copied (Some i) c
 
 abbrev pub AppendsGivenUp : Type 0

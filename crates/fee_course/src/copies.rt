@@ -1,6 +1,6 @@
 // The copies that a switch has to make.
 ghost use Rattle.std.specs.Prelude.{◌≡◌, ◌<◌, ◌≤◌, ◌*◌, ◌^◌, length, get_or};
-ghost use Rattle.fee_course.specs.Copies.{turns_of, is_left, next_copy, copies_left, as_copied, as_appended, copies_most, greatest};
+ghost use Rattle.fee_course.specs.Copies.{turns_of, is_left, next_copy, copies_left, as_copied, as_cleared, as_appended, copies_most, greatest};
 
 use fee_image::Place;
 use nv_base::{Lengths, record_pages};
@@ -70,16 +70,16 @@ fn place_as(places: &[Place], appended: Option<usize>, i: usize) -> Place
     }
 }
 
-// Whether a number is copied, as if the one at one place of the list were.
-fn copied_as(copied: &[bool], in_work: Option<usize>, i: usize) -> bool
+// Whether a number is copied, as if the one at one place of the list were, and the one at another weren't.
+fn copied_as(copied: &[bool], in_work: Option<usize>, appended: Option<usize>, i: usize) -> bool
     requires { i < length copied.now }
-    ensures { (d : _) → result ≡ get_or (as_copied in_work copied.now) i d }
+    ensures { (d : _) → result ≡ get_or (as_cleared appended (as_copied in_work copied.now)) i d }
 {
-    in_work == Some(i) || copied[i]
+    appended != Some(i) && (in_work == Some(i) || copied[i])
 }
 
 /// The turns of all copies that are to be made, as if the number at one place of the list, if any, were copied, and the one
-/// at another had a content.
+/// at another had a content without a copy.
 pub fn copies_left(
     page: u32,
     numbers: &Lengths,
@@ -92,7 +92,7 @@ pub fn copies_left(
     requires high { page ≤ 256 }
     requires places { length places.now ≡ length numbers.now }
     requires copied { length copied.now ≡ length numbers.now }
-    ensures value { result ≡ copies_left page numbers.now (as_appended appended places.now) (as_copied in_work copied.now) }
+    ensures value { result ≡ copies_left page numbers.now (as_appended appended places.now) (as_cleared appended (as_copied in_work copied.now)) }
     ensures most { result ≤ 260 * length numbers.now }
     ensures few { length numbers.now < 2 ^ 32 }
 {
@@ -101,7 +101,7 @@ pub fn copies_left(
     let mut turns = 0;
     for i in 0..list.len() {
         let place = place_as(places, appended, i);
-        let done = copied_as(copied, in_work, i);
+        let done = copied_as(copied, in_work, appended, i);
         turns += turns_of(page, list[i].1, place, done);
     }
     turns

@@ -1,6 +1,6 @@
 // How far a switch has come.
 ghost use Rattle.std.specs.Prelude.{◌≡◌, ◌≤◌, ◌+◌, ◌*◌, ◌^◌, length};
-ghost use Rattle.fee_course.specs.Copies.{as_copied, as_appended, copies_left};
+ghost use Rattle.fee_course.specs.Copies.{as_copied, as_cleared, as_appended, copies_left};
 ghost use Rattle.fee_course.specs.Course.{begun, settled, after_done, flag_due, appended_to, after_failed, turns_left, most_turns, IsShort};
 
 use crate::{Source, copies_left, copies_most, next_copy};

@@ -122,13 +122,21 @@ abbrev pub index_of : List (DeviceNumber × ℕ) → Option RecHead → Option �
 index_of numbers None = None
 index_of numbers (Some h) = place_of numbers h.number.0
 
+-- while a record is appended to the number at one place of the list, if any
+abbrev pub left_as : BanksState → Option ℕ → Option Course → ℕ
+left_as s appended None = 0
+left_as s appended (Some course) =
+    turns_left s.geometry.page (sectors_of_bank s.geometry s.banks) s.log.numbers s.log.places s.log.flags appended course
+
 abbrev pub left_with : BanksState → Option Course → ℕ
-left_with s None = 0
-left_with s (Some course) =
-    turns_left s.geometry.page (sectors_of_bank s.geometry s.banks) s.log.numbers s.log.places s.log.flags (index_of s.log.numbers (work_in s.log.tail)) course
+left_with s course = left_as s (index_of s.log.numbers (work_in s.log.tail)) course
 
 abbrev pub left_of : BanksState → ℕ
 left_of s = left_with s s.course
+
+-- once one is appended to this number, which is a content without a copy then
+abbrev pub left_beside : BanksState → ℕ → ℕ
+left_beside s number = left_as s (place_of s.log.numbers number) s.course
 
 -- the next step reads a content
 abbrev pub reads_place : Place → Bool

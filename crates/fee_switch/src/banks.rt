@@ -10,7 +10,7 @@ ghost use Rattle.fls_jobs.specs.Start.{IsIdle};
 ghost use Rattle.fee_log.specs.Index.{clear_flags};
 ghost use Rattle.fee_log.specs.Log.{IsLogState, IsFor, work_in, free_in, begun};
 ghost use Rattle.fee_log.specs.Step.{IsPageOf, IsStepAt, due_bytes, op_of, answer_of, after_step, given_up};
-ghost use Rattle.fee_switch.specs.Banks.{IsBanksState, IsMade, TakesRecord, phase_of, left_of, is_worn_out, reads_place, reads_next, begun_again, append_begun};
+ghost use Rattle.fee_switch.specs.Banks.{IsBanksState, IsMade, TakesRecord, phase_of, left_as, left_of, left_beside, is_worn_out, reads_place, reads_next, begun_again, append_begun};
 
 use crate::due::reads_place;
 use crate::phase::phase_of;
@@ -141,19 +141,15 @@ impl Banks {
         }
     }
 
-    /// The turns that the open switch has left, 0 where none is open. A record in work in the active log counts as a content
-    /// that is to be copied.
-    pub fn left(&self) -> u64
-        ensures { result ≡ left_of self.now }
+    // The turns that the open switch has left, 0 where none is open, while a record is appended to the number at one place of
+    // the list, if any.
+    fn left_as(&self, appended: Option<usize>) -> u64
+        ensures { result ≡ left_as self.now appended self.now.course }
     {
         let Some(course) = self.course else {
             return 0;
         };
         let (numbers, places, flags) = self.log.lists();
-        let appended = match self.log.work() {
-            Some(head) => numbers.place_of(head.number),
-            None => None,
-        };
         let sectors = self.bank_sectors();
         course.left(
             self.geometry.page,
@@ -163,6 +159,26 @@ impl Banks {
             flags,
             appended,
         )
+    }
+
+    /// The turns that the open switch has left, 0 where none is open. A record in work in the active log counts as a content
+    /// that is to be copied.
+    pub fn left(&self) -> u64
+        ensures { result ≡ left_of self.now }
+    {
+        let appended = match self.log.work() {
+            Some(head) => self.log.lists().0.place_of(head.number),
+            None => None,
+        };
+        self.left_as(appended)
+    }
+
+    /// The turns that the open switch has left once a record is appended to this number, 0 where none is open.
+    pub fn left_beside(&self, number: DeviceNumber) -> u64
+        ensures { result ≡ left_beside self.now number.0 }
+    {
+        let appended = self.log.lists().0.place_of(number);
+        self.left_as(appended)
     }
 
     /// Opens a switch to the next bank, or from a blank flash to the first one: with no flag set, the erase of the target's

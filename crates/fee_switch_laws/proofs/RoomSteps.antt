@@ -418,10 +418,10 @@ steps_lower reserve s made course told told' is state idle at keeps before makes
     let r = roomy_at reserve s course keeps at in
     lower made course before of r.going at
   where
-    lower : (made : BanksState) (course : Course) → IsBeforeGate course → IsMadeOf s made → IsGoing s course → s.course ≡ Some course → left_of (after_answer made course Done) < left_of s
-    lower made (Erase n) before of going at = subst (λ (x : BanksState). left_of (advanced x (Erase n)) < left_of s) (sym of.is) (left_falls s of.copies of.buffer (Erase n) is state idle at before going).0
-    lower made (Copy w) before of going at = subst (λ (x : BanksState). left_of (advanced x (Copy w)) < left_of s) (sym of.is) (left_falls s of.copies of.buffer (Copy w) is state idle at before going).0
-    lower made Head before of going at = subst (λ (x : BanksState). left_of (advanced x Head) < left_of s) (sym of.is) (left_falls s of.copies of.buffer Head is state idle at before going).0
+    lower : (made : BanksState) (course : Course) → IsBeforeGate course → IsMadeOf s made → IsGoing s course → s.course ≡ Some course → left_of (after_answer made course Done) + 1 ≡ left_of s
+    lower made (Erase n) before of going at = subst (λ (x : BanksState). left_of (advanced x (Erase n)) + 1 ≡ left_of s) (sym of.is) (left_falls s of.copies of.buffer (Erase n) is state idle at before going).0
+    lower made (Copy w) before of going at = subst (λ (x : BanksState). left_of (advanced x (Copy w)) + 1 ≡ left_of s) (sym of.is) (left_falls s of.copies of.buffer (Copy w) is state idle at before going).0
+    lower made Head before of going at = subst (λ (x : BanksState). left_of (advanced x Head) + 1 ≡ left_of s) (sym of.is) (left_falls s of.copies of.buffer Head is state idle at before going).0
     lower made (Gate failed) before of going at = absurd before
 
 pub switches_make_room : SwitchesMakeRoom

@@ -1,5 +1,5 @@
 -- Laws of the room that the banks keep, for the layers above.
-use Rattle.std.specs.Prelude.{◌≡◌, ◌⊎◌, ◌<◌, ◌≤◌, ℕ, Bool, true, false, List, Some, None, IsSome, IfSome}
+use Rattle.std.specs.Prelude.{◌≡◌, ◌⊎◌, ◌≤◌, ◌+◌, ℕ, Bool, true, false, List, Some, None, IsSome, IfSome}
 use Rattle.nv_base.specs.declared.geometry.Geometry.{Geometry}
 use Rattle.nv_base.specs.declared.instance.DeviceNumber.{DeviceNumber}
 use Rattle.nv_base.specs.Pages.{record_pages_of}
@@ -25,12 +25,12 @@ use Rattle.fee_switch_laws.specs.KeepsRoom.{KeepsRoom}
 abbrev pub StepsMayBeMade : Type 0
 StepsMayBeMade = (reserve : ℕ) (s : BanksState) → IsBanksState s → IsLogState s.log → KeepsRoom reserve s → IfSome s.course (CanGoOn s)
 
--- each step that is done, but for the gate, leaves fewer turns
+-- each step that is done, but for the gate, leaves one turn less
 abbrev pub StepsLower : Type 0
 StepsLower =
     (reserve : ℕ) (s made : BanksState) (course : Course) (told told' : Told)
     → IsBanksState s → IsLogState s.log → work_in s.log.tail ≡ None → s.course ≡ Some course → KeepsRoom reserve s → IsBeforeGate course
-    → MakesNext s course told Done made told' → left_of (after_answer made course Done) < left_of s
+    → MakesNext s course told Done made told' → left_of (after_answer made course Done) + 1 ≡ left_of s
 
 -- behind the switch the active log is open, with room for the greatest record and for what is kept
 pub record IsBehindSwitch (reserve : ℕ) (s : BanksState) : Type 0 where

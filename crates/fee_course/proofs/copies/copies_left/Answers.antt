@@ -2,8 +2,8 @@ use Rattle.std.proofs.Common.{◌≡◌, ap, length, get_or, add-one, false, ari
 use Rattle.std.proofs.lemmas.Option.{slice_get-get_or}
 use Rattle.nv_base.specs.Lengths.{AreLengths}
 use Rattle.fee_image.specs.declared.place.Place.TheVariants.{Unwritten}
-use Rattle.fee_course.proofs.Walks.{left_step, appended_length, copied_length}
-use Rattle.fee_course.specs.Copies.{turns_of, as_copied, as_appended}
+use Rattle.fee_course.proofs.Walks.{left_step, appended_length, cleared_length}
+use Rattle.fee_course.specs.Copies.{turns_of, as_copied, as_cleared, as_appended}
 use Rattle.nv_base.proofs.Places.{numbers_are_in_bounds}
 use Rattle.fee_course.proofs.copies.copies_left.Goals as goal
 
@@ -19,9 +19,9 @@ loop-i-preserved c =
     let list = c.as_slice-list.result.now in
     let i = c.loop-i.i in
     let places = as_appended c.args.appended c.args.places.now in
-    let copied = as_copied c.args.in_work c.args.copied.now in
+    let copied = as_cleared c.args.appended (as_copied c.args.in_work c.args.copied.now) in
     let a = appended_length c.args.appended c.args.places.now in
-    let b = copied_length c.args.in_work c.args.copied.now in
+    let b = cleared_length c.args.appended c.args.in_work c.args.copied.now in
     let same : length list ≡ length c.args.numbers.now = ap length c.as_slice-list.ensures.value in
     let e = left_step c.args.page list places copied i (record { 0 = 0 }, 0) Unwritten false c.loop-i-test.true (omega arith) (omega arith) in
     let t = c.turns_of-turns.ensures.value in
