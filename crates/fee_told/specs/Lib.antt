@@ -4,6 +4,7 @@ pub mod Device
 pub mod Attached
 pub mod Programs
 pub mod Figures
+pub mod Turns
 pub mod FigureLaws
 pub mod Appends
 pub mod Jobs

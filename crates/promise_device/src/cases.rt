@@ -53,13 +53,28 @@ pub fn counts_of_the_flash()
 {}
 
 /// Over a bank of eight free pages the four that are kept are ready, also beside the job that takes the other four, which has as
-/// many turns as pages. Over a torn one nothing is, and a standard write, which leaves what is kept, needs a switch.
+/// many turns as pages.
 pub fn room_of_a_bank()
     ensures at_rest { Tells false roomy no_job 4 0 }
     ensures urgent { Tells false roomy urgent_write 4 4 }
     ensures standard { Tells false roomy standard_write 4 4 }
     ensures torn { Tells false torn no_job 0 0 }
-    ensures switch { Tells false torn standard_write 0 20 }
+{}
+
+/// A standard write leaves what is kept, and without the room for that it needs a switch: besides its four turns an erase, a head and
+/// a gate, and the five of a copy where the number has a record. Over a torn bank the gate of a record may be owed too.
+pub fn turns_of_a_switch()
+    ensures copied { Tells false full standard_write 4 12 }
+    ensures torn { Tells false torn standard_write 0 8 }
+    ensures none_active { Tells false no_bank standard_write 0 7 }
+{}
+
+/// A device that tells of one turn more tells of another switch; but where a program failed, which may have closed the bank.
+pub fn turns_of_another_switch()
+    ensures copied { Tells false full standard_write 4 13 → ⊥ }
+    ensures torn { Tells false torn standard_write 0 9 → ⊥ }
+    ensures none_active { Tells false no_bank standard_write 0 8 → ⊥ }
+    ensures after_a_failure { Tells true full standard_write 4 13 }
 {}
 
 /// A device that tells that nothing is ready, or more than there is, or turns where nothing is open, or more of a job with room
