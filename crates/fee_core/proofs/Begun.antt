@@ -33,7 +33,7 @@ use Rattle.fee_laws.specs.Worn.{IsWornNow}
 use Rattle.fee_laws.proofs.BegunSound.{records_begin}
 use Rattle.fee_laws.proofs.FollowCalled.{begun_follows, room_is_known, switching_follows}
 use Rattle.fee_laws.proofs.Heads.{has_kind, not_read}
-use Rattle.fee_laws.proofs.Lifting.{begun_turns}
+use Rattle.fee_laws.proofs.Lifting.{begun_turns, begun_takes}
 use Rattle.fee_laws.proofs.SwitchBegun.{switches_begin}
 use Rattle.fee_laws.proofs.SwitchEnded.{for_job, pages_for}
 use Rattle.fee_laws.proofs.WornFull.{never_begins}
@@ -202,4 +202,9 @@ module _ {m : Making} {entry : Told} {w v : Whole} (at : Stands m entry w v) {b 
   -- a turn of what was begun is one of what was before
   pub begun_turned : {answer : DeviceTurn} {u : Whole} → TurnedTo m entry answer (record w { parts = record w.parts { banks = b } }) u → TurnedTo m entry answer v u
   begun_turned {answer} {u} turned =
-      subst (λ (x : Whole). TurnedTo m entry answer x u) at.shown (record { turns = begun_turns answer m entry w.parts (record w.parts { banks = b }) u.parts is.begun.told turned.turns; sound = turned.sound })
+      let mid = record w.parts { banks = b } in
+      subst (λ (x : Whole). TurnedTo m entry answer x u) at.shown (record {
+        turns = begun_turns answer m entry w.parts mid u.parts is.begun.told turned.turns;
+        sound = turned.sound;
+        takes = begun_takes answer m entry w.parts mid u.parts is.begun.told is.begun.unsealed.0 is.begun.unsealed.1 turned.takes;
+      })

@@ -12,7 +12,7 @@ use Rattle.fee_log.specs.declared.tail.Tail.TheVariants.{Open, Writes, Owes, Clo
 use Rattle.fee_log.specs.Index.{clear_flags}
 use Rattle.fee_log.specs.Log.{LogState, work_in, left_in}
 use Rattle.fee_switch.specs.declared.active.ActiveBank.{ActiveBank}
-use Rattle.fee_course.specs.Copies.{copies_left, as_appended}
+use Rattle.fee_course.specs.Copies.{copies_left, as_cleared, as_appended}
 use Rattle.fee_switch.specs.Banks.{BanksState, index_of}
 use Rattle.fee_told.specs.Figures.{turns_owed}
 use Rattle.fee_laws.specs.declared.job.FeeJob.{FeeJob}
@@ -35,10 +35,11 @@ copies_none p [] = refl
 copies_none p (x ∷ xs) = (let rest = copies_none p xs in omega (arith, rest))
 
 pub blank_copies : (b : BanksState) → IsActiveOf b b.active → b.active ≡ None → work_in b.log.tail ≡ None
-    → copies_left b.geometry.page b.log.numbers (as_appended (index_of b.log.numbers (work_in b.log.tail)) b.log.places) (clear_flags b.log.numbers) ≡ 0
+    → let appended = index_of b.log.numbers (work_in b.log.tail) in
+    copies_left b.geometry.page b.log.numbers (as_appended appended b.log.places) (as_cleared appended (clear_flags b.log.numbers)) ≡ 0
 blank_copies b active none idle =
     let blank = subst (λ (o : Option ActiveBank). IsActiveOf b o) none active in
     let places : b.log.places ≡ erased_places b.log.numbers = ap (λ (log : LogState). log.places) blank in
-    ap (λ (o : Option RecHead). copies_left b.geometry.page b.log.numbers (as_appended (index_of b.log.numbers o) b.log.places) (clear_flags b.log.numbers)) idle
+    ap (λ (o : Option RecHead). copies_left b.geometry.page b.log.numbers (as_appended (index_of b.log.numbers o) b.log.places) (as_cleared (index_of b.log.numbers o) (clear_flags b.log.numbers))) idle
     ∙ ap (λ (pl : List Place). copies_left b.geometry.page b.log.numbers pl (clear_flags b.log.numbers)) places
     ∙ copies_none b.geometry.page b.log.numbers

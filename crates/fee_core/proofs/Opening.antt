@@ -5,6 +5,7 @@ use Rattle.nv_base.specs.declared.job.DeviceOp.TheVariants.{Write}
 use Rattle.nv_base.specs.declared.mark.Mark.{Mark}
 use Rattle.memif.specs.Calls.{Opens, ClockStays}
 use Rattle.fls_model.specs.Told.{Told}
+use Rattle.fee_log.specs.Log.{IsLogState}
 use Rattle.fee_switch.specs.Banks.{IsBanksState}
 use Rattle.promise_device.specs.Making.{Making}
 use Rattle.fee_laws.specs.declared.job.FeeJob.{FeeJob}
@@ -38,10 +39,10 @@ module _ {m : Making} {entry : Told} {w v : Whole} (shown : w ≡ v) (sound : So
   shut' : s.job ≡ None
   shut' = ap (λ (x : Whole). x.parts.job) shown ∙ shut
 
-  pub opens : IsBanksState s.banks → (content room : List ℕ) → take (length content) room ≡ content → (j.op ≡ Write → j.length ≡ length content) → length room ≡ 4096 → HasOpened m entry w v j content room
-  opens banks content room front whole size =
+  pub opens : IsBanksState s.banks → IsLogState s.banks.log → (content room : List ℕ) → take (length content) room ≡ content → (j.op ≡ Write → j.length ≡ length content) → length room ≡ 4096 → HasOpened m entry w v j content room
+  opens banks log content room front whole size =
       let promised' = subst (λ (x : Whole). IsPromised m x.parts.banks j) (sym shown) promised in
-      let may : MayOpen m s j room = record { banks = banks; started = started'; shut = shut'; job = job; size = few; room = size; promised = promised' } in
+      let may : MayOpen m s j room = record { banks = banks; log = log; started = started'; shut = shut'; job = job; size = few; room = size; promised = promised' } in
       let is = jobs_open m entry s w.numbers w.reserve w.ops w.off j room safe.parts may in
       let u = opened j room s in
       let mark = mark_at j.op j.length room content front whole in

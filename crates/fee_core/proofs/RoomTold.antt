@@ -1,5 +1,5 @@
 -- What a device tells of its room and its turns.
-use Rattle.std.specs.Prelude.{◌&&◌, IfSome, min, option_map}
+use Rattle.std.specs.Prelude.{◌&&◌, IfSome, is_some, min, option_map}
 use Rattle.std.proofs.Common.{◌≡◌, ◌≤◌, ◌+◌, Bool, true, false, List, ℕ, Option, Some, None, refl, ◌∙◌, subst, arith}
 use Rattle.memif.specs.Calls.{FreesReady, RoomIsLeft, pages_needed, pages_open, pages_urgent}
 use Rattle.fls_model.specs.Told.{Told, ToldBytes}
@@ -14,9 +14,11 @@ use Rattle.promise_device.specs.Room.{TellsWorkOver}
 use Rattle.fls_told.proofs.Clocks.{free_now}
 use Rattle.fee_told.specs.Device.{told_of, flash_device, is_switching}
 use Rattle.fee_laws.specs.Inside.{device_of, IsSound}
+use Rattle.fee_laws.specs.SwitchTold.{TellsSwitchOver}
 use Rattle.fee_laws.proofs.FollowFree.{room_is_enough}
 use Rattle.fee_laws.proofs.FollowReady.{free_is_ready}
 use Rattle.fee_laws.proofs.FollowRoom.{room_is_told}
+use Rattle.fee_laws.proofs.SwitchTold.{switch_is_told}
 use Rattle.fee_core.specs.Whole.{Whole, Sound, told_in, clock_in}
 
 none_open : (started : Bool) (c : Option Course) (s : BanksState) (body : List ℕ) → started ≡ true → started && is_switching (phase_shown c s body) ≡ false → c ≡ None
@@ -27,12 +29,24 @@ none_open true (Some Head) s body up shut = cc shut
 none_open true (Some (Gate failed)) s body up shut = cc shut
 none_open false c s body up shut = cc up
 
+some_open : (started : Bool) (c : Option Course) (s : BanksState) (body : List ℕ) → started && is_switching (phase_shown c s body) ≡ true → is_some c ≡ true
+some_open true None s body over = cc over
+some_open true (Some c) s body over = refl
+some_open false c s body over = cc over
+
 pub work_told : (m : Making) (entry : Told) (w : Whole) → Sound m entry w → IsBanksState w.parts.banks → IsLogState w.parts.banks.log → TellsWorkOver m w.parts.operations w.parts.fls.flash (told_of (device_of m entry w.parts))
 work_told m entry w sound banks log started on shut =
     let up = sound.parts.off started ∙ on in
     room_is_told m entry w.parts w.numbers w.reserve w.ops
     (record { sound = subst (λ (x : Bool). IsSound m entry w.parts w.numbers w.reserve w.ops x) up sound.parts; started = started; banks = banks; log = log })
     (none_open w.parts.started w.parts.banks.course w.parts.banks _ started shut) sound.follows
+
+pub switch_told : (m : Making) (entry : Told) (w : Whole) → Sound m entry w → IsBanksState w.parts.banks → IsLogState w.parts.banks.log → TellsSwitchOver m entry w.parts.operations w.parts.fls.flash (told_of (device_of m entry w.parts))
+switch_told m entry w sound banks log started on over =
+    let up = sound.parts.off started ∙ on in
+    switch_is_told m entry w.parts w.numbers w.reserve w.ops
+    (record { sound = subst (λ (x : Bool). IsSound m entry w.parts w.numbers w.reserve w.ops x) up sound.parts; started = started; banks = banks; log = log })
+    (some_open w.parts.started w.parts.banks.course w.parts.banks _ over) sound.follows
 
 -- what is free is ready for urgent writes, as far as it is kept
 now_is : (o : Option ToldBytes) (P : List ℕ → Type 0) (image : List ℕ) → option_map (λ (b : ToldBytes). b.now) o ≡ Some image → IfSome o (λ b. P b.now) → P image

@@ -53,7 +53,7 @@ module _ {m : Making} {entry : Told} {w v : Whole} where
     turned_from same counted power turned follows wears =
         let end : record w { parts = u; ops = ops; off = is_off } ≡ record w { parts = t; ops = count; off = off } = (λ k. record w { parts = same k; ops = counted k; off = power k }) in
         subst (λ (x : Whole). TurnedTo m entry answer x (record w { parts = u; ops = ops; off = is_off })) at.shown
-        (subst (λ (x : Whole). TurnedTo m entry answer w x) (sym end) (record { turns = turned.turns; sound = record { parts = turned.sound; follows = follows; wears = wears } }))
+        (subst (λ (x : Whole). TurnedTo m entry answer w x) (sym end) (record { turns = turned.turns; sound = record { parts = turned.sound; follows = follows; wears = wears }; takes = turned.takes }))
 
 -- and to what is the same
 pub turned_same : {m : Making} {entry : Told} {answer : DeviceTurn} {v x y : Whole} → y ≡ x → TurnedTo m entry answer v x → TurnedTo m entry answer v y
@@ -97,14 +97,14 @@ pub off_turned : {m : Making} {entry : Told} {v : Whole} → Sound m entry v →
 off_turned {m} {entry} {v} sound off j job =
     let started = job_started m entry v.parts v.numbers v.reserve v.ops v.off sound.parts j job in
     let parts = subst (λ (x : Bool). IsSound m entry v.parts v.numbers v.reserve v.ops x) off sound.parts in
-    record { turns = off_turns m entry v.parts v.numbers v.reserve v.ops parts started (inl (ap (λ (o : Option FeeJob). is_some o) job)); sound = sound }
+    record { turns = off_turns m entry v.parts v.numbers v.reserve v.ops parts started (inl (ap (λ (o : Option FeeJob). is_some o) job)); sound = sound; takes = tt }
 
 -- with a switch open, too
 pub off_beside : {m : Making} {entry : Told} {v : Whole} → Sound m entry v → v.off ≡ true → is_some v.parts.banks.course ≡ true → TurnedTo m entry turn.Off v v
 off_beside {m} {entry} {v} sound off open' =
     let started = started_by v.parts.started (λ is. (let none : false ≡ true = sym (ap (λ (o : Option Course). is_some o) (sound.parts.rests is).course) ∙ open' in cc none)) in
     let parts = subst (λ (x : Bool). IsSound m entry v.parts v.numbers v.reserve v.ops x) off sound.parts in
-    record { turns = off_turns m entry v.parts v.numbers v.reserve v.ops parts started (inr open'); sound = sound }
+    record { turns = off_turns m entry v.parts v.numbers v.reserve v.ops parts started (inr open'); sound = sound; takes = tt }
 
 pub phase_open : (o : Option Course) → (phase_of o ≡ phase.None → ⊥) → is_some o ≡ true
 phase_open None shut = absurd (shut refl)

@@ -11,6 +11,7 @@ use Rattle.fls_jobs.specs.State.{FlsState}
 use Rattle.fee_switch.specs.Banks.{BanksState}
 use Rattle.promise_device.specs.Making.{Making}
 use Rattle.fee_told.specs.Device.{told_of, clock_of}
+use Rattle.fee_told.specs.Turns.{TakesTurn}
 use Rattle.fee_laws.specs.Inside.{Parts, device_of, IsSound}
 use Rattle.fee_laws.specs.Follows.{Follows}
 use Rattle.fee_laws.specs.Wears.{Wears}
@@ -50,3 +51,4 @@ unstarted fls banks numbers reserve content = record {
 pub record TurnedTo (m : Making) (entry : Told) (answer : DeviceTurn) (w v : Whole) : Type 0 where
   pub turns : Turns answer (told_in m entry w) (clock_in m entry w) (told_in m entry v) (clock_in m entry v)
   pub sound : Sound m entry v
+  pub takes : TakesTurn answer (device_of m entry w.parts) (device_of m entry v.parts)

@@ -1,5 +1,5 @@
 // The cancel of a job.
-ghost use Rattle.std.specs.Prelude.{◌≡◌, false, true, is_some, IsSome};
+ghost use Rattle.std.specs.Prelude.{◌≡◌, false, true, is_some};
 ghost use Rattle.memif.specs.Told.{is_urgent};
 ghost use Rattle.memif.specs.Calls.{Cancels};
 ghost use Rattle.fee_log.specs.Log.{work_in};

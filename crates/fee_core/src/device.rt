@@ -5,7 +5,9 @@ use memif::{DeviceRefusal, DeviceTurn, JobResult, MemDevice, MemStatus, PlainMar
 use nv_base::{DeviceNumber, DeviceOp};
 
 impl<F: Flash, O: Origin> MemDevice for Fee<F, O> {
+    ghost use Rattle.memif.specs.Calls.{Turns};
     ghost use Rattle.fee_told.specs.Device.{told_of};
+    ghost use Rattle.fee_told.specs.Turns.{TakesTurn};
     ghost use Rattle.fee_core.specs.Tells.{told_clock};
 
     ghost told = { told_of };
@@ -45,7 +47,11 @@ impl<F: Flash, O: Origin> MemDevice for Fee<F, O> {
         self.parts.arm(which, nth, keep);
     }
 
-    fn turn(&mut self) -> DeviceTurn {
+    /// Besides, it takes one of the turns that are left, unless a fault is counted or a job fails.
+    fn turn(&mut self) -> DeviceTurn
+        ensures turn { Turns result (told_of self.old) (told_clock self.old) (told_of self.new) (told_clock self.new) }
+        ensures takes { TakesTurn result self.old self.new }
+    {
         self.parts.turn()
     }
 

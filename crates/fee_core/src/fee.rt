@@ -92,6 +92,7 @@ impl<F: Flash, O: Origin> Fee<F, O> {
     ghost use Rattle.promise_device.specs.Wear.{OperationsAreDue};
     ghost use Rattle.fee_switch_laws.specs.Space.{HasSpace};
     ghost use Rattle.fee_laws.specs.Made.{IsMadeOf, part_at};
+    ghost use Rattle.fee_laws.specs.SwitchTold.{TellsSwitchOver};
     ghost use Rattle.memif.specs.Told.{First, figures_at};
     ghost use Rattle.fee_told.specs.Figures.{fixed_for};
     ghost use Rattle.fee_told.specs.Device.{told_of, clock_of};
@@ -130,9 +131,10 @@ impl<F: Flash, O: Origin> Fee<F, O> {
     }
 
     /// Gives the flash back. What the device told of it is so, from its making on. With no switch open, what is ready for urgent
-    /// writes and the turns that are left are those of the active bank in its bytes. From a sound image on each of its operations was
-    /// due: a bank is erased only where another one is active that has no room for the most that a record asks for, and hasn't the
-    /// last generation; and a page is programmed where it is blank, or once more where its program failed.
+    /// writes and the turns that are left are those of the active bank in its bytes; with one open, from a sound image on, these
+    /// turns are those of the switch, as far as it has come there. From a sound image on each of its operations was due: a bank is
+    /// erased only where another one is active that has no room for the most that a record asks for, and hasn't the last generation;
+    /// and a page is programmed where it is blank, or once more where its program failed.
     pub fn into_flash(self) -> F
         ensures told { F.told result ≡ self.flash }
         ensures geometry { (F.told result).geometry ≡ O.making.geometry }
@@ -141,6 +143,7 @@ impl<F: Flash, O: Origin> Fee<F, O> {
         ensures none { self.operations ≡ [] → ((F.told result).ops ≡ O.entry.ops) × ((F.told result).cuts ≡ O.entry.cuts) }
         ensures changes { IfSome (changes_in (F.told result).bytes) (λ changes. changes ≡ self.operations) }
         ensures room { TellsWorkOver O.making self.operations (F.told result) (told_of self) }
+        ensures switch { TellsSwitchOver O.making O.entry self.operations (F.told result) (told_of self) }
         ensures wear { OperationsAreDue O.making (record { entry = O.entry; exit = F.told result; operations = self.operations }) }
         ensures bridge { Bridges (reading_of O.making) false (record { entry = O.entry; exit = F.told result; operations = self.operations }) (part_at O.entry) (told_of self) (clock_of self) }
     {

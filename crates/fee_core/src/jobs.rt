@@ -1,5 +1,5 @@
 // The start of a job.
-ghost use Rattle.std.specs.Prelude.{◌≡◌, ◌≢◌, ◌≤◌, false, true, length, take, Some, None, IfOk, MatchResult, option_map};
+ghost use Rattle.std.specs.Prelude.{◌≡◌, ◌≤◌, false, true, length, Some, None, IfOk, MatchResult};
 ghost use Rattle.nv_base.specs.declared.job.DeviceOp.TheVariants.{Read, Write, Invalidate, Erase};
 ghost use Rattle.nv_base.specs.declared.mark.Mark.TheVariants as mark;
 ghost use Rattle.memif.specs.Told.{length_of};

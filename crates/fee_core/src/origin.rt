@@ -1,5 +1,4 @@
 // What a device was made of.
-ghost use Rattle.std.specs.Prelude.{[]};
 ghost use Rattle.fls_model.specs.Told.{Told};
 ghost use Rattle.promise_device.specs.Making.{Making};
 ghost use Rattle.fee_core.specs.Origin.{no_making, no_flash};

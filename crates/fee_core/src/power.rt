@@ -1,5 +1,5 @@
 // The power of a device: its start-up, and plans of power cuts.
-ghost use Rattle.std.specs.Prelude.{◌≡◌, false};
+ghost use Rattle.std.specs.Prelude.{false};
 ghost use Rattle.memif.specs.Calls.{Arms, StartsUp};
 ghost use Rattle.fee_core.specs.Whole.{Sound, told_in, clock_in};
 

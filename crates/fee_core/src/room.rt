@@ -1,5 +1,5 @@
 // The room of records.
-ghost use Rattle.std.specs.Prelude.{◌≡◌, ◌≤◌, ◌<◌, ◌+◌, ◌^◌, nat_le, is_some, Some, None, IfSome};
+ghost use Rattle.std.specs.Prelude.{◌≡◌, ◌≤◌, ◌+◌, nat_le, is_some, Some, None, IfSome};
 ghost use Rattle.nv_base.specs.Pages.{record_pages_of};
 ghost use Rattle.fee_log.specs.Index.{clear_flags};
 ghost use Rattle.fee_log.specs.Log.{work_in};
@@ -136,15 +136,15 @@ fn whole_switch(banks: &Banks) -> u64
     }
 }
 
-// The turns in which the number of an urgent write is copied anew.
+// The turns of the switch that is open, also where the record of a job begins beside it.
 fn turns_beside(banks: &Banks, job: FeeJob) -> u64
     requires { IsActiveOf banks.now banks.now.active }
     ensures { result ≡ turns_beside banks.now (Some job) }
 {
     if begins_next(banks, job) {
-        u64::from(pages_of_job(banks, job)) + 1
+        banks.left_beside(job.number)
     } else {
-        0
+        banks.left()
     }
 }
 
@@ -152,11 +152,10 @@ fn turns_beside(banks: &Banks, job: FeeJob) -> u64
 pub(crate) fn switch_turns(banks: &Banks, job: FeeJob, reserve: u32) -> u64
     requires active { IsActiveOf banks.now banks.now.active }
     requires clear { banks.now.course ≡ None → banks.now.log.flags ≡ clear_flags banks.now.log.numbers }
-    requires few { switch_turns reserve banks.now (Some job) banks.now.course < 2 ^ 63 }
     ensures { result ≡ switch_turns reserve banks.now (Some job) banks.now.course }
 {
     if banks.phase() != Phase::None {
-        return banks.left() + turns_beside(banks, job);
+        return turns_beside(banks, job);
     }
     if is_waiting(banks, job) && !has_room(banks, job, reserve) {
         whole_switch(banks)

@@ -1,14 +1,12 @@
 -- The parts of a device whose record begins.
-use Rattle.std.specs.Prelude.{IfSome, IsSome, ◌&&◌, not, is_some, min, nat_le, take, length, set, slice_get, if◌then◌else◌}
+use Rattle.std.specs.Prelude.{IfSome, IsSome, ◌&&◌, not, is_some, min, nat_le, take, length, if◌then◌else◌}
 use Rattle.std.proofs.Common.{◌≡◌, inl, ◌≤◌, ◌+◌, ◌-◌, ℕ, Bool, true, false, List, [], Option, Some, None, refl, sym, ap, ◌∙◌, subst, arith}
 use Rattle.std.proofs.lemmas.Bool.{leb-true, le-leb}
 use Rattle.std.proofs.lemmas.List.{length-take-le}
 use Rattle.nv_base.specs.Geometry.{sectors_of_bank, pages_of_bank}
 use Rattle.nv_base.specs.declared.geometry.Geometry.{Geometry}
 use Rattle.nv_base.specs.declared.instance.DeviceNumber.{DeviceNumber}
-use Rattle.nv_base.specs.Pages.{record_pages_of}
-use Rattle.nv_base.proofs.Places.{numbers_have_places}
-use Rattle.memif.specs.Told.{length_of, Slot, Stand, Open as StandOpen, Ended as StandEnded, is_open}
+use Rattle.memif.specs.Told.{Slot, Stand, is_open}
 use Rattle.fls_model.specs.Told.{Told}
 use Rattle.fee_format.specs.declared.rec_head.RecHead.{RecHead}
 use Rattle.fee_image.specs.Image.{bank_in}
@@ -16,30 +14,30 @@ use Rattle.fee_image.specs.RecordList.{pages_of_head}
 use Rattle.fee_image.specs.Log.{Log, Open as LogOpen, Writes as LogWrites}
 use Rattle.fee_image.specs.May.{May}
 use Rattle.fee_image.specs.Step.{log_begun, IsRecord}
-use Rattle.fee_image.specs.Banks.{Old, OldBank, Phase}
+use Rattle.fee_image.specs.Banks.{Old, OldBank, Phase, Idle, Erasing, Copying, Sealing}
 use Rattle.fee_image.specs.BankLaws.{TakesAppends}
 use Rattle.fee_log.specs.declared.tail.Tail.{Tail}
 use Rattle.fee_log.specs.declared.tail.Tail.TheVariants.{Open, Writes, Owes, Closed}
 use Rattle.fee_log.specs.Index.{clear_flags, with_flag}
 use Rattle.fee_log.specs.Log.{HasFormat, pages_in, work_in, free_in, free_behind, log_of, tail_begun, tail_with}
 use Rattle.nv_base.specs.Lengths.{place_of}
-use Rattle.fee_log.proofs.Within.{within_length}
-use Rattle.fee_course.proofs.Turns.{appends_add}
 use Rattle.fee_switch.specs.declared.active.ActiveBank.{ActiveBank}
 use Rattle.fee_course.specs.declared.course.Course.{Course}
-use Rattle.fee_course.specs.Course.{appended_to, turns_left}
-use Rattle.fee_switch.specs.Banks.{TakesRecord, appended_at, index_of, left_of, left_with}
+use Rattle.fee_course.specs.declared.course.Course.TheVariants as course
+use Rattle.fee_switch.specs.Banks.{TakesRecord, appended_at, begun_again, left_of, left_with, left_beside}
 use Rattle.fee_switch_laws.specs.Shown.{old_shown}
 use Rattle.fee_switch_laws.specs.KeepsRoom.{KeepsRoom}
 use Rattle.fee_switch_laws.specs.Space.{free_pages, has_room}
 use Rattle.fee_switch_laws.proofs.RoomAppends.{records_keep_room}
 use Rattle.fee_switch_laws.proofs.RoomPages.{clear_flags_stay}
 use Rattle.fee_switch_laws.proofs.Appends.{takes}
+use Rattle.fee_switch_laws.proofs.Turns.{left_begins}
 use Rattle.promise_device.specs.Making.{Making, banks_of}
 use Rattle.fee_told.specs.Slots.{Memory, IsWorkOf, slots_found}
 use Rattle.fee_told.specs.SlotLaws.{IsHeld, SamePlaces}
 use Rattle.fls_told.proofs.Clocks.{clocks_stay}
 use Rattle.fee_told.specs.Device.{Device, tells_now, told_of, slots_in, clock_of, flash_device, is_switching}
+use Rattle.fee_told.specs.Turns.{is_sealing}
 use Rattle.memif.specs.Clock.{SameClock}
 use Rattle.fee_told.specs.Kept.{with_log}
 use Rattle.fee_told.proofs.Appends.{records_begin}
@@ -47,23 +45,21 @@ use Rattle.fee_told.proofs.Steps.{places_tell}
 use Rattle.fee_laws.specs.declared.job.FeeJob.{FeeJob}
 use Rattle.fee_laws.specs.Inside.{Parts, body_of, device_of, memory_of, stand_of, IsActiveOf, IsAtWork, HasSwitch, HoldsBehind, LeavesKept}
 use Rattle.fee_laws.specs.Record.{head_of, IsJobOf}
-use Rattle.fee_laws.specs.Work.{pages_of_op, pages_of_job, pages_free, work_of, is_waiting, begins_next, fits_in, claimed, seal_turns, switch_turns, turns_before, turns_beside, takes_append, is_urgent_job, is_promised}
-use Rattle.nv_base.specs.declared.mark.Mark.{Mark}
-use Rattle.fee_told.specs.Figures.{Work, turns_of, turns_owed, left_of as turns_told, ready_of, wait_of}
+use Rattle.fee_laws.specs.Work.{pages_of_op, pages_of_job, pages_free, work_of, is_waiting, begins_next, fits_in, claimed, needs_switch, seal_turns, switch_turns, turns_before, turns_beside, takes_append, is_urgent_job, is_promised}
+use Rattle.fee_told.specs.Figures.{Work, turns_owed, left_of as turns_told, ready_of, wait_of}
 use Rattle.fee_told.specs.FigureLaws.{IsWork}
-use Rattle.fee_laws.proofs.Figures.{switch_is, free_is}
+use Rattle.fee_laws.proofs.Figures.{and_false, switch_is, free_is}
 use Rattle.fee_laws.proofs.Appended.{has_switch, flags_clear, open_work}
 use Rattle.fee_laws.specs.Turn.{IsOn}
-use Rattle.fee_laws.specs.Begins.{HasBegun, MayBegin, begun_with}
+use Rattle.fee_laws.specs.Begins.{IsUnsealed, HasBegun, MayBegin, begun_with}
 use Rattle.fee_laws.proofs.Before.{lengths, legal, some, copied, held_at, log_geometry, log_banks, power}
 use Rattle.fee_laws.proofs.Order.{tells_by}
 use Rattle.fee_laws.proofs.Heads.{IsAmong, among, mark_is, legal_head}
 use Rattle.fee_laws.proofs.Marks.{counted_by}
 use Rattle.fee_laws.proofs.Begun.{no_course, Ready, opens, owes, ready_by, free_less, begun_work, begun_pages, begun_owed, ready_pages, room_is}
-use Rattle.fee_laws.proofs.Beside.{appended_phase, appended_takes, appended_none, takes_now, flag_at, named}
+use Rattle.fee_laws.proofs.Beside.{appended_phase, appended_takes, appended_none, takes_now}
 use Rattle.fee_laws.proofs.GoneOn.{no_seal}
 use Rattle.fee_laws.proofs.Shown.{few_by, pages_by}
-use Rattle.fee_laws.proofs.Raising.{writes_pages}
 use Rattle.fee_laws.proofs.FollowLifts.{some_of}
 use Rattle.fee_laws.proofs.BehindNone.{AsksNone, makes_none, held_behind}
 
@@ -76,13 +72,16 @@ free_of : (o : Option ActiveBank) (n : ℕ) → IsSome o → (if is_some o then 
 free_of None n some = cc
 free_of (Some a) n some = refl
 
-left_by : (mark : Option Mark) (v w : Work) → v.pages ≡ w.pages → v.owed ≡ w.owed → v.switch ≤ w.switch → turns_of mark v + v.switch ≤ turns_of mark w + w.switch
-left_by None v w pages owed few = omega arith
-left_by (Some m) v w pages owed few = let same = ap turns_owed owed in omega (arith, same, pages)
+-- as many turns are left of the same work
+pub left_alike : (st : Stand) (v w : Work) → v.pages ≡ w.pages → v.owed ≡ w.owed → v.switch ≡ w.switch → turns_told st v ≡ turns_told st w
+left_alike st v w pages owed switch = λ i. turns_told st (record { pages = pages i; owed = owed i; switch = switch i })
 
-pub left_less : (st : Stand) (v w : Work) → v.pages ≡ w.pages → v.owed ≡ w.owed → v.switch ≤ w.switch → turns_told st v ≤ turns_told st w
-left_less (StandOpen j) v w pages owed few = left_by j.mark v w pages owed few
-left_less (StandEnded result given) v w pages owed few = few
+-- a switch that takes appends isn't at its seal
+unsealed_by : (x : Phase) → TakesAppends x → is_sealing x ≡ false
+unsealed_by Idle taking = refl
+unsealed_by (Erasing n) taking = refl
+unsealed_by (Copying log) taking = refl
+unsealed_by (Sealing log) taking = absurd taking
 
 pub and_four' : (a c d : Bool) → a && false && c && d ≡ false
 and_four' true c d = refl
@@ -280,46 +279,28 @@ module _ (m : Making) (entry : Told) (s : Parts) (listed : List (DeviceNumber ×
       let fits : fits_in 0 s.banks j ≡ true = (λ i. has_room (urgent i) (pages_of_op p j.op j.length) 0 (free_pages s.banks)) ∙ sym (λ i. has_room (urgent i) (pages_of_op p j.op j.length) m.reserve (free_pages s.banks)) ∙ may.room in
       λ i. takes_now r.kind s.banks.course may.taken i && urgent i && waiting i && fits i
 
-  -- where its number stands
-  abbrev ns : List (DeviceNumber × ℕ)
-  ns = s.banks.log.numbers
+  -- beside a switch its number is copied again, which is counted before; and a record with room needs none
+  beside_is : j.urgent ≡ true → turns_beside s.banks s.job ≡ left_beside s.banks j.number.0
+  beside_is urgent = ap (turns_beside s.banks) may.job ∙ ap (λ (b : Bool). if b then left_beside s.banks j.number.0 else left_of s.banks) (begins urgent)
 
-  stands : (i : ℕ) × (slice_get ns i ≡ Some (r.number, job_of.length))
-  stands = named ns r.number.0 job_of.length (subst (λ (x : List (DeviceNumber × ℕ)). length_of x r.number.0 ≡ Some job_of.length) (sym on.sound.made_for.numbers) job_of.configured)
+  none_needed : needs_switch m.reserve s.banks s.job ≡ false
+  none_needed = ap (needs_switch m.reserve s.banks) may.job ∙ ap (λ (b : Bool). is_waiting s.banks j && not b) may.room ∙ and_false (is_waiting s.banks j)
 
-  place_is : place ≡ Some stands.0
-  place_is = numbers_have_places 0 ns stands.0 (r.number, job_of.length) on.log.numbers stands.1
-
-  -- beside a switch its number is copied again
-  abbrev turns : List Bool → Option ℕ → Course → ℕ
-  turns x appended c = turns_left p (sectors_of_bank s.banks.geometry s.banks.banks) ns s.banks.log.places x appended c
-
-  switch_adds : (c : Course) → s.banks.course ≡ Some c → left_with t.banks (appended_at place (Some c)) ≤ left_of s.banks + turns_beside s.banks s.job
-  switch_adds c at =
-      let index : index_of ns (work_in t.banks.log.tail) ≡ Some stands.0 = ap (index_of ns) work_is ∙ place_is in
-      let cleared' = flag_at 0 ns s.banks.log.flags stands.0 (r.number, job_of.length) on.log.numbers stands.1 in
-      let then_is : left_with t.banks (appended_at place (Some c)) ≡ turns (set s.banks.log.flags stands.0 false) (Some stands.0) (appended_to stands.0 c) =
-      ap (λ (k : Option ℕ). left_with t.banks (appended_at k (Some c))) place_is ∙ (λ i. turns (cleared' i) (index i) (appended_to stands.0 c)) in
-      let was_is : left_of s.banks ≡ turns s.banks.log.flags None c = ap (left_with s.banks) at ∙ ap (λ (o : Option RecHead). turns s.banks.log.flags (index_of ns o) c) may.idle in
-      let more = appends_add p (sectors_of_bank s.banks.geometry s.banks.banks) stands.0 ns s.banks.log.places s.banks.log.flags c (r.number, job_of.length) stands.1
-      (within_length s.banks.log.geometry.page s.banks.log.end ns s.banks.log.places on.log.places) on.log.flags in
-      let urgent = may.beside (ap (λ (o : Option Course). is_some o) at) in
-      let beside : turns_beside s.banks s.job ≡ pages_of_op p j.op j.length + 1 = ap (turns_beside s.banks) may.job ∙ ap (λ (b : Bool). if b then pages_of_op p j.op j.length + 1 else 0) (begins urgent) in
-      let whole : pages_of_op p j.op j.length ≡ record_pages_of job_of.length p = writes_pages p j.op j.length job_of.length (job_of.urgent urgent) job_of.fits in
-      omega (arith, then_is, was_is, more, beside, whole)
-
-  switch_by : (c : Option Course) → s.banks.course ≡ c → left_with t.banks (appended_at place c) ≤ switch_turns m.reserve s.banks s.job c
-  switch_by None at = let none = ap (left_with t.banks) (no_course place) in omega (arith, none)
-  switch_by (Some c) at = switch_adds c at
+  switch_by : (c : Option Course) → s.banks.course ≡ c → left_of t.banks ≡ switch_turns m.reserve s.banks s.job c
+  switch_by None at =
+      ap (λ (o : Option Course). left_with t.banks (appended_at place o)) at
+      ∙ ap (left_with t.banks) (no_course place)
+      ∙ sym (ap (λ (b : Bool). if b then left_of (begun_again s.banks (course.Erase 0)) else 0) none_needed)
+  switch_by (Some c) at = left_begins s.banks r on.log may.configured ∙ sym (beside_is (may.beside (ap (λ (o : Option Course). is_some o) at)))
 
   switch_then : v.switch ≡ left_of t.banks
   switch_then = switch_is t.banks some_work m.reserve s.job
 
-  switch_few : v.switch ≤ w.switch
-  switch_few = let same = switch_then in let few' = switch_by s.banks.course refl in omega (arith, same, few')
+  switch_same : v.switch ≡ w.switch
+  switch_same = switch_then ∙ switch_by s.banks.course refl
 
-  pub left_few : (told_of e).left ≤ (told_of d).left
-  left_few = left_less (stand_of s.content s.job s.last s.given) v w pages_same owed_same switch_few
+  left_same : (told_of e).left ≡ (told_of d).left
+  left_same = left_alike (stand_of s.content s.job s.last s.given) v w pages_same owed_same switch_same
 
   pub work_then : IsWork m.geometry.page (sectors_of_bank m.geometry m.banks) m.numbers m.reserve (stand_of s.content s.job s.last s.given) v
   work_then =
@@ -384,9 +365,12 @@ module _ (m : Making) (entry : Told) (s : Parts) (listed : List (DeviceNumber ×
   pub has_begun : HasBegun (told_of d) (told_of e) (clock_of d) (clock_of e)
   has_begun = record {
     only = only;
-    left = left_few;
+    left = left_same;
     job = subst (λ (o : Option FeeJob). is_open (stand_of s.content o s.last s.given) ≡ true) (sym may.job) refl;
     switching = λ is. ap (λ (x : Phase). s.started && is_switching x) phase_is ∙ is;
     on = (power m entry s listed kept count on, refl);
     same = same_clock;
   }
+
+  pub unsealed : IsUnsealed s × IsUnsealed t
+  unsealed = let here = unsealed_by (memory_of s).phase taking in (here, ap is_sealing phase_is ∙ here)

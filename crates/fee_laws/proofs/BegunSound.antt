@@ -27,7 +27,7 @@ use Rattle.fee_laws.proofs.Before.{each_now, now_at}
 use Rattle.fee_laws.proofs.Beside.{still_copied, appended_again, appended_some, clear_again, flags_set, clears_copying, appended_copying}
 use Rattle.fee_laws.proofs.Begun.{no_course}
 use Rattle.fee_laws.proofs.GoesOn.{each_some}
-use Rattle.fee_laws.proofs.Beginning.{t, r, ready, active_is, formats, was_at_work, work_is, active, taken_then, taking, held_by, places_by, room_on, switch_on, none, behind, work_then, kept_on, has_begun}
+use Rattle.fee_laws.proofs.Beginning.{t, r, ready, active_is, formats, was_at_work, work_is, active, taken_then, taking, held_by, places_by, room_on, switch_on, none, behind, work_then, kept_on, has_begun, unsealed}
 use Rattle.fee_laws.proofs.BehindNone.{sound as sound_behind}
 
 module _ (m : Making) (entry : Told) (s : Parts) (listed : List (DeviceNumber × ℕ)) (kept count : ℕ) (j : FeeJob) (on : IsOn m entry s listed kept count) (may : MayBegin m s j) where
@@ -105,4 +105,4 @@ module _ (m : Making) (entry : Told) (s : Parts) (listed : List (DeviceNumber ×
   })
 
 pub records_begin : RecordsBegin
-records_begin m entry s listed kept count j on may = record { told = has_begun m entry s listed kept count j on may; sound = sound m entry s listed kept count j on may }
+records_begin m entry s listed kept count j on may = record { told = has_begun m entry s listed kept count j on may; sound = sound m entry s listed kept count j on may; unsealed = unsealed m entry s listed kept count j on may }

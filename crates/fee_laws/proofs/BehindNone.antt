@@ -25,6 +25,7 @@ use Rattle.fls_told.proofs.Making.{runs_stay}
 use Rattle.fls_told.proofs.Parts.{parts_read}
 use Rattle.fee_told.specs.Device.{Device, tells_now, told_of, clock_of, flash_device}
 use Rattle.fee_told.specs.FigureLaws.{IsWork}
+use Rattle.fee_told.specs.Turns.{TakesTurn}
 use Rattle.fee_told.proofs.Kept.{same_places}
 use Rattle.fee_laws.specs.Inside.{Parts, stand_of, memory_of, device_of, CountsCuts, IsAtWork, IsWorn, HoldsBehind, TellsCopies, is_copying, IsSound}
 use Rattle.fee_laws.specs.Work.{work_of}
@@ -170,6 +171,7 @@ module _ (m : Making) (entry : Told) (s : Parts) (listed : List (DeviceNumber ×
     pub ready : TurnsReady (told_of d) (told_of e)
     pub seals : is_copying s.banks.course ≡ false → IsSealing (told_of d) → IsSealing (told_of e)
     pub worn : (t.worn ≡ s.worn) ⊎ (s.worn ≡ None)
+    pub turn_taken : TakesTurn turn.Worked d e
 
   -- a switch that stood at its seal stands there
   seals_by : HasWorked → (k : ℕ) → (told_of e).ops ≡ k + 1 → (told_of e).ops < last_count → (clock_of e).was Seals k → ((told_of d).ops ≤ k) ⊎ IsSealing (told_of d) → IsSealing (told_of e)
@@ -200,4 +202,5 @@ module _ (m : Making) (entry : Told) (s : Parts) (listed : List (DeviceNumber ×
       (sound is).device.order,
     );
     sound = sound is;
+    takes = did.turn_taken;
   }

@@ -1,10 +1,8 @@
 -- What a record that begins changes of an open switch.
-use Rattle.std.specs.Prelude.{◌||◌, not, is_some, set, slice_get, IsTrue}
-use Rattle.std.proofs.Common.{◌≡◌, ◌≤◌, ◌==◌, ℕ, zero, suc, Bool, true, false, if◌then◌else◌, List, [], ◌∷◌, Option, Some, None, refl, ap, subst, arith}
-use Rattle.std.proofs.lemmas.Bool.{cond_both, eqb-true, eq-eqb, ne_eqb}
-use Rattle.nv_base.specs.Lengths.{AreLengths}
+use Rattle.std.specs.Prelude.{◌||◌, not, is_some, slice_get, IsTrue}
+use Rattle.std.proofs.Common.{◌≡◌, ◌==◌, ℕ, zero, suc, Bool, true, false, if◌then◌else◌, List, [], ◌∷◌, Option, Some, None, refl, ap}
+use Rattle.std.proofs.lemmas.Bool.{cond_both, eqb-true}
 use Rattle.nv_base.specs.declared.instance.DeviceNumber.{DeviceNumber}
-use Rattle.nv_base.proofs.Places.{numbers_are_in_bounds}
 use Rattle.memif.specs.Told.{Held, length_of}
 use Rattle.fee_format.specs.declared.rec_head.RecHead.{RecHead}
 use Rattle.fee_format.specs.declared.rec_head.RecordKind.{RecordKind}
@@ -129,26 +127,6 @@ flags_set (x ∷ xs) [] (c ∷ cs) held number on = refl
 flags_set (x ∷ xs) (p ∷ ps) [] held number on = refl
 flags_set (x ∷ xs) (p ∷ ps) (c ∷ cs) [] number on = refl
 flags_set (x ∷ xs) (p ∷ ps) (c ∷ cs) (y ∷ ys) number on = λ i. one_set x (is_written p) c (x.0.0 == number) on y i ∷ flags_set xs ps cs ys number on i
-
--- the flag of a number is the one at its place
-flags_above : (number low : ℕ) (ns : List (DeviceNumber × ℕ)) (cs : List Bool) → AreLengths low ns → number ≤ low → with_flag ns cs number false ≡ cs
-flags_above number low [] cs all le = refl
-flags_above number low (n ∷ ns) [] all le = refl
-flags_above number low (n ∷ ns) (c ∷ cs) all le =
-    let lt = all.0 in
-    rw (ne_eqb n.0.0 number (λ e. omega arith)) (ap (λ (l : List Bool). c ∷ l) (flags_above number n.0.0 ns cs all.4 (omega arith)))
-
-pub flag_at : (low : ℕ) (ns : List (DeviceNumber × ℕ)) (cs : List Bool) (i : ℕ) (n : DeviceNumber × ℕ) → AreLengths low ns → slice_get ns i ≡ Some n
-    → with_flag ns cs n.0.0 false ≡ set cs i false
-flag_at low [] cs i n all is = cc
-flag_at low (m ∷ ns) [] i n all is = refl
-flag_at low (m ∷ ns) (c ∷ cs) zero n all is =
-    let same : m ≡ n = cc in
-    subst (λ (x : DeviceNumber × ℕ). with_flag (m ∷ ns) (c ∷ cs) x.0.0 false ≡ false ∷ cs) same
-    (rw (eq-eqb m.0.0 m.0.0 refl) (ap (λ (l : List Bool). false ∷ l) (flags_above m.0.0 m.0.0 ns cs all.4 (omega arith))))
-flag_at low (m ∷ ns) (c ∷ cs) (suc i) n all is =
-    let lt = (numbers_are_in_bounds m.0.0 ns i n all.4 is).0 in
-    rw (ne_eqb m.0.0 n.0.0 (λ e. omega arith)) (ap (λ (l : List Bool). c ∷ l) (flag_at m.0.0 ns cs i n all.4 is))
 
 -- where a configured number stands
 pub named : (ns : List (DeviceNumber × ℕ)) (n size : ℕ) → length_of ns n ≡ Some size → (i : ℕ) × (slice_get ns i ≡ Some (record { 0 = n }, size))

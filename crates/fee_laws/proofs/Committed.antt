@@ -1,6 +1,7 @@
 -- The turn in which a record is committed.
 use Rattle.std.specs.Prelude.{IfSome, IsTrue, is_some, nat_le, take, length, slice_get, if◌then◌else◌}
-use Rattle.std.proofs.Common.{◌≡◌, ◌≢◌, inl, ◌≤◌, ◌<◌, ◌+◌, ◌-◌, ℕ, Bool, true, false, List, [], Option, Some, None, refl, sym, ap, ◌∙◌, subst, arith}
+use Rattle.std.proofs.Common.{◌≡◌, ◌≢◌, inl, ◌≤◌, ◌<◌, ◌+◌, ◌-◌, ℕ, Bool, true, false, List, [], set, Option, Some, None, refl, sym, ap, ◌∙◌, subst, arith}
+use Rattle.std.proofs.lemmas.Bool.{eqb-true}
 use Rattle.nv_base.specs.Count.{next_count}
 use Rattle.nv_base.specs.Geometry.{sectors_of_bank}
 use Rattle.nv_base.specs.declared.geometry.Geometry.{Geometry}
@@ -27,7 +28,7 @@ use Rattle.fee_image.proofs.Copies.{settling_widens}
 use Rattle.fee_log.specs.declared.tail.Tail.{Tail}
 use Rattle.fee_log.specs.declared.tail.Tail.TheVariants.{Open as TailOpen, Writes, Owes, Closed}
 use Rattle.fee_log.specs.Index.{with_flag}
-use Rattle.fee_log.specs.Log.{LogState, IsTail, tail_with, pages_in, work_in}
+use Rattle.fee_log.specs.Log.{LogState, tail_with, work_in}
 use Rattle.fee_log.specs.Step.{after_step, commits}
 use Rattle.fee_image.specs.Log.{Log, Writes as LogWrites}
 use Rattle.fee_image.specs.declared.place.Place.{Place}
@@ -42,18 +43,19 @@ use Rattle.fee_log.proofs.Within.{within_length}
 use Rattle.fee_course.specs.declared.course.Copying.{Copying}
 use Rattle.fee_course.specs.declared.course.Course.{Course}
 use Rattle.fee_course.specs.declared.course.Course.TheVariants as course
-use Rattle.fee_course.specs.Course.{turns_left as switch_turns_left}
-use Rattle.fee_course.proofs.Turns.{appends_end}
+use Rattle.fee_course.specs.Course.{appended_to, turns_left as switch_turns_left}
+use Rattle.fee_course.proofs.Appends.{appends_end}
 use Rattle.fee_switch.specs.Banks.{BanksState, TakesRecord, appended_at, index_of, left_of, left_with}
 use Rattle.fee_switch_laws.specs.KeepsRoom.{IsRoomy}
 use Rattle.fee_switch_laws.specs.Space.{free_pages}
 use Rattle.fee_switch_laws.proofs.Appends.{takes}
+use Rattle.fee_switch_laws.proofs.RoomPages.{flag_at}
 use Rattle.promise_device.specs.Making.{Making}
 use Rattle.fee_told.specs.Slots.{Memory, settled_in, job_leaves, writes_of}
 use Rattle.fee_told.specs.SlotLaws.{IsHeld}
 use Rattle.fee_told.specs.Device.{Device, told_of, clock_of}
 use Rattle.fee_told.specs.Appends.{IsCommitted}
-use Rattle.fee_told.specs.Figures.{Work, Waits, left_of as turns_left, ready_of, wait_of}
+use Rattle.fee_told.specs.Figures.{Work, Waits, turns_owed, left_of as turns_left, ready_of, wait_of}
 use Rattle.fee_told.proofs.Appends.{appends_commit as told_appends_commit}
 use Rattle.fee_told.proofs.Kept.{copies_widen}
 use Rattle.fee_told.proofs.Whole.{commits_are_told, told_behind}
@@ -61,7 +63,7 @@ use Rattle.fee_laws.specs.declared.job.FeeJob.{FeeJob}
 use Rattle.fee_laws.specs.Copied.{flags_of, IsCopying}
 use Rattle.fee_laws.specs.Inside.{Parts, device_of, memory_of, body_of, flags_in, mark_of, stand_of, fixed_in, HoldsBehind, ShowsCopies, TellsCopies}
 use Rattle.fee_laws.specs.Record.{IsInWork, IsLengthOf}
-use Rattle.fee_laws.specs.Work.{work_of, switch_turns, pages_of_job, pages_left, waits_of, turns_before, seal_turns, is_urgent_job, pages_free}
+use Rattle.fee_laws.specs.Work.{work_of, switch_turns, pages_of_job, pages_left, is_owed, waits_of, turns_before, seal_turns, is_urgent_job, pages_free}
 use Rattle.fee_laws.specs.Turn.{Turned, ended_as}
 use Rattle.fee_laws.specs.Appends.{IsAppending, work_op, after_page, AppendsCommit}
 use Rattle.fee_laws.proofs.Before.{power, log_geometry, copied, held_before, copies_before, each_now, now_at}
@@ -71,6 +73,7 @@ use Rattle.fee_laws.proofs.Settled.{flags_settled, notes, settles_one, settled_c
 use Rattle.fee_laws.proofs.Order.{urgent_is}
 use Rattle.fee_laws.proofs.Operation.{left, before_told, started, are_told}
 use Rattle.fee_laws.proofs.Behind.{Facts, held_behind}
+use Rattle.fee_laws.proofs.Taken.{takes_one}
 use Rattle.fee_laws.proofs.Turning.{worked}
 use Rattle.fee_laws.proofs.Tails.{tailed, shown, page_commits, free_on}
 use Rattle.fee_laws.proofs.Figures.{free_is, switch_is}
@@ -97,7 +100,7 @@ last_by log Closed e last = absurd (cc last)
 -- with no job the turns of the switch alone are left
 left_alone : (b : BanksState) (reserve : ℕ) (c : Option Course) → b.course ≡ c → switch_turns reserve b None c ≡ left_of b
 left_alone b reserve None at = sym (ap (left_with b) at)
-left_alone b reserve (Some c) at = let goal : left_of b + 0 ≡ left_of b = omega arith in goal
+left_alone b reserve (Some c) at = refl
 
 less_none : (n : ℕ) → n - 0 ≡ n
 less_none n = omega arith
@@ -242,13 +245,23 @@ module _ (m : Making) (entry : Told) (s : Parts) (listed : List (DeviceNumber ×
   abbrev turns : List Place → Option ℕ → Course → ℕ
   turns places appended c = switch_turns_left s.banks.geometry.page (sectors_of_bank s.banks.geometry s.banks.banks) ns places s.banks.log.flags appended c
 
+  clear_at : set s.banks.log.flags stands_at.0 false ≡ s.banks.log.flags
+  clear_at = sym (flag_at 0 ns s.banks.log.flags stands_at.0 (record { 0 = number }, size) false is.on.log.numbers stands_at.1) ∙ its.clear
+
+  -- a copy in work sets no flag of its number
+  alone_at : (c : Course) → s.banks.course ≡ Some c → appended_to stands_at.0 c ≡ c
+  alone_at c at = same_course ((λ i. appended_at (sym place_is i) (sym at i)) ∙ its.alone ∙ at)
+    where
+      same_course : Some (appended_to stands_at.0 c) ≡ Some c → appended_to stands_at.0 c ≡ c
+      same_course same = cc same
+
   same_left_by : (c : Option Course) → s.banks.course ≡ c → left_with b c ≡ left_with s.banks c
   same_left_by None at = refl
   same_left_by (Some c) at =
       let places = places_then ∙ noted_set 0 ns s.banks.log.places s.banks.log.end r stands_at.0 size is.on.log.numbers places_many_are place_is length_in (of_kind c at) (size_is c at) in
       let index : index_of ns (work_in s.banks.log.tail) ≡ Some stands_at.0 = ap (index_of ns) (work_is m entry s listed kept count is.on is.work) ∙ place_is in
       (λ i. turns (places i) (index_of ns (work_in (tail_open i))) c)
-      ∙ appends_end s.banks.geometry.page (sectors_of_bank s.banks.geometry s.banks.banks) stands_at.0 s.banks.log.end r.count ns s.banks.log.places s.banks.log.flags c
+      ∙ appends_end s.banks.geometry.page (sectors_of_bank s.banks.geometry s.banks.banks) stands_at.0 s.banks.log.end r.count ns s.banks.log.places s.banks.log.flags c clear_at (alone_at c at)
       ∙ (λ i. turns s.banks.log.places (sym index i) c)
 
   same_left : left_of b ≡ left_of s.banks
@@ -353,20 +366,28 @@ module _ (m : Making) (entry : Told) (s : Parts) (listed : List (DeviceNumber ×
   abbrev w : Work
   w = work_of m.reserve s.banks s.job
 
-  one_page : 1 ≤ w.pages
+  -- its last page was left
+  one_page : w.pages ≡ 1
   one_page =
-      let tail_is = subst (IsTail s.banks.log.geometry.page (pages_in s.banks.log) s.banks.log.end) at_last.tail is.on.log.tail in
-      let less = subst (λ (g : Geometry). at_last.done < pages_of_head g.page at_last.head) is.on.banks.log.shape tail_is.1 in
-      subst (λ (x : Tail). 1 ≤ pages_left s.banks.geometry.page (pages_of_job s.banks.geometry.page s.job) x) (sym at_last.tail) (omega arith)
+      let last_is = eqb-true (at_last.done + 1) (pages_of_head s.banks.log.geometry.page at_last.head) at_last.is in
+      let last_page = subst (λ (g : Geometry). at_last.done + 1 ≡ pages_of_head g.page at_last.head) is.on.banks.log.shape last_is in
+      subst (λ (x : Tail). pages_left s.banks.geometry.page (pages_of_job s.banks.geometry.page s.job) x ≡ 1) (sym at_last.tail) (omega (arith, last_page))
 
-  falls_at : (told_of e).left < (told_of d).left
+  none_owed : w.owed ≡ false
+  none_owed = ap is_owed at_last.tail
+
+  falls_at : (told_of e).left + 1 ≡ (told_of d).left
   falls_at =
       let is_then = switch_then in
       let same = same_left in
       let was_it : w.switch ≡ left_of s.banks = switch_is s.banks is.work m.reserve s.job in
       let one = one_page in
-      let open_left : switch_turns m.reserve b None b.course < turns_left (Open (record asks { mark = Some (held_written r content).mark })) w = omega (arith, is_then, same, was_it, one) in
-      subst (λ (o : Option FeeJob). switch_turns m.reserve b None b.course < turns_left (at o) w) (sym job_at) (subst (λ (o : Option Mark). switch_turns m.reserve b None b.course < turns_left (Open (record asks { mark = o })) w) (sym mark_at) open_left)
+      let owed = ap turns_owed none_owed in
+      let open_left : switch_turns m.reserve b None b.course + 1 ≡ turns_left (Open (record asks { mark = Some (held_written r content).mark })) w = omega (arith, is_then, same, was_it, one, owed) in
+      subst (λ (o : Option FeeJob). switch_turns m.reserve b None b.course + 1 ≡ turns_left (at o) w) (sym job_at) (subst (λ (o : Option Mark). switch_turns m.reserve b None b.course + 1 ≡ turns_left (Open (record asks { mark = o })) w) (sym mark_at) open_left)
+
+  lower : (told_of e).left < (told_of d).left
+  lower = let one = falls_at in omega (arith, one)
 
   ready_same : (told_of d).ready ≤ (told_of e).ready
   ready_same =
@@ -400,9 +421,10 @@ module _ (m : Making) (entry : Told) (s : Parts) (listed : List (DeviceNumber ×
     something = something m entry s listed kept count is.on is.work;
     no_read = no_read m entry s listed kept count is.on is.work;
     job_turns = subst (λ (o : Option FeeJob). JobTurns First (at o) (Ended JobOk []) (told_of d) (told_of e) (clock_of e)) (sym job_at) (ends, λ failed. cc);
-    nearer = inl falls_at;
+    nearer = inl lower;
     ready = readies;
     takes = record_takes m entry s listed kept count Done f is;
+    turn_taken = takes_one m entry s t (λ on. on) falls_at;
   })
 
 pub appends_commit : AppendsCommit

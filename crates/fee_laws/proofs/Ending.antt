@@ -30,7 +30,7 @@ use Rattle.fee_laws.proofs.Canceling.{keeps_all, behind_it, idle_job}
 use Rattle.fee_laws.proofs.Making.{shown_as}
 use Rattle.fee_laws.proofs.Opened.{own_small, each_some}
 use Rattle.fee_laws.proofs.CallOrder.{few_before, ready_kept}
-use Rattle.fee_laws.proofs.Raising.{adds, base_few, ready_calm}
+use Rattle.fee_laws.proofs.Raising.{rises, base_few, ready_calm}
 use Rattle.fee_laws.proofs.Appended.{idle_at_work}
 use Rattle.fee_laws.proofs.MadeFor.{still_made, legal_made}
 
@@ -137,9 +137,8 @@ module _ (m : Making) (entry : Told) (s : Parts) (listed : List (DeviceNumber ×
 
   less : f.left ≤ g.left
   less =
-      let a = adds m.reserve s.banks j of_banks idle works.switch some s.banks.course in
-      let is = a.is in
-      omega (arith, left_was, is)
+      let low = rises m.reserve s.banks j of_banks idle works.switch some s.banks.course in
+      omega (arith, left_was, low)
 
   ready : g.ready ≤ f.ready
   ready = let was = ready_calm m.reserve s.banks s.job j job calm in omega (arith, was)

@@ -81,6 +81,7 @@ module _ (m : Making) (entry : Told) (s : Parts) (listed : List (DeviceNumber ×
     nearer = inr rose;
     ready = λ calm. absurd (calm.faults rose);
     takes = record_takes m entry s listed kept count Failed f is;
+    turn_taken = inl rose;
   })
 
 pub appends_fail : AppendsFail

@@ -1,6 +1,6 @@
 -- The figures of a device with a record in work.
 use Rattle.std.specs.Prelude.{◌&&◌, not, nat_le, IsSome, if◌then◌else◌}
-use Rattle.std.proofs.Common.{◌≡◌, ◌<◌, ◌≤◌, ◌+◌, ◌-◌, ℕ, Bool, true, false, [], Option, Some, None, refl, sym, ap, ◌∙◌, subst, arith}
+use Rattle.std.proofs.Common.{◌≡◌, ◌+◌, ◌-◌, ℕ, Bool, true, false, [], Option, Some, None, refl, sym, ap, ◌∙◌, subst, arith}
 use Rattle.fls_model.specs.declared.flash.FlashAnswer.TheVariants.{Done}
 use Rattle.fee_format.specs.declared.rec_head.RecHead.{RecHead}
 use Rattle.fee_image.specs.RecordList.{pages_of_head}
@@ -11,7 +11,7 @@ use Rattle.fee_log.specs.Step.{after_step, commits}
 use Rattle.fee_course.specs.declared.course.Course.{Course}
 use Rattle.nv_base.specs.Geometry.{sectors_of_bank}
 use Rattle.fee_course.specs.Course.{turns_left}
-use Rattle.fee_switch.specs.Banks.{BanksState, index_of, left_of, left_with, begun_again}
+use Rattle.fee_switch.specs.Banks.{BanksState, index_of, left_of, left_with, left_beside, begun_again}
 use Rattle.fee_course.specs.declared.course.Course.TheVariants as course
 use Rattle.fee_switch_laws.specs.Space.{free_pages}
 use Rattle.fee_told.specs.Figures.{turns_owed}
@@ -41,9 +41,9 @@ module _ (s : BanksState) (work : IsSome (work_in s.log.tail)) where
   none_claimed None = refl
   none_claimed (Some j) = ap (λ (b : Bool). if b then pages_of_op s.geometry.page j.op j.length else 0) (none_begins j)
 
-  none_beside : (job : Option FeeJob) → turns_beside s job ≡ 0
+  none_beside : (job : Option FeeJob) → turns_beside s job ≡ left_of s
   none_beside None = refl
-  none_beside (Some j) = ap (λ (b : Bool). if b then pages_of_op s.geometry.page j.op j.length + 1 else 0) (none_begins j)
+  none_beside (Some j) = ap (λ (b : Bool). if b then left_beside s j.number.0 else left_of s) (none_begins j)
 
   none_needed : (reserve : ℕ) (job : Option FeeJob) → needs_switch reserve s job ≡ false
   none_needed reserve None = refl
@@ -54,7 +54,7 @@ module _ (s : BanksState) (work : IsSome (work_in s.log.tail)) where
 
   switch_by : (reserve : ℕ) (job : Option FeeJob) (c : Option Course) → s.course ≡ c → switch_turns reserve s job c ≡ left_of s
   switch_by reserve job None e = ap (λ (b : Bool). if b then left_of (begun_again s (course.Erase 0)) else 0) (none_needed reserve job) ∙ sym (ap (left_with s) e)
-  switch_by reserve job (Some c) e = let h = none_beside job in let goal : left_of s + turns_beside s job ≡ left_of s = omega (arith, h) in goal
+  switch_by reserve job (Some c) e = none_beside job
 
   pub switch_is : (reserve : ℕ) (job : Option FeeJob) → switch_turns reserve s job s.course ≡ left_of s
   switch_is reserve job = switch_by reserve job s.course refl
@@ -68,16 +68,16 @@ same_turns s log (Some c) numbers places flags work =
     λ i. turns_left s.geometry.page (sectors_of_bank s.geometry s.banks) (numbers i) (places i) (flags i) (index_of (numbers i) (work i)) c
 
 -- PAGES
--- one page less is left of the record, or its gate is done
+-- one page less is left of the record, or the gate that is owed before it is done
 pub pages_fall : (log : LogState) (t : Tail) (wanted : ℕ) → IsSome (work_in t) → IsTail log.geometry.page (pages_in log) log.end t → commits log.geometry.page t ≡ false
-    → ((h : RecHead) → work_in t ≡ Some h → pages_of_head log.geometry.page h ≤ wanted)
+    → ((h : RecHead) → work_in t ≡ Some h → pages_of_head log.geometry.page h ≡ wanted)
     → let after = (after_step (tailed log t) Done).tail in
-    pages_left log.geometry.page wanted after + turns_owed (is_owed after) < pages_left log.geometry.page wanted t + turns_owed (is_owed t)
+    pages_left log.geometry.page wanted after + turns_owed (is_owed after) + 1 ≡ pages_left log.geometry.page wanted t + turns_owed (is_owed t)
 pages_fall log Open wanted work is goes fits = cc
 pages_fall log (Writes h done) wanted work is goes fits =
     let e = (page_goes_on log h done [] goes).tail in
     let less = is.1 in
-    subst (λ (x : Tail). pages_left log.geometry.page wanted x + turns_owed (is_owed x) < pages_of_head log.geometry.page h - done + 0) (sym e) (omega arith)
+    subst (λ (x : Tail). pages_left log.geometry.page wanted x + turns_owed (is_owed x) + 1 ≡ pages_of_head log.geometry.page h - done + 0) (sym e) (omega (arith, less))
 pages_fall log (Owes owed None) wanted work is goes fits = cc
-pages_fall log (Owes owed (Some h)) wanted work is goes fits = let few = fits h refl in (omega arith)
+pages_fall log (Owes owed (Some h)) wanted work is goes fits = let same = fits h refl in (omega (arith, same))
 pages_fall log Closed wanted work is goes fits = cc

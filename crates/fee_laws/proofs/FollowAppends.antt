@@ -1,5 +1,5 @@
 -- The next page of a record in work in the active log.
-use Rattle.std.specs.Prelude.{IfSome, IsSome}
+use Rattle.std.specs.Prelude.{IfSome, IsSome, IsTrue}
 use Rattle.std.proofs.Common.{◌≡◌, inl, inr, ◌<◌, ◌≤◌, ◌++◌, ◌∷◌, ℕ, true, List, [], Option, Some, None, refl, sym, ap, ◌∙◌, subst, arith}
 use Rattle.std.proofs.lemmas.Bool.{cases_eq}
 use Rattle.nv_base.specs.Geometry.{IsLegal, pages_of_bank, sectors_of_bank, address_of_page}
@@ -12,6 +12,7 @@ use Rattle.fls_model.specs.Told.{Change}
 use Rattle.fee_format.specs.declared.rec_head.RecHead.{RecHead}
 use Rattle.fee_image.specs.Image.{Layout, layout_of, image_page}
 use Rattle.fee_image.specs.BankLaws.{program_of}
+use Rattle.fee_log.specs.Index.{clear_flags}
 use Rattle.fee_log.specs.declared.tail.Tail.{Tail}
 use Rattle.fee_log.specs.declared.tail.Tail.TheVariants.{Open, Writes, Owes, Closed}
 use Rattle.fee_log.specs.Laws.{HoldsState, may_after}
@@ -25,12 +26,13 @@ use Rattle.fee_course.specs.Course.{IsShort}
 use Rattle.promise_device.specs.Bridge.{is_program}
 use Rattle.promise_device.specs.Wear.{bank_of_op}
 use Rattle.fee_laws.specs.Inside.{body_of}
-use Rattle.fee_laws.specs.Follows.{anything, IsClosedFor, FollowsLog, FollowsNext, FollowsBytes}
+use Rattle.fee_laws.specs.Follows.{anything, may_be_closed_beside, IsClosedFor, IsPlacedFor, FollowsLog, FollowsNext, FollowsBytes}
 use Rattle.fee_image.proofs.Frames.{SameOthers, others_stay, page_stays}
 use Rattle.fee_laws.proofs.FollowStates.{any_content, any_marks}
 use Rattle.fee_laws.proofs.FollowSteps.{work_after, done_open}
 use Rattle.fee_laws.proofs.FollowOperations.{bank_of_program}
-use Rattle.fee_laws.proofs.FollowBanks.{failed_beside, some_page, SameFronts, legal, fronts_of, banks_stay, next_stays, with_log, next_with_log}
+use Rattle.fee_laws.proofs.FollowPlaces.{step_placed}
+use Rattle.fee_laws.proofs.FollowBanks.{failed_beside, failed_still, some_page, SameFronts, legal, fronts_of, banks_stay, next_stays, with_log, next_with_log}
 
 -- the page that is due lies behind the gate of its bank
 pub due_inside : (log : LogState) (t : Tail) → 2 ≤ log.end → IsTail log.geometry.page (pages_in log) log.end t → IsSome (work_in t)
@@ -88,6 +90,20 @@ closed_after c s xs x new Done work on of program is = λ shut. (let wide = done
 closed_after c s xs x new Failed work on of program is = λ shut. inr (failed_beside c (after_step s Failed) xs x of program is)
 closed_after c s xs x new Off work on of program is = absurd (on refl)
 
+-- and what places its records give
+placed_after : (c : Option Course) (s : LogState) (content old new : List ℕ) (xs : List Change) (x : Change) (answer : FlashAnswer) → let body = body_of (work_in s.tail) content in
+    IsLogState s → HoldsState s body old anything → IsSome (work_in s.tail) → IsPageOf s.geometry.page (due_bytes s body) → (answer ≡ Off → ⊥) → MayLeave (op_of s body) old new → Leaves (op_of s body) answer old new
+    → bank_of_op s.geometry s.banks x.op ≡ s.bank → is_program x.op ≡ true → x.answer ≡ answer → IsPlacedFor c s xs old → IsPlacedFor c (after_step s answer) (xs ++ x ∷ []) new
+placed_after c s content old new xs x Done state holds work page on leaves left of program is (inl failed) = inl (failed_still c (after_step s Done) xs x of program (failed_as c failed))
+  where
+    failed_as : (c : Option Course) → IsTrue (may_be_closed_beside c s xs) → IsTrue (may_be_closed_beside c (after_step s Done) xs)
+    failed_as None failed' = failed'
+    failed_as (Some y) failed' = failed'
+placed_after c s content old new xs x Done state holds work page on leaves left of program is (inr placed) =
+    inr (step_placed s (body_of (work_in s.tail) content) old new anything (record { state = state; holds = holds; work = work; page = page }) leaves left placed)
+placed_after c s content old new xs x Failed state holds work page on leaves left of program is placed = inl (failed_beside c (after_step s Failed) xs x of program is)
+placed_after c s content old new xs x Off state holds work page on leaves left of program is placed = absurd (on refl)
+
 module _ (s : BanksState) (is : IsBanksState s) (state : IsLogState s.log) (content old new : List ℕ) (xs : List Change) (x : Change) (a : ActiveBank) (active : s.active ≡ Some a) (work : IsSome (work_in s.log.tail)) (follows : FollowsBytes s content xs old) where
   abbrev body : List ℕ
   body = body_of (work_in s.log.tail) content
@@ -115,6 +131,11 @@ module _ (s : BanksState) (is : IsBanksState s) (state : IsLogState s.log) (cont
     next_by (Some c) of short next =
         next_stays s is old new c xs (x ∷ []) s.log.bank short (λ e. other (sym e)) (of, tt) (others s.geometry s.banks s.log is.log state work body old new page leaves s.target other) next
 
+    clears : (answer : FlashAnswer) → s.log.flags ≡ clear_flags s.log.numbers → (after_step s.log answer).flags ≡ clear_flags (after_step s.log answer).numbers
+    clears Done clear = clear
+    clears Failed clear = clear
+    clears Off clear = clear
+
     pub goes_on : (answer : FlashAnswer) → (answer ≡ Off → ⊥) → Leaves (op_of s.log body) answer old new → x.op ≡ op_of s.log body → x.answer ≡ answer → FollowsBytes (record s { log = after_step s.log answer }) content (xs ++ x ∷ []) new
     goes_on answer on left op same =
         let page' = subst (λ (g : Geometry). IsPageOf g.page (due_bytes s.log body)) (sym is.log.shape) page in
@@ -126,7 +147,8 @@ module _ (s : BanksState) (is : IsBanksState s) (state : IsLogState s.log) (cont
           log = subst (λ (o : Option ActiveBank). IfSome o (λ y. FollowsLog s.course then (body_of (work_in then.tail) content) (xs ++ x ∷ []) new)) (sym active) (record {
             holds = state_after s.log content old new answer state log.holds work page' on leaves left;
             closed = closed_after s.course s.log xs x new answer work on of_log (ap is_program op) same;
+            placed = placed_after s.course s.log content old new xs x answer state log.holds work page' on leaves left of_log (ap is_program op) same log.placed;
           });
-          banks = with_log s then s.course s.course new (banks_stay s is old new s.course leaves.0.size fronts apart follows.banks);
+          banks = with_log s then s.course s.course new (clears answer) (banks_stay s is old new s.course leaves.0.size fronts apart follows.banks);
           next = next_with_log s then s.course s.course (xs ++ x ∷ []) new (next_by s.course of is.course follows.next);
         }

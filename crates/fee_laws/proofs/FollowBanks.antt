@@ -1,6 +1,6 @@
 -- Banks whose pages stay.
 use Rattle.std.specs.Prelude.{IfSome, IsTrue, ◌&&◌}
-use Rattle.std.proofs.Common.{◌≡◌, ◌⊎◌, inl, inr, ◌<◌, ◌≤◌, ◌++◌, ◌∷◌, ℕ, zero, suc, Bool, true, false, List, [], length, Option, Some, None, sym, ◌∙◌, subst, arith}
+use Rattle.std.proofs.Common.{◌≡◌, ◌⊎◌, inl, inr, ◌<◌, ◌≤◌, ◌++◌, ◌∷◌, ℕ, zero, suc, Bool, true, false, List, [], length, Option, Some, None, refl, sym, ◌∙◌, subst, arith}
 use Rattle.std.proofs.lemmas.Bool.{cond_both}
 use Rattle.nv_base.specs.Geometry.{IsLegal, pages_of_bank, sectors_of_bank}
 use Rattle.nv_base.specs.declared.geometry.Geometry.{Geometry}
@@ -12,6 +12,7 @@ use Rattle.fee_image.specs.Image.{Layout, layout_of, bank_in, image_page, BankSt
 use Rattle.fee_image.proofs.Banks.{active_stays}
 use Rattle.fee_image.proofs.Sectors.{layouts_are_legal}
 use Rattle.fee_image.proofs.Frames.{stands_same}
+use Rattle.fee_log.specs.Index.{clear_flags}
 use Rattle.fee_log.specs.Log.{LogState, bank_of, work_in}
 use Rattle.fee_switch.specs.declared.active.ActiveBank.{ActiveBank}
 use Rattle.fee_course.specs.declared.course.Course.{Course}
@@ -25,10 +26,10 @@ use Rattle.promise_device.specs.Wear.{bank_of_op}
 use Rattle.promise_device.proofs.Wears.{all_two}
 use Rattle.fee_laws.specs.Inside.{body_of}
 use Rattle.fee_laws.specs.Switches.{op_in}
-use Rattle.fee_laws.specs.Follows.{anything, failed_of, may_be_closed_beside, FollowsLog, StandsFirst, FollowsCopies, FollowsTarget, FollowsBanks, FollowsNext}
+use Rattle.fee_laws.specs.Follows.{anything, failed_of, may_be_closed_beside, IsPlacedFor, FollowsLog, StandsFirst, FollowsCopies, FollowsTarget, FollowsBanks, FollowsNext}
 use Rattle.fee_image.proofs.Frames.{SamePages}
-use Rattle.fee_laws.proofs.FollowOperations.{AreOf, bank_of_program, bank_of_erase, failed_behind, repeated_behind, order_behind, failed_last, failed_here}
-use Rattle.fee_laws.proofs.FollowStates.{SameBody, state_moves, closed_stays}
+use Rattle.fee_laws.proofs.FollowOperations.{AreOf, bank_of_program, bank_of_erase, failed_behind, repeated_behind, order_behind, failed_last, failed_here, failed_once, failed_on}
+use Rattle.fee_laws.proofs.FollowStates.{SameBody, state_moves, closed_stays, places_stay}
 
 -- A LOG THAT IS CLOSED
 -- a program of its bank that failed last may have closed it
@@ -36,9 +37,19 @@ pub failed_beside : (c : Option Course) (log : LogState) (xs : List Change) (x :
 failed_beside None log xs x of program is = all_two _ _ (failed_last false xs x program is) (failed_here log.geometry log.banks log.bank xs x of program is)
 failed_beside (Some c) log xs x of program is = failed_here log.geometry log.banks log.bank xs x of program is
 
+first_of : (a b : Bool) → IsTrue (a && b) → IsTrue a
+first_of true b is = refl
+first_of false b is = cc is
+
 second_of : (a b : Bool) → IsTrue (a && b) → IsTrue b
 second_of true b is = is
 second_of false b is = cc is
+
+-- and so may one before a program of its bank
+pub failed_still : (c : Option Course) (log : LogState) (xs : List Change) (x : Change) → bank_of_op log.geometry log.banks x.op ≡ log.bank → is_program x.op ≡ true → IsTrue (may_be_closed_beside c log xs) → IsTrue (may_be_closed_beside c log (xs ++ x ∷ []))
+failed_still None log xs x of program is =
+    all_two _ _ (failed_once false xs x program (first_of (may_be_closed xs) (failed_of log xs) is)) (failed_on log.geometry log.banks log.bank xs x of program (second_of (may_be_closed xs) (failed_of log xs) is))
+failed_still (Some c) log xs x of program is = failed_on log.geometry log.banks log.bank xs x of program is
 
 -- and so it may while a switch is open, whatever comes behind it in other banks
 once_beside : (c : Option Course) (log : LogState) (xs : List Change) → IsTrue (may_be_closed_beside c log xs) → IsTrue (failed_of log xs)
@@ -48,6 +59,16 @@ once_beside (Some c) log xs is = is
 pub closed_while : (c : Option Course) (next : Course) (log : LogState) (xs : List Change) (A : Type 0) → A ⊎ IsTrue (may_be_closed_beside c log xs) → A ⊎ IsTrue (may_be_closed_beside (Some next) log xs)
 closed_while c next log xs A (inl is) = inl is
 closed_while c next log xs A (inr failed) = inr (once_beside c log xs failed)
+
+pub placed_while : (c : Option Course) (next : Course) (log : LogState) (xs : List Change) (A : Type 0) → IsTrue (may_be_closed_beside c log xs) ⊎ A → IsTrue (may_be_closed_beside (Some next) log xs) ⊎ A
+placed_while c next log xs A (inl failed) = inl (once_beside c log xs failed)
+placed_while c next log xs A (inr is) = inr is
+
+-- an append that begins leaves it
+pub placed_appended : (o : Option ℕ) (c : Option Course) (log : LogState) (xs : List Change) (bytes : List ℕ) → IsPlacedFor c log xs bytes → IsPlacedFor (appended_at o c) log xs bytes
+placed_appended None c log xs bytes placed = placed
+placed_appended (Some i) None log xs bytes placed = placed
+placed_appended (Some i) (Some c) log xs bytes placed = placed
 
 -- THE PAGES OF A LOG'S BANK
 module _ (g : Geometry) (banks : ℕ) (log : LogState) (of : IsLogOf g banks log) (old new : List ℕ) where
@@ -66,6 +87,10 @@ log_stays c next s body old new xs more t low long same differs of follows = rec
   closed = λ shut. elim (follows.closed shut) [
     | inl is ↦ inl (closed_stays s old new same is)
     | inr failed ↦ inr (subst (λ (b : Bool). IsTrue b) (sym (failed_behind s.geometry s.banks s.bank t differs false xs more of)) (once_beside c s xs failed))
+  ];
+  placed = elim follows.placed [
+    | inl failed ↦ inl (subst (λ (b : Bool). IsTrue b) (sym (failed_behind s.geometry s.banks s.bank t differs false xs more of)) (once_beside c s xs failed))
+    | inr is ↦ inr (places_stay s old new same is)
   ];
 }
 
@@ -105,14 +130,17 @@ module _ (s : BanksState) (is : IsBanksState s) (old new : List ℕ) where
   target_page bytes q = λ i. page_of (bank_in (layout_of (is.copies.shape i) (is.copies.shared i)) s.copies.format (is.target_log i)) bytes q
 
   pub copies_stay : length new ≡ length old → ((q : ℕ) → 2 ≤ q → q < l.pages → image_page l new s.target q ≡ image_page l old s.target q) → FollowsCopies s old → FollowsCopies s new
-  copies_stay long same holds =
+  copies_stay long same copies =
       let low = subst (λ (g : Geometry). 16 ≤ g.page) (sym is.copies.shape) is.legal.page_low in
-      state_moves s.copies (body_of (work_in s.copies.tail) s.buffer) old new anything low long
-      (λ q two inside. target_page new q ∙ same q two (subst (λ (n : ℕ). q < n) (λ i. pages_of_bank (is.copies.shape i) (is.copies.shared i)) inside) ∙ sym (target_page old q)) holds
+      let body : SameBody s.copies old new = λ q two inside. target_page new q ∙ same q two (subst (λ (n : ℕ). q < n) (λ i. pages_of_bank (is.copies.shape i) (is.copies.shared i)) inside) ∙ sym (target_page old q) in
+      record {
+        holds = state_moves s.copies (body_of (work_in s.copies.tail) s.buffer) old new anything low long body copies.holds;
+        placed = places_stay s.copies old new body copies.placed;
+      }
 
   -- all pages of the target are
   pub target_stays : (c : Course) → length new ≡ length old → SamePages l old new s.target → FollowsTarget s c old → FollowsTarget s c new
-  target_stays (Erase done) long same blank = λ q below inside. same q inside ∙ blank q below inside
+  target_stays (Erase done) long same (blank, clear) = (λ q below inside. same q inside ∙ blank q below inside, clear)
   target_stays (Copy work) long same (blank, copies) = (λ q below inside. same q inside ∙ blank q below inside, copies_stay long (λ q two inside. same q inside) copies)
   target_stays Head long same (blank, copies) = (λ q below inside. same q inside ∙ blank q below inside, copies_stay long (λ q two inside. same q inside) copies)
   target_stays (Gate failed) long same (head, copies) = (same 0 (let two = legal.pages in omega (arith, two)) ∙ head, copies_stay long (λ q two inside. same q inside) copies)
@@ -134,13 +162,18 @@ module _ (s : BanksState) (is : IsBanksState s) (old new : List ℕ) where
       repeated_behind s.geometry s.banks t (op_in s stage.Gate) xs more (λ e. differs (e ∙ bank_of_program s.geometry s.banks s.target 1 (gate_page s.geometry.page) (some_page s.geometry is.legal) (let two = legal.pages in omega (arith, two)))) of next
 
 -- WHAT THEY DON'T READ
--- another log of the active bank, and another course, leave them
-pub with_log : (s : BanksState) (log : LogState) (after c : Option Course) (bytes : List ℕ) → FollowsBanks s c bytes → FollowsBanks (record s { log = log; course = after }) c bytes
-with_log s log after None bytes shown = shown
-with_log s log after (Some (Erase done)) bytes (first, target) = (record { stands = first.stands; behind = first.behind }, target)
-with_log s log after (Some (Copy work)) bytes (first, target) = (record { stands = first.stands; behind = first.behind }, target)
-with_log s log after (Some Head) bytes (first, target) = (record { stands = first.stands; behind = first.behind }, target)
-with_log s log after (Some (Gate failed)) bytes (first, target) = (record { stands = first.stands; behind = first.behind }, target)
+-- the target's log reads no other log, and no course
+pub with_copies : (s : BanksState) (log : LogState) (after : Option Course) (bytes : List ℕ) → FollowsCopies s bytes → FollowsCopies (record s { log = log; course = after }) bytes
+with_copies s log after bytes copies = record { holds = copies.holds; placed = copies.placed }
+
+-- another log of the active bank, which sets no flag, and another course, leave them
+pub with_log : (s : BanksState) (log : LogState) (after c : Option Course) (bytes : List ℕ) → (s.log.flags ≡ clear_flags s.log.numbers → log.flags ≡ clear_flags log.numbers)
+    → FollowsBanks s c bytes → FollowsBanks (record s { log = log; course = after }) c bytes
+with_log s log after None bytes clears shown = shown
+with_log s log after (Some (Erase done)) bytes clears (first, target) = (record { stands = first.stands; behind = first.behind }, (target.0, clears target.1))
+with_log s log after (Some (Copy work)) bytes clears (first, target) = (record { stands = first.stands; behind = first.behind }, (target.0, with_copies s log after bytes target.1))
+with_log s log after (Some Head) bytes clears (first, target) = (record { stands = first.stands; behind = first.behind }, (target.0, with_copies s log after bytes target.1))
+with_log s log after (Some (Gate failed)) bytes clears (first, target) = (record { stands = first.stands; behind = first.behind }, (target.0, with_copies s log after bytes target.1))
 
 pub next_with_log : (s : BanksState) (log : LogState) (after c : Option Course) (xs : List Change) (bytes : List ℕ) → IfSome c (λ x. FollowsNext s x xs bytes) → IfSome c (λ x. FollowsNext (record s { log = log; course = after }) x xs bytes)
 next_with_log s log after None xs bytes next = next

@@ -12,9 +12,10 @@ use Rattle.fee_course.specs.Copies.{next_copy}
 use Rattle.fee_switch.specs.Banks.{BanksState, IsBanksState, after_answer}
 use Rattle.fee_switch.specs.Copy.{begun_where}
 use Rattle.fee_laws.specs.Inside.{body_of}
-use Rattle.fee_laws.specs.Follows.{FollowsBytes, FollowsTarget, FollowsBanks, FollowsNext}
+use Rattle.fee_laws.specs.Follows.{FollowsBytes, FollowsCopies, FollowsTarget, FollowsBanks, FollowsNext}
 use Rattle.fee_switch_laws.specs.Shown.{layout_in}
 use Rattle.fee_image.proofs.Frames.{SameOthers}
+use Rattle.fee_laws.proofs.FollowBanks.{with_copies}
 use Rattle.fee_laws.proofs.FollowTargets.{builds, again}
 use Rattle.fee_laws.proofs.FollowCopies.{begun_course, begun_holds}
 use Rattle.fee_laws.proofs.FollowMarked.{MayCopy}
@@ -35,12 +36,13 @@ module _ (s : BanksState) (is : IsBanksState s) (content bytes buffer : List ℕ
 
   pub content_copied : (answer : FlashAnswer) → (answer ≡ Off → ⊥) → (answer ≡ Done → length (body_of (Some head) buffer) ≡ head.length) → FollowsBytes (after_answer (record s { copies = begun_where answer s.copies head; buffer = buffer }) c answer) content xs bytes
   content_copied Done on fits =
-      let both : FollowsTarget (record s { copies = begun s.copies head; buffer = buffer }) c bytes = (target.0, begun_holds s.copies copies may.tail head may.configured may.room before buffer bytes (fits refl) target.1) in
+      let made : FollowsCopies (record s { copies = begun s.copies head; buffer = buffer }) bytes = record { holds = begun_holds s.copies copies may.tail head may.configured may.room before buffer bytes (fits refl) target.1.holds; placed = target.1.placed } in
+      let both = λ (next : Course). with_copies (record s { copies = begun s.copies head; buffer = buffer }) s.log (Some next) bytes made in
       let goes = λ (next : Course) (holds : FollowsTarget (record s { course = Some next; copies = begun s.copies head; buffer = buffer }) next bytes) (behind : FollowsNext (record s { course = Some next; copies = begun s.copies head; buffer = buffer }) next (xs ++ []) bytes).
       builds s is content bytes bytes xs [] c course tt refl same follows s.log.flags next (begun s.copies head) buffer holds behind in
       let t = λ (next : Course). record s { course = Some next; copies = begun s.copies head; buffer = buffer } in
       subst (λ (ys : List Change). FollowsBytes (after_answer (record s { copies = begun s.copies head; buffer = buffer }) c Done) content ys bytes) (append-nil xs)
-      (begun_course s.geometry.page (next_copy s.log.numbers s.log.places s.log.flags) t (λ (y : BanksState). FollowsBytes y content (xs ++ []) bytes) (λ o. goes (Copy o) both tt) (goes Head both tt))
+      (begun_course s.geometry.page (next_copy s.log.numbers s.log.places s.log.flags) t (λ (y : BanksState). FollowsBytes y content (xs ++ []) bytes) (λ o. goes (Copy o) (target.0, both (Copy o)) tt) (goes Head (target.0, both Head) tt))
   content_copied Failed on fits =
       subst (λ (ys : List Change). FollowsBytes (after_answer (record s { copies = s.copies; buffer = buffer }) c Failed) content ys bytes) (append-nil xs) (again s is content bytes bytes xs [] c course tt refl same follows buffer)
   content_copied Off on fits = absurd (on refl)

@@ -24,6 +24,7 @@ use Rattle.fee_image.proofs.Frames.{SameOthers}
 use Rattle.promise_device.specs.Wear.{bank_of_op}
 use Rattle.fee_laws.proofs.FollowOperations.{AreOf}
 use Rattle.fee_laws.proofs.FollowAppends.{bank_is}
+use Rattle.fee_laws.proofs.FollowBanks.{with_copies}
 use Rattle.fee_laws.proofs.FollowTargets.{was, builds, again}
 use Rattle.fee_laws.proofs.FollowCopies.{page_small, apart, long, page_goes_on, flagged_is, paged}
 
@@ -58,7 +59,7 @@ module _ (s : BanksState) (is : IsBanksState s) (content old new : List ℕ) (xs
   pub page_copied : (answer : FlashAnswer) → (answer ≡ Off → ⊥) → Leaves (op_of s.copies body) answer old new → FollowsBytes (after_answer (record s { copies = after_step s.copies answer }) c answer) content (xs ++ x ∷ []) new
   page_copied Done on left =
       let target = (was s is content old new xs (x ∷ []) c course of size other follows).1 in
-      let both = page_goes_on s is content old new xs x c course s.copies is.copies is.target_log copies some page leaves follows target.0 target.1 left in
+      let both = page_goes_on s is content old new xs x c course s.copies is.copies is.target_log copies some page leaves follows target.0 target.1.holds target.1.placed left in
       let made : BanksState = record s { copies = after_step s.copies Done } in
       let flags = (flagged_by s.log (flag_due c)).flags in
       let goes = λ (next : Course) (holds : FollowsTarget (record s { course = Some next; log = record s.log { flags = flags }; copies = after_step s.copies Done }) next new)
@@ -66,6 +67,7 @@ module _ (s : BanksState) (is : IsBanksState s) (content old new : List ℕ) (xs
       builds s is content old new xs (x ∷ []) c course of size other follows flags next (after_step s.copies Done) s.buffer holds behind in
       subst (λ (log : LogState). FollowsBytes (advanced_with made c log) content (xs ++ x ∷ []) new) (sym (flagged_is s.log (flag_due c)))
       (paged s.log.numbers s.log.places flags w (λ (next : Course). record s { course = Some next; log = record s.log { flags = flags }; copies = after_step s.copies Done }) (λ (t : BanksState). FollowsBytes t content (xs ++ x ∷ []) new)
-      (λ o. goes (Copy o) both tt) (goes Head both tt))
+      (λ o. goes (Copy o) (both.0, with_copies made (record s.log { flags = flags }) (Some (Copy o)) new both.1) tt)
+      (goes Head (both.0, with_copies made (record s.log { flags = flags }) (Some Head) new both.1) tt))
   page_copied Failed on left = again s is content old new xs (x ∷ []) c course of size other follows s.buffer
   page_copied Off on left = absurd (on refl)

@@ -14,6 +14,8 @@ use Rattle.fee_format.specs.declared.rec_head.RecHead.{RecHead}
 use Rattle.fee_image.specs.Image.{Layout, image_page}
 use Rattle.fee_image.specs.declared.place.Place.{Place}
 use Rattle.fee_image.specs.Log.{HasTail}
+use Rattle.fee_image.specs.Places.{places_of}
+use Rattle.fee_image.specs.RecordList.{records_of}
 use Rattle.fee_image.specs.Step.{bytes_of_tail}
 use Rattle.fee_image.specs.Banks.{AreBlank}
 use Rattle.fee_log.specs.declared.tail.Tail.{Tail}
@@ -32,10 +34,11 @@ use Rattle.fee_switch.specs.Banks.{BanksState, IsBanksState, IsLogOf, flagged_at
 use Rattle.fee_switch_laws.specs.Shown.{layout_in}
 use Rattle.fee_switch_laws.proofs.RoomAppends.{work_begun}
 use Rattle.fee_laws.specs.Inside.{body_of}
-use Rattle.fee_laws.specs.Follows.{anything, FollowsBytes}
+use Rattle.fee_laws.specs.Follows.{anything, FollowsCopies, FollowsBytes}
 use Rattle.fee_image.proofs.Frames.{SameOthers}
 use Rattle.fee_laws.proofs.FollowBytes.{record_page_is}
 use Rattle.fee_laws.proofs.FollowAppends.{others, front, state_after}
+use Rattle.fee_laws.proofs.FollowPlaces.{step_placed}
 use Rattle.fee_laws.proofs.FollowTargets.{settled_target}
 
 -- A PAGE OF THE TARGET'S LOG
@@ -65,9 +68,15 @@ module _ (s : BanksState) (is : IsBanksState s) (content old new : List ℕ) (xs
   still_blank blank q below inside = subst (λ (b : ℕ). image_page l new b q ≡ image_page l old b q) bank (front s.geometry s.banks k of state work body old new page_is leaves q below inside) ∙ blank q below inside
 
   -- it is done
-  pub page_goes_on : AreBlank l old s.target 2 → HoldsState k body old anything → Leaves (op_of k body) Done old new
-      → AreBlank l new s.target 2 × HoldsState (after_step k Done) (body_of (work_in (after_step k Done).tail) s.buffer) new anything
-  page_goes_on blank holds done = (still_blank blank, state_after k s.buffer old new Done state holds work page (λ off. cc off) leaves done)
+  pub page_goes_on : AreBlank l old s.target 2 → HoldsState k body old anything → k.places ≡ places_of k.numbers (records_of (bank_of k) old) → Leaves (op_of k body) Done old new
+      → AreBlank l new s.target 2 × FollowsCopies (record s { copies = after_step k Done }) new
+  page_goes_on blank holds placed done = (
+    still_blank blank,
+    record {
+      holds = state_after k s.buffer old new Done state holds work page (λ off. cc off) leaves done;
+      placed = step_placed k body old new anything (record { state = state; holds = holds; work = work; page = page }) leaves done placed;
+    },
+  )
 
 -- FLAGS
 -- those that are set are all that a done page changes in the active log

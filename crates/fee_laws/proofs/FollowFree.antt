@@ -36,7 +36,8 @@ use Rattle.fee_laws.specs.Follows.{failed_of, may_be_closed_beside, FollowsBytes
 use Rattle.fee_laws.specs.FollowLaws.{RoomIsEnough}
 use Rattle.fee_laws.proofs.Before.{each_now, now_at, power}
 use Rattle.fee_laws.proofs.FollowKnown.{own_bank, shows_active}
-use Rattle.fee_laws.proofs.FollowRoom.{IsFree, few_free, free_beside, has_pages, idle_work, is_a_read, none_free, of, own_pages, written}
+use Rattle.fee_laws.proofs.FollowPages.{IsFree, few_free, has_pages, is_a_read, none_free}
+use Rattle.fee_laws.proofs.FollowRoom.{free_beside, idle_work, of, own_pages, written}
 use Rattle.fee_laws.proofs.WornFull.{op_some}
 
 -- a program that may have closed the active bank is one of it

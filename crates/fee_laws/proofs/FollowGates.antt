@@ -31,7 +31,7 @@ use Rattle.fee_laws.specs.Follows.{anything, ComesBehind, StandsFirst, target_he
 use Rattle.fee_image.proofs.Frames.{SameOthers, others_stay, page_stays}
 use Rattle.fee_laws.proofs.FollowStates.{any_content}
 use Rattle.fee_laws.proofs.FollowOperations.{AreOf, bank_of_program}
-use Rattle.fee_laws.proofs.FollowBanks.{some_page, legal, copies_stay}
+use Rattle.fee_laws.proofs.FollowBanks.{some_page, legal, copies_stay, with_copies}
 use Rattle.fee_laws.proofs.FollowTargets.{was, first, builds}
 
 -- the greatest generation but the last has a next one
@@ -85,7 +85,7 @@ module _ (s : BanksState) (is : IsBanksState s) (content old new : List ℕ) (xs
   copies_on = copies_stay s is old new leaves.0.size (λ q low inside. same q inside (λ e. omega (arith, low, e))) was'.1
 
   pub gate_fails : x.answer ≡ Failed → FollowsBytes (fallen_back s (Gate failed)) content (xs ++ x ∷ []) new
-  gate_fails bad = builds s is content old new xs (x ∷ []) (Gate failed) course of leaves.0.size apart follows s.log.flags (Gate true) s.copies s.buffer (head_on, copies_on) (failed_are_repeated s.geometry s.banks xs x (op_in s stage.Gate) op bad)
+  gate_fails bad = builds s is content old new xs (x ∷ []) (Gate failed) course of leaves.0.size apart follows s.log.flags (Gate true) s.copies s.buffer (head_on, with_copies s s.log (Some (Gate true)) new copies_on) (failed_are_repeated s.geometry s.banks xs x (op_in s stage.Gate) op bad)
 
   module _ (wide : l.pages * l.page * s.banks ≤ length old) (worn : is_worn_out s.active ≡ false) (tail : s.copies.tail ≡ Open) (done : new ≡ after_op (op_at (target_at s stage.Gate) stage.Gate) old) where
     gate_on : image_page l new s.target 1 ≡ page
@@ -112,8 +112,9 @@ module _ (s : BanksState) (is : IsBanksState s) (content old new : List ℕ) (xs
         let wide' = ap is_closed tail in
         record {
           log = record {
-            holds = any_content s.copies (body_of (work_in s.copies.tail) s.buffer) (body_of (work_in s.copies.tail) content) new anything idle copies_on;
+            holds = any_content s.copies (body_of (work_in s.copies.tail) s.buffer) (body_of (work_in s.copies.tail) content) new anything idle copies_on.holds;
             closed = λ shut. cc;
+            placed = inr copies_on.placed;
           };
           banks = sym ((active_computes l new s.target (target_head s)).0 is_active);
           next = tt;

@@ -18,7 +18,7 @@ use Rattle.fee_laws.specs.Follows.{target_head, FollowsTarget, FollowsBytes}
 use Rattle.fee_image.proofs.Frames.{SameOthers, others_stay, page_stays}
 use Rattle.fee_laws.proofs.FollowBytes.{bank_head_is}
 use Rattle.fee_laws.proofs.FollowOperations.{AreOf, bank_of_program}
-use Rattle.fee_laws.proofs.FollowBanks.{some_page, legal, copies_stay}
+use Rattle.fee_laws.proofs.FollowBanks.{some_page, legal, copies_stay, with_copies}
 use Rattle.fee_laws.proofs.FollowTargets.{was, builds, again}
 
 module _ (s : BanksState) (is : IsBanksState s) (content old new : List ℕ) (xs : List Change) (x : Change) (course : s.course ≡ Some Head) (leaves : MayLeave (op_at (target_at s stage.Head) stage.Head) old new) (op : x.op ≡ op_in s stage.Head) (follows : FollowsBytes s content xs old) where
@@ -53,5 +53,5 @@ module _ (s : BanksState) (is : IsBanksState s) (content old new : List ℕ) (xs
       let here : image_page l new s.target 0 ≡ page = subst (λ (bytes : List ℕ). image_page l bytes s.target 0 ≡ page) (sym done) stood.0 in
       let same = page_stays l old new page s.target 0 size (omega (arith, two)) leaves in
       builds s is content old new xs (x ∷ []) Head course of leaves.0.size apart follows s.log.flags (Gate false) s.copies s.buffer
-      (here, copies_stay s is old new leaves.0.size (λ q low inside. same q inside (λ e. omega (arith, low, e))) was'.1)
+      (here, with_copies s s.log (Some (Gate false)) new (copies_stay s is old new leaves.0.size (λ q low inside. same q inside (λ e. omega (arith, low, e))) was'.1))
       (same 1 (omega (arith, two)) (λ e. (let z : ◌≡◌ {A = ℕ} 1 0 = e in cc z)) ∙ was'.0 1 (omega arith) (omega (arith, two)))

@@ -24,6 +24,7 @@ use Rattle.fee_image.proofs.Frames.{SameOthers}
 use Rattle.promise_device.specs.Wear.{bank_of_op}
 use Rattle.fee_laws.proofs.FollowOperations.{AreOf}
 use Rattle.fee_laws.proofs.FollowAppends.{bank_is}
+use Rattle.fee_laws.proofs.FollowBanks.{with_copies}
 use Rattle.fee_laws.proofs.FollowTargets.{builds, again}
 use Rattle.fee_laws.proofs.FollowCopies.{page_small, apart, page_goes_on, begun_course, begun_tail, begun_holds, begun_state}
 
@@ -65,10 +66,10 @@ module _ (s : BanksState) (is : IsBanksState s) (content old new : List ℕ) (xs
   target = (subst (λ (o : Option Course). FollowsBanks s o old) course follows.banks).1
 
   tail : k.tail ≡ Writes head 0
-  tail = begun_tail s.copies copies may.tail head may.configured may.room before s.buffer old fits target.1
+  tail = begun_tail s.copies copies may.tail head may.configured may.room before s.buffer old fits target.1.holds
 
   state : IsLogState k
-  state = begun_state s.copies copies may.tail head may.configured may.room before s.buffer old fits target.1
+  state = begun_state s.copies copies may.tail head may.configured may.room before s.buffer old fits target.1.holds
 
   of : IsLogOf s.geometry s.banks k
   of = record { shape = is.copies.shape; shared = is.copies.shared }
@@ -92,10 +93,10 @@ module _ (s : BanksState) (is : IsBanksState s) (content old new : List ℕ) (xs
   mark_copied Done on left =
       let done = subst (λ (b : List ℕ). Leaves (op_of k b) Done old new) (sym body_none) left in
       let both = page_goes_on s is content old new xs x c course k of is.target_log state some page programs follows target.0
-      (begun_holds s.copies copies may.tail head may.configured may.room before s.buffer old fits target.1) done in
+      (begun_holds s.copies copies may.tail head may.configured may.room before s.buffer old fits target.1.holds) target.1.placed done in
       let goes = λ (next : Course) (holds : FollowsTarget (record s { course = Some next; copies = after_step k Done }) next new) (behind : FollowsNext (record s { course = Some next; copies = after_step k Done }) next (xs ++ x ∷ []) new).
       builds s is content old new xs (x ∷ []) c course is_of size other follows s.log.flags next (after_step k Done) s.buffer holds behind in
       begun_course s.geometry.page (next_copy s.log.numbers s.log.places s.log.flags) (λ (next : Course). record s { course = Some next; copies = after_step k Done }) (λ (t : BanksState). FollowsBytes t content (xs ++ x ∷ []) new)
-      (λ o. goes (Copy o) both tt) (goes Head both tt)
+      (λ o. goes (Copy o) (both.0, with_copies (record s { copies = after_step k Done }) s.log (Some (Copy o)) new both.1) tt) (goes Head (both.0, with_copies (record s { copies = after_step k Done }) s.log (Some Head) new both.1) tt)
   mark_copied Failed on left = again s is content old new xs (x ∷ []) c course is_of size other follows s.buffer
   mark_copied Off on left = absurd (on refl)

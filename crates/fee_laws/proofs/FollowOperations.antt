@@ -111,6 +111,18 @@ failed_here g banks k xs x of program is =
     subst (λ (b : Bool). IsTrue b) (sym (failures_go_on g banks k false xs x ∙ ap (λ (b : Bool). if b then now else before) ((eq_is (bank_of_op g banks x.op) k).1 of)))
     (and_both (is_program x.op) (before || is_failed x.answer) program (or_right before (is_failed x.answer) (ap is_failed is)))
 
+-- and so may one that failed before a program
+pub failed_once : (before : Bool) (xs : List Change) (x : Change) → is_program x.op ≡ true → IsTrue (failed_from before xs) → IsTrue (failed_from before (xs ++ x ∷ []))
+failed_once before [] x program is = and_both (is_program x.op) (before || is_failed x.answer) program (one_of before (is_failed x.answer) (inl is))
+failed_once before (y ∷ ys) x program is = failed_once (is_program y.op && (before || is_failed y.answer)) ys x program is
+
+pub failed_on : (g : Geometry) (banks k : ℕ) (xs : List Change) (x : Change) → bank_of_op g banks x.op ≡ k → is_program x.op ≡ true → IsTrue (failed_in g banks k false xs) → IsTrue (failed_in g banks k false (xs ++ x ∷ []))
+failed_on g banks k xs x of program is =
+    let before = failed_in g banks k false xs in
+    let now = is_program x.op && (before || is_failed x.answer) in
+    subst (λ (b : Bool). IsTrue b) (sym (failures_go_on g banks k false xs x ∙ ap (λ (b : Bool). if b then now else before) ((eq_is (bank_of_op g banks x.op) k).1 of)))
+    (and_both (is_program x.op) (before || is_failed x.answer) program (one_of before (is_failed x.answer) (inl is)))
+
 -- behind an erase that is done the next sector comes
 ends : (k sectors n sector : ℕ) → (k * sectors + n) * sector + sector ≡ (k * sectors + suc n) * sector
 ends k sectors n sector = omega arith

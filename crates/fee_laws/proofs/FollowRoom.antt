@@ -1,159 +1,51 @@
 -- What a device over banks tells of its room and its turns, by the bytes that its banks follow.
-use Rattle.std.specs.Prelude.{IfSome, IsTrue, ◌&&◌, not, is_some, is_none, min, nat_le, take, unwrap_or, if◌then◌else◌}
+use Rattle.std.specs.Prelude.{IfSome, IsTrue, [], ◌&&◌, not, is_some, min, nat_le, take, if◌then◌else◌}
 use Rattle.std.specs.Option.{option_map_or}
-use Rattle.std.proofs.Common.{◌≡◌, ◌≢◌, ◌⊎◌, inl, inr, ◌≤◌, ◌+◌, ◌-◌, ℕ, suc, Bool, true, false, List, Option, Some, None, refl, sym, ap, ◌∙◌, subst, arith}
-use Rattle.std.proofs.lemmas.Bool.{le-leb}
-use Rattle.nv_base.specs.Pages.{record_pages_of}
+use Rattle.std.proofs.Common.{◌≡◌, ◌≢◌, ◌⊎◌, inl, inr, ◌≤◌, ◌+◌, ◌-◌, ℕ, Bool, true, false, List, Option, Some, None, refl, sym, ap, ◌∙◌, subst, arith}
+use Rattle.nv_base.specs.Geometry.{sectors_of_bank}
 use Rattle.nv_base.specs.declared.geometry.Geometry.{Geometry}
 use Rattle.nv_base.specs.declared.instance.DeviceNumber.{DeviceNumber}
 use Rattle.nv_base.specs.declared.job.DeviceOp.{DeviceOp}
-use Rattle.nv_base.specs.declared.job.DeviceOp.TheVariants.{Read, Write, Invalidate, Erase}
-use Rattle.nv_base.specs.declared.mark.Mark.{Mark}
-use Rattle.memif.specs.Told.{Stand, is_open, length_of}
+use Rattle.nv_base.specs.declared.job.DeviceOp.TheVariants.{Read}
+use Rattle.memif.specs.Told.{Stand, is_open}
 use Rattle.memif.specs.Calls.{is_read}
 use Rattle.fls_model.specs.Told.{Told}
 use Rattle.fee_format.specs.declared.bank_head.BankHead.{BankHead}
 use Rattle.fee_format.specs.declared.rec_head.RecHead.{RecHead}
-use Rattle.fee_image.specs.Bank.{Bank, page_of}
+use Rattle.fee_image.specs.Bank.{Bank}
 use Rattle.fee_image.specs.Image.{bank_in}
-use Rattle.fee_image.specs.RecordList.{IsLog, IsClosed, end_of, pages_of_head, free_pages_of}
-use Rattle.fee_image.specs.Append.{Staged}
-use Rattle.fee_image.specs.Log.{HasTail}
-use Rattle.fee_image.specs.May.{May}
-use Rattle.fee_image.proofs.Appends.{appends_leave_one_more, stops_behind}
-use Rattle.fee_image.proofs.Records.{logs_compute}
+use Rattle.fee_image.specs.Places.{places_of}
+use Rattle.fee_image.specs.RecordList.{Rec, IsClosed, records_of, end_of, pages_of_head}
 use Rattle.fee_log.specs.declared.tail.Tail.{Tail}
-use Rattle.fee_log.specs.declared.tail.Tail.TheVariants as tail
-use Rattle.fee_log.specs.Log.{bank_of, work_in, is_closed, free_behind, free_in, tail_with, pages_with}
+use Rattle.fee_log.specs.Log.{LogState, bank_of, work_in, is_closed, free_in, pages_with}
 use Rattle.fee_switch.specs.declared.active.ActiveBank.{ActiveBank}
 use Rattle.fee_switch.specs.Active.{active_shown}
-use Rattle.fee_switch_laws.specs.Space.{free_pages, has_room}
+use Rattle.fee_course.specs.declared.course.Course.TheVariants as course
+use Rattle.fee_switch.specs.Banks.{begun_again, left_of as switch_left}
+use Rattle.fee_switch_laws.specs.Space.{free_pages}
 use Rattle.promise_device.specs.Making.{Making, banks_of}
 use Rattle.promise_device.specs.Image.{free_in_bank, is_closed_bank}
 use Rattle.promise_device.specs.Bridge.{may_be_closed}
-use Rattle.promise_device.specs.Room.{mark_pages, job_pages, pages_needed, turns_with_room, TellsRoom, TellsRoomOf, TellsWork}
+use Rattle.promise_device.specs.Room.{mark_pages, job_pages, pages_needed, turns_with_room, copies_due, switch_due, gate_due, TellsRoom, TellsRoomOf, TellsWork}
 use Rattle.promise_device.proofs.Readings.{closed_banks_compute}
 use Rattle.fee_told.specs.Device.{told_of}
-use Rattle.fee_told.specs.Figures.{Work, ready_of, left_of, turns_of, turns_owed}
+use Rattle.fee_told.specs.Figures.{ready_of, left_of, turns_of, turns_owed}
 use Rattle.fee_laws.specs.declared.job.FeeJob.{FeeJob}
-use Rattle.fee_laws.specs.Inside.{Parts, body_of, device_of, mark_of, stand_of, IsAtWork}
-use Rattle.fee_laws.specs.Record.{IsJobOf, IsLengthOf, IsInWork, head_of}
+use Rattle.fee_laws.specs.Inside.{Parts, body_of, device_of, mark_of, stand_of, IsActiveOf, IsAtWork}
+use Rattle.fee_laws.specs.Record.{IsJobOf, IsInWork, head_of}
 use Rattle.fee_laws.specs.Turn.{IsOn}
-use Rattle.fee_laws.specs.Work.{pages_of_op, pages_free, is_owed, is_waiting, fits_in, needs_switch, begins_next, claimed, takes_append, switch_turns, work_of, seal_turns}
+use Rattle.fee_laws.specs.Work.{pages_of_op, pages_left, pages_free, is_owed, is_waiting, fits_in, needs_switch, begins_next, claimed, takes_append, switch_turns, work_of, seal_turns}
 use Rattle.fee_laws.specs.Follows.{anything, FollowsBytes, may_be_closed_beside}
 use Rattle.fee_laws.specs.FollowLaws.{RoomIsTold}
 use Rattle.fee_laws.proofs.Appended.{pages_few}
 use Rattle.fee_laws.proofs.Before.{now_at, each_now, power}
 use Rattle.fee_laws.proofs.CallsBehind.{no_work}
-use Rattle.fee_laws.proofs.FollowKnown.{no_header, test, follows_log, bank_is, closed_beside, may_by, free_is, shows_active}
+use Rattle.fee_laws.proofs.FollowDue.{copies_of, begins_with}
+use Rattle.fee_laws.proofs.FollowKnown.{test, follows_log, bank_is, closed_beside, may_by, free_is, shows_active}
+use Rattle.fee_laws.proofs.FollowPages.{IsFree, most_free, least_free, few_free, none_free, job_is, is_a_read, turns_marked, op_read, none_is, turns_written, not_third, not_second, none_by, at_most, has_pages}
 use Rattle.fee_laws.proofs.Shown.{pages_by}
 use Rattle.fee_laws.proofs.SwitchBegun.{seal_is}
 use Rattle.fee_laws.proofs.WornFull.{op_some}
-
--- THE PAGES
--- no gate is owed, and what is free in memory, beside the record in work, is no less than lies behind the log's end
-pub record IsFree (b : Bank) (bytes : List ℕ) (t : Tail) (free : ℕ) : Type 0 where
-  pub paid : is_owed t ≡ false
-  pub least : b.pages ≤ end_of b bytes + (free + pages_with b.page (work_in t))
-
--- where the log's records end in the bytes, by its tail
-module _ (b : Bank) (bytes : List ℕ) (may : May) (big : 16 ≤ b.page) (end : ℕ) (body : List ℕ) (high : end ≤ b.pages) where
-  -- where a record is in work
-  ends_by : (records : List _) (h : RecHead) (content : List ℕ) (done : ℕ) → Staged b bytes records end h content done → suc done ≤ pages_of_head b.page h → (end ≡ end_of b bytes) ⊎ (end + pages_of_head b.page h ≡ end_of b bytes)
-  ends_by records h content done staged left = elim (appends_leave_one_more b bytes bytes records end h content done big staged left (λ q inside other. refl)) [
-    | inl none ↦ inl ((logs_compute b bytes records end).0 none.1).1
-    | inr more ↦ inr ((logs_compute b bytes _ (end + pages_of_head b.page h)).0 more.log).1
-  ]
-
-  -- and where a gate is owed
-  ends_owing : (records : List _) (h : RecHead) (content : List ℕ) → Staged b bytes records end h content 1 → end ≡ end_of b bytes
-  ends_owing records h content staged =
-      let log : IsLog b bytes records end = record { walk = staged.front; stop = stops_behind b bytes end big (λ inside. staged.blank (end + 1) (omega arith) inside) } in
-      ((logs_compute b bytes records end).0 log).1
-
-  -- no more is free in memory than lies behind that end
-  most_free : (t : Tail) → HasTail b bytes may end (tail_with t body) → free_behind b.page b.pages end t ≤ b.pages - end_of b bytes
-  most_free tail.Open open' = (let is = open'.is_end in omega (arith, is))
-  most_free (tail.Writes h done) at = elim (ends_by at.records h body done at.staged at.left) [ inl is ↦ omega (arith, is) | inr is ↦ omega (arith, is) ]
-  most_free (tail.Owes h next) at = (let is = ends_owing at.records h at.body at.staged in omega (arith, is))
-  most_free tail.Closed at = omega arith
-
-  -- and no less, where the bank isn't closed in the bytes
-  least_free : (t : Tail) → HasTail b bytes may end (tail_with t body) → is_closed t ≡ false → IsClosed b bytes (end_of b bytes) ⊎ IsFree b bytes t (free_behind b.page b.pages end t)
-  least_free tail.Open open' wide = (let is = open'.is_end in inr (record { paid = refl; least = omega (arith, is) }))
-  least_free (tail.Writes h done) at wide =
-      let room = at.staged.room in
-      inr (record { paid = refl; least = elim (ends_by at.records h body done at.staged at.left) [ inl is ↦ omega (arith, is, room) | inr is ↦ omega (arith, is, room) ] })
-  least_free (tail.Owes h next) at wide =
-      let is = ends_owing at.records h at.body at.staged in
-      let start : end + 0 ≡ end = omega arith in
-      let room = at.staged.room in
-      let written = at.staged.written 0 (omega arith) in
-      inl (inr (λ blank. no_header b.page _ (omega (arith, big)) (sym written ∙ ap (page_of b bytes) start ∙ blank end (omega (arith, is)) (omega (arith, room)))))
-  least_free tail.Closed at wide = cc wide
-
-pub few_free : (pages end : ℕ) (shut : Bool) → free_pages_of pages end shut ≤ pages - end
-few_free pages end true = omega arith
-few_free pages end false = omega arith
-
-pub none_free : (pages end : ℕ) (shut : Bool) → shut ≡ true → free_pages_of pages end shut ≡ 0
-none_free pages end true is = refl
-none_free pages end false is = cc is
-
--- THE JOB
-job_is : (m : Making) (number length of : ℕ) (op : DeviceOp) (bytes : List ℕ) → length_of m.numbers number ≡ Some of → IsLengthOf op length of
-    → option_map_or (mark_pages m number) (mark_of op bytes) 0 ≡ pages_of_op m.geometry.page op length
-job_is m number length of Read bytes configured fits = refl
-job_is m number length of Write bytes configured fits = ap (λ (o : Option ℕ). record_pages_of (unwrap_or o 0) m.geometry.page) configured ∙ ap (λ (n : ℕ). record_pages_of n m.geometry.page) (sym fits)
-job_is m number length of Invalidate bytes configured fits = refl
-job_is m number length of Erase bytes configured fits = refl
-
--- a read, or another job, whose mark has a record
-pub is_a_read : (op : DeviceOp) → (op ≡ Read) ⊎ (op ≢ Read)
-is_a_read Read = inl refl
-is_a_read Write = inr (λ e. cc e)
-is_a_read Invalidate = inr (λ e. cc e)
-is_a_read Erase = inr (λ e. cc e)
-
-turns_marked : (m : Making) (number : ℕ) (o : Option Mark) → (o ≡ None → ⊥) → option_map_or (mark_pages m number) o 1 ≡ option_map_or (mark_pages m number) o 0
-turns_marked m number None some = absurd (some refl)
-turns_marked m number (Some mark) some = refl
-
-op_read : (op : DeviceOp) (bytes : List ℕ) → mark_of op bytes ≡ None → op ≡ Read
-op_read Read bytes none = refl
-op_read Write bytes none = cc none
-op_read Invalidate bytes none = cc none
-op_read Erase bytes none = cc none
-
-none_is : (o : Option Mark) → is_none o ≡ true → o ≡ None
-none_is None is = refl
-none_is (Some mark) is = cc is
-
-turns_written : (o : Option Mark) (w : Work) → (o ≡ None → ⊥) → turns_of o w ≡ w.pages + turns_owed w.owed
-turns_written None w some = absurd (some refl)
-turns_written (Some mark) w some = refl
-
--- TESTS
-not_third : (a b c d : Bool) → c ≡ false → a && b && c && d ≡ false
-not_third true true c d is = rw is refl
-not_third true false c d is = refl
-not_third false b c d is = refl
-
-not_second : (a b : Bool) → b ≡ false → a && b ≡ false
-not_second true b is = is
-not_second false b is = refl
-
-none_by : (x : Bool) (n : ℕ) → x ≡ false → (if x then n else 0) ≡ 0
-none_by true n is = cc is
-none_by false n is = refl
-
-at_most : (x : Bool) (n : ℕ) → (if x then n else 0) ≤ n
-at_most true n = omega arith
-at_most false n = omega arith
-
-pub has_pages : (urgent : Bool) (pages reserve free : ℕ) → pages + (if urgent then 0 else reserve) ≤ free → has_room urgent pages reserve free ≡ true
-has_pages true pages reserve free few = le-leb pages free (omega (arith, few))
-has_pages false pages reserve free few = le-leb (pages + reserve) free few
 
 module _ (m : Making) (entry : Told) (s : Parts) (listed : List (DeviceNumber × ℕ)) (kept count : ℕ) (on : IsOn m entry s listed kept count) (bytes : List ℕ) (follows : FollowsBytes s.banks s.content s.operations bytes) where
   abbrev stand : Option FeeJob → Stand
@@ -272,6 +164,16 @@ module _ (m : Making) (entry : Told) (s : Parts) (listed : List (DeviceNumber ×
 
     module _ (j : FeeJob) (job : s.job ≡ Some j) where
       -- a read takes one turn
+      read_turns : j.op ≡ Read → turns_with_room m (stand (Some j)) ≡ 1
+      read_turns read = ap (λ (op : DeviceOp). option_map_or (mark_pages m j.number.0) (mark_of op (take j.length s.content)) 1) read
+
+      -- and another job those of its record's pages, of which no more are left
+      own_turns : j.op ≢ Read → turns_with_room m (stand (Some j)) ≡ job_pages m (stand (Some j))
+      own_turns writes = turns_marked m j.number.0 (mark_of j.op (take j.length s.content)) (λ none. writes (op_read j.op (take j.length s.content) none))
+
+      own_left : pages_left (p j job) (pages_of_op (p j job) j.op j.length) t ≤ pages_of_op (p j job) j.op j.length
+      own_left = pages_few (p j job) (pages_of_op (p j job) j.op j.length) t (λ r some. (let same = work_pages j job r some in omega (arith, same)))
+
       reads : j.op ≡ Read → left_of (stand (Some j)) (work_of m.reserve s.banks (Some j)) ≡ 1
       reads read =
           let no_pages : pages_of_op (p j job) j.op j.length ≡ 0 = ap (λ (op : DeviceOp). pages_of_op (p j job) op j.length) read in
@@ -290,10 +192,49 @@ module _ (m : Making) (entry : Told) (s : Parts) (listed : List (DeviceNumber ×
         pub written : (fits : work_in t ≡ None → fits_in m.reserve s.banks j ≡ true) → left_of (stand (Some j)) (work_of m.reserve s.banks (Some j)) ≤ pages_of_op (p j job) j.op j.length
         written fits =
             let zero = no_turns (Some j) (not_needed (work_in t) refl (λ idle. fits idle)) in
-            let few = pages_few (p j job) (pages_of_op (p j job) j.op j.length) t (λ r some. (let same = work_pages j job r some in omega (arith, same))) in
+            let few = own_left in
             let paid : turns_owed (is_owed t) ≡ 0 = ap turns_owed wide in
             let turns = turns_written (mark_of j.op (take j.length s.content)) (work_of m.reserve s.banks (Some j)) (λ none. writes (op_read j.op (take j.length s.content) none)) in
             omega (arith, zero, few, paid, turns)
+
+      -- no more than those, a gate that is owed, and a switch
+      most_by : (gate due : ℕ) → turns_owed (is_owed t) ≤ gate → switch_turns m.reserve s.banks (Some j) s.banks.course ≤ due → left_of (stand (Some j)) (work_of m.reserve s.banks (Some j)) ≤ turns_with_room m (stand (Some j)) + gate + due
+      most_by gate due owed few = elim (is_a_read j.op) [
+        | inl read ↦ (let one = reads read in let turns = read_turns read in omega (arith, one, turns))
+        | inr writes ↦ (
+            let own = own_pages j job in
+            let same = own_turns writes in
+            let pages = own_left in
+            let turns = turns_written (mark_of j.op (take j.length s.content)) (work_of m.reserve s.banks (Some j)) (λ none. writes (op_read j.op (take j.length s.content) none)) in
+            omega (arith, own, same, pages, turns, owed, few))
+      ]
+
+      -- it needs one only where no record is in work
+      waits_idle : (o : Option RecHead) → work_in t ≡ o → needs_switch m.reserve s.banks (Some j) ≡ true → work_in t ≡ None
+      waits_idle None idle needs = idle
+      waits_idle (Some h) work needs = (let none : needs_switch m.reserve s.banks (Some j) ≡ false = ap (λ (x : Bool). x && not (fits_in m.reserve s.banks j)) (waits_none j job h work) in cc (needs, none))
+
+    most_of : (o : Option FeeJob) (gate due : ℕ) → s.job ≡ o → turns_owed (is_owed t) ≤ gate → switch_turns m.reserve s.banks o s.banks.course ≤ due → left_of (stand o) (work_of m.reserve s.banks o) ≤ turns_with_room m (stand o) + gate + due
+    most_of None gate due none owed few = omega (arith, few)
+    most_of (Some j) gate due job owed few = most_by j job gate due owed few
+
+    idle_of : (o : Option FeeJob) → s.job ≡ o → needs_switch m.reserve s.banks o ≡ true → work_in t ≡ None
+    idle_of None none needs = cc needs
+    idle_of (Some j) job needs = waits_idle j job (work_in t) refl needs
+
+    -- the one that it needs copies what these records show, where the places are theirs
+    switch_most : (records : List Rec) → s.banks.log.places ≡ places_of s.banks.log.numbers records → (o : Option FeeJob) → s.job ≡ o → switch_turns m.reserve s.banks o s.banks.course ≤ switch_due m records
+    switch_most records placed o job = elim (test (needs_switch m.reserve s.banks o)) [
+      | inr none ↦ (let zero = no_turns o none in omega (arith, zero))
+      | inl needs ↦ (
+          let turns : switch_turns m.reserve s.banks o s.banks.course ≡ switch_left (begun_again s.banks (course.Erase 0)) =
+          ap (switch_turns m.reserve s.banks o) shut ∙ ap (λ (x : Bool). if x then switch_left (begun_again s.banks (course.Erase 0)) else 0) needs in
+          let begins = begins_with s.banks (idle_of o job needs) in
+          let copies = copies_of (s.banks.geometry.page) s.banks.log.numbers s.banks.log.places records placed in
+          let same : sectors_of_bank s.banks.geometry s.banks.banks + copies_due s.banks.geometry.page s.banks.log.numbers records + 2 ≡ switch_due m records =
+          λ i. sectors_of_bank (shape i) (on.sound.made_for.shared i) + copies_due (shape i).page (on.sound.made_for.numbers i) records + 2 in
+          omega (arith, turns, begins, copies, same))
+    ]
 
     ready_is : ready_of m.reserve (nat_le 1 (seal_turns s.banks.course)) (pages_free s.banks s.job) ≡ min m.reserve (pages_free s.banks s.job)
     ready_is = ap (λ (n : ℕ). ready_of m.reserve (nat_le 1 n) (pages_free s.banks s.job)) (seal_is s.banks.course shut)
@@ -311,12 +252,12 @@ module _ (m : Making) (entry : Told) (s : Parts) (listed : List (DeviceNumber ×
       left_by (Some j) job room = elim (is_a_read j.op) [
         | inl read ↦ (
             let one = reads j job read in
-            let turns : turns_with_room m (stand (Some j)) ≡ 1 = ap (λ (op : DeviceOp). option_map_or (mark_pages m j.number.0) (mark_of op (take j.length s.content)) 1) read in
+            let turns = read_turns j job read in
             inr (omega (arith, one, turns)))
         | inr writes ↦ (
             let own = own_pages j job in
             let some = op_some s.banks.geometry.page j.op j.length writes in
-            let same = turns_marked m j.number.0 (mark_of j.op (take j.length s.content)) (λ none. writes (op_read j.op (take j.length s.content) none)) in
+            let same = own_turns j job writes in
             elim free_by [
               | inl is ↦ (let zero = none_in a active is in absurd (omega (arith, zero, room, own, some)))
               | inr (inl bad) ↦ inl bad
@@ -330,6 +271,26 @@ module _ (m : Making) (entry : Told) (s : Parts) (listed : List (DeviceNumber ×
             ])
       ]
 
+      -- a gate that is owed, and the switch that the job needs
+      gate_by : IsTrue failed ⊎ (turns_owed (is_owed t) ≤ gate_due (b a active) bytes)
+      gate_by = elim free_by [
+        | inl is ↦ (let one : gate_due (b a active) bytes ≡ 1 = ap (λ (x : Bool). if x then 1 else 0) is in let few = at_most (is_owed t) 1 in inr (omega (arith, one, few)))
+        | inr (inl bad) ↦ inl bad
+        | inr (inr free) ↦ (let zero : turns_owed (is_owed t) ≡ 0 = ap turns_owed free.paid in inr (omega (arith, zero)))
+      ]
+
+      due_by : IsTrue failed ⊎ (switch_turns m.reserve s.banks s.job s.banks.course ≤ switch_due m (records_of (b a active) bytes))
+      due_by = elim (follows_log m entry s listed kept count on bytes follows a active).placed [
+        | inl bad ↦ inl (may_by m entry s listed kept count on bytes follows a active shut bad)
+        | inr placed ↦ inr (switch_most (records_of (b a active) bytes) (placed ∙ ap (λ (x : Bank). places_of s.banks.log.numbers (records_of x bytes)) (bank_is m entry s listed kept count on bytes follows a active)) s.job refl)
+      ]
+
+      most : IsTrue failed ⊎ (left_of (stand s.job) (work_of m.reserve s.banks s.job) ≤ turns_with_room m (stand s.job) + gate_due (b a active) bytes + switch_due m (records_of (b a active) bytes))
+      most = elim gate_by [
+        | inl bad ↦ inl bad
+        | inr owed ↦ (elim due_by [ inl bad ↦ inl bad | inr few ↦ inr (most_of s.job _ _ refl owed few) ])
+      ]
+
       tells_room : TellsRoom m failed (b a active) bytes (told_of (device_of m entry s))
       tells_room = record {
         ready_high = (let is = ready_is in let most = high a active in omega (arith, is, most));
@@ -339,10 +300,17 @@ module _ (m : Making) (entry : Told) (s : Parts) (listed : List (DeviceNumber ×
           | inr (inr free) ↦ (let is = ready_is in let own = claims s.job refl in let least = free.least in let most = few a active in inr (omega (arith, is, own, least, most)))
         ];
         left = λ room. left_by s.job refl room;
+        most = most;
       }
 
     room_of : (o : Option ActiveBank) → s.banks.active ≡ o → TellsRoomOf m failed (active_shown o) bytes (told_of (device_of m entry s))
-    room_of None none = (let is = ready_is in let zero : free_pages s.banks ≡ 0 = ap (λ (o : Option ActiveBank). if is_some o then free_in s.banks.log else 0) none in omega (arith, is, zero))
+    room_of None none =
+        let is = ready_is in
+        let zero : free_pages s.banks ≡ 0 = ap (λ (o : Option ActiveBank). if is_some o then free_in s.banks.log else 0) none in
+        let blank : IsActiveOf s.banks None = subst (IsActiveOf s.banks) none at_work.active in
+        let paid : turns_owed (is_owed t) ≡ 0 = ap (λ (k : LogState). turns_owed (is_owed k.tail)) blank in
+        let few = most_of s.job 0 (switch_due m []) refl (omega (arith, paid)) (switch_most [] (ap (λ (k : LogState). k.places) blank) s.job refl) in
+        (omega (arith, is, zero), omega (arith, few))
     room_of (Some a) active = tells_room a active
 
     idle_by : (o : Option FeeJob) → s.job ≡ o → is_open (stand o) ≡ false → left_of (stand o) (work_of m.reserve s.banks o) ≡ 0

@@ -1,15 +1,16 @@
 -- What a start-up found follows the bytes.
 use Rattle.std.specs.Prelude.{IfSome}
-use Rattle.std.proofs.Common.{◌≡◌, inl, inr, ◌≤◌, ◌*◌, ℕ, List, length, Option, Some, None, sym, subst, arith}
+use Rattle.std.proofs.Common.{◌≡◌, inl, inr, ◌≤◌, ◌*◌, ℕ, List, length, Option, Some, None, sym, ap, ◌∙◌, subst, arith}
 use Rattle.nv_base.specs.Geometry.{pages_of_bank}
 use Rattle.nv_base.proofs.Shapes.{banks_fill}
 use Rattle.fls_model.specs.Attach.{AreBytesOf}
 use Rattle.fls_model.specs.Told.{Change}
 use Rattle.fee_image.specs.Bank.{Bank}
 use Rattle.fee_image.specs.Image.{Layout, layout_of, bank_in, IsLegalLayout}
-use Rattle.fee_image.specs.RecordList.{IsClosed, end_of}
+use Rattle.fee_image.specs.Places.{places_of}
+use Rattle.fee_image.specs.RecordList.{IsClosed, records_of, end_of}
 use Rattle.fee_image.specs.LogLaws.{loaded_log, IsLoadedTail}
-use Rattle.fee_image.specs.Log.{HoldsLog}
+use Rattle.fee_image.specs.Log.{Log, HoldsLog}
 use Rattle.fee_image.specs.May.{exactly}
 use Rattle.fee_image.proofs.Logs.{loaded_logs_hold, logs_widen}
 use Rattle.fee_log.specs.declared.tail.Tail.{Tail}
@@ -72,6 +73,7 @@ module _ (s : BanksState) (is : IsBanksState s) (bytes : List ℕ) (are : AreByt
         follows = loaded_follows (bank_in l a.head.format a.bank) bytes body s.log.tail (loaded.tail body);
       };
       closed = λ shut. inl (subst (λ (b : Bank). IsClosed b bytes (end_of b bytes)) bank_is (loaded.closed shut));
+      placed = inr (ap (λ (x : Log). x.places) (loaded.loaded body) ∙ ap (λ (b : Bank). places_of s.log.numbers (records_of b bytes)) bank_is);
     }
 
   found_by : (o : Option ActiveBank) → IfSome o (λ a. (a.bank ≡ s.target → ⊥) × (s.log.bank ≡ a.bank)) → IfSome o (λ a. IsLoadedAs l bytes a.bank a.head s.log) → IfSome o (λ a. FollowsLog s.course s.log body xs bytes)

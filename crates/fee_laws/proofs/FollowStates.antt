@@ -4,6 +4,7 @@ use Rattle.fee_image.specs.Bank.{page_of}
 use Rattle.fee_image.specs.RecordList.{IsClosed, IsTailBlank, records_of, end_of, end_after}
 use Rattle.fee_image.specs.Log.{HoldsLog, Tail as LogTail}
 use Rattle.fee_image.specs.May.{May, IsWider}
+use Rattle.fee_image.specs.Places.{places_of}
 use Rattle.fee_image.proofs.Logs.{logs_stay, logs_widen}
 use Rattle.fee_image.proofs.Reading.{records_stay}
 use Rattle.fee_log.specs.declared.tail.Tail.{Tail}
@@ -38,6 +39,10 @@ module _ (s : LogState) (old new : List ℕ) (same : SameBody s old new) where
   pub closed_stays : IsClosed (bank_of s) old (end_of (bank_of s) old) → IsClosed (bank_of s) new (end_of (bank_of s) new)
   closed_stays (inl format) = inl format
   closed_stays (inr used) = inr (λ blank. used (blank_before blank))
+
+-- and its records give the same places
+pub places_stay : (s : LogState) (old new : List ℕ) → SameBody s old new → s.places ≡ places_of s.numbers (records_of (bank_of s) old) → s.places ≡ places_of s.numbers (records_of (bank_of s) new)
+places_stay s old new same placed = placed ∙ ap (places_of s.numbers) (sym (records_stay (bank_of s) old new (bank_of s).at same))
 
 -- THE CONTENT
 -- with no record in work there is none

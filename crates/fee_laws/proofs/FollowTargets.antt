@@ -1,6 +1,6 @@
 -- An operation of a switch's target.
 use Rattle.std.specs.Prelude.{IfSome, is_some}
-use Rattle.std.proofs.Common.{◌≡◌, ◌≤◌, ◌++◌, ℕ, Bool, List, length, Option, Some, None, sym, ◌∙◌, subst, arith}
+use Rattle.std.proofs.Common.{◌≡◌, ◌≤◌, ◌++◌, ℕ, Bool, List, length, Option, Some, None, sym, ◌∙◌, subst, arith, refl}
 use Rattle.std.proofs.lemmas.Bool.{cond_both}
 use Rattle.nv_base.specs.declared.geometry.Geometry.{Geometry}
 use Rattle.nv_base.specs.declared.instance.DeviceNumber.{DeviceNumber}
@@ -58,7 +58,7 @@ module _ (s : BanksState) (is : IsBanksState s) (content old new : List ℕ) (xs
 
   -- behind a failure the first erase comes
   pub again : (buffer : List ℕ) → FollowsBytes (record s { course = Some (Erase 0); log = record s.log { flags = clear_flags s.log.numbers }; copies = erased_state s.geometry s.banks s.target s.copies.numbers; buffer = buffer }) content (xs ++ more) new
-  again buffer = builds (clear_flags s.log.numbers) (Erase 0) (erased_state s.geometry s.banks s.target s.copies.numbers) buffer (λ q below inside. absurd (omega arith)) tt
+  again buffer = builds (clear_flags s.log.numbers) (Erase 0) (erased_state s.geometry s.banks s.target s.copies.numbers) buffer (λ q below inside. absurd (omega arith), refl) tt
 
 -- THE COPIES COME, OR THE HEAD
 pub settled_target : (ns : List (DeviceNumber × ℕ)) (ps : List Place) (cs : List Bool) (t : Course → BanksState) (P : BanksState → Type 0) → P (t (Copy None)) → P (t Head) → P (t (settled ns ps cs))

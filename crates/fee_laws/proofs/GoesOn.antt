@@ -1,6 +1,6 @@
 -- A page is done, and the record goes on.
 use Rattle.std.specs.Prelude.{IfSome, IsSome, is_some, if◌then◌else◌}
-use Rattle.std.proofs.Common.{◌≡◌, ◌≤◌, ◌<◌, ◌+◌, ℕ, false, List, Option, Some, None, refl, sym, ap, ◌∙◌, subst, arith}
+use Rattle.std.proofs.Common.{◌≡◌, ◌≤◌, ◌+◌, ℕ, false, List, Option, Some, None, refl, sym, ap, ◌∙◌, subst, arith}
 use Rattle.nv_base.specs.Geometry.{sectors_of_bank}
 use Rattle.nv_base.specs.declared.geometry.Geometry.{Geometry}
 use Rattle.nv_base.specs.declared.instance.DeviceNumber.{DeviceNumber}
@@ -104,24 +104,23 @@ module _ (m : Making) (entry : Told) (s : Parts) (listed : List (DeviceNumber ×
   wanted : pages_of_job p s.job ≡ pages_of_op p jb.op jb.length
   wanted = ap (pages_of_job p) job_is
 
-  each_fits : (r : RecHead) → work_in s.banks.log.tail ≡ Some r → pages_of_head p r ≤ pages_of_job p s.job
+  each_fits : (r : RecHead) → work_in s.banks.log.tail ≡ Some r → pages_of_head p r ≡ pages_of_job p s.job
   each_fits r some =
       let was = work_is m entry s listed kept count is.on is.work in
       let same : h m entry s listed kept count is.on is.work ≡ r = cc (was, some) in
-      let e1 = ap (pages_of_head p) (sym same) ∙ pages m entry s listed kept count is.on is.work ∙ sym wanted in
-      omega (arith, e1)
+      ap (pages_of_head p) (sym same) ∙ pages m entry s listed kept count is.on is.work ∙ sym wanted
 
-  pub falls : v.pages + turns_owed v.owed < w.pages + turns_owed w.owed
+  pub falls : v.pages + turns_owed v.owed + 1 ≡ w.pages + turns_owed w.owed
   falls =
       let g = is.on.banks.log.shape in
-      subst (λ (q : ℕ). pages_left q (pages_of_job p s.job) b.log.tail + turns_owed (is_owed b.log.tail) < pages_left q (pages_of_job p s.job) s.banks.log.tail + turns_owed (is_owed s.banks.log.tail)) (ap (λ (x : Geometry). x.page) g)
+      subst (λ (q : ℕ). pages_left q (pages_of_job p s.job) b.log.tail + turns_owed (is_owed b.log.tail) + 1 ≡ pages_left q (pages_of_job p s.job) s.banks.log.tail + turns_owed (is_owed s.banks.log.tail)) (ap (λ (x : Geometry). x.page) g)
       (pages_fall s.banks.log s.banks.log.tail (pages_of_job p s.job) is.work is.on.log.tail (ap (λ (x : Geometry). commits x.page s.banks.log.tail) g ∙ goes)
-      (λ r some. subst (λ (x : Geometry). pages_of_head x.page r ≤ pages_of_job p s.job) (sym g) (each_fits r some)))
+      (λ r some. subst (λ (x : Geometry). pages_of_head x.page r ≡ pages_of_job p s.job) (sym g) (each_fits r some)))
 
   pages_then : v.pages ≤ pages_of_op p jb.op jb.length
   pages_then =
       subst (λ (n : ℕ). v.pages ≤ n) wanted
-      (pages_few p (pages_of_job p s.job) b.log.tail (λ r some. each_fits r (sym going.work ∙ some)))
+      (pages_few p (pages_of_job p s.job) b.log.tail (λ r some. (let same = each_fits r (sym going.work ∙ some) in let goal : pages_of_head p r ≤ pages_of_job p s.job = omega (arith, same) in goal)))
 
   pub work_then : IsWork m.geometry.page (sectors_of_bank m.geometry m.banks) m.numbers m.reserve (stand_of s.content s.job s.last s.given) v
   work_then =

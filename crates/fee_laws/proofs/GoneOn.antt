@@ -1,6 +1,6 @@
 -- The turn in which a record goes on.
 use Rattle.std.specs.Prelude.{is_some, nat_le, take, if◌then◌else◌}
-use Rattle.std.proofs.Common.{◌≡◌, ◌≢◌, inl, inr, ◌≤◌, ◌<◌, ◌+◌, ℕ, Bool, true, false, List, Option, Some, None, refl, sym, ap, ◌∙◌, subst, arith}
+use Rattle.std.proofs.Common.{◌≡◌, ◌≢◌, inl, ◌≤◌, ◌<◌, ◌+◌, ℕ, Bool, true, false, List, Option, Some, None, refl, sym, ap, ◌∙◌, subst, arith}
 use Rattle.nv_base.specs.Count.{next_count}
 use Rattle.nv_base.specs.declared.instance.DeviceNumber.{DeviceNumber}
 use Rattle.memif.specs.declared.answer.DeviceTurn.TheVariants as turn
@@ -18,7 +18,7 @@ use Rattle.fee_switch.specs.Banks.{TakesRecord}
 use Rattle.promise_device.specs.Making.{Making}
 use Rattle.fee_told.specs.Device.{told_of, clock_of}
 use Rattle.fee_told.specs.Figures.{Waits, left_of, ready_of}
-use Rattle.fee_told.proofs.Figures.{turns_lower, urgent_nears}
+use Rattle.fee_told.proofs.Figures.{urgent_nears}
 use Rattle.fee_laws.specs.declared.job.FeeJob.{FeeJob}
 use Rattle.fee_laws.specs.Inside.{Parts, device_of, mark_of, stand_of, fixed_in}
 use Rattle.fee_laws.specs.Work.{waits_of, turns_before, seal_turns, is_urgent_job, pages_free}
@@ -27,6 +27,7 @@ use Rattle.fee_laws.specs.Appends.{IsAppending, work_op, after_page, AppendsGoOn
 use Rattle.fee_laws.proofs.Order.{urgent_is}
 use Rattle.fee_laws.proofs.Operation.{left}
 use Rattle.fee_laws.proofs.Behind.{Facts}
+use Rattle.fee_laws.proofs.Taken.{takes_one, job_takes}
 use Rattle.fee_laws.proofs.Turning.{worked}
 use Rattle.fee_laws.proofs.Tails.{free_on}
 use Rattle.fee_laws.proofs.Figures.{free_is}
@@ -93,12 +94,15 @@ module _ (m : Making) (entry : Told) (s : Parts) (listed : List (DeviceNumber ×
   has_mark : asks.mark ≡ None → ⊥
   has_mark none = let some = mark m entry s listed kept count is.on is.work in cc (some, none)
 
-  falls_at : told_new.left < told_old.left
+  falls_at : told_new.left + 1 ≡ told_old.left
   falls_at =
       let fewer = falls m entry s listed kept count f is goes in
       let same = same_switch m entry s listed kept count f is goes in
-      subst (λ (o : Option FeeJob). left_of (at o) (v m entry s listed kept count f is goes) < left_of (at o) (w m entry s listed kept count f is goes)) (sym job_at)
-      (turns_lower asks (w m entry s listed kept count f is goes) (v m entry s listed kept count f is goes) has_mark (omega (arith, same), omega (arith, fewer), inr fewer))
+      subst (λ (o : Option FeeJob). left_of (at o) (v m entry s listed kept count f is goes) + 1 ≡ left_of (at o) (w m entry s listed kept count f is goes)) (sym job_at)
+      (job_takes asks (w m entry s listed kept count f is goes) (v m entry s listed kept count f is goes) has_mark (omega (arith, same, fewer)))
+
+  lower : told_new.left < told_old.left
+  lower = let one = falls_at in omega (arith, one)
 
   ready_same : told_old.ready ≤ told_new.ready
   ready_same =
@@ -142,10 +146,11 @@ module _ (m : Making) (entry : Told) (s : Parts) (listed : List (DeviceNumber ×
       worked m entry s listed kept count is.on (work_op s) Done f is.drives called (b m entry s listed kept count f is goes) s.job s.last s.given (keeps m entry s listed kept count Done f is) (λ off. cc off) refl called.cause.2 facts (record {
         something = something m entry s listed kept count is.on is.work;
         no_read = no_read m entry s listed kept count is.on is.work;
-        job_turns = subst (λ (o : Option FeeJob). JobTurns First (at o) (at o) told_old told_new (clock_of (device_of m entry t))) (sym job_at) (refl, keeps_all m entry s listed kept count Done f is s.job s.last s.given keeping places refl, falls_at);
-        nearer = inl falls_at;
+        job_turns = subst (λ (o : Option FeeJob). JobTurns First (at o) (at o) told_old told_new (clock_of (device_of m entry t))) (sym job_at) (refl, keeps_all m entry s listed kept count Done f is s.job s.last s.given keeping places refl, lower);
+        nearer = inl lower;
         ready = readies;
         takes = record_takes m entry s listed kept count Done f is;
+        turn_taken = takes_one m entry s t (λ on. on) falls_at;
       })
 
 pub appends_go_on : AppendsGoOn

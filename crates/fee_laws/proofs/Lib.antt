@@ -17,6 +17,7 @@ mod Order
 mod Operation
 mod Behind
 mod MadeFor
+mod Taken
 mod BehindNone
 mod Turning
 pub mod Heads
@@ -81,6 +82,7 @@ mod FollowStates
 mod FollowSteps
 mod FollowOperations
 mod FollowBytes
+mod FollowPlaces
 mod FollowBanks
 mod FollowAppends
 mod PageTraits
@@ -95,9 +97,14 @@ mod FollowMarked
 mod FollowContents
 mod FollowStarts
 mod FollowKnown
+mod FollowPages
+mod FollowDue
 pub mod FollowRoom
 pub mod FollowFree
 pub mod FollowReady
+mod SwitchCopies
+mod SwitchJob
+pub mod SwitchTold
 mod FollowLifts
 pub mod FollowTurned
 pub mod FollowCalled

@@ -1,6 +1,6 @@
 -- From what was begun to what was there before.
 use Rattle.std.specs.Prelude.{◌&&◌, not}
-use Rattle.std.proofs.Common.{◌≡◌, ◌⊎◌, inl, inr, ◌≤◌, ◌<◌, ℕ, Bool, true, false, List, Option, Some, None, refl, subst, arith}
+use Rattle.std.proofs.Common.{◌≡◌, ◌⊎◌, inl, inr, ◌≤◌, ◌<◌, ℕ, Bool, true, false, List, Option, Some, None, refl, ap, subst, arith}
 use Rattle.nv_base.specs.Count.{Rose, last_count}
 use Rattle.memif.specs.declared.answer.DeviceTurn.{DeviceTurn}
 use Rattle.memif.specs.declared.answer.DeviceTurn.TheVariants.{Idle, Worked, Off}
@@ -12,7 +12,8 @@ use Rattle.nv_base.specs.declared.mark.Mark.{Mark}
 use Rattle.memif.specs.Calls.{Turns, TurnsAs, Works, IsSealing, IsCut, IsOff, JobTurns, TurnsReady, EndsAs, ReadsAt, Writes}
 use Rattle.fee_told.specs.Device.{told_of, clock_of}
 use Rattle.fee_laws.specs.Inside.{device_of}
-use Rattle.fee_laws.specs.Begins.{HasBegun, BegunTurns}
+use Rattle.fee_laws.specs.Begins.{HasBegun, BegunTurns, BegunTakes}
+use Rattle.fee_laws.proofs.Taken.{begun_takes_by}
 
 -- THE CLOCK
 past_by : (ops : ℕ) (a b c : Clock) → SameClock a b → Past ops b c → Past ops a c
@@ -35,7 +36,7 @@ is_shut : (a b : Bool) → a ≡ true → not a && not b ≡ true → ⊥
 is_shut true b e h = cc h
 is_shut false b e h = cc e
 
-module _ (old new : DeviceTold) (switching : Bool) (left : ℕ) (clock clock_mid clock_new : Clock) (few : left ≤ old.left) (job : is_open old.stand ≡ true) (stays : old.switching ≡ true → switching ≡ true) (on : (old.first.off ≡ false) × (old.second.off ≡ false)) (same : SameClock clock clock_mid) where
+module _ (old new : DeviceTold) (switching : Bool) (left : ℕ) (clock clock_mid clock_new : Clock) (same_left : left ≡ old.left) (job : is_open old.stand ≡ true) (stays : old.switching ≡ true → switching ≡ true) (on : (old.first.off ≡ false) × (old.second.off ≡ false)) (same : SameClock clock clock_mid) where
   abbrev mid : DeviceTold
   mid = record old { switching = switching; left = left }
 
@@ -70,15 +71,15 @@ module _ (old new : DeviceTold) (switching : Bool) (left : ℕ) (clock clock_mid
   ends_by (Some mark) number result given t = (writes_by result number mark t.0, t.1)
 
   job_by : (p : Part) (a b : Stand) → JobTurns p a b mid new clock_new → JobTurns p a b old new clock_new
-  job_by First (Open j) (Open k) t = (t.0, t.1, omega (arith, t.2))
+  job_by First (Open j) (Open k) t = (t.0, t.1, omega (arith, same_left, t.2))
   job_by First (Open j) (Ended result given) t = (ends_by j.mark j.number result given t.0, t.1)
   job_by First (Ended result given) b t = t
-  job_by Second (Open j) (Open k) t = (t.0, t.1, omega (arith, t.2))
+  job_by Second (Open j) (Open k) t = (t.0, t.1, omega (arith, same_left, t.2))
   job_by Second (Open j) (Ended result given) t = (ends_by j.mark j.number result given t.0, t.1)
   job_by Second (Ended result given) b t = t
 
   nearer_by : (a b : ℕ) → (new.left < left) ⊎ Rose a b → (new.left < old.left) ⊎ Rose a b
-  nearer_by a b (inl less) = inl (omega arith)
+  nearer_by a b (inl less) = inl (omega (arith, same_left, less))
   nearer_by a b (inr rose) = inr rose
 
   ready_by : TurnsReady mid new → TurnsReady old new
@@ -123,3 +124,7 @@ begun_by answer old mid new clock clock_mid clock_new begun turns =
 pub begun_turns : BegunTurns
 begun_turns answer m entry s mid t begun turns =
     begun_by answer (told_of (device_of m entry s)) (told_of (device_of m entry mid)) (told_of (device_of m entry t)) (clock_of (device_of m entry s)) (clock_of (device_of m entry mid)) (clock_of (device_of m entry t)) begun turns
+
+pub begun_takes : BegunTakes
+begun_takes answer m entry s mid t begun before then takes =
+    begun_takes_by answer (device_of m entry s) (device_of m entry mid) (device_of m entry t) begun.left (ap (λ (x : DeviceTold). x.first.faults) begun.only) (ap (λ (x : DeviceTold). x.stand) begun.only) before then takes

@@ -13,7 +13,7 @@ use Rattle.memif.specs.Told.{Stand, Ended, Job, Fixed, figures_at, most_of, op_o
 use Rattle.memif.specs.Clock.{FindsNow}
 use Rattle.memif.specs.Calls.{InOrder, Opens, IsPrompt, ClockStays, is_first, record_pages}
 use Rattle.fls_model.specs.Told.{Told, bytes_now, ToldBytes}
-use Rattle.fee_log.specs.Log.{work_in}
+use Rattle.fee_log.specs.Log.{IsLogState, work_in}
 use Rattle.fee_course.specs.Course.{most_turns}
 use Rattle.fee_switch.specs.Banks.{IsBanksState, BanksState}
 use Rattle.fee_switch_laws.specs.Shown.{old_shown, phase_shown}
@@ -115,7 +115,7 @@ claims : (b : BanksState) (j : FeeJob) (x : Bool) → (if x then pages_of_op b.g
 claims b j true = omega arith
 claims b j false = omega arith
 
-module _ (m : Making) (entry : Told) (s : Parts) (listed : List (DeviceNumber × ℕ)) (kept count : ℕ) (is_off : Bool) (sound : IsSound m entry s listed kept count is_off) (state : IsBanksState s.banks) (started : s.started ≡ true) (shut : s.job ≡ None) (j : FeeJob) (content : List ℕ) (room : length content ≡ 4096) (of : IsJobOf m.numbers j) (size : j.length ≤ 4096) where
+module _ (m : Making) (entry : Told) (s : Parts) (listed : List (DeviceNumber × ℕ)) (kept count : ℕ) (is_off : Bool) (sound : IsSound m entry s listed kept count is_off) (state : IsBanksState s.banks) (log : IsLogState s.banks.log) (started : s.started ≡ true) (shut : s.job ≡ None) (j : FeeJob) (content : List ℕ) (room : length content ≡ 4096) (of : IsJobOf m.numbers j) (size : j.length ≤ 4096) where
   abbrev u : Parts
   u = opened j content s
 
@@ -188,7 +188,7 @@ module _ (m : Making) (entry : Told) (s : Parts) (listed : List (DeviceNumber ×
 
   pub raised : (d.left ≤ t.left) × (t.left ≤ d.left + most)
   raised =
-      let r = raises m.reserve s.banks j of_banks idle works.switch some (take j.length content) in
+      let r = raises m.reserve s.banks j of_banks idle works.switch some log (take j.length content) in
       let same = ap (λ (f : Fixed). most_of (figures_at f j.number.0) (op_of jb.mark)) fixed_same in
       let low = r.0 in let high = r.1 in
       (omega (arith, left_was), omega (arith, left_was, same))
@@ -201,7 +201,7 @@ module _ (m : Making) (entry : Told) (s : Parts) (listed : List (DeviceNumber ×
   beside : (flash_device d).switching ≡ true → t.left ≤ d.left + (if j.urgent then 2 else 1) * (record_pages (fixed_in m) jb + 1)
   beside switching =
       let c = course_open s.banks.course s.banks (body_of (work_in s.banks.copies.tail) s.banks.buffer) switching in
-      let high = raises_beside m.reserve s.banks j of_banks idle works.switch some state.legal.page_low (take j.length content) c.0 c.1 in
+      let high = raises_beside m.reserve s.banks j of_banks idle works.switch some log state.legal.page_low (take j.length content) c.0 c.1 in
       let same = ap (λ (f : Fixed). record_pages f jb) fixed_same in
       let both = ap (λ (n : ℕ). (if j.urgent then 2 else 1) * (n + 1)) same in
       omega (arith, left_was, high, both)
@@ -217,7 +217,7 @@ module _ (m : Making) (entry : Told) (s : Parts) (listed : List (DeviceNumber ×
 
   left_fits : t.left < 2 ^ 63
   left_fits =
-      let a = adds m.reserve s.banks j of_banks idle works.switch some s.banks.course in
+      let a = adds m.reserve s.banks j of_banks idle works.switch some log s.banks.course in
       let w = work_of m.reserve s.banks (Some j) in
       let turns = turns_small jb.mark w in
       let wanted = left_wanted s.banks.geometry.page (pages_of_op s.banks.geometry.page j.op j.length) s.banks.log.tail idle in
@@ -369,7 +369,7 @@ module _ (m : Making) (entry : Told) (s : Parts) (listed : List (DeviceNumber ×
 
 pub jobs_open : JobsOpen
 jobs_open m entry s listed kept count is_off j content sound may = (
-  opened_sound m entry s listed kept count is_off sound may.banks may.started may.shut j content may.room may.job may.size may.promised.ready,
-  opens m entry s listed kept count is_off sound may.banks may.started may.shut j content may.room may.job may.size may.promised.urgent,
-  stays m entry s listed kept count is_off sound may.banks may.started may.shut j content may.room may.job may.size,
+  opened_sound m entry s listed kept count is_off sound may.banks may.log may.started may.shut j content may.room may.job may.size may.promised.ready,
+  opens m entry s listed kept count is_off sound may.banks may.log may.started may.shut j content may.room may.job may.size may.promised.urgent,
+  stays m entry s listed kept count is_off sound may.banks may.log may.started may.shut j content may.room may.job may.size,
 )

@@ -1,6 +1,6 @@
 -- By how much the start of a job raises the turns that are left.
 use Rattle.std.specs.Prelude.{◌&&◌, not, nat_le, is_some}
-use Rattle.std.proofs.Common.{◌≡◌, ◌≤◌, ◌<◌, ◌+◌, ◌-◌, ◌*◌, ℕ, Bool, true, false, if◌then◌else◌, List, Option, Some, None, refl, sym, ap, ◌∙◌, arith}
+use Rattle.std.proofs.Common.{◌≡◌, ◌≤◌, ◌<◌, ◌+◌, ◌-◌, ◌*◌, ℕ, Bool, true, false, if◌then◌else◌, List, Option, Some, None, refl, ap, ◌∙◌, arith}
 use Rattle.nv_base.specs.Geometry.{sectors_of_bank}
 use Rattle.nv_base.specs.Pages.{record_pages_of}
 use Rattle.nv_base.specs.declared.job.DeviceOp.{DeviceOp}
@@ -11,19 +11,21 @@ use Rattle.memif.specs.Calls.{record_pages}
 use Rattle.fee_log.specs.declared.tail.Tail.{Tail}
 use Rattle.fee_log.specs.declared.tail.Tail.TheVariants as tail
 use Rattle.fee_log.specs.Index.{clear_flags}
-use Rattle.fee_log.specs.Log.{work_in}
+use Rattle.fee_log.specs.Log.{IsLogState, work_in}
 use Rattle.fee_course.specs.declared.course.Course.{Course}
 use Rattle.fee_course.specs.declared.course.Course.TheVariants as course
 use Rattle.fee_course.specs.Course.{most_turns}
 use Rattle.fee_course.proofs.Turns.{turns_are_few}
-use Rattle.fee_switch.specs.Banks.{BanksState, begun_again, left_of as switch_left, left_with, index_of}
+use Rattle.fee_switch.specs.Banks.{BanksState, begun_again, left_of as switch_left, left_with, left_beside, index_of}
 use Rattle.fee_switch_laws.specs.Space.{free_pages}
+use Rattle.fee_switch_laws.proofs.Turns.{left_rises, left_rises_few}
 use Rattle.fee_told.specs.Figures.{Work, fixed_for, ready_of, left_of, turns_of, FitsMark}
 use Rattle.fee_told.proofs.Figures.{starts_raise, starts_beside}
 use Rattle.fee_laws.specs.declared.job.FeeJob.{FeeJob}
 use Rattle.fee_laws.specs.Inside.{HasSwitch, mark_of}
 use Rattle.fee_laws.specs.Record.{IsJobOf, IsLengthOf}
 use Rattle.fee_laws.specs.Work.{work_of, claimed, pages_free, seal_turns, takes_append, pages_of_op, pages_left, switch_turns, begins_next, needs_switch, turns_beside, is_waiting, fits_in}
+use Rattle.fee_laws.proofs.Beside.{named}
 use Rattle.fee_laws.proofs.Bounds.{copy_among, pages_are}
 use Rattle.fee_laws.proofs.SwitchFigures.{no_mark}
 
@@ -77,21 +79,14 @@ module _ (reserve : ℕ) (b : BanksState) (j : FeeJob) (of : IsJobOf b.log.numbe
   abbrev pub own : ℕ
   own = most_turns p sectors b.log.numbers
 
-  -- what is added to the turns of the switch
-  pub record Adds (base now : ℕ) : Type 0 where
-    pub more : ℕ
-    pub is : now ≡ base + more
-    pub most_own : more ≤ own
-    pub read : j.op ≡ Read → more ≡ 0
-
-  beside_by : (x : Bool) → begins_next b j ≡ x → Adds 0 (if x then pages_of_op p j.op j.length + 1 else 0)
-  beside_by true e =
-      let urgent = second_of _ j.urgent (is_waiting b j) _ e in
-      let write = of.urgent urgent in
-      let pages = writes_pages p j.op j.length of.length write of.fits in
-      let among = copy_among p b.log.numbers j.number.0 of.length of.configured in
-      record { more = pages_of_op p j.op j.length + 1; is = omega arith; most_own = omega (arith, pages, among); read = λ read. cc (read, write) }
-  beside_by false e = record { more = 0; is = omega arith; most_own = omega arith; read = λ read. refl }
+  -- no fewer are left than of the open switch alone
+  pub rises : (o : Option Course) → switch_turns reserve b None o ≤ switch_turns reserve b (Some j) o
+  rises None = omega arith
+  rises (Some c) = rises_by (begins_next b j)
+    where
+      rises_by : (x : Bool) → switch_left b ≤ (if x then left_beside b j.number.0 else switch_left b)
+      rises_by true = left_rises b j.number.0 idle
+      rises_by false = omega arith
 
   abbrev whole : ℕ
   whole = switch_left (begun_again b (course.Erase 0))
@@ -105,71 +100,87 @@ module _ (reserve : ℕ) (b : BanksState) (j : FeeJob) (of : IsJobOf b.log.numbe
   no_need Invalidate length x y e = cc
   no_need Erase length x y e = cc
 
-  needs_by : (x : Bool) → needs_switch reserve b (Some j) ≡ x → Adds 0 (if x then whole else 0)
-  needs_by true e = record { more = whole; is = omega arith; most_own = whole_few; read = λ read. (let none = no_need j.op j.length (not (is_some (work_in b.log.tail))) (not (fits_in reserve b j)) read in cc (none, e)) }
-  needs_by false e = record { more = 0; is = omega arith; most_own = omega arith; read = λ read. refl }
-
-  adds_to : (base now : ℕ) → Adds 0 now → Adds base (base + now)
-  adds_to base now a = record { more = a.more; is = (let is = a.is in omega arith); most_own = a.most_own; read = a.read }
-
-  pub adds : (o : Option Course) → Adds (switch_turns reserve b None o) (switch_turns reserve b (Some j) o)
-  adds (Some c) =
-      let a = adds_to (switch_left b) (turns_beside b (Some j)) (beside_by (begins_next b j) refl) in
-      record { more = a.more; is = (let is = a.is in omega arith); most_own = a.most_own; read = a.read }
-  adds None = needs_by (needs_switch reserve b (Some j)) refl
-
   -- of a switch that is open
   pub base_few : (o : Option Course) → HasSwitch b o → b.course ≡ o → switch_turns reserve b None o ≤ own
   base_few (Some c) has e = (let left = turns_are_few p sectors b.log.numbers b.log.places b.log.flags (index_of b.log.numbers (work_in b.log.tail)) c has.1 in let same : switch_left b ≡ left_with b (Some c) = ap (λ (o : Option Course). left_with b o) e in omega arith)
   base_few None has e = omega arith
 
-  -- THE RAISE
-  pub raises : (bytes : List ℕ) → let jb : Job = record { number = j.number.0; mark = mark_of j.op bytes; urgent = j.urgent } in
-      let fixed = fixed_for p sectors b.log.numbers reserve in
-      (switch_turns reserve b None b.course ≤ left_of (Open jb) (work_of reserve b (Some j)))
-      × (left_of (Open jb) (work_of reserve b (Some j)) ≤ switch_turns reserve b None b.course + most_of (figures_at fixed jb.number) (op_of jb.mark))
-  raises bytes =
-      let jb : Job = record { number = j.number.0; mark = mark_of j.op bytes; urgent = j.urgent } in
-      let w = work_of reserve b (Some j) in
-      let a = adds b.course in
-      let next : Work = record w { switch = a.more } in
-      let none : Work = record { pages = 0; owed = false; switch = 0 } in
-      let wanted = left_wanted p (pages_of_op p j.op j.length) b.log.tail idle in
-      let fit = fits_mark p j.op j.length of.length bytes next of.fits wanted in
-      let h = starts_raise p sectors reserve b.log.numbers jb none next (record { job = (of.length, of.configured, fit); few = a.most_own }) (omega arith) (λ e. (let zero = a.read (no_mark j.op bytes e) in omega arith)) in
-      let same = turns_same (mark_of j.op bytes) w a.more in
-      let is = a.is in
-      (omega arith, (let high = h.1 in omega arith))
+  module _ (log : IsLogState b.log) where
+    -- what is added to the turns of the switch
+    pub record Adds (base now : ℕ) : Type 0 where
+      pub more : ℕ
+      pub is : now ≡ base + more
+      pub most_own : more ≤ own
+      pub read : j.op ≡ Read → more ≡ 0
 
-  -- and beside an open switch
-  module _ (low : 16 ≤ p) (bytes : List ℕ) where
-    abbrev asked : Job
-    asked = record { number = j.number.0; mark = mark_of j.op bytes; urgent = j.urgent }
+    -- beside a switch the number of a write that begins next is copied anew
+    beside_few : left_beside b j.number.0 ≤ switch_left b + (record_pages_of of.length p + 1)
+    beside_few = let at = named b.log.numbers j.number.0 of.length of.configured in left_rises_few b at.0 (j.number, of.length) log idle at.1
 
-    abbrev pages : ℕ
-    pages = record_pages (fixed_for p sectors b.log.numbers reserve) asked
+    beside_by : (x : Bool) → begins_next b j ≡ x → Adds (switch_left b) (if x then left_beside b j.number.0 else switch_left b)
+    beside_by true e =
+        let write = of.urgent (second_of _ j.urgent (is_waiting b j) _ e) in
+        let among = copy_among p b.log.numbers j.number.0 of.length of.configured in
+        let low = left_rises b j.number.0 idle in
+        let high = beside_few in
+        record { more = left_beside b j.number.0 - switch_left b; is = omega (arith, low); most_own = omega (arith, high, among); read = λ read. cc (read, write) }
+    beside_by false e = record { more = 0; is = omega arith; most_own = omega arith; read = λ read. refl }
 
-    own_pages : j.op ≡ Write → pages ≡ pages_of_op p j.op j.length
-    own_pages write =
-        ap (λ (op : DeviceOp). if is_some (mark_of op bytes) then (figures_at (fixed_for p sectors b.log.numbers reserve) j.number.0).pages else 0) write
-        ∙ pages_are p own b.log.numbers j.number.0 of.length of.configured
-        ∙ sym (writes_pages p j.op j.length of.length write of.fits)
+    needs_by : (x : Bool) → needs_switch reserve b (Some j) ≡ x → Adds 0 (if x then whole else 0)
+    needs_by true e = record { more = whole; is = omega arith; most_own = whole_few; read = λ read. (let none = no_need j.op j.length (not (is_some (work_in b.log.tail))) (not (fits_in reserve b j)) read in cc (none, e)) }
+    needs_by false e = record { more = 0; is = omega arith; most_own = omega arith; read = λ read. refl }
 
-    copied_anew : (x : Bool) → begins_next b j ≡ x → (if x then pages_of_op p j.op j.length + 1 else 0) ≤ (if j.urgent then pages + 1 else 0)
-    copied_anew true begins =
-        let urgent = second_of _ j.urgent (is_waiting b j) _ begins in
-        let same = own_pages (of.urgent urgent) in
-        let all = ap (λ (x : Bool). if x then pages + 1 else 0) urgent in
-        omega (arith, same, all)
-    copied_anew false none = omega arith
+    pub adds : (o : Option Course) → Adds (switch_turns reserve b None o) (switch_turns reserve b (Some j) o)
+    adds (Some c) = beside_by (begins_next b j) refl
+    adds None = needs_by (needs_switch reserve b (Some j)) refl
 
-    pub raises_beside : (c : Course) → b.course ≡ Some c → left_of (Open asked) (work_of reserve b (Some j)) ≤ switch_turns reserve b None b.course + (if j.urgent then 2 else 1) * (pages + 1)
-    raises_beside c is =
+    -- THE RAISE
+    pub raises : (bytes : List ℕ) → let jb : Job = record { number = j.number.0; mark = mark_of j.op bytes; urgent = j.urgent } in
+        let fixed = fixed_for p sectors b.log.numbers reserve in
+        (switch_turns reserve b None b.course ≤ left_of (Open jb) (work_of reserve b (Some j)))
+        × (left_of (Open jb) (work_of reserve b (Some j)) ≤ switch_turns reserve b None b.course + most_of (figures_at fixed jb.number) (op_of jb.mark))
+    raises bytes =
+        let jb : Job = record { number = j.number.0; mark = mark_of j.op bytes; urgent = j.urgent } in
         let w = work_of reserve b (Some j) in
-        let before : Work = record { pages = 0; owed = false; switch = switch_turns reserve b None b.course } in
+        let a = adds b.course in
+        let next : Work = record w { switch = a.more } in
+        let none : Work = record { pages = 0; owed = false; switch = 0 } in
         let wanted = left_wanted p (pages_of_op p j.op j.length) b.log.tail idle in
-        let fit = fits_mark p j.op j.length of.length bytes w of.fits wanted in
-        let then_is : w.switch ≡ switch_left b + turns_beside b (Some j) = ap (switch_turns reserve b (Some j)) is in
-        let was_is : switch_turns reserve b None b.course ≡ switch_left b + 0 = ap (switch_turns reserve b None) is in
-        let anew = copied_anew (begins_next b j) refl in
-        starts_beside p sectors reserve b.log.numbers asked before w (omega (arith, low)) (of.length, of.configured, fit) (omega (arith, then_is, was_is, anew))
+        let fit = fits_mark p j.op j.length of.length bytes next of.fits wanted in
+        let h = starts_raise p sectors reserve b.log.numbers jb none next (record { job = (of.length, of.configured, fit); few = a.most_own }) (omega arith) (λ e. (let zero = a.read (no_mark j.op bytes e) in omega arith)) in
+        let same = turns_same (mark_of j.op bytes) w a.more in
+        let is = a.is in
+        (omega arith, (let high = h.1 in omega arith))
+
+    -- and beside an open switch
+    module _ (low : 16 ≤ p) (bytes : List ℕ) where
+      abbrev asked : Job
+      asked = record { number = j.number.0; mark = mark_of j.op bytes; urgent = j.urgent }
+
+      abbrev pages : ℕ
+      pages = record_pages (fixed_for p sectors b.log.numbers reserve) asked
+
+      own_pages : j.op ≡ Write → pages ≡ record_pages_of of.length p
+      own_pages write =
+          ap (λ (op : DeviceOp). if is_some (mark_of op bytes) then (figures_at (fixed_for p sectors b.log.numbers reserve) j.number.0).pages else 0) write
+          ∙ pages_are p own b.log.numbers j.number.0 of.length of.configured
+
+      copied_anew : (x : Bool) → begins_next b j ≡ x → (if x then left_beside b j.number.0 else switch_left b) ≤ switch_left b + (if j.urgent then pages + 1 else 0)
+      copied_anew true begins =
+          let urgent = second_of _ j.urgent (is_waiting b j) _ begins in
+          let same = own_pages (of.urgent urgent) in
+          let high = beside_few in
+          let all = ap (λ (x : Bool). if x then pages + 1 else 0) urgent in
+          omega (arith, same, high, all)
+      copied_anew false none = omega arith
+
+      pub raises_beside : (c : Course) → b.course ≡ Some c → left_of (Open asked) (work_of reserve b (Some j)) ≤ switch_turns reserve b None b.course + (if j.urgent then 2 else 1) * (pages + 1)
+      raises_beside c is =
+          let w = work_of reserve b (Some j) in
+          let before : Work = record { pages = 0; owed = false; switch = switch_turns reserve b None b.course } in
+          let wanted = left_wanted p (pages_of_op p j.op j.length) b.log.tail idle in
+          let fit = fits_mark p j.op j.length of.length bytes w of.fits wanted in
+          let then_is : w.switch ≡ turns_beside b (Some j) = ap (switch_turns reserve b (Some j)) is in
+          let was_is : switch_turns reserve b None b.course ≡ switch_left b = ap (switch_turns reserve b None) is in
+          let anew = copied_anew (begins_next b j) refl in
+          starts_beside p sectors reserve b.log.numbers asked before w (omega (arith, low)) (of.length, of.configured, fit) (omega (arith, then_is, was_is, anew))

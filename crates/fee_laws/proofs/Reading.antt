@@ -23,7 +23,8 @@ use Rattle.fee_log.specs.declared.tail.Tail.TheVariants as tail
 use Rattle.fee_log.specs.Log.{LogState, work_in}
 use Rattle.fee_switch.specs.declared.active.ActiveBank.{ActiveBank}
 use Rattle.fee_course.specs.declared.course.Course.{Course}
-use Rattle.fee_switch.specs.Banks.{BanksState}
+use Rattle.fee_course.specs.declared.course.Course.TheVariants as course
+use Rattle.fee_switch.specs.Banks.{BanksState, begun_again, left_of as switch_left, left_beside}
 use Rattle.fee_switch_laws.specs.Shown.{old_shown}
 use Rattle.promise_device.specs.Making.{Making, banks_of}
 use Rattle.fee_told.specs.Slots.{Memory, HasJob, job_leaves, left_by, slots_found, slots_with, settled_in}
@@ -45,6 +46,7 @@ use Rattle.fee_laws.proofs.Marks.{same_with}
 use Rattle.fee_laws.proofs.Appended.{IsShaped, resting_work, idle_at_work}
 use Rattle.fee_laws.proofs.GoneOn.{if_else}
 use Rattle.fee_laws.proofs.Figures.{and_four}
+use Rattle.fee_laws.proofs.Taken.{takes_one}
 use Rattle.fee_laws.proofs.BehindNone.{AsksNone, Counted, Facts, held_behind, worked}
 
 -- no record is in work while a read is open
@@ -68,9 +70,9 @@ empty_by true none = refl
 empty_by false none = refl
 
 -- a read has no turns beside its own and the switch's
-ends_fewer : (reserve : ℕ) (b : BanksState) (job : Option FeeJob) (c : Option Course) → switch_turns reserve b None c ≤ switch_turns reserve b job c
-ends_fewer reserve b job None = omega arith
-ends_fewer reserve b job (Some c) = omega arith
+ends_alone : (reserve : ℕ) (b : BanksState) (j : FeeJob) (c : Option Course) → is_waiting b j ≡ false → begins_next b j ≡ false → switch_turns reserve b (Some j) c ≡ switch_turns reserve b None c
+ends_alone reserve b j None waits begins = ap (λ (x : Bool). if x && not (fits_in reserve b j) then switch_left (begun_again b (course.Erase 0)) else 0) waits
+ends_alone reserve b j (Some c) waits begins = ap (λ (x : Bool). if x then left_beside b j.number.0 else switch_left b) begins
 
 reads_by : (number : ℕ) (b : Bool) (o : Option ToldBytes) (slots : List ℕ → List Slot) (numbers : List (DeviceNumber × ℕ)) (old : DeviceTold) (result : JobResult) (given : List ℕ)
     → ((bytes : List ℕ) → option_map (λ (y : ToldBytes). y.now) o ≡ Some bytes → b ≡ true → Reads (slot_at old.fixed.numbers (slots bytes) number).settled.mark result given)
@@ -182,11 +184,14 @@ module _ (m : Making) (entry : Told) (s : Parts) (listed : List (DeviceNumber ×
   not_urgent : urgent_first (fixed_in m) (at s.job) ≡ false
   not_urgent = subst (λ (o : Option FeeJob). urgent_first (fixed_in m) (at o) ≡ false) (sym is.job) (urgent_is m asks ∙ calm_by j.urgent refl)
 
+  none_waits : is_waiting s.banks j ≡ false
+  none_waits = ap (λ (o : DeviceOp). nat_le 1 (pages_of_op s.banks.geometry.page o j.length) && not (is_some (work_in s.banks.log.tail))) is.op
+
+  none_begins : begins_next s.banks j ≡ false
+  none_begins = (λ i. takes_append s.banks.course && j.urgent && none_waits i && fits_in 0 s.banks j) ∙ and_four (takes_append s.banks.course) j.urgent (fits_in 0 s.banks j)
+
   none_claimed : claimed s.banks s.job ≡ 0
-  none_claimed =
-      let waits : is_waiting s.banks j ≡ false = ap (λ (o : DeviceOp). nat_le 1 (pages_of_op s.banks.geometry.page o j.length) && not (is_some (work_in s.banks.log.tail))) is.op in
-      let begins : begins_next s.banks j ≡ false = (λ i. takes_append s.banks.course && j.urgent && waits i && fits_in 0 s.banks j) ∙ and_four (takes_append s.banks.course) j.urgent (fits_in 0 s.banks j) in
-      ap (claimed s.banks) is.job ∙ ap (λ (b : Bool). if b then pages_of_op s.banks.geometry.page j.op j.length else 0) begins
+  none_claimed = ap (claimed s.banks) is.job ∙ ap (λ (b : Bool). if b then pages_of_op s.banks.geometry.page j.op j.length else 0) none_begins
 
   ready_same : (told_of d).ready ≤ (told_of e).ready
   ready_same =
@@ -195,11 +200,17 @@ module _ (m : Making) (entry : Told) (s : Parts) (listed : List (DeviceNumber ×
       let same = ap (ready_of m.reserve (nat_le 1 (seal_turns s.banks.course))) free in
       omega (arith, same)
 
-  falls_at : (told_of e).left < (told_of d).left
+  switch_same : switch_turns m.reserve s.banks s.job s.banks.course ≡ switch_turns m.reserve s.banks None s.banks.course
+  switch_same = ap (λ (o : Option FeeJob). switch_turns m.reserve s.banks o s.banks.course) is.job ∙ ends_alone m.reserve s.banks j s.banks.course none_waits none_begins
+
+  falls_at : (told_of e).left + 1 ≡ (told_of d).left
   falls_at =
-      let few = ends_fewer m.reserve s.banks s.job s.banks.course in
-      subst (λ (o : Option FeeJob). switch_turns m.reserve s.banks None s.banks.course < turns_left (at o) (work_of m.reserve s.banks s.job)) (sym is.job)
-      (subst (λ (o : Option Mark). switch_turns m.reserve s.banks None s.banks.course < turns_of o (work_of m.reserve s.banks s.job) + switch_turns m.reserve s.banks s.job s.banks.course) (sym op_mark) (omega (arith, few)))
+      let same = switch_same in
+      subst (λ (o : Option FeeJob). switch_turns m.reserve s.banks None s.banks.course + 1 ≡ turns_left (at o) (work_of m.reserve s.banks s.job)) (sym is.job)
+      (subst (λ (o : Option Mark). switch_turns m.reserve s.banks None s.banks.course + 1 ≡ turns_of o (work_of m.reserve s.banks s.job) + switch_turns m.reserve s.banks s.job s.banks.course) (sym op_mark) (omega (arith, same)))
+
+  lower : (told_of e).left < (told_of d).left
+  lower = let one = falls_at in omega (arith, one)
 
   -- what it comes to, where it is told
   module _ (tells_so : (bytes : List ℕ) → bytes_now s.fls.flash ≡ Some bytes → IsTrue (tells_now d) → Reads (slot_at m.numbers (slots_in d bytes) j.number.0).settled.mark result (take given content)) (gives : Gives result (length_of m.numbers j.number.0) (take given content)) (may_fail : result ≡ JobFailed → Rose s.faults faults) where
@@ -212,8 +223,9 @@ module _ (m : Making) (entry : Told) (s : Parts) (listed : List (DeviceNumber ×
       something = subst (λ (o : Option FeeJob). not (is_open (at o)) && not (told_of d).switching ≡ false) (sym is.job) refl;
       job_turns = subst (λ (o : Option FeeJob). JobTurns First (at o) stand (told_of d) (told_of e) (clock_of e)) (sym is.job) (ends, λ failed. inl (may_fail failed));
       read = λ read. (refl, same_slots);
-      nearer = inl falls_at;
+      nearer = inl lower;
       ready = λ calm. if_else (urgent_first (fixed_in m) (at s.job)) (Nearer (told_of d) (told_of e)) ((told_of d).ready ≤ (told_of e).ready) (λ urgent. (let calm' = not_urgent in absurd (cc (urgent, calm')))) (λ calm'. ready_same);
       seals = λ still sealing. record { switching = sealing.switching; ready = λ calm. (let same = ready_same in let had = sealing.ready calm_before in omega (arith, same, had)) };
       worn = inl refl;
+      turn_taken = takes_one m entry s t (λ on. on) falls_at;
     })

@@ -1,6 +1,6 @@
 -- A switch begins.
 use Rattle.std.specs.Prelude.{IfSome, ◌&&◌, not, is_some, nat_le, if◌then◌else◌}
-use Rattle.std.proofs.Common.{◌≡◌, inl, inr, ◌≤◌, ◌<◌, ◌+◌, ◌*◌, ℕ, Bool, true, false, List, Option, Some, None, refl, sym, ap, ◌∙◌, subst, arith}
+use Rattle.std.proofs.Common.{◌≡◌, inl, inr, ◌≤◌, ◌<◌, ◌*◌, ℕ, Bool, true, false, List, Option, Some, None, refl, sym, ap, ◌∙◌, subst, arith}
 use Rattle.std.proofs.lemmas.Bool.{le-leb}
 use Rattle.nv_base.specs.Geometry.{pages_of_sector}
 use Rattle.nv_base.specs.declared.instance.DeviceNumber.{DeviceNumber}
@@ -16,7 +16,7 @@ use Rattle.fee_log.specs.Log.{LogState, work_in}
 use Rattle.fee_switch.specs.declared.active.ActiveBank.{ActiveBank}
 use Rattle.fee_course.specs.declared.course.Course.{Course}
 use Rattle.fee_course.specs.declared.course.Course.TheVariants.{Erase}
-use Rattle.fee_switch.specs.Banks.{BanksState, begun_again, left_of}
+use Rattle.fee_switch.specs.Banks.{BanksState, begun_again, left_of, left_beside}
 use Rattle.fee_switch_laws.specs.Shown.{old_shown, phase_shown}
 use Rattle.fee_switch_laws.specs.KeepsRoom.{KeepsRoom}
 use Rattle.fee_switch_laws.specs.Space.{free_pages, has_room}
@@ -26,6 +26,7 @@ use Rattle.fee_told.specs.Slots.{Memory, slots_found}
 use Rattle.fee_told.specs.SlotLaws.{IsHeld, SamePlaces}
 use Rattle.fls_told.proofs.Clocks.{clocks_stay}
 use Rattle.fee_told.specs.Device.{Device, tells_now, told_of, slots_in, clock_of, flash_device}
+use Rattle.fee_told.specs.Turns.{is_sealing}
 use Rattle.fee_told.specs.Figures.{Work, ready_of, wait_of}
 use Rattle.fee_told.proofs.Kept.{same_places}
 use Rattle.fee_told.proofs.Steps.{places_tell}
@@ -35,11 +36,11 @@ use Rattle.fee_laws.specs.Inside.{Parts, body_of, device_of, memory_of, stand_of
 use Rattle.fee_laws.specs.Record.{head_of, IsJobOf, IsReady}
 use Rattle.fee_laws.specs.Work.{work_of, pages_of_op, pages_of_job, pages_free, claimed, begins_next, takes_append, is_waiting, fits_in, needs_switch, switch_turns, turns_beside, seal_turns, turns_before, is_urgent_job, is_promised}
 use Rattle.fee_laws.specs.Turn.{IsOn}
-use Rattle.fee_laws.specs.Begins.{HasBegun, MaySwitch, switching_with, SwitchesBegin}
+use Rattle.fee_laws.specs.Begins.{IsUnsealed, HasBegun, MaySwitch, switching_with, SwitchesBegin}
 use Rattle.fee_laws.proofs.Before.{power, lengths, legal, copied, held_at, each_now}
 use Rattle.fee_laws.proofs.Order.{tells_by}
 use Rattle.fee_laws.proofs.Appended.{IsShaped, pages_few, open_work, idle_at_work}
-use Rattle.fee_laws.proofs.Beginning.{left_less, and_four'}
+use Rattle.fee_laws.proofs.Beginning.{left_alike, and_four'}
 use Rattle.fee_laws.proofs.Shown.{pages_by}
 use Rattle.fee_laws.proofs.SwitchShown.{flags_hidden}
 use Rattle.fee_laws.proofs.BehindNone.{AsksNone, makes_none, held_behind, sound as sound_behind}
@@ -167,8 +168,8 @@ module _ (m : Making) (entry : Told) (s : Parts) (listed : List (DeviceNumber ×
   abbrev w : Work
   w = work_of m.reserve s.banks s.job
 
-  beside : turns_beside t.banks s.job ≡ 0
-  beside = ap (turns_beside t.banks) may.job ∙ ap (λ (b : Bool). if b then pages_of_op p j.op j.length + 1 else 0) none_then
+  beside : turns_beside t.banks s.job ≡ left_of t.banks
+  beside = ap (turns_beside t.banks) may.job ∙ ap (λ (b : Bool). if b then left_beside t.banks j.number.0 else left_of t.banks) none_then
 
   waiting : is_waiting s.banks j ≡ true
   waiting =
@@ -183,10 +184,10 @@ module _ (m : Making) (entry : Told) (s : Parts) (listed : List (DeviceNumber ×
   switch_was = ap (switch_turns m.reserve s.banks s.job) may.shut ∙ ap (λ (b : Bool). if b then left_of t.banks else 0) needed
 
   switch_same : v.switch ≡ w.switch
-  switch_same = let one = beside in let two = switch_was in let goal : left_of t.banks + turns_beside t.banks s.job ≡ w.switch = omega (arith, one, two) in goal
+  switch_same = beside ∙ sym switch_was
 
-  left_few : (told_of e).left ≤ (told_of d).left
-  left_few = left_less (stand_of s.content s.job s.last s.given) v w refl refl (let same = switch_same in omega (arith, same))
+  left_same : (told_of e).left ≡ (told_of d).left
+  left_same = left_alike (stand_of s.content s.job s.last s.given) v w refl refl switch_same
 
   wanted : pages_of_job p s.job ≡ pages_of_op p j.op j.length
   wanted = ap (pages_of_job p) may.job
@@ -215,7 +216,7 @@ module _ (m : Making) (entry : Told) (s : Parts) (listed : List (DeviceNumber ×
   pub has_begun : HasBegun (told_of d) (told_of e) (clock_of d) (clock_of e)
   has_begun = record {
     only = λ i. record (told_of e) { slots = same_slots i; ready = ready_same i; wait = wait_same i };
-    left = left_few;
+    left = left_same;
     job = subst (λ (o : Option FeeJob). is_open (stand_of s.content o s.last s.given) ≡ true) (sym may.job) refl;
     switching = λ is. ap (λ (x : Bool). x && true) on.started;
     on = (power m entry s listed kept count on, refl);
@@ -234,5 +235,8 @@ module _ (m : Making) (entry : Told) (s : Parts) (listed : List (DeviceNumber ×
     still = λ none. refl;
   })
 
+  pub unsealed : IsUnsealed s × IsUnsealed t
+  unsealed = (ap is_sealing (idle_phase s.banks.course s.banks (body_of (work_in s.banks.copies.tail) s.banks.buffer) may.shut), refl)
+
 pub switches_begin : SwitchesBegin
-switches_begin m entry s listed kept count j on may = record { told = has_begun m entry s listed kept count j on may; sound = sound m entry s listed kept count j on may }
+switches_begin m entry s listed kept count j on may = record { told = has_begun m entry s listed kept count j on may; sound = sound m entry s listed kept count j on may; unsealed = unsealed m entry s listed kept count j on may }

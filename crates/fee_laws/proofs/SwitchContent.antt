@@ -1,6 +1,6 @@
 -- The content that is copied next.
 use Rattle.std.specs.Prelude.{IfSome, length}
-use Rattle.std.proofs.Common.{◌≡◌, ◌≤◌, ◌<◌, ◌*◌, ◌+◌, ℕ, Bool, true, false, List, Option, Some, None, refl, sym, ap, ◌∙◌, subst, arith}
+use Rattle.std.proofs.Common.{◌≡◌, ◌≤◌, ◌*◌, ◌+◌, ℕ, Bool, true, false, List, Option, Some, None, refl, sym, ap, ◌∙◌, subst, arith}
 use Rattle.nv_base.specs.Count.{next_count}
 use Rattle.nv_base.specs.Geometry.{sectors_of_bank, pages_of_sector}
 use Rattle.nv_base.specs.declared.instance.DeviceNumber.{DeviceNumber}
@@ -195,7 +195,7 @@ copies_are_read m entry s listed kept count made f is reads wide =
     (λ i. record s.banks { course = Some (next m entry s listed kept count made Done f is reads); log = record s.banks.log { flags = s.banks.log.flags }; copies = begun s.banks.copies (head_is m entry s listed kept count made Done f is reads i); buffer = made.buffer })
     ∙ (λ i. after_answer (sym start.1 i) c Done) in
     let kept' = steps_keep_room m.reserve s.banks made c s.fls.flash f.flash Done is.on.banks is.on.log is.idle is.course room is.makes (λ off. cc off) in
-    let less = steps_lower m.reserve s.banks made c s.fls.flash f.flash is.on.banks is.on.log is.idle is.course room tt is.makes in
+    let one = steps_lower m.reserve s.banks made c s.fls.flash f.flash is.on.banks is.on.log is.idle is.course room tt is.makes in
     let driver = sym (is.drives.only ∙ (λ i. record s.fls { flash = start.0.1 i; result = f.result })) in
     let read_in = λ (old : List ℕ) (now : bytes_now s.fls.flash ≡ Some old). now_at s.fls.flash.bytes (λ (x : List ℕ). take (src m entry s listed kept count made Done f is reads).length made.buffer
     ≡ piece (address_of_page s.banks.geometry s.banks.banks s.banks.log.bank ((at m entry s listed kept count made Done f is reads) + 2)) (length (take (src m entry s listed kept count made Done f is reads).length made.buffer)) x) old now start.0.0 in
@@ -205,7 +205,7 @@ copies_are_read m entry s listed kept count made f is reads wide =
       seals = record { takes = λ more. refl; nearer = λ some'. absurd (omega arith) };
       copies = refl;
       room = subst (KeepsRoom m.reserve) (sym path) kept';
-      lower = subst (λ (x : BanksState). left_of x < left_of s.banks) (sym path) less;
+      lower = subst (λ (x : BanksState). left_of x + 1 ≡ left_of s.banks) (sym path) one;
       active = active_on s.banks s.banks.log.flags (Some (next m entry s listed kept count made Done f is reads)) (log_k m entry s listed kept count made Done f is reads) made.buffer s.banks.active (is.on.sound.works is.on.started).active;
       reading = λ old now shows. (kept_then m entry s listed kept count made Done f is reads wide old shows, copying_then m entry s listed kept count made Done f is reads wide read_in old now);
     })))

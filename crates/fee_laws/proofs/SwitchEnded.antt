@@ -7,7 +7,8 @@ use Rattle.nv_base.specs.Geometry.{sectors_of_bank}
 use Rattle.nv_base.specs.declared.instance.DeviceNumber.{DeviceNumber}
 use Rattle.memif.specs.declared.answer.DeviceTurn.TheVariants as turn
 use Rattle.memif.specs.declared.answer.JobResult.TheVariants.{JobFailed}
-use Rattle.memif.specs.Told.{Job, Stand, Open, Ended}
+use Rattle.nv_base.specs.declared.mark.Mark.{Mark}
+use Rattle.memif.specs.Told.{Job, Stand, Open, Ended, is_open}
 use Rattle.memif.specs.Marks.{KeepsAll}
 use Rattle.memif.specs.Calls.{Nearer, TurnsReady, urgent_first}
 use Rattle.fls_model.specs.declared.flash.FlashAnswer.TheVariants.{Done}
@@ -25,6 +26,8 @@ use Rattle.fee_format.specs.declared.rec_head.RecHead.{RecHead}
 use Rattle.fee_format.specs.declared.rec_head.RecordKind.{RecordKind}
 use Rattle.fee_format.specs.declared.rec_head.RecordKind.TheVariants as kind
 use Rattle.nv_base.specs.declared.job.DeviceOp.TheVariants.{Read}
+use Rattle.fee_switch.specs.declared.active.ActiveBank.{ActiveBank}
+use Rattle.fee_switch_laws.specs.Shown.{old_shown, phase_shown}
 use Rattle.fee_switch_laws.specs.KeepsRoom.{KeepsRoom}
 use Rattle.fee_switch_laws.specs.Space.{free_pages}
 use Rattle.fee_switch_laws.proofs.RoomSteps.{records_have_room, steps_keep_room, switches_make_room}
@@ -32,7 +35,8 @@ use Rattle.promise_device.specs.Making.{Making, banks_of}
 use Rattle.fee_told.specs.Slots.{Memory}
 use Rattle.fls_told.specs.Runs.{HasRun}
 use Rattle.fee_told.specs.Device.{Device, told_of, clock_of, tells, flash_device}
-use Rattle.fee_told.specs.Figures.{Work, turns_owed, wait_of}
+use Rattle.fee_told.specs.Figures.{Work, turns_owed, turns_of, wait_of}
+use Rattle.fee_told.specs.Turns.{owes, owes_gate, is_sealing, TakesTurn}
 use Rattle.fee_told.specs.FigureLaws.{IsWork}
 use Rattle.fee_told.proofs.Figures.{ready_stays, turns_lower, urgent_nears}
 use Rattle.fee_told.proofs.Switches.{gates_end}
@@ -61,7 +65,7 @@ use Rattle.fee_image.specs.May.{May}
 use Rattle.fee_image.specs.Banks.{OldBank, Idle, next_head}
 use Rattle.fee_image.specs.Copies.{copied_of}
 use Rattle.fee_log.specs.declared.tail.Tail.TheVariants.{Open, Writes, Owes, Closed}
-use Rattle.fee_log.specs.Log.{IsLengthFor, IsFor, log_of, tail_with}
+use Rattle.fee_log.specs.Log.{LogState, IsLengthFor, IsFor, log_of, tail_with}
 use Rattle.fee_course.specs.declared.course.Course.TheVariants.{Gate}
 use Rattle.fee_image.specs.Image.{Layout}
 use Rattle.fls_model.specs.Step.{IsAsked}
@@ -81,7 +85,7 @@ use Rattle.fee_switch_laws.specs.RoomLaws.{IsBehindSwitch}
 use Rattle.fee_switch_laws.specs.Space.{most_pages, has_room}
 use Rattle.fee_told.specs.SlotLaws.{IsHeld}
 use Rattle.fee_told.specs.Kept.{IsKept}
-use Rattle.fee_laws.specs.Inside.{memory_of, flags_in, HoldsBehind}
+use Rattle.fee_laws.specs.Inside.{memory_of, flags_in, HoldsBehind, IsActiveOf}
 use Rattle.fee_laws.specs.Record.{IsLengthOf, kind_of}
 use Rattle.fee_laws.proofs.Heads.{has_kind, head_with, same_kind}
 use Rattle.fee_laws.specs.Work.{pages_of_op, fits_in, is_waiting, needs_switch, claimed}
@@ -144,6 +148,12 @@ no_need reserve b j fits = ap (λ (x : Bool). is_waiting b j && not x) fits ∙ 
     and_false : (a : Bool) → a && false ≡ false
     and_false true = refl
     and_false false = refl
+
+-- the turn of the gate, and what is left of a job's own
+ends_by : (mark : Option Mark) (w v : Work) → (mark ≡ None → ⊥) → w.pages + turns_owed w.owed + w.switch ≡ v.pages + turns_owed v.owed + v.switch + 1 + turns_owed w.owed
+    → turns_of mark w + w.switch ≡ turns_of mark v + v.switch + 1 + turns_owed w.owed
+ends_by None w v other one = absurd (other refl)
+ends_by (Some mark) w v other one = one
 
 module _ (m : Making) (entry : Told) (s : Parts) (listed : List (DeviceNumber × ℕ)) (kept count : ℕ) (doubtful : Bool) (made : BanksState) (f : FlsState) (is : IsStepping m entry s listed kept count (Gate doubtful) made Done f) where
   abbrev c : Course
@@ -369,6 +379,37 @@ module _ (m : Making) (entry : Told) (s : Parts) (listed : List (DeviceNumber ×
   falls : (told_of e).left < (told_of d).left
   falls = falls_by s.job writes (no_switch s.job was_at_work.job writes) switch_was
 
+  -- and a gate that was owed stays in the old bank
+  owed_by : (x : Tail) (body : List ℕ) → owes (tail_with x body) ≡ is_owed x
+  owed_by Open body = refl
+  owed_by (Writes h done) body = refl
+  owed_by (Owes h after) body = refl
+  owed_by Closed body = refl
+
+  owed_in : (a : Option ActiveBank) (body : List ℕ) → IsActiveOf s.banks a → owes_gate (old_shown a s.banks.log body) ≡ is_owed s.banks.log.tail
+  owed_in None body of = sym (ap (λ (x : LogState). is_owed x.tail) of)
+  owed_in (Some a) body of = owed_by s.banks.log.tail body
+
+  owes_is : owes_gate (memory_of s).old ≡ is_owed s.banks.log.tail
+  owes_is = owed_in s.banks.active (body_of (work_in s.banks.log.tail) s.content) was_at_work.active
+
+  gates_by : (o' : Option FeeJob) → (if is_open (at o') && is_sealing (memory_of s).phase && true && owes_gate (memory_of s).old then 1 else 0) ≡ (if is_some o' then turns_owed (w o').owed else 0)
+  gates_by None = refl
+  gates_by (Some j) = λ i. if is_sealing (phase_shown (is.course i) s.banks (body_of (work_in s.banks.copies.tail) s.banks.buffer)) && true && owes_is i then 1 else 0
+
+  takes_by : (o' : Option FeeJob) → IfSome o' (λ j. j.op ≢ Read) → (v o').switch ≡ 0 → (w o').switch ≡ 1 → left_in (at o') (w o') ≡ left_in (at o') (v o') + 1 + (if is_some o' then turns_owed (w o').owed else 0)
+  takes_by None w' none one = omega (arith, none, one)
+  takes_by (Some j) w' none one =
+      let a = pages_was (Some j) in
+      let b' = pages_then (Some j) in
+      let owed = ap turns_owed (owed_then (Some j)) in
+      ends_by (mark_of j.op (take j.length s.content)) (w (Some j)) (v (Some j)) (λ none'. w' (no_mark j.op (take j.length s.content) none')) (omega (arith, a, b', owed, none, one))
+
+  turn_taken : TakesTurn turn.Worked d e
+  turn_taken =
+      let taken = takes_by s.job writes (no_switch s.job was_at_work.job writes) switch_was in
+      inr (inr (taken ∙ ap (λ (n : ℕ). (told_of e).left + 1 + n) (sym (gates_by s.job))))
+
   geo : b.geometry ≡ m.geometry
   geo = is.on.sound.made_for.banks_geometry
 
@@ -430,6 +471,7 @@ module _ (m : Making) (entry : Told) (s : Parts) (listed : List (DeviceNumber ×
     nearer = inl falls;
     ready = readies;
     takes = step_takes m entry s listed kept count c made Done f is;
+    turn_taken = turn_taken;
   })
 
   pub gate_done : StepTurned Done m entry s listed kept count c made f

@@ -128,4 +128,5 @@ module _ (m : Making) (entry : Told) (s : Parts) (listed : List (DeviceNumber ×
           nearer = inr rose;
           ready = λ calm. absurd (calm.faults rose);
           takes = falls.takes;
+          turn_taken = inl rose;
         })

@@ -1,21 +1,21 @@
 -- The figures of a device with an open switch and no record in work.
 use Rattle.std.specs.Prelude.{IfSome, ◌&&◌, is_none, take, if◌then◌else◌}
-use Rattle.std.proofs.Common.{◌≡◌, ◌≢◌, inl, ◌≤◌, ◌<◌, ◌+◌, ◌-◌, ℕ, Bool, true, false, List, Option, Some, None, refl, sym, ap, ◌∙◌, subst, arith}
+use Rattle.std.proofs.Common.{◌≡◌, ◌≢◌, ◌≤◌, ◌+◌, ◌-◌, ℕ, Bool, true, false, List, Option, Some, None, refl, sym, ap, ◌∙◌, subst, arith}
 use Rattle.nv_base.specs.Geometry.{sectors_of_bank}
 use Rattle.nv_base.specs.declared.geometry.Geometry.{Geometry}
 use Rattle.nv_base.specs.declared.instance.DeviceNumber.{DeviceNumber}
 use Rattle.nv_base.specs.declared.job.DeviceOp.{DeviceOp}
 use Rattle.nv_base.specs.declared.job.DeviceOp.TheVariants.{Read, Write, Invalidate, Erase}
+use Rattle.nv_base.specs.declared.mark.Mark.{Mark}
 use Rattle.memif.specs.declared.answer.JobResult.{JobResult}
 use Rattle.fee_log.specs.Log.{LogState, work_in}
 use Rattle.fee_course.specs.declared.course.Course.{Course}
 use Rattle.fee_course.specs.Course.{most_turns}
-use Rattle.fee_switch.specs.Banks.{BanksState, left_of}
+use Rattle.fee_switch.specs.Banks.{BanksState, left_of, left_beside}
 use Rattle.fee_switch_laws.specs.Space.{free_pages}
 use Rattle.promise_device.specs.Making.{Making}
-use Rattle.fee_told.specs.Figures.{Work, turns_owed, left_of as left_in}
+use Rattle.fee_told.specs.Figures.{Work, turns_owed, turns_of, left_of as left_in}
 use Rattle.fee_told.specs.FigureLaws.{IsWork, IsOfJob}
-use Rattle.fee_told.proofs.Figures.{turns_lower}
 use Rattle.fee_laws.specs.declared.job.FeeJob.{FeeJob}
 use Rattle.fee_laws.specs.Inside.{mark_of, stand_of, HasSwitch}
 use Rattle.fee_laws.specs.Record.{IsJobOf}
@@ -43,12 +43,13 @@ no_claim b (Some j) none = ap (λ (x : Bool). if x then pages_of_op b.geometry.p
 pub free_none : (b : BanksState) (job : Option FeeJob) → NoneBegins b job → pages_free b job ≡ free_pages b
 free_none b job none = let h = no_claim b job none in let goal : free_pages b - claimed b job ≡ free_pages b = omega (arith, h) in goal
 
-no_beside : (b : BanksState) (job : Option FeeJob) → NoneBegins b job → turns_beside b job ≡ 0
+-- the open switch takes its own turns then
+no_beside : (b : BanksState) (job : Option FeeJob) → NoneBegins b job → turns_beside b job ≡ left_of b
 no_beside b None none = refl
-no_beside b (Some j) none = ap (λ (x : Bool). if x then pages_of_op b.geometry.page j.op j.length + 1 else 0) none
+no_beside b (Some j) none = ap (λ (x : Bool). if x then left_beside b j.number.0 else left_of b) none
 
 pub switch_none : (reserve : ℕ) (b : BanksState) (job : Option FeeJob) (c : Course) → NoneBegins b job → switch_turns reserve b job (Some c) ≡ left_of b
-switch_none reserve b job c none = let h = no_beside b job none in let goal : left_of b + turns_beside b job ≡ left_of b = omega (arith, h) in goal
+switch_none reserve b job c none = no_beside b job none
 
 -- THE WORK
 pub job_part : (p : ℕ) (numbers : List (DeviceNumber × ℕ)) (content : List ℕ) (job : Option FeeJob) (last : JobResult) (given : ℕ) (w : Work) → IfSome job (IsJobOf numbers) → w.pages ≤ pages_of_job p job
@@ -82,10 +83,12 @@ has_mark Write content writes = refl
 has_mark Invalidate content writes = refl
 has_mark Erase content writes = refl
 
--- fewer turns of the switch are left, and as many pages
-pub left_falls : (content : List ℕ) (job : Option FeeJob) (last : JobResult) (given : ℕ) (w v : Work) → IfSome job (λ j. j.op ≢ Read) → v.pages ≡ w.pages → v.owed ≡ w.owed → v.switch < w.switch
-    → left_in (stand_of content job last given) v < left_in (stand_of content job last given) w
-left_falls content None last given w v writes pages owed less = less
-left_falls content (Some j) last given w v writes pages owed less =
-    turns_lower (record { number = j.number.0; mark = mark_of j.op (take j.length content); urgent = j.urgent }) w v (λ none. writes (no_mark j.op (take j.length content) none))
-    (let same : v.pages + turns_owed v.owed ≡ w.pages + turns_owed w.owed = (λ i. pages i + turns_owed (owed i)) in (omega (arith, less), omega (arith, same), inl less))
+-- one turn less of the switch is left, and as many pages
+turns_alike : (mark : Option Mark) (w v : Work) → v.pages ≡ w.pages → v.owed ≡ w.owed → turns_of mark v ≡ turns_of mark w
+turns_alike None w v pages owed = refl
+turns_alike (Some mark) w v pages owed = λ i. pages i + turns_owed (owed i)
+
+pub left_falls : (content : List ℕ) (job : Option FeeJob) (last : JobResult) (given : ℕ) (w v : Work) → v.pages ≡ w.pages → v.owed ≡ w.owed → v.switch + 1 ≡ w.switch
+    → left_in (stand_of content job last given) v + 1 ≡ left_in (stand_of content job last given) w
+left_falls content None last given w v pages owed less = less
+left_falls content (Some j) last given w v pages owed less = let same = turns_alike (mark_of j.op (take j.length content)) w v pages owed in omega (arith, same, less)

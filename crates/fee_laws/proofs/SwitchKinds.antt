@@ -1,6 +1,6 @@
 -- The turns of a switch, from what each kind of step shows.
 use Rattle.std.specs.Prelude.{IsTrue}
-use Rattle.std.proofs.Common.{◌≡◌, ◌≤◌, ◌<◌, ℕ, Bool, true, false, List, Option, Some, None, refl, sym, ap, subst, arith}
+use Rattle.std.proofs.Common.{◌≡◌, ◌≤◌, ◌+◌, ℕ, Bool, true, false, List, Option, Some, None, refl, sym, ap, subst, arith}
 use Rattle.nv_base.specs.Count.{next_count}
 use Rattle.nv_base.specs.declared.instance.DeviceNumber.{DeviceNumber}
 use Rattle.memif.specs.declared.answer.DeviceTurn.TheVariants as turn
@@ -59,14 +59,14 @@ module _ (m : Making) (entry : Told) (s : Parts) (listed : List (DeviceNumber ×
     done_by of path seals showing =
         let room = is.on.sound.room is.on.started (power m entry s listed kept count is.on) in
         let kept' = steps_keep_room m.reserve s.banks made c s.fls.flash f.flash Done is.on.banks is.on.log is.idle is.course room is.makes (λ off. cc off) in
-        let less = steps_lower m.reserve s.banks made c s.fls.flash f.flash is.on.banks is.on.log is.idle is.course room before is.makes in
+        let one = steps_lower m.reserve s.banks made c s.fls.flash f.flash is.on.banks is.on.log is.idle is.course room before is.makes in
         subst (λ (x : BanksState). Turned m entry turn.Worked s (operated op Done f x s) listed kept (next_count count) false) path
         (went_on m entry s listed kept count c made f is op step torn cutting c' flags log (record {
           seals = seals;
           sealed = λ sealed. done_seals c made b.course (ap (λ (x : BanksState). x.course) path) (step_seals m entry s listed kept count c made Done f is (subst (λ (o : Op). IsTrue (is_such m LeavesSeal (change_of o s.fls.flash Done))) of sealed));
           takes = subst (λ (o : Op). TakesKeptPages o Done (flash_device (device_of m entry s))) (sym of) (step_takes m entry s listed kept count c made Done f is);
           room = subst (KeepsRoom m.reserve) (sym path) kept';
-          lower = subst (λ (x : BanksState). left_of x < left_of s.banks) (sym path) less;
+          lower = subst (λ (x : BanksState). left_of x + 1 ≡ left_of s.banks) (sym path) one;
           active = still_active s.banks flags (Some c') log s.banks.active (is.on.sound.works is.on.started).active;
           showing = showing;
         }))

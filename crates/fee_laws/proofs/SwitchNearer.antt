@@ -4,6 +4,7 @@ use Rattle.std.proofs.Common.{◌≡◌, ◌≢◌, inl, inr, ◌≤◌, ◌<◌
 use Rattle.std.proofs.lemmas.Bool.{cases_lt, le-leb}
 use Rattle.std.proofs.lemmas.Bool.Decides.{leb_tells}
 use Rattle.nv_base.specs.declared.job.DeviceOp.TheVariants.{Read}
+use Rattle.memif.specs.declared.answer.DeviceTurn.TheVariants as turn
 use Rattle.memif.specs.declared.answer.JobResult.{JobResult}
 use Rattle.memif.specs.declared.answer.JobResult.TheVariants.{JobFailed}
 use Rattle.memif.specs.Told.{First, Job, Stand, Ended, DeviceTold, is_open, nothing_open}
@@ -21,6 +22,7 @@ use Rattle.fee_switch_laws.specs.Shown.{phase_shown}
 use Rattle.promise_device.specs.Making.{Making}
 use Rattle.fee_told.specs.Device.{told_of, is_switching}
 use Rattle.fee_told.specs.Figures.{Work, Waits, turns_owed, wait_of, ready_of, left_of as left_in}
+use Rattle.fee_told.specs.Turns.{TakesTurn}
 use Rattle.fee_told.proofs.Figures.{ready_stays, urgent_nears}
 use Rattle.fee_laws.specs.declared.job.FeeJob.{FeeJob}
 use Rattle.fee_laws.specs.Inside.{Parts, body_of, device_of, memory_of, mark_of, stand_of, fixed_in}
@@ -28,6 +30,7 @@ use Rattle.fee_laws.specs.Record.{IsReady}
 use Rattle.fee_laws.specs.Work.{work_of, waits_of, pages_free, begins_next, takes_append, seal_turns, switch_turns, turns_before, is_owed}
 use Rattle.fee_laws.specs.Switches.{IsBehind}
 use Rattle.fee_laws.proofs.Order.{urgent_is}
+use Rattle.fee_laws.proofs.Taken.{takes_one}
 use Rattle.fee_laws.proofs.SwitchFigures.{NoneBegins, still_behind, free_none, switch_none, has_mark, left_falls}
 use Rattle.fee_laws.proofs.GoneOn.{if_else}
 
@@ -115,7 +118,7 @@ module _ (m : Making) (s : Parts) (c c' : Course) (flags : List Bool) (log : Log
     pub writes : IfSome s.job (λ j. j.op ≢ Read)
     pub none : NoneBegins b s.job
     pub ready : IfSome s.job (IsReady b)
-    pub falls : left_in (at s.job) v < left_in (at s.job) w
+    pub falls : left_in (at s.job) v + 1 ≡ left_in (at s.job) w
     pub stays : ready_of m.reserve (nat_le 1 n) (pages_free s.banks s.job) ≤ ready_of m.reserve (nat_le 1 (seal_turns (Some c'))) (pages_free b s.job)
     pub urgent : urgent_first (fixed_in m) (at s.job) ≡ true
         → (x : ℕ) → wait_of (waits s.job) ≡ Some x → ((y : ℕ) × (wait_of (waits' s.job) ≡ Some y) × (y < x)) × ((given : List ℕ) → at s.job ≢ Ended JobFailed given)
@@ -168,12 +171,12 @@ module _ (m : Making) (s : Parts) (c c' : Course) (flags : List Bool) (log : Log
       let j' : Job = record { number = j.number.0; mark = mark_of j.op (take j.length s.content); urgent = j.urgent } in
       (near_by j was none (sym (urgent_is m j') ∙ urgent) x wait, λ given same. cc same)
 
-  pub is_nearer : left_of b < left_of s.banks → IsNearer
-  is_nearer lower = record {
+  pub is_nearer : left_of b + 1 ≡ left_of s.banks → IsNearer
+  is_nearer one = record {
     writes = all_write s.banks s.job behind_is;
     none = none_then;
     ready = both_jobs (IsReady s.banks) (λ j. begins_next s.banks j ≡ false) (IsReady b) s.job ready_by was_ready none_before;
-    falls = left_falls s.content s.job s.last s.given w v (all_write s.banks s.job behind_is) refl refl (omega (arith, switch_was, switch_now, lower));
+    falls = left_falls s.content s.job s.last s.given w v refl refl (omega (arith, switch_was, switch_now, one));
     stays = ready_stays m.reserve (pages_free s.banks s.job) (pages_free b s.job) (nat_le 1 n) (nat_le 1 (seal_turns (Some c')))
         (elim (cases_lt 0 n) [
           | inl some ↦ inl (le_true (seal_turns (Some c')) (seals_then (omega arith)).1)
@@ -184,14 +187,23 @@ module _ (m : Making) (s : Parts) (c c' : Course) (flags : List Bool) (log : Log
 
   -- so is its turn, whatever its call changed beside
   module _ (entry : Told) (f : FlsState) (faults : ℕ) (operations : List Change) (near : IsNearer) where
+    abbrev t : Parts
+    t = record s { fls = f; banks = b; faults = faults; operations = operations }
+
     abbrev old : DeviceTold
     old = told_of (device_of m entry s)
 
     abbrev new : DeviceTold
-    new = told_of (device_of m entry (record s { fls = f; banks = b; faults = faults; operations = operations }))
+    new = told_of (device_of m entry t)
+
+    pub fewer : new.left < old.left
+    fewer = let one : new.left + 1 ≡ old.left = near.falls in omega (arith, one)
+
+    pub one_taken : TakesTurn turn.Worked (device_of m entry s) (device_of m entry t)
+    one_taken = takes_one m entry s t (λ some. refl) near.falls
 
     pub job_goes_on : (clock : Clock) → KeepsAll old new → JobTurns First old.stand new.stand old new clock
-    job_goes_on clock keeps = turns_keep s.content s.job s.last s.given old new clock keeps near.falls
+    job_goes_on clock keeps = turns_keep s.content s.job s.last s.given old new clock keeps fewer
 
     pub readies : TurnsReady old new
     readies calm = if_else (urgent_first old.fixed old.stand) (Nearer old new) (old.ready ≤ new.ready)

@@ -1,6 +1,6 @@
 -- The turn in which a switch goes on.
 use Rattle.std.specs.Prelude.{IsTrue}
-use Rattle.std.proofs.Common.{inl, ◌≤◌, ◌<◌, ℕ, Bool, false, List, Some, refl}
+use Rattle.std.proofs.Common.{◌≡◌, inl, ◌≤◌, ◌+◌, ℕ, Bool, false, List, Some, refl}
 use Rattle.nv_base.specs.Count.{next_count}
 use Rattle.nv_base.specs.declared.instance.DeviceNumber.{DeviceNumber}
 use Rattle.memif.specs.declared.answer.DeviceTurn.TheVariants as turn
@@ -28,7 +28,7 @@ use Rattle.fee_laws.proofs.Turning.{worked}
 use Rattle.fee_laws.proofs.Appended.{idle_at_work}
 use Rattle.fee_laws.proofs.SwitchFigures.{work_none}
 use Rattle.fee_laws.proofs.Switching.{asked, not_worn, Cutting, keeps, run_on, Showing, behind, keeps_all, copies}
-use Rattle.fee_laws.proofs.SwitchNearer.{switch_is_open, Seals, IsNearer, is_nearer, no_read, job_goes_on, readies}
+use Rattle.fee_laws.proofs.SwitchNearer.{switch_is_open, Seals, IsNearer, is_nearer, no_read, fewer, one_taken, job_goes_on, readies}
 
 module _ (m : Making) (entry : Told) (s : Parts) (listed : List (DeviceNumber × ℕ)) (kept count : ℕ) (c : Course) (made : BanksState) (f : FlsState) (is : IsStepping m entry s listed kept count c made Done f) (op : Op) (step : IsStep op s.fls.flash Done f.flash) (torn : Memory) (cutting : Cutting m entry s listed kept count c made Done f is op step torn) (c' : Course) (flags : List Bool) (log : LogState) where
   abbrev pub b : BanksState
@@ -43,7 +43,7 @@ module _ (m : Making) (entry : Told) (s : Parts) (listed : List (DeviceNumber ×
     pub sealed : IsTrue (is_such m LeavesSeal (change_of op s.fls.flash Done)) → 1 ≤ seal_turns (Some c')
     pub takes : TakesKeptPages op Done (flash_device (device_of m entry s))
     pub room : KeepsRoom m.reserve b
-    pub lower : left_of b < left_of s.banks
+    pub lower : left_of b + 1 ≡ left_of s.banks
     pub active : IsActiveOf b b.active
     pub showing : Showing m entry s listed kept count c made Done f is op step torn cutting b c' refl s.job s.last s.given
 
@@ -78,7 +78,8 @@ module _ (m : Making) (entry : Told) (s : Parts) (listed : List (DeviceNumber ×
           no_read = no_read s.content s.job s.last s.given near.writes;
           job_turns = job_goes_on m s c c' flags log s.banks.buffer is.course is.idle is.behind was_at_work.ready goes.seals entry f s.faults t.operations near (clock_of (device_of m entry t))
               (keeps_all m entry s listed kept count c made Done f is op step torn cutting b c' refl s.job s.last s.given goes.showing);
-          nearer = inl near.falls;
+          nearer = inl (fewer m s c c' flags log s.banks.buffer is.course is.idle is.behind was_at_work.ready goes.seals entry f s.faults t.operations near);
           ready = readies m s c c' flags log s.banks.buffer is.course is.idle is.behind was_at_work.ready goes.seals entry f s.faults t.operations near;
           takes = goes.takes;
+          turn_taken = one_taken m s c c' flags log s.banks.buffer is.course is.idle is.behind was_at_work.ready goes.seals entry f s.faults t.operations near;
         })

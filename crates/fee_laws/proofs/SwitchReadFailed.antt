@@ -71,4 +71,5 @@ module _ (m : Making) (entry : Told) (s : Parts) (listed : List (DeviceNumber ×
       ready = λ calm. absurd (calm.faults rose);
       seals = λ still sealing. (let is : true ≡ false = sym falls.copies ∙ sym (ap is_copying course_is) ∙ still in cc is);
       worn = inl refl;
+      turn_taken = inl rose;
     })

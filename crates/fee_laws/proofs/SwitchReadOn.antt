@@ -1,6 +1,6 @@
 -- The turn in which it was read.
 use Rattle.std.specs.Prelude.{IfSome}
-use Rattle.std.proofs.Common.{◌≡◌, inl, ◌<◌, ℕ, Bool, true, false, List, Some, None, refl, sym, ◌∙◌, arith, ap}
+use Rattle.std.proofs.Common.{◌≡◌, inl, ◌+◌, ℕ, Bool, true, false, List, Some, None, refl, sym, ◌∙◌, arith, ap}
 use Rattle.nv_base.specs.declared.instance.DeviceNumber.{DeviceNumber}
 use Rattle.memif.specs.declared.answer.DeviceTurn.TheVariants as turn
 use Rattle.fls_model.specs.Told.{Told}
@@ -17,7 +17,7 @@ use Rattle.fee_laws.proofs.Appended.{idle_at_work}
 use Rattle.fee_laws.proofs.SwitchFigures.{work_none}
 use Rattle.fls_jobs.specs.declared.answer.FlsResult.{FlsResult}
 use Rattle.fee_laws.specs.Turn.{IsOn}
-use Rattle.fee_laws.proofs.SwitchNearer.{switch_is_open, Seals, IsNearer, is_nearer, no_read, job_goes_on, readies}
+use Rattle.fee_laws.proofs.SwitchNearer.{switch_is_open, Seals, IsNearer, is_nearer, no_read, fewer, one_taken, job_goes_on, readies}
 use Rattle.fee_laws.proofs.SwitchRead.{Reading, none, facts_then, keeping as kept_read}
 use Rattle.fee_laws.proofs.BehindNone.{Facts, worked}
 
@@ -33,7 +33,7 @@ module _ (m : Making) (entry : Told) (s : Parts) (listed : List (DeviceNumber ×
     pub seals : Seals c c'
     pub copies : is_copying (Some c) ≡ true
     pub room : KeepsRoom m.reserve b
-    pub lower : left_of b < left_of s.banks
+    pub lower : left_of b + 1 ≡ left_of s.banks
     pub active : IsActiveOf b b.active
     pub reading : Reading m entry s listed kept count c course_is on idle s.fls.flash.faults fls_result s.faults (omega arith) (inl refl) b c' refl s.job s.last s.given
 
@@ -58,8 +58,9 @@ module _ (m : Making) (entry : Told) (s : Parts) (listed : List (DeviceNumber ×
       something = switch_is_open m entry s c on.started course_is;
       job_turns = job_goes_on m s c c' flags log buffer course_is idle behind_is was_at_work.ready goes.seals entry t.fls s.faults s.operations near (clock_of (device_of m entry t)) (kept_read m entry s listed kept count c course_is on idle s.fls.flash.faults fls_result s.faults (omega arith) (inl refl) b c' refl s.job s.last s.given goes.reading);
       read = λ read. (let none' = no_read s.content s.job s.last s.given near.writes in absurd (let z : true ≡ false = sym read ∙ none' in cc z));
-      nearer = inl near.falls;
+      nearer = inl (fewer m s c c' flags log buffer course_is idle behind_is was_at_work.ready goes.seals entry t.fls s.faults s.operations near);
       ready = readies m s c c' flags log buffer course_is idle behind_is was_at_work.ready goes.seals entry t.fls s.faults s.operations near;
       seals = λ still sealing. (let is : true ≡ false = sym goes.copies ∙ sym (ap is_copying course_is) ∙ still in cc is);
       worn = inl refl;
+      turn_taken = one_taken m s c c' flags log buffer course_is idle behind_is was_at_work.ready goes.seals entry t.fls s.faults s.operations near;
     })

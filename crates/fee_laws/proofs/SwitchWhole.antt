@@ -69,7 +69,7 @@ none_blank (a ∷ all) [] = tt
 none_blank (a ∷ all) (p ∷ ps) = (cond_both (is_written p) never_written never_written (λ (h : Held). h ≡ never_written) (λ e. refl) (λ e. refl), none_blank all ps)
 
 -- NOTHING BUT WHAT IS SETTLED
-only_one : (m n : Held) → Contains (n ∷ []) m → m ≡ n
+pub only_one : (m n : Held) → Contains (n ∷ []) m → m ≡ n
 only_one m n (zero, lt, e) = sym e
 only_one m n (suc j, lt, e) = absurd (omega arith)
 

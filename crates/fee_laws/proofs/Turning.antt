@@ -29,6 +29,7 @@ use Rattle.fls_told.specs.Runs.{counts_fault}
 use Rattle.fls_told.proofs.Parts.{parts_cut}
 use Rattle.fee_told.specs.Device.{Device, told_of, clock_of, flash_device, is_switching}
 use Rattle.fee_told.specs.Figures.{ready_of}
+use Rattle.fee_told.specs.Turns.{TakesTurn}
 use Rattle.fee_told.specs.Whole.{CutsKeep}
 use Rattle.fee_laws.specs.declared.job.FeeJob.{FeeJob}
 use Rattle.fee_laws.specs.Inside.{Parts, device_of, mark_of, stand_of, memory_of}
@@ -67,6 +68,7 @@ module _ (m : Making) (entry : Told) (s : Parts) (listed : List (DeviceNumber ×
     pub nearer : ((told_of then').left < (told_of d).left) ⊎ Rose s.faults (counts_fault answer s.faults)
     pub ready : TurnsReady (told_of d) (told_of then')
     pub takes : TakesKeptPages op answer (flash_device d)
+    pub turn_taken : TakesTurn turn.Worked d then'
 
   -- an operation that leaves a switch at its seal
   sealing : 1 ≤ seal_turns b.course → IsSealing (told_of then')
@@ -106,6 +108,7 @@ module _ (m : Making) (entry : Told) (s : Parts) (listed : List (DeviceNumber ×
       order m entry s listed kept count on op answer f drives asked b job last given facts,
     );
     sound = sound m entry s listed kept count on op answer f drives asked b job last given facts false (sym power);
+    takes = did.turn_taken;
   }
 
 -- A JOB THAT FAILS
@@ -142,4 +145,5 @@ was_cut m entry s listed kept count on op f drives asked b keeps takes facts som
     order m entry s listed kept count on op Off f drives asked b s.job s.last s.given facts,
   );
   sound = sound m entry s listed kept count on op Off f drives asked b s.job s.last s.given facts true (sym asked.cause.2);
+  takes = tt;
 }

@@ -85,7 +85,7 @@ gate_page_due : (m : Making) (entry : Told) (s : Parts) (listed : List (DeviceNu
 gate_page_due m entry s listed kept count failed made answer f is bytes here due =
     let c = Gate failed in
     all_two _ _ due (gate_leaves_room m s.banks is.on.banks failed is.on.sound.made_for.banks_geometry is.on.sound.made_for.shared is.on.sound.made_for.numbers (roomy m entry s listed kept count c made answer f is bytes here) bytes
-    (target m entry s listed kept count c made answer f is bytes here).1 (some m entry s listed kept count c made answer f is bytes here) (inside m entry s listed kept count c made answer f is bytes here))
+    (target m entry s listed kept count c made answer f is bytes here).1.holds (some m entry s listed kept count c made answer f is bytes here) (inside m entry s listed kept count c made answer f is bytes here))
 
 steps : (m : Making) (entry : Told) (s : Parts) (listed : List (DeviceNumber × ℕ)) (kept count : ℕ) (c : Course) (made : BanksState) (answer : FlashAnswer) (f : FlsState)
     → IsStepping m entry s listed kept count c made answer f → reads_next s.banks.log (Some c) ≡ false → IsTrue (is_told_sound (reading_of m) (bytes_now entry)) → (bytes : List ℕ) → bytes_now s.fls.flash ≡ Some bytes → FollowsBytes s.banks s.content s.operations bytes
@@ -96,7 +96,7 @@ steps m entry s listed kept count (Copy None) made answer f is changes told byte
     let may = may_mark m entry s listed kept count made answer f is changes in
     let head = mark m entry s listed kept count made answer f is changes in
     let fits = mark_fits m entry s listed kept count made answer f is changes in
-    let holds = (target m entry s listed kept count (Copy None) made answer f is bytes here).1 in
+    let holds = (target m entry s listed kept count (Copy None) made answer f is bytes here).1.holds in
     let before = body_of (work_in copies.tail) s.banks.buffer in
     subst (λ (op : Op). IsTrue (is_due_by m s.operations bytes op)) (sym (mark_op m entry s listed kept count made answer f is))
     (record_due m s.operations (begun copies head) _ bytes [] (is.on.banks.copies.shape ∙ is.on.sound.made_for.banks_geometry) (is.on.banks.copies.shared ∙ is.on.sound.made_for.shared)
@@ -108,7 +108,7 @@ steps m entry s listed kept count (Copy (Some w)) made answer f is changes told 
     let work : work_in s.banks.copies.tail ≡ Some open_copy.head = ap work_in open_copy.tail in
     subst (λ (op : Op). IsTrue (is_due_by m s.operations bytes op)) (sym (ap (copy_op_of s.banks) work))
     (record_due m s.operations s.banks.copies _ bytes _ (is.on.banks.copies.shape ∙ is.on.sound.made_for.banks_geometry) (is.on.banks.copies.shared ∙ is.on.sound.made_for.shared) is.copies
-    (target m entry s listed kept count (Copy (Some w)) made answer f is bytes here).1 (ap is_some work))
+    (target m entry s listed kept count (Copy (Some w)) made answer f is bytes here).1.holds (ap is_some work))
 steps m entry s listed kept count Head made answer f is changes told bytes at here =
     let one = inside m entry s listed kept count Head made answer f is bytes here in
     program_due m s.operations s.banks.geometry s.banks.banks s.banks.target 0 (bank_head_page s.banks.geometry.page (target_head s.banks)) bytes is.on.sound.made_for.banks_geometry is.on.sound.made_for.shared

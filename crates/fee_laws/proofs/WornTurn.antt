@@ -37,6 +37,7 @@ use Rattle.fls_told.proofs.Clocks.{worn_now}
 use Rattle.fee_told.specs.Device.{Device, tells_now, told_of, clock_of, flash_device, is_switching}
 use Rattle.fee_told.specs.Kept.{IsKept}
 use Rattle.fee_told.specs.Figures.{left_of as turns_left, ready_of, turns_of, wait_of}
+use Rattle.fee_told.specs.Turns.{has_failed}
 use Rattle.fee_told.proofs.Kept.{same_places}
 use Rattle.fee_told.proofs.Jobs.{jobs_change}
 use Rattle.fee_told.proofs.Steps.{jobs_keep}
@@ -308,6 +309,7 @@ module _ (m : Making) (entry : Told) (s : Parts) (listed : List (DeviceNumber ×
     ready = λ calm. if_else (urgent_first (fixed_in m) (at s.job)) (Nearer (told_of d) (told_of e)) ((told_of d).ready ≤ (told_of e).ready) (λ urgent v wait. (let none = waits_none urgent in absurd (cc (wait, none)))) (λ calm'. ready_same);
     seals = λ still sealing. (let none : false ≡ true = sym shut_switch ∙ sealing.switching in cc none);
     worn = worn_either s.worn refl;
+    turn_taken = inr (inl (subst (λ (o : Option FeeJob). IsTrue (has_failed (at o) (Ended JobFailed []))) (sym is.job) refl));
   })
 
 pub wears_out : WearsOut

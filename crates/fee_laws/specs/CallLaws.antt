@@ -10,7 +10,7 @@ use Rattle.fls_model.specs.Told.{Told}
 use Rattle.fls_jobs.specs.Start.{IsIdle}
 use Rattle.fls_jobs.specs.declared.answer.FlsResult.{FlsResult}
 use Rattle.fee_log.specs.Index.{clear_flags}
-use Rattle.fee_log.specs.Log.{work_in}
+use Rattle.fee_log.specs.Log.{IsLogState, work_in}
 use Rattle.fee_switch.specs.Banks.{BanksState, IsBanksState, IsMade, FindsActive, LoadsActive}
 use Rattle.fee_switch_laws.specs.Space.{HasSpace, free_pages}
 use Rattle.promise_device.specs.Making.{Making}
@@ -92,6 +92,7 @@ pub record IsPromised (m : Making) (b : BanksState) (j : FeeJob) : Type 0 where
 -- where a started device has none open, a job of a configured number may open
 pub record MayOpen (m : Making) (s : Parts) (j : FeeJob) (content : List ℕ) : Type 0 where
   pub banks : IsBanksState s.banks
+  pub log : IsLogState s.banks.log
   pub started : s.started ≡ true
   pub shut : s.job ≡ None
   pub job : IsJobOf m.numbers j

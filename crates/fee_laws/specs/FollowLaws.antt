@@ -1,5 +1,5 @@
 -- Laws of a device whose banks follow the bytes of its flash: what that is for, what gives it, and what keeps it.
-use Rattle.std.specs.Prelude.{◌≡◌, ◌⊎◌, ◌≤◌, ◌+◌, ℕ, min, true, false, IsTrue, List, length, Option, Some, None, IfSome}
+use Rattle.std.specs.Prelude.{◌≡◌, ◌⊎◌, ◌≤◌, ◌+◌, ℕ, min, true, false, IsTrue, is_some, List, length, Option, Some, None, IfSome}
 use Rattle.nv_base.specs.declared.instance.DeviceNumber.{DeviceNumber}
 use Rattle.fls_model.specs.declared.flash.FlashAnswer.{FlashAnswer}
 use Rattle.fls_model.specs.declared.flash.FlashAnswer.TheVariants.{Done}
@@ -30,6 +30,7 @@ use Rattle.fee_laws.specs.Reads.{IsReading, IsAsked}
 use Rattle.fee_laws.specs.Switches.{IsStepping, step_op, failed_with}
 use Rattle.fee_laws.specs.Worn.{KnowsRoom}
 use Rattle.fee_laws.specs.Follows.{Follows}
+use Rattle.fee_laws.specs.SwitchTold.{TellsSwitch}
 
 -- WHAT IT IS FOR
 -- where no record is in work and no switch is open, it gives what a device that is worn out has to know
@@ -62,6 +63,13 @@ FreeIsReady =
     → IsOn m entry s listed kept count → Follows s → IsTrue (is_told_sound (reading_of m) (bytes_now entry))
     → let d = told_of (device_of m entry s) in
     IfSome s.fls.flash.bytes (λ b. min m.reserve (free_pages m s.operations b.now) ≤ d.ready + pages_urgent d.fixed d.stand)
+
+-- and beside an open switch, of the turns that are left, what the bytes say of the switch
+abbrev pub SwitchIsTold : Type 0
+SwitchIsTold =
+    (m : Making) (entry : Told) (s : Parts) (listed : List (DeviceNumber × ℕ)) (kept count : ℕ)
+    → IsOn m entry s listed kept count → is_some s.banks.course ≡ true → Follows s → IsTrue (is_told_sound (reading_of m) (bytes_now entry))
+    → IfSome s.fls.flash.bytes (λ b. TellsSwitch m s.operations b.now (told_of (device_of m entry s)))
 
 -- WHAT GIVES IT
 -- a device that isn't started, as it was made or behind a start-up that failed

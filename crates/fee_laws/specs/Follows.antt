@@ -7,10 +7,12 @@ use Rattle.fee_format.specs.declared.bank_head.BankHead.{BankHead}
 use Rattle.fee_format.specs.BankHead.{bank_head_page}
 use Rattle.fee_format.specs.Pages.{blank_page}
 use Rattle.fee_image.specs.Image.{image_page, BankStands, ComesFirst, active_of}
-use Rattle.fee_image.specs.RecordList.{IsClosed, end_of}
+use Rattle.fee_image.specs.Places.{places_of}
+use Rattle.fee_image.specs.RecordList.{IsClosed, records_of, end_of}
 use Rattle.fee_image.specs.May.{May}
 use Rattle.fee_image.specs.Banks.{AreBlank}
 use Rattle.fee_image.specs.Laws.{place_of_sector}
+use Rattle.fee_log.specs.Index.{clear_flags}
 use Rattle.fee_log.specs.Laws.{HoldsState}
 use Rattle.fee_log.specs.Log.{LogState, bank_of, work_in, is_closed}
 use Rattle.fee_switch.specs.declared.active.ActiveBank.{ActiveBank}
@@ -43,10 +45,15 @@ may_be_closed_beside (Some c) log operations = failed_of log operations
 abbrev pub IsClosedFor : Option Course → LogState → List Change → List ℕ → Type 0
 IsClosedFor course log operations bytes = is_closed log.tail ≡ true → (let b = bank_of log in IsClosed b bytes (end_of b bytes)) ⊎ IsTrue (may_be_closed_beside course log operations)
 
+-- each number's place is that of its last record in the bank, or such a program failed
+abbrev pub IsPlacedFor : Option Course → LogState → List Change → List ℕ → Type 0
+IsPlacedFor course log operations bytes = IsTrue (may_be_closed_beside course log operations) ⊎ (log.places ≡ places_of log.numbers (records_of (bank_of log) bytes))
+
 -- its bank holds it, whatever marks that shows
 pub record FollowsLog (course : Option Course) (log : LogState) (body : List ℕ) (operations : List Change) (bytes : List ℕ) : Type 0 where
   pub holds : HoldsState log body bytes anything
   pub closed : IsClosedFor course log operations bytes
+  pub placed : IsPlacedFor course log operations bytes
 
 -- THE BANKS
 -- a bank that stands beside the active one comes behind it; where none is active none stands
@@ -62,13 +69,15 @@ pub record StandsFirst (s : BanksState) (bytes : List ℕ) : Type 0 where
 abbrev pub target_head : BanksState → BankHead
 target_head s = record { format = new_format; generation = next_generation s.active }
 
--- the target's bank holds its log
-abbrev pub FollowsCopies : BanksState → List ℕ → Type 0
-FollowsCopies s bytes = HoldsState s.copies (body_of (work_in s.copies.tail) s.buffer) bytes anything
+-- the target's bank holds its log, in which no program failed
+pub record FollowsCopies (s : BanksState) (bytes : List ℕ) : Type 0 where
+  pub holds : HoldsState s.copies (body_of (work_in s.copies.tail) s.buffer) bytes anything
+  pub placed : s.copies.places ≡ places_of s.copies.numbers (records_of (bank_of s.copies) bytes)
 
--- the target, as far as the switch has come: so many of its pages are blank; copies behind a blank head and gate; its head
+-- the target, as far as the switch has come: so many of its pages are blank, and no number is copied; copies behind a blank head and
+-- gate; its head
 abbrev pub FollowsTarget : BanksState → Course → List ℕ → Type 0
-FollowsTarget s (Erase done) bytes = AreBlank (layout_in s) bytes s.target (done * pages_of_sector s.geometry)
+FollowsTarget s (Erase done) bytes = AreBlank (layout_in s) bytes s.target (done * pages_of_sector s.geometry) × (s.log.flags ≡ clear_flags s.log.numbers)
 FollowsTarget s (Copy work) bytes = AreBlank (layout_in s) bytes s.target 2 × FollowsCopies s bytes
 FollowsTarget s Head bytes = AreBlank (layout_in s) bytes s.target 2 × FollowsCopies s bytes
 FollowsTarget s (Gate failed) bytes = (image_page (layout_in s) bytes s.target 0 ≡ bank_head_page s.geometry.page (target_head s)) × FollowsCopies s bytes

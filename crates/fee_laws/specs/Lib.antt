@@ -14,4 +14,5 @@ pub mod Switches
 pub mod Worn
 pub mod Follows
 pub mod FollowLaws
+pub mod SwitchTold
 pub mod Wears

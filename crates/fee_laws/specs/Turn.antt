@@ -15,6 +15,7 @@ use Rattle.promise_device.specs.Making.{Making}
 use Rattle.fls_told.specs.Clock.{change_of}
 use Rattle.fls_told.specs.Runs.{counts_fault}
 use Rattle.fee_told.specs.Device.{told_of, clock_of}
+use Rattle.fee_told.specs.Turns.{TakesTurn}
 use Rattle.fee_laws.specs.Inside.{Parts, device_of, IsSound}
 
 -- BEFORE
@@ -48,3 +49,4 @@ ended_as result s = record s { job = None; last = result; given = 0 }
 pub record Turned (m : Making) (entry : Told) (answer : DeviceTurn) (s t : Parts) (listed : List (DeviceNumber × ℕ)) (kept count : ℕ) (is_off : Bool) : Type 0 where
   pub turns : Turns answer (told_of (device_of m entry s)) (clock_of (device_of m entry s)) (told_of (device_of m entry t)) (clock_of (device_of m entry t))
   pub sound : IsSound m entry t listed kept count is_off
+  pub takes : TakesTurn answer (device_of m entry s) (device_of m entry t)

@@ -1,5 +1,5 @@
 -- The open work of a device, and how urgent writes stand.
-use Rattle.std.specs.Prelude.{ℕ, ◌-◌, ◌+◌, ◌&&◌, Bool, true, false, not, nat_le, if◌then◌else◌, is_some, Option, Some, None}
+use Rattle.std.specs.Prelude.{ℕ, ◌-◌, ◌&&◌, Bool, true, false, not, nat_le, if◌then◌else◌, is_some, Option, Some, None}
 use Rattle.nv_base.specs.Pages.{record_pages_of}
 use Rattle.nv_base.specs.declared.job.DeviceOp.{DeviceOp}
 use Rattle.nv_base.specs.declared.job.DeviceOp.TheVariants.{Read, Write, Invalidate, Erase}
@@ -10,7 +10,7 @@ use Rattle.fee_log.specs.Log.{work_in}
 use Rattle.fee_course.specs.declared.course.Course.{Course}
 use Rattle.fee_course.specs.declared.course.Course.TheVariants as course
 use Rattle.fee_switch_laws.specs.Space.{free_pages, has_room}
-use Rattle.fee_switch.specs.Banks.{BanksState, begun_again, left_of as switch_left}
+use Rattle.fee_switch.specs.Banks.{BanksState, begun_again, left_of as switch_left, left_beside}
 use Rattle.fee_told.specs.Figures.{Work, Waits, turns_owed}
 use Rattle.fee_laws.specs.declared.job.FeeJob.{FeeJob}
 
@@ -68,14 +68,14 @@ claimed s (Some j) = if begins_next s j then pages_of_op s.geometry.page j.op j.
 abbrev pub pages_free : BanksState → Option FeeJob → ℕ
 pages_free s job = free_pages s - claimed s job
 
--- beside a switch its number is copied anew: the most turns of that
+-- the turns of the open switch: the number of such a write is copied anew
 abbrev pub turns_beside : BanksState → Option FeeJob → ℕ
-turns_beside s None = 0
-turns_beside s (Some j) = if begins_next s j then pages_of_op s.geometry.page j.op j.length + 1 else 0
+turns_beside s None = switch_left s
+turns_beside s (Some j) = if begins_next s j then left_beside s j.number.0 else switch_left s
 
 -- the turns of the switch that is open, or of the one that the job needs
 abbrev pub switch_turns : ℕ → BanksState → Option FeeJob → Option Course → ℕ
-switch_turns reserve s job (Some c) = switch_left s + turns_beside s job
+switch_turns reserve s job (Some c) = turns_beside s job
 switch_turns reserve s job None = if needs_switch reserve s job then switch_left (begun_again s (course.Erase 0)) else 0
 
 abbrev pub work_of : ℕ → BanksState → Option FeeJob → Work

@@ -13,8 +13,9 @@ use Rattle.fls_told.proofs.Runs.{runs_bridge}
 use Rattle.fee_told.specs.Device.{Device, told_of, clock_of, flash_device}
 use Rattle.fee_laws.specs.Inside.{device_of}
 use Rattle.fee_laws.specs.Made.{part_at}
+use Rattle.fee_laws.specs.SwitchTold.{TellsSwitchOver}
 use Rattle.fee_core.specs.Whole.{Whole}
-use Rattle.fee_core.proofs.RoomTold.{work_told}
+use Rattle.fee_core.proofs.RoomTold.{switch_told, work_told}
 use Rattle.fee_core.proofs.Telling.{all_first}
 use Rattle.fee_core.proofs.WearTold.{wear_told}
 use Rattle.fee_core.proofs.fee.Fee.into_flash.Goals as goal
@@ -81,6 +82,18 @@ returns-clause-room g c =
     let here = work_told m entry p c.self.invariant banks log in
     let out = subst (λ (x : Told). TellsWorkOver m p.parts.operations x (told_of (device_of m entry p.parts))) (sym same) here in
     subst (λ (x : Device). TellsWorkOver m x.operations (g.F.Flash.told c.into_flash.result) (told_of x)) c.self.view_is out
+
+pub returns-clause-switch : goal.returns-clause-switch
+returns-clause-switch g c =
+    let m = g.O.Origin.making in
+    let entry = g.O.Origin.entry in
+    let p = c.self.inside.parts in
+    let same = c.into_flash.ensures ∙ ap (λ (w : Whole). w.parts.fls.flash) c.parts.view_is in
+    let banks = subst (λ (w : Whole). IsBanksState w.parts.banks) c.parts.view_is c.active-active.ensures.state in
+    let log = subst (λ (w : Whole). IsLogState w.parts.banks.log) c.parts.view_is c.active-active.ensures.log in
+    let here = switch_told m entry p c.self.invariant banks log in
+    let out = subst (λ (x : Told). TellsSwitchOver m entry p.parts.operations x (told_of (device_of m entry p.parts))) (sym same) here in
+    subst (λ (x : Device). TellsSwitchOver m entry x.operations (g.F.Flash.told c.into_flash.result) (told_of x)) c.self.view_is out
 
 pub returns-clause-wear : goal.returns-clause-wear
 returns-clause-wear g c =
