@@ -2,7 +2,7 @@
 use Rattle.std.specs.Prelude.{min}
 use Rattle.std.proofs.Common.{◌≡◌, ◌≢◌, ◌<◌, ◌≤◌, ◌+◌, ◌⊎◌, ℕ, Bool, true, false, List, [], Option, Some, None, sym, ap, ◌∙◌, subst, inl, inr, arith}
 use Rattle.std.proofs.lemmas.Bool.Decides.{leb_tells}
-use Rattle.nvm_laws.specs.nv_base.Count.{Rose, WereCounted}
+use Rattle.nvm_laws.specs.nv_base.Count.{last_count, Rose, WereCounted}
 use Rattle.nvm_laws.specs.nv_base.Marks.{number_of}
 use Rattle.nvm_laws.specs.memif.declared.answer.JobResult.{JobResult}
 use Rattle.nvm_laws.specs.memif.declared.answer.JobResult.TheVariants.{JobFailed}
@@ -73,6 +73,11 @@ rose_in l x y u v more (inr (full, up)) = inr (omega (arith, full), omega (arith
 turned_sum : (l a b u v : ℕ) → (min (b + a) l < min (v + u) l) ⊎ ((l ≤ min (b + a) l) × (min (b + a) l ≤ min (v + u) l)) → (min (a + b) l < min (u + v) l) ⊎ ((l ≤ min (a + b) l) × (min (a + b) l ≤ min (u + v) l))
 turned_sum l a b u v (inl rose) = inl (omega (arith, rose))
 turned_sum l a b u v (inr (full, up)) = inr (omega (arith, full), omega (arith, up))
+
+pub part_rises : (old new : DeviceTold) → old.first.faults ≤ new.first.faults → old.second.faults ≤ new.second.faults → Rose old.first.faults new.first.faults ⊎ Rose old.second.faults new.second.faults
+    → Rose (faults_of old) (faults_of new)
+part_rises old new first second (inl rose) = rose_in last_count old.first.faults old.second.faults new.first.faults new.second.faults second rose
+part_rises old new first second (inr rose) = turned_sum last_count old.first.faults old.second.faults new.first.faults new.second.faults (rose_in last_count old.second.faults old.first.faults new.second.faults new.first.faults first rose)
 
 same_open : (a b : device.Job) → Open a ≡ Open b → a ≡ b
 same_open a b is = cc is

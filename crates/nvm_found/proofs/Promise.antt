@@ -1,5 +1,5 @@
 -- What the start-up and its reads keep.
-use Rattle.std.proofs.Common.{◌≡◌, ℕ, true, false, List, [], ◌∷◌, ◌++◌, length, map, IfSome, Option, Some, None, Result, Ok, Err, refl, sym, ap, ◌∙◌, subst, inl, inr}
+use Rattle.std.proofs.Common.{◌≡◌, ℕ, true, false, ◌⊎◌, List, [], ◌∷◌, ◌++◌, length, map, IfSome, Option, Some, None, Result, Ok, Err, refl, sym, ap, ◌∙◌, subst, inl, inr, arith}
 use Rattle.std.specs.Prelude.{is_some}
 use Rattle.std.specs.Result.{OnOk}
 use Rattle.block_machine.specs.nv_base.declared.instance.DeviceNumber.{DeviceNumber}
@@ -14,10 +14,11 @@ use Rattle.block_machine.specs.Legal.{IsAllowed}
 use Rattle.nvm_device_laws.specs.Turn.{Keeps, ListsSettled, StartUpsKeep}
 use Rattle.nvm_device_laws.proofs.Pushed.{started_push}
 use Rattle.nvm_found.specs.declared.place.Place.{Place}
-use Rattle.nvm_found.specs.Found.{IsUp, IsListOf, AreHeld, Finds, FindsKeep}
-use Rattle.nvm_found.specs.Places.{number_at, AreWhole, FirstHeld, marks_at, ReadsOn}
+use Rattle.nvm_found.specs.Found.{IsUp, HasFault, IsListOf, AreHeld, Finds, FindsKeep, ReadAtOnce}
+use Rattle.nvm_found.specs.Places.{LeavesRead, number_at, AreWhole, FirstHeld, marks_at, ReadsOn}
 use Rattle.nvm_found.proofs.Lists.{is_list, are_held}
 use Rattle.nvm_found.proofs.Allowed.{found_allowed}
+use Rattle.nvm_found.proofs.Readings.{turn_if}
 
 -- what is listed as it is settled behind the reads was settled so before them
 lists_before : (c : Configuration) (marks : List (Instance × Mark)) (numbers : List (DeviceNumber × ℕ)) (o n : Option (List Slot))
@@ -64,12 +65,18 @@ finds_keep old clock new clock_new marks ups finds c cap h before told first fit
 -- the marks of places are what was found
 pub found_of : (old new : DeviceTold) (ps : List Place) (marks : List (Instance × Mark)) → marks ≡ marks_at ps
     → map number_at ps ≡ old.fixed.numbers → AreLengths 0 (map number_at ps) → AreWhole ps → IsUp old new → is_open new.stand ≡ false
-    → FirstHeld new (length ps) ps → Finds marks old new
-found_of old new ps marks is same ascend whole up rest held =
+    → (ReadAtOnce old.fixed → LeavesRead old new) → FirstHeld new (length ps) ps → Finds marks old new
+found_of old new ps marks is same ascend whole up rest left held =
     let numbers : map number_at ps ≡ new.fixed.numbers = same ∙ ap (λ (f : Fixed). f.numbers) (sym up.restarted.fixed) in
     record {
       up = up;
       at_rest = rest;
+      left = λ once. nothing (left once);
       lists = subst (λ ms. IsListOf new.fixed.numbers ms) (sym is) (subst (λ ns. IsListOf ns (marks_at ps)) numbers (is_list ps ascend whole));
       held = subst (λ ms. IfSome new.slots (AreHeld new.fixed.numbers ms)) (sym is) (are_held new ps numbers ascend held);
     }
+  where
+    -- no job is open
+    nothing : LeavesRead old new → (new.left ≡ 0) ⊎ HasFault old new
+    nothing (inl few) = inl (let none = ap turn_if rest in omega (arith, few, none))
+    nothing (inr fault) = inr fault

@@ -1,8 +1,7 @@
 -- A read at a device that was started up, from its start to its end.
 use Rattle.std.specs.Prelude.{if◌then◌else◌}
-use Rattle.std.proofs.Common.{◌≡◌, ◌≢◌, ℕ, ◌+◌, ◌<◌, Bool, true, false, List, Option, Some, None, Result, Ok, Err, refl, sym, ap, ◌∙◌, subst, inl, inr, arith}
+use Rattle.std.proofs.Common.{◌≡◌, ◌≢◌, ℕ, ◌+◌, ◌<◌, ◌≤◌, Bool, true, false, List, Option, Some, None, Result, Ok, Err, refl, sym, ap, ◌∙◌, subst, inl, inr, arith}
 use Rattle.block_machine.specs.nv_base.Count.{Rose}
-use Rattle.block_machine.specs.nv_base.declared.instance.DeviceNumber.{DeviceNumber}
 use Rattle.block_machine.specs.nv_base.declared.mark.Mark.{Mark}
 use Rattle.memif.specs.declared.answer.DeviceRefusal.{DeviceRefusal}
 use Rattle.memif.specs.declared.answer.DeviceTurn.{DeviceTurn}
@@ -12,7 +11,7 @@ use Rattle.memif.specs.declared.answer.JobResult.TheVariants.{JobOk}
 use Rattle.memif.specs.declared.answer.StartFault.{StartFault}
 use Rattle.memif.specs.Told as device
 use Rattle.memif.specs.Told.{DeviceTold, Fixed, Slot, Part, First, Second, part_at, Stand, Job, Open, Ended, is_open, nothing_open, length_of, slot_at}
-use Rattle.memif.specs.Marks.{Keeps, KeepsAll, IfTold}
+use Rattle.memif.specs.Marks.{Keeps, KeepsAll}
 use Rattle.memif.specs.Clock.{Clock, SameClock}
 use Rattle.memif.specs.Trials.{Lasts}
 use Rattle.memif.proofs.Turning.{lasts_more, rose_since, told_before, same_lasts, still_lasts, turn_lasts}
@@ -21,8 +20,8 @@ use Rattle.block_machine.specs.Words.{Entry}
 use Rattle.nvm_device_laws.specs.Turn.{Stays, StaysBy, StaysDown, TurnsKeep, settled_by, read_wish}
 use Rattle.nvm_device_laws.proofs.DeviceCalls.{read_stays, turn_keeps}
 use Rattle.nvm_device_laws.proofs.DownCalls.{read_down, turn_down}
-use Rattle.nvm_found.specs.Found.{IsRestarted, IsUp}
-use Rattle.nvm_found.specs.Places.{IsReady, ReadsOn, HasFault, ReadComesTo}
+use Rattle.nvm_found.specs.Found.{IsRestarted, IsUp, HasFault, ReadAtOnce}
+use Rattle.nvm_found.specs.Places.{IsReady, ReadsOn, ReadComesTo}
 use Rattle.nvm_found.specs.Reading.{PartReads, StandsAs, IsReading}
 use Rattle.nvm_found.proofs.PlaceLists.{own_test}
 use Rattle.nvm_found.proofs.Parts.{part_same, part_turned, keeps_same, keeps_all_more, up_more}
@@ -34,6 +33,23 @@ reading_left d = if is_open d.stand then d.left + 1 else 0
 not_both : (b : Bool) → b ≡ false → b ≡ true → ⊥
 not_both b off on = cc
 
+-- an open read has a turn left
+abbrev pub turn_if : Bool → ℕ
+turn_if b = if b then 1 else 0
+
+count_open : (s : Stand) (b : Bool) → is_open s ≡ b → turn_if (is_open s) ≡ turn_if b
+count_open s b is = ap turn_if is
+
+-- A FAULT THAT WAS COUNTED
+rose_on : (a b c : ℕ) → Rose a b → b ≤ c → Rose a c
+rose_on a b c (inl more) le = inl (omega (arith, more, le))
+rose_on a b c (inr end) le = inr (end.0, let later = end.1 in omega (arith, later, le))
+
+-- it stays so
+fault_on : (begun old new : DeviceTold) → (old.first.faults ≤ new.first.faults) × (old.second.faults ≤ new.second.faults) → HasFault begun old → HasFault begun new
+fault_on begun old new later (inl rose) = inl (rose_on begun.first.faults old.first.faults new.first.faults rose later.0)
+fault_on begun old new later (inr rose) = inr (rose_on begun.second.faults old.second.faults new.second.faults rose later.1)
+
 -- READS ONE AFTER ANOTHER
 pub reads_more : (a : DeviceTold) (ca : Clock) (b : DeviceTold) (cb : Clock) (c : DeviceTold) (ct : Clock)
     → ReadsOn a ca b cb → ReadsOn b cb c ct → ReadsOn a ca c ct
@@ -42,6 +58,7 @@ reads_more a ca b cb c ct one two = record {
   marks = keeps_all_more a b c one.fixed one.marks two.marks;
   ops = two.ops ∙ one.ops;
   up = λ begun is. two.up begun (one.up begun is);
+  left = λ once begun is was. two.left (subst ReadAtOnce (sym one.fixed) once) begun (one.up begun is) (one.left once begun is was);
   stays = λ x cap h before started keeps told. two.stays x cap h before started (one.stays x cap h before started keeps (told_before (λ n s t. Keeps s t) b c two.marks told)) told;
   down = λ x cap h before keeps told. two.down x cap h before (one.down x cap h before keeps (told_before (λ n s t. Keeps s t) b c two.marks told)) told;
   lasts = lasts_more a ca b cb c ct one.lasts two.lasts;
@@ -59,20 +76,25 @@ taken number size old r ready configured refused =
     no_refusal r is = cc
 
 module _ (number size : ℕ) (old : DeviceTold) (clock : Clock) (new : DeviceTold) (clock_new : Clock) where
-  opened : Opens (read_wish number size).job old new → SameClock clock clock_new → Stays old clock new clock_new → StaysDown old clock new clock_new
+  opened : is_open old.stand ≡ false → Opens (read_wish number size).job old new → SameClock clock clock_new → Stays old clock new clock_new → StaysDown old clock new clock_new
       → ReadsOn old clock new clock_new
-  opened opens same stays down =
+  opened rest opens same stays down =
       let fixed : new.fixed ≡ old.fixed = ap (λ (d : DeviceTold). d.fixed) opens.only in
       let first : new.first ≡ old.first = ap (λ (d : DeviceTold). d.first) opens.only in
       let second : new.second ≡ old.second = ap (λ (d : DeviceTold). d.second) opens.only in
+      let lasts : Lasts old clock new clock_new = same_lasts old clock new clock_new (ap (λ (d : DeviceTold). d.ops) opens.only) (ap (λ (d : DeviceTold). d.first.faults) opens.only) (ap (λ (d : DeviceTold). d.second.faults) opens.only) same in
       record {
         fixed = fixed;
         marks = opens.marks;
         ops = ap (λ (d : DeviceTold). d.ops) opens.only;
         up = λ begun is. up_more begun old new fixed (ap (λ (d : DeviceTold). d.ops) opens.only) (ap (λ (d : DeviceTold). d.starts) opens.only) (ap (λ (d : DeviceTold). d.tells) opens.only) (ap (λ (d : DeviceTold). d.started) opens.only) (part_same old.first new.first first) (part_same old.second new.second second) opens.marks is;
+        left = λ once begun is was. elim was [
+          | inl none ↦ inl (rw (ap (λ (d : DeviceTold). is_open d.stand) opens.only) (let closed = count_open old.stand false rest in let high = opens.left_high in let one = once number in omega (arith, none, closed, high, one)))
+          | inr fault ↦ inr (fault_on begun old new lasts.faults fault)
+        ];
         stays = stays;
         down = down;
-        lasts = same_lasts old clock new clock_new (ap (λ (d : DeviceTold). d.ops) opens.only) (ap (λ (d : DeviceTold). d.first.faults) opens.only) (ap (λ (d : DeviceTold). d.second.faults) opens.only) same;
+        lasts = lasts;
       }
 
   pub begins : (answer : Result (Unit {0}) DeviceRefusal) → IsReady old → length_of old.fixed.numbers number ≡ Some size
@@ -84,7 +106,7 @@ module _ (number size : ℕ) (old : DeviceTold) (clock : Clock) (new : DeviceTol
         started = ap (λ (d : DeviceTold). d.started) opens.only ∙ ready.started;
         first_on = ap (λ (d : DeviceTold). d.first.off) opens.only ∙ ready.first_on;
         second_on = ap (λ (d : DeviceTold). d.second.off) opens.only ∙ ready.second_on;
-        reads = opened opens accepts.1.same
+        reads = opened ready.at_rest opens accepts.1.same
             (read_stays old clock new clock_new (read_wish number size) (Ok u) refl accepts)
             (read_down old clock new clock_new (read_wish number size) (Ok u) refl accepts);
         stand = subst (λ (s : Stand). StandsAs number size old new s) (sym (ap (λ (d : DeviceTold). d.stand) opens.only)) (refl, refl);
@@ -105,6 +127,11 @@ reads_at number None n outcome given a b same fixed reads = rw same tt
 
 some_mark : (o : Option Mark) → o ≡ None → o ≢ None → ⊥
 some_mark o none some = some none
+
+-- a read is open
+open_read : (s : Stand) → is_read s ≡ true → is_open s ≡ true
+open_read (Open j) read = refl
+open_read (Ended outcome given) read = cc read
 
 -- the rest of what the turn of a part leaves
 module _ (old : DeviceTold) (new : DeviceTold) (clock_new : Clock) where
@@ -146,6 +173,13 @@ module _ (old : DeviceTold) (new : DeviceTold) (clock_new : Clock) where
         marks = marks;
         ops = (works.read read).0;
         up = λ begun is. up_more begun old new (works_fixed p works) (works.read read).0 (works_starts p works) (works_tells p works) (works_started p works) (first_reads p works read) (second_reads p works read) marks is;
+        left = λ once begun is was. elim works.nearer [
+          | inl nearer ↦ elim was [
+            | inl one ↦ inl (let most = count_open old.stand true (open_read old.stand read) in omega (arith, nearer, one, most))
+            | inr fault ↦ inr (fault_on begun old new lasts.faults fault)
+          ]
+          | inr rose ↦ inr (has_fault p begun is rose)
+        ];
         stays = stays;
         down = down;
         lasts = lasts;

@@ -6,7 +6,7 @@ use Rattle.block_machine.specs.nv_base.declared.instance.Instance.{Instance}
 use Rattle.block_machine.specs.nv_base.declared.instance.DeviceNumber.{DeviceNumber}
 use Rattle.block_machine.specs.nv_base.declared.mark.Mark.{Mark}
 use Rattle.block_machine.specs.nv_base.declared.mark.Mark.TheVariants.{Content, Invalid, Erased}
-use Rattle.memif.specs.Told.{DeviceTold, Slot, is_open, slot_at, Part, PartTold}
+use Rattle.memif.specs.Told.{DeviceTold, Fixed, Slot, is_open, figures_at, slot_at, Part, PartTold}
 use Rattle.memif.specs.Told as device
 use Rattle.memif.specs.Marks.{ComesFrom, EachNumber}
 use Rattle.memif.specs.Clock.{Clock}
@@ -39,6 +39,14 @@ pub record IsUp (old new : DeviceTold) : Type 0 where
   pub second_on : new.second.off ≡ false
   pub settled : EachNumber (λ n s t. t.doubts ≡ []) old new
 
+-- a read of any number takes one turn at most
+abbrev pub ReadAtOnce : Fixed → Type 0
+ReadAtOnce f = (n : ℕ) → (figures_at f n).read ≤ 1
+
+-- a fault was counted
+abbrev pub HasFault : DeviceTold → DeviceTold → Type 0
+HasFault old new = Rose old.first.faults new.first.faults ⊎ Rose old.second.faults new.second.faults
+
 -- THE MARKS
 -- the marks of these numbers, as a list has them: ascending, without the erased ones
 abbrev pub relisted : List (Instance × Mark) → List (DeviceNumber × ℕ) → List (Instance × Mark)
@@ -65,6 +73,8 @@ AreHeld numbers marks slots = (x : DeviceNumber × ℕ) → Contains numbers x �
 pub record Finds (marks : List (Instance × Mark)) (old new : DeviceTold) : Type 0 where
   pub up : IsUp old new
   pub at_rest : is_open new.stand ≡ false
+  -- no work is left where its reads take a turn each, unless a fault was counted
+  pub left : ReadAtOnce old.fixed → (new.left ≡ 0) ⊎ HasFault old new
   pub lists : IsListOf new.fixed.numbers marks
   pub held : IfSome new.slots (AreHeld new.fixed.numbers marks)
 
@@ -72,7 +82,7 @@ pub record Finds (marks : List (Instance × Mark)) (old new : DeviceTold) : Type
 pub record FailsToFind (old new : DeviceTold) : Type 0 where
   pub restarted : IsRestarted old new
   pub at_rest : is_open new.stand ≡ false
-  pub faults : Rose old.first.faults new.first.faults ⊎ Rose old.second.faults new.second.faults
+  pub faults : HasFault old new
 
 -- the mark that is listed for a number
 abbrev pub listed_in : List (Instance × Mark) → ℕ → Mark

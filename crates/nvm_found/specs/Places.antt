@@ -1,6 +1,5 @@
 -- What was found of a number, and what a read comes to.
-use Rattle.std.specs.Prelude.{◌≡◌, ◌⊎◌, ℕ, zero, suc, true, false, length, List, [], ◌∷◌, IfSome, Some}
-use Rattle.block_machine.specs.nv_base.Count.{Rose}
+use Rattle.std.specs.Prelude.{◌≡◌, ◌≤◌, ◌⊎◌, if◌then◌else◌, ℕ, zero, suc, true, false, length, List, [], ◌∷◌, IfSome, Some}
 use Rattle.block_machine.specs.nv_base.Marks.{instance_of, listed}
 use Rattle.block_machine.specs.nv_base.declared.instance.Instance.{Instance}
 use Rattle.block_machine.specs.nv_base.declared.instance.DeviceNumber.{DeviceNumber}
@@ -17,7 +16,7 @@ use Rattle.memif.specs.Calls.{ReadsAt, Gives}
 use Rattle.memif.specs.Trials.{Lasts}
 use Rattle.nvm_device_laws.specs.Turn.{Stays, StaysDown}
 use Rattle.nvm_found.specs.declared.place.Place.{Place}
-use Rattle.nvm_found.specs.Found.{IsUp}
+use Rattle.nvm_found.specs.Found.{IsUp, HasFault, ReadAtOnce}
 
 -- PLACES
 -- the number of a place with its length
@@ -74,19 +73,20 @@ pub record IsReady (d : DeviceTold) : Type 0 where
   pub second_on : d.second.off ≡ false
   pub at_rest : is_open d.stand ≡ false
 
+-- since a start-up no more is left than the turn of an open read, unless a fault was counted
+abbrev pub LeavesRead : DeviceTold → DeviceTold → Type 0
+LeavesRead begun d = (d.left ≤ (if is_open d.stand then 1 else 0)) ⊎ HasFault begun d
+
 -- what reads leave of a device that was started up
 pub record ReadsOn (old : DeviceTold) (clock : Clock) (new : DeviceTold) (clock_new : Clock) : Type 0 where
   pub fixed : new.fixed ≡ old.fixed
   pub marks : KeepsAll old new
   pub ops : new.ops ≡ old.ops
   pub up : (begun : DeviceTold) → IsUp begun old → IsUp begun new
+  pub left : ReadAtOnce old.fixed → (begun : DeviceTold) → IsUp begun old → LeavesRead begun old → LeavesRead begun new
   pub stays : Stays old clock new clock_new
   pub down : StaysDown old clock new clock_new
   pub lasts : Lasts old clock new clock_new
-
--- a fault was counted since the device was as it was once
-abbrev pub HasFault : DeviceTold → DeviceTold → Type 0
-HasFault begun new = Rose begun.first.faults new.first.faults ⊎ Rose begun.second.faults new.second.faults
 
 -- what a read of a number came to
 pub record ReadComesTo (number size : ℕ) (old : DeviceTold) (outcome : JobResult) (given : List ℕ) (new : DeviceTold) : Type 0 where

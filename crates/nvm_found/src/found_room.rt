@@ -6,8 +6,8 @@ ghost use Rattle.memif.specs.Told.{is_open};
 ghost use Rattle.memif.specs.Calls.{InOrder};
 ghost use Rattle.memif.specs.Trials.{Lasts};
 ghost use Rattle.nvm_device_laws.specs.Turn.{StartUpsKeep, StaysDown};
-ghost use Rattle.nvm_found.specs.Found.{FailsToFind, Finds, FindsKeep, IsRestarted, IsUp};
-ghost use Rattle.nvm_found.specs.Places.{FirstHeld, AreWhole, HasFault, IsReady, IsWhole, ReadsOn, listed_at, marks_at, number_at};
+ghost use Rattle.nvm_found.specs.Found.{FailsToFind, Finds, FindsKeep, HasFault, IsRestarted, IsUp, ReadAtOnce};
+ghost use Rattle.nvm_found.specs.Places.{FirstHeld, AreWhole, IsReady, IsWhole, LeavesRead, ReadsOn, listed_at, marks_at, number_at};
 
 use crate::place::{Place, places_of};
 use block_machine::nv_base::{Lengths, Mark, Marks, MarksRoom, instance_of};
@@ -75,6 +75,7 @@ fn find_all<D: MemDevice>(device: &mut D, places: &mut [Place]) -> Result<(), St
     ensures whole { AreWhole places.new }
     ensures at_rest { is_open (D.told device.new).stand ≡ false }
     ensures up { OnOk result (IsUp (D.told device.old) (D.told device.new)) }
+    ensures left { OnOk result (ReadAtOnce (D.told device.old).fixed → LeavesRead (D.told device.old) (D.told device.new)) }
     ensures held { OnOk result (FirstHeld (D.told device.new) (length places.new) places.new) }
     ensures keeps { OnOk result (StartUpsKeep (Ok tt) (D.told device.old) (D.clock device.old) (D.told device.new) (D.clock device.new)) }
     ensures failed { OnErr result (IsRestarted (D.told device.old) (D.told device.new)) }

@@ -1,8 +1,8 @@
 // What is found of one number.
 ghost use Rattle.std.specs.Prelude.{◌≡◌, length, map, IfOk, OnOk, OnErr, Some};
 ghost use Rattle.memif.specs.Told.{length_of};
-ghost use Rattle.nvm_found.specs.Found.{IsUp};
-ghost use Rattle.nvm_found.specs.Places.{AreWhole, IsWhole, IsHeld, IsReady, ReadsOn, HasFault, number_at};
+ghost use Rattle.nvm_found.specs.Found.{HasFault, IsUp};
+ghost use Rattle.nvm_found.specs.Places.{AreWhole, IsWhole, IsHeld, IsReady, ReadsOn, number_at};
 
 use crate::read::read;
 use block_machine::nv_base::{Bytes, DeviceNumber, Instance, Mark};

@@ -3,4 +3,6 @@ pub mod Marks
 pub mod Payment
 pub mod OverDevice
 pub mod Operations
+pub mod Moves
+pub mod Work
 pub mod Cases

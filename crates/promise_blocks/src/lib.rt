@@ -2,7 +2,8 @@
 //! block machine and of the device alone.
 //!
 //! It has definitions with their cases, and no machinery: `KeepsOver` is that half, with `AreOfJobs` and `AreStartsTold` on the
-//! device's operations and start-ups beside it. That the stack keeps it is left to
+//! device's operations and start-ups beside it; `Moves` and `Work` are the words for what turns do one by one, and for the
+//! operations that their tries take. That the stack keeps it is left to
 //! `nvm_core`, and what a device's words mean for the bytes of a flash to `promise_device`.
 #![tactic(auto)]
 

@@ -16,5 +16,10 @@ pub use Rattle.nvm_core.proofs.memif.Turning as Turning
 pub use Rattle.nvm_core.proofs.nvm_laws.DueTurning as DueTurning
 pub use Rattle.nvm_core.proofs.nvm_laws.Paying as Paying
 pub use Rattle.nvm_core.proofs.ram_blocks.FreshCopies as FreshCopies
-pub use Rattle.nvm_core.proofs.Operations as Operations
+pub use Rattle.nvm_core.proofs.DeviceWork as DeviceWork
+pub use Rattle.nvm_core.proofs.TurnWork as TurnWork
+pub use Rattle.nvm_core.proofs.StartWork as StartWork
+pub use Rattle.nvm_core.proofs.WorkLists as WorkLists
+pub use Rattle.nvm_core.proofs.JobNumbers as JobNumbers
+pub use Rattle.nvm_core.proofs.DueWrites as DueWrites
 pub use Rattle.nvm_core.proofs.job_progress.Powering as Powering

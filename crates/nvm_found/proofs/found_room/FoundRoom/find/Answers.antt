@@ -18,7 +18,7 @@ finds g c =
     c.find_all-answer.ensures.numbers ∙ ap (λ (xs : List Place). map number_at xs) c.deref_mut.ensures.value in
     found_of (g.D.MemDevice.told c.args.device.now) (g.D.MemDevice.told c.find_all-answer.new.device) ps c.listed.result listed
     (kept ∙ (rw (← c.self.view_is) at c.requires)) (subst (λ (ns : List (DeviceNumber × ℕ)). AreLengths 0 ns) (sym kept) c.self.invariant.numbers)
-    c.find_all-answer.ensures.whole c.in-Ok.ensures.up c.find_all-answer.ensures.at_rest c.in-Ok.ensures.held
+    c.find_all-answer.ensures.whole c.in-Ok.ensures.up c.find_all-answer.ensures.at_rest c.in-Ok.ensures.left c.in-Ok.ensures.held
 
 pub returns-in-Ok-clause-found : goal.returns-in-Ok-clause-found
 returns-in-Ok-clause-found g c = finds g c

@@ -1,0 +1,40 @@
+-- The device's work, in the promise's words.
+use Rattle.std.specs.Prelude.{◌≡◌, ℕ, false, not, if◌then◌else◌, List}
+use Rattle.nvm_laws.specs.memif.Told.{DeviceTold, Fixed, faults_of, figures_at, most_of, nothing_open}
+use Rattle.nvm_laws.specs.block_machine.Words.{Configuration}
+use Rattle.nvm_laws.specs.block_machine.State.{State}
+use Rattle.nvm_laws.specs.promise_blocks.Payment.{Worn}
+use Rattle.nvm_laws.specs.job_programs.Program.{operation, works}
+use Rattle.nvm_found.specs.Found.{ReadAtOnce}
+use Rattle.nvm_core.specs.Operations.{left_on, number_tried}
+use Rattle.nvm_laws.specs.promise_blocks.Moves.{Moment, Move}
+use Rattle.nvm_laws.specs.promise_blocks.Work.{Costs, Work, Effort, AreWorked, work_behind}
+
+-- by the device's figures
+abbrev pub costs_in : Fixed → Costs
+costs_in f = record {
+  switch = f.own;
+  pages = λ n. (figures_at f n).pages;
+  most = λ kind n. if works kind then most_of (figures_at f n) (operation kind) else 0;
+  reserve = f.reserve;
+}
+
+-- a device of one part, whose reads take a turn each
+pub record IsSimple (f : Fixed) : Type 0 where
+  pub one : f.two ≡ false
+  pub reads : ReadAtOnce f
+
+-- what is open at the device
+abbrev pub work_in : DeviceTold → Work
+work_in d = record { left = left_on d; trying = number_tried d.stand }
+
+-- what is told of it at a moment
+abbrev pub moment_in : DeviceTold → Moment
+moment_in d = record { faults = faults_of d; ops = d.ops; busy = not (nothing_open d) }
+
+-- MOVES
+-- from the work that was open before them to the work behind them
+pub record AreWorkedTo (f : Costs) (room : (operations pages : ℕ) → Type 0) (worn : Worn) (c : Configuration) (before : Moment) (s : State) (w w_new : Work) (moves : List Move) : Type 0 where
+  pub efforts : List Effort
+  pub are : AreWorked f room worn c before s w moves efforts
+  pub behind : work_behind w efforts ≡ w_new
