@@ -5,7 +5,7 @@ use Rattle.std.proofs.Common.{◌≡◌, ◌⊎◌, inl, inr, ℕ, ◌+◌, ◌<
 use Rattle.std.proofs.lemmas.Bool.{cases_Bool}
 use Rattle.std.proofs.lemmas.Bool.Decides.{leb_tells}
 use Rattle.nvm_core.specs.nv_base.Count.{Rose, last_count}
-use Rattle.nvm_core.specs.memif.Told.{DeviceTold, Fixed, Part, First, Second, Stand, Open, Ended as Closed, IfElse, faults_of, is_urgent, part_at}
+use Rattle.nvm_core.specs.memif.Told.{DeviceTold, Fixed, Part, Stand, Open, Ended as Closed, IfElse, is_urgent}
 use Rattle.nvm_core.specs.memif.Clock.{Clock}
 use Rattle.nvm_core.specs.memif.Calls.{Nearer, Works, urgent_first}
 use Rattle.nvm_core.specs.memif.declared.answer.JobResult.{JobResult}

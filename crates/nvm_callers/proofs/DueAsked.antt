@@ -1,20 +1,20 @@
 -- What is due, while requests come beside one device.
-use Rattle.std.specs.Prelude.{IfSome, IsTrue, not, ◌&&◌, if◌then◌else◌, option_to_list}
+use Rattle.std.specs.Prelude.{IfSome, IsTrue, not, option_to_list}
 use Rattle.std.specs.List.{list_all}
-use Rattle.std.proofs.Common.{◌≡◌, inl, inr, ℕ, ◌+◌, ◌≤◌, Bool, true, false, List, [], ◌∷◌, ◌++◌, length, Option, Some, None, refl, sym, ap, ◌∙◌, subst, arith, append_assoc}
+use Rattle.std.proofs.Common.{◌≡◌, inl, inr, ℕ, ◌+◌, ◌≤◌, Bool, true, false, List, [], ◌∷◌, ◌++◌, length, Option, Some, None, refl, sym, ap, ◌∙◌, subst, append_assoc}
 use Rattle.std.proofs.lemmas.Bool.{and_parts}
 use Rattle.std.proofs.lemmas.List.{append-nil}
 use Rattle.nvm_core.specs.memif.Told.{DeviceTold}
 use Rattle.nvm_core.specs.block_machine.Words.{Request, Write, Reply, Accepted, Entry, Ask, Configuration}
-use Rattle.nvm_core.specs.block_machine.State.{State, Job, jobs_of}
-use Rattle.nvm_core.specs.block_machine.Blocks.{asked_block, is_immediate, is_pending, job_block, rank_of, status_of}
+use Rattle.nvm_core.specs.block_machine.State.{State, Job}
+use Rattle.nvm_core.specs.block_machine.Blocks.{is_pending, job_block, rank_of, status_of}
 use Rattle.nvm_core.specs.block_machine.Reply.{reply_of}
 use Rattle.nvm_core.specs.block_machine.Next.{next_in}
 use Rattle.nvm_core.specs.block_machine.Steps.{step}
 use Rattle.nvm_core.specs.block_laws.Consistent.{Each}
 use Rattle.nvm_core.specs.nv_desk.Desk.{DeskState, state_of}
 use Rattle.nvm_core.specs.job_progress.Hand.{HandState}
-use Rattle.nvm_core.specs.nvm_laws.Due.{StackNow, IsDue, post_first}
+use Rattle.nvm_core.specs.nvm_laws.Due.{IsDue, post_first}
 use Rattle.nvm_core.specs.nvm_laws.DueLaws.{AreReplied}
 use Rattle.nvm_core.proofs.block_laws.HistoryLaws.{entries_are_counted, histories_step}
 use Rattle.nvm_core.proofs.block_laws.NextLaws.{next_is_waiting}
@@ -24,36 +24,13 @@ use Rattle.script_walks.proofs.Jobs.{each_right}
 use Rattle.nvm_shared.specs.Behind.{with_more}
 use Rattle.nvm_shared.proofs.Standing.{asks_leave_power}
 use Rattle.promise_run.specs.Turns.{Moment, Move, urgent_block}
-use Rattle.nvm_callers.specs.JobBlocks.{IsOfBlock}
-use Rattle.nvm_callers.specs.Moved.{AreFirst, AreServed, pages_in}
+use Rattle.promise_run.proofs.UrgentAsks.{not_true, urgent_is}
+use Rattle.nvm_core.specs.JobNumbers.{IsOfBlock}
+use Rattle.nvm_core.specs.DueWrites.{AreFirst, pages_in}
+use Rattle.nvm_callers.specs.Moved.{AreServed}
 use Rattle.nvm_callers.proofs.AskedBlocks.{accepted_pending, is_sized, pending_on}
-use Rattle.nvm_callers.proofs.JobBlocks.{accepted_of_block, jobs_below, stays_of_block}
+use Rattle.nvm_core.proofs.JobNumbers.{accepted_of_block, jobs_below, stays_of_block}
 use Rattle.nvm_callers.proofs.MoveLists.{none_served}
-
--- THE TURNS
-pub more_due : (number a b : ℕ) (now : StackNow) → a ≤ b → IsDue number a now → IsDue number b now
-more_due number a b now less (inl due) = inl (record {
-  job = due.job;
-  is = due.is;
-  earlier = due.earlier;
-  next = due.next;
-  standard = due.standard;
-  ready = due.ready;
-  within = let within = due.within in omega (arith, less, within);
-})
-more_due number a b now less (inr due) = inr (record {
-  job = due.job;
-  is = due.is;
-  held = due.held;
-  driver = due.driver;
-  drives = due.drives;
-  ready = due.ready;
-  within = let (w, told, soon) = due.within in (w, told, omega (arith, less, soon));
-})
-
-pub takes_one : (number turns : ℕ) (now : StackNow) → IsDue number turns now → 1 ≤ turns
-takes_one number turns now (inl due) = let within = due.within in omega (arith, within)
-takes_one number turns now (inr due) = let (w, told, soon) = due.within in omega (arith, soon)
 
 -- A DESK WITH MORE
 pub none_more : (desk : DeskState) → desk ≡ with_more desk []
@@ -103,47 +80,6 @@ module _ (hand : Option HandState) (d : DeviceTold) where
       }
 
 -- AN URGENT WRITE
-pub record IsUrgentAsk (c : Configuration) (s : State) (e : Entry) (id : ℕ) : Type 0 where
-  pub caller : ℕ
-  pub content : Option (List ℕ)
-  pub store : ℕ
-  pub entry : e ≡ Ask caller (Write id content store) Accepted
-  pub immediate : is_immediate c (Write id content store) ≡ true
-  pub alone : IsTrue (list_all (λ j. not (rank_of c j).immediate) (jobs_of s))
-  pub on : s.off ≡ false
-
-not_true : (t : Bool) → not t ≡ true → t ≡ false
-not_true true is = cc is
-not_true false is = refl
-
-either : (t : Bool) (a id : ℕ) → (if t then Some a else None) ≡ Some id → (t ≡ true) × (a ≡ id)
-either true a id is = (refl, cc is)
-either false a id is = absurd (let P : ⊥ = cc is in P)
-
-write_is : (c : Configuration) (r : Request) (id : ℕ) → is_immediate c r ≡ true → asked_block r ≡ id → (content : Option (List ℕ)) × (store : ℕ) × (r ≡ Write id content store)
-write_is c (Write block content store) id immediate same = (content, store, ap (λ (n : ℕ). Write n content store) same)
-write_is c r id immediate same = absurd (let P : ⊥ = cc immediate in P)
-
-accepted_is : (c : Configuration) (s : State) (caller : ℕ) (r : Request) (id : ℕ) → urgent_block c s (Some (Ask caller r Accepted)) ≡ Some id → IsUrgentAsk c s (Ask caller r Accepted) id
-accepted_is c s caller r id is =
-    let (all, same) = either (not s.off && (is_immediate c r && list_all (λ j. not (rank_of c j).immediate) (jobs_of s))) (asked_block r) id is in
-    let (on, more) = and_parts (not s.off) (is_immediate c r && list_all (λ j. not (rank_of c j).immediate) (jobs_of s)) all in
-    let (immediate, alone) = and_parts (is_immediate c r) (list_all (λ j. not (rank_of c j).immediate) (jobs_of s)) more in
-    let (content, store, write) = write_is c r id immediate same in
-    record {
-      caller = caller;
-      content = content;
-      store = store;
-      entry = ap (λ (x : Request). Ask caller x Accepted) write;
-      immediate = ap (is_immediate c) (sym write) ∙ immediate;
-      alone = alone;
-      on = not_true s.off on;
-    }
-
-urgent_is : (c : Configuration) (s : State) (caller : ℕ) (r : Request) (reply : Reply) (id : ℕ) → urgent_block c s (Some (Ask caller r reply)) ≡ Some id → IsUrgentAsk c s (Ask caller r reply) id
-urgent_is c s caller r Accepted id is = accepted_is c s caller r id is
-urgent_is c s caller r reply id is = absurd (let P : ⊥ = cc is in P)
-
 -- the job in hand is a standard one
 abbrev pub IsStandard : Configuration → State → Type 0
 IsStandard c s = IfSome s.hand (λ j. (rank_of c j).immediate ≡ false)
@@ -163,7 +99,7 @@ module _ (hand : Option HandState) (d : DeviceTold) (first : AreFirst d.fixed) (
   asked_due desk caller r reply id started roomy urgent room =
       let c = desk.config in
       let s = state_of desk in
-      let ask = urgent_is c s caller r reply id urgent in
+      let ask = urgent_is c s (Ask caller r reply) id urgent in
       let write = Write id ask.content ask.store in
       let e = Ask ask.caller write Accepted in
       let count = entries_are_counted c desk.entries in

@@ -1,15 +1,11 @@
 mod Refusing
 mod MoveLists
 mod AskedBlocks
-mod JobBlocks
 mod DueAsked
 mod TurnEntries
 mod TurnServed
 mod DeviceServed
 mod Servable
-mod DeviceWork
-mod TurnWork
-mod WorkLists
 mod WorkedMoves
 pub mod Moved
 mod Turning

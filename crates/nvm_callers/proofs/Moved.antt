@@ -41,17 +41,19 @@ use Rattle.nvm_shared.specs.Driving.{BeginsTurn, DriverState, EndsTurn, TellsRea
 use Rattle.nvm_shared.proofs.Standing.{asks_leave_power}
 use Rattle.promise_run.specs.Turns.{Moment, Move, IsTurnMade, AreMovesMade, CountFailed, HasImmediate, TakeKept, entry_list, entries_of, is_asked, is_off, moment_behind}
 use Rattle.nvm_callers.specs.Driven.{DrivesBy, DrivesOn, SeesOn, TurnsOn}
-use Rattle.nvm_callers.specs.JobBlocks.{IsOfBlock}
+use Rattle.nvm_core.specs.JobNumbers.{IsOfBlock}
 use Rattle.nvm_callers.specs.Added.{IsUncut}
-use Rattle.nvm_callers.specs.Moved.{AreFirst, AreServed, DrivingMoves, HasMoved, IsDueFor, IsServable, MayGoOn, WasMoved, moment_of, pages_in}
-use Rattle.nvm_callers.proofs.DueAsked.{IsAskedDue, IsRoomy, asked_moves, asked_on, asks_served, more_due, none_more, of_next, state_more, takes_one}
+use Rattle.nvm_core.specs.DueWrites.{AreFirst, pages_in}
+use Rattle.nvm_callers.specs.Moved.{AreServed, DrivingMoves, HasMoved, IsDueFor, IsServable, MayGoOn, WasMoved, moment_of}
+use Rattle.nvm_core.proofs.DueWrites.{more_due, takes_one}
+use Rattle.nvm_callers.proofs.DueAsked.{IsAskedDue, IsRoomy, asked_moves, asked_on, asks_served, none_more, of_next, state_more}
 use Rattle.nvm_callers.proofs.DeviceServed.{next_on, rose_in, rose_or}
-use Rattle.nvm_callers.proofs.JobBlocks.{stays_of_block}
+use Rattle.nvm_core.proofs.JobNumbers.{stays_of_block}
 use Rattle.nvm_callers.proofs.MoveLists.{behind_more, entries_more, failed_more, kept_more, made_more, none_served, served_from, served_more, served_to}
 use Rattle.nvm_callers.proofs.Servable.{still_on, as_turn, asks_servable, device_kept, device_seals, leaves_servable, makes_one, roomy}
 use Rattle.nvm_callers.proofs.TurnEntries.{AddsOne, IsOfTurn, device_adds_one, half_adds_one, on_behind}
 use Rattle.nvm_callers.proofs.TurnServed.{IsSoon, ended_soon, nearer, of_block, turn_move, turn_served}
-use Rattle.nvm_callers.specs.DeviceWork.{IsSimple}
+use Rattle.nvm_core.specs.DeviceWork.{IsSimple}
 use Rattle.nvm_callers.specs.WorkedMoves.{KeepToWork}
 use Rattle.nvm_callers.proofs.WorkedMoves.{asks_kept_to, device_worked, ended_worked, kept_to_more, none_kept}
 use Rattle.nvm_callers.proofs.Turning.{asks_more, asks_power, fixed_stays, turn_adds}

@@ -24,7 +24,8 @@ use Rattle.nvm_shared.specs.Behind.{AreAsks, with_more}
 use Rattle.nvm_shared.specs.Driving.{DriverState, TellsReady}
 use Rattle.nvm_shared.specs.Unplanned.{IsUnplanned}
 use Rattle.promise_run.specs.Turns.{HasImmediate}
-use Rattle.nvm_callers.specs.Moved.{AreFirst, MayGoOn, IsServable}
+use Rattle.nvm_core.specs.DueWrites.{AreFirst}
+use Rattle.nvm_callers.specs.Moved.{MayGoOn, IsServable}
 use Rattle.nvm_callers.proofs.DueAsked.{IsRoomy}
 use Rattle.nvm_callers.proofs.DeviceServed.{not_urgent}
 use Rattle.nvm_callers.proofs.Turning.{asks_power}

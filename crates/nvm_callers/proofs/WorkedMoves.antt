@@ -1,16 +1,14 @@
 -- What a driver's turns do at its device, with the requests between.
-use Rattle.std.specs.Prelude.{IfSome, ◌||◌}
-use Rattle.std.proofs.Common.{◌≡◌, ◌⊎◌, inl, inr, ℕ, ◌+◌, ◌≤◌, Bool, true, false, List, [], ◌∷◌, ◌++◌, Option, Some, None, refl, sym, ap, ◌∙◌, subst, arith, append_assoc}
+use Rattle.std.specs.Prelude.{◌||◌}
+use Rattle.std.proofs.Common.{◌≡◌, inl, inr, ℕ, ◌+◌, Bool, true, false, List, [], ◌∷◌, ◌++◌, Option, Some, None, refl, sym, ap, ◌∙◌, subst, arith, append_assoc}
 use Rattle.std.proofs.lemmas.Bool.{cases_Bool}
-use Rattle.nvm_core.specs.memif.Told as memif
 use Rattle.nvm_core.specs.memif.Told.{DeviceTold, Fixed, PartTold, is_off}
 use Rattle.nvm_core.specs.memif.Clock.{Clock}
 use Rattle.nvm_core.specs.memif.Calls.{InOrder}
 use Rattle.nvm_core.specs.memif.Trials.{Lasts}
 use Rattle.nvm_core.proofs.memif.Turning.{lasts_more}
 use Rattle.nvm_core.specs.block_machine.Words.{Entry, Ask, Configuration}
-use Rattle.nvm_core.specs.block_machine.State.{State, Job}
-use Rattle.nvm_core.specs.block_machine.Blocks.{rank_of}
+use Rattle.nvm_core.specs.block_machine.State.{State}
 use Rattle.nvm_core.specs.block_machine.StartUp.{at_first}
 use Rattle.nvm_core.specs.block_machine.Steps.{after_from}
 use Rattle.nvm_core.specs.promise_blocks.Payment.{Worn}
@@ -22,15 +20,14 @@ use Rattle.nvm_core.specs.nvm_laws.declared.turned.Act.TheVariants.{Ended, Devic
 use Rattle.nvm_core.specs.BehindDevice.{asked_by}
 use Rattle.nvm_core.proofs.block_laws.HistoryLaws.{histories_go_on}
 use Rattle.nvm_core.proofs.Paying.{device_lasts}
-use Rattle.nvm_shared.specs.StatusWords.{is_ask}
 use Rattle.nvm_shared.specs.Behind.{AreAsks, with_more}
 use Rattle.nvm_shared.specs.Driving.{BeginsTurn, DriverState, EndsTurn}
-use Rattle.promise_run.specs.Moves.{Moment, Move, entries_of, entry_list, moment_behind}
-use Rattle.promise_run.specs.Operations.{Costs, Work}
-use Rattle.nvm_callers.specs.DeviceWork.{IsSimple, AreWorkedTo, costs_in, moment_in, work_in}
-use Rattle.nvm_callers.proofs.DeviceWork.{works_behind}
-use Rattle.nvm_callers.proofs.TurnWork.{half_begins, half_works, hand_is_open}
-use Rattle.nvm_callers.proofs.WorkLists.{ask_worked, none_worked, one_worked, worked_more}
+use Rattle.nvm_core.specs.promise_blocks.Moves.{Moment, Move, entries_of, entry_list, moment_behind}
+use Rattle.nvm_core.specs.promise_blocks.Work.{Costs, Work}
+use Rattle.nvm_core.specs.DeviceWork.{IsSimple, AreWorkedTo, costs_in, moment_in, work_in}
+use Rattle.nvm_core.proofs.DeviceWork.{works_behind}
+use Rattle.nvm_core.proofs.TurnWork.{half_begins, half_works, hand_is_open}
+use Rattle.nvm_core.proofs.WorkLists.{ask_worked, none_worked, one_worked, worked_more}
 use Rattle.nvm_callers.specs.Added.{IsUncut}
 use Rattle.nvm_callers.specs.WorkedMoves.{HadPages, KeepToWork}
 use Rattle.nvm_callers.proofs.DueAsked.{asked_moves}

@@ -1,8 +1,6 @@
 pub mod Driven
 pub mod Kept
 pub mod Added
-pub mod JobBlocks
-pub mod DeviceWork
 pub mod WorkedMoves
 pub mod Moved
 pub mod Looked

@@ -1,18 +1,17 @@
 -- The requests and the turns beside a driver, one by one, as moves of the promise.
-use Rattle.std.specs.Prelude.{◌≡◌, ◌⊎◌, ◌≤◌, ◌<◌, ◌+◌, ◌++◌, min, not, if◌then◌else◌, ℕ, Bool, false, List, [], ◌∷◌}
+use Rattle.std.specs.Prelude.{◌≡◌, ◌⊎◌, ◌≤◌, ◌<◌, ◌+◌, ◌++◌, min, not, ℕ, Bool, false, List, [], ◌∷◌}
 use Rattle.nvm_core.specs.nv_base.Count.{last_count}
-use Rattle.nvm_core.specs.memif.Told.{DeviceTold, Fixed, First, faults_of, figures_at, nothing_open, ops_of}
+use Rattle.nvm_core.specs.memif.Told.{DeviceTold, faults_of, nothing_open, ops_of}
 use Rattle.nvm_core.specs.memif.Clock.{Clock, Seals, TakesKept}
 use Rattle.nvm_core.specs.memif.Trials.{Lasts}
 use Rattle.nvm_core.specs.block_machine.Words.{Entry, Configuration}
 use Rattle.nvm_core.specs.block_machine.State.{State}
-use Rattle.nvm_core.specs.block_machine.Blocks.{indices_of}
 use Rattle.nvm_core.specs.ram_blocks.Told.{Told}
 use Rattle.nvm_core.specs.nv_desk.Desk.{DeskState, state_of}
-use Rattle.nvm_core.specs.nvm_figures.Urgent.{pages_of}
-use Rattle.nvm_core.specs.nvm_laws.Due.{IsDue, post_first}
 use Rattle.nvm_core.specs.nvm_laws.Traits.{IsSealedSince}
 use Rattle.nvm_core.specs.Due.{now_of}
+use Rattle.nvm_core.specs.DueWrites as write
+use Rattle.nvm_core.specs.DueWrites.{AreFirst, pages_in}
 use Rattle.nvm_shared.specs.declared.terms.Terms.{Terms}
 use Rattle.nvm_shared.specs.Behind.{with_more}
 use Rattle.nvm_shared.specs.Locked.{desk_with}
@@ -20,21 +19,12 @@ use Rattle.nvm_shared.specs.Driving.{DriverState, stack_of}
 use Rattle.promise_run.specs.Turns.{Moment, Move, entries_of, is_found, moment_behind, AreMovesMade, CountFailed, EachMoveSince, IsPostedSoon, PostsUrgent, TakeKept}
 use Rattle.nvm_callers.specs.Added.{IsUncut}
 use Rattle.nvm_callers.specs.Driven.{HasDriven}
-use Rattle.nvm_callers.specs.DeviceWork.{IsSimple}
-use Rattle.nvm_callers.specs.JobBlocks.{IsOfBlock}
+use Rattle.nvm_core.specs.DeviceWork.{IsSimple}
 use Rattle.nvm_callers.specs.WorkedMoves.{KeepToWork}
 
 -- what a device tells at a moment
 abbrev pub moment_of : DeviceTold → Moment
 moment_of d = record { faults = faults_of d; ops = ops_of d; busy = not (nothing_open d) }
-
--- the pages of the records of a block, at its data index
-abbrev pub pages_in : Fixed → Configuration → State → ℕ → ℕ
-pages_in f c s id = pages_of f id (indices_of c s id)
-
--- all numbers are of the first part
-abbrev pub AreFirst : Fixed → Type 0
-AreFirst f = (n : ℕ) → (figures_at f n).part ≡ First
 
 -- WHERE AN URGENT WRITE MAY GO ON
 -- once so many operations were made so many pages were free, of those that are kept
@@ -66,11 +56,8 @@ pub record AreServed (c : Configuration) (pages : State → ℕ → ℕ) (free :
 module _ {D C : Type 0} (told : D → DeviceTold) where
   -- An urgent write of a block is due within so many turns, where the one that goes to the Post of a finished job isn't counted, if so
   -- it is said.
-  pub record IsDueFor (one : Bool) (id turns : ℕ) (desk : DeskState) (s : DriverState D C) : Type 0 where
-    pub number : ℕ
-    pub due : IsDue number (turns + (if one then post_first s.hand else 0)) (now_of told (stack_of desk s))
-    pub block : IsOfBlock number id (state_of desk)
-    pub on : (state_of desk).off ≡ false
+  abbrev pub IsDueFor : (one : Bool) → (id turns : ℕ) → DeskState → DriverState D C → Type 0
+  IsDueFor one id turns desk s = write.IsDueFor id one turns (now_of told (stack_of desk s))
 
   -- A device of one part, of which no power cut is planned, and behind an operation that left a switch at its seal that switch goes on.
   pub record IsServable (clock : D → Clock) (since : ℕ) (desk : DeskState) (s : DriverState D C) : Type 0 where

@@ -3,8 +3,8 @@ use Rattle.std.specs.Prelude.{◌≤◌, ℕ, List}
 use Rattle.nvm_core.specs.memif.Told.{DeviceTold}
 use Rattle.nvm_core.specs.memif.Clock.{Clock}
 use Rattle.nvm_core.specs.nv_desk.Desk.{DeskState, state_of}
-use Rattle.promise_run.specs.Moves.{Move}
-use Rattle.nvm_callers.specs.DeviceWork.{AreWorkedTo, costs_in, moment_in, work_in}
+use Rattle.nvm_core.specs.promise_blocks.Moves.{Move}
+use Rattle.nvm_core.specs.DeviceWork.{AreWorkedTo, costs_in, moment_in, work_in}
 
 -- once so many operations were made so many pages were free
 abbrev pub HadPages : Clock → (operations pages : ℕ) → Type 0

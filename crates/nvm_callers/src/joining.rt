@@ -1,5 +1,5 @@
 // The callers' passes, taken in by the driver's.
-ghost use Rattle.std.specs.Prelude.{◌≡◌, ◌≤◌, ◌<◌, ◌^◌, ◌+◌, ◌∷◌, [], List, length, drop, slice_index_or, vec_len, vec_capacity, All, IfSome, IsSome};
+ghost use Rattle.std.specs.Prelude.{◌≡◌, ◌≤◌, ◌<◌, ◌^◌, ◌+◌, ◌∷◌, [], length, drop, slice_index_or, vec_len, vec_capacity, All, IfSome, IsSome};
 ghost use Rattle.turn_gate.specs.Pass.{knows};
 ghost use Rattle.nvm_shared.specs.Driving.{IsDriverOf};
 ghost use Rattle.nvm_callers.specs.Joins.{Collects};

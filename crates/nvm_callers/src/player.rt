@@ -1,5 +1,5 @@
 // A run of callers.
-ghost use Rattle.std.specs.Prelude.{◌≡◌, true, All, IfErr, IfOk};
+ghost use Rattle.std.specs.Prelude.{◌≡◌, true, IfErr, IfOk};
 ghost use Rattle.nvm_shared.specs.Opening.{IsFirst};
 ghost use Rattle.script_callers.specs.RunScripts.{AreRun};
 ghost use Rattle.promise_run.specs.Run.{cap};

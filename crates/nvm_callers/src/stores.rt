@@ -1,8 +1,8 @@
 // Where a caller's stores go.
-ghost use Rattle.std.specs.Prelude.{◌≡◌, ◌≢◌, ℕ, List, [], length, option_map, slice_set, Some, None, IfSome, IsSome};
+ghost use Rattle.std.specs.Prelude.{◌≡◌, ℕ, List, [], length, Some, None};
 ghost use Rattle.turn_gate.specs.Pass.{GateValue, copied, knows};
 ghost use Rattle.nvm_shared.specs.Passes.{IsUserOf};
-ghost use Rattle.ram_mirrors_sync.specs.Blocks.{AreSidesOf, IsNextStore, side_at};
+ghost use Rattle.ram_mirrors_sync.specs.Blocks.{AreSidesOf};
 ghost use Rattle.nvm_callers.specs.Stored.{StoredOne};
 ghost use Rattle.nvm_callers.specs.Stores.{bytes_at, stores_at};
 

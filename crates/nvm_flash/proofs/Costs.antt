@@ -11,9 +11,9 @@ use Rattle.nvm_core.specs.block_machine.Words.{JobKind, ReadJob, WriteJob, Resto
 use Rattle.fee_core.specs.fee_told.Figures.{figures_for}
 use Rattle.nvm_core.specs.job_programs.Program.{operation, works}
 use Rattle.promise_run.specs.JobTurns.{try_on, pages_on}
-use Rattle.promise_run.specs.Operations.{Costs, costs_of}
+use Rattle.promise_run.specs.Operations.{costs_of}
 use Rattle.nvm_flash.specs.Turns.{fixed_by}
-use Rattle.nvm_flash.specs.Costs.{costs_by, CostsAreFigures, ReadsTakeOne}
+use Rattle.nvm_flash.specs.Costs.{CostsAreFigures, ReadsTakeOne}
 use Rattle.nvm_flash.proofs.JobTurns.{switch_is, figures_are, try_is, none_at, pages_at}
 
 number_is : (n : ℕ) → n ≡ number_of (instance_of (record { 0 = n }))

@@ -4,7 +4,8 @@ use Rattle.nvm_core.specs.block_config.Config.{Configuration}
 use Rattle.nvm_core.specs.block_config.Rules.{IsLegalConfig}
 use Rattle.fee_core.specs.memif.Told.{Fixed, figures_at, most_of}
 use Rattle.nvm_core.specs.job_programs.Program.{operation, works}
-use Rattle.promise_run.specs.Operations.{Costs, costs_of}
+use Rattle.nvm_core.specs.promise_blocks.Work.{Costs}
+use Rattle.promise_run.specs.Operations.{costs_of}
 use Rattle.nvm_flash.specs.Turns.{fixed_by}
 
 -- by the figures of a device

@@ -1,5 +1,5 @@
 -- What a pass learns that adds nothing.
-use Rattle.std.proofs.Common.{◌≡◌, inl, ℕ, true, List, [], ◌++◌, length, Option, Some, refl, sym, ap, ◌∙◌, subst}
+use Rattle.std.proofs.Common.{◌≡◌, inl, ℕ, true, List, [], length, Option, Some, sym, ap, ◌∙◌, subst}
 use Rattle.std.proofs.lemmas.List.{append-nil}
 use Rattle.nvm_core.specs.memif.Told.{DeviceTold}
 use Rattle.nvm_core.specs.memif.Clock.{Clock}
@@ -13,7 +13,7 @@ use Rattle.turn_gate.specs.Entries.{StartsWith, OpenFrom}
 use Rattle.turn_gate.specs.Pass.{Has, IsKin, went_out}
 use Rattle.nvm_shared.specs.StatusWords.{is_ask}
 use Rattle.nvm_shared.specs.Written.{AreWritten}
-use Rattle.nvm_shared.specs.Behind.{AreAsks, StandsBehind, with_more}
+use Rattle.nvm_shared.specs.Behind.{StandsBehind}
 use Rattle.nvm_shared.specs.declared.terms.Terms.{Terms}
 use Rattle.nvm_shared.specs.Locked.{LockedState, desk_with, terms_of}
 use Rattle.nvm_shared.specs.Passes.{LearnsMore, LearnsTurn}

@@ -1,5 +1,5 @@
 -- What a Pick copied was shown, and what came along stands in the entries before it.
-use Rattle.std.specs.Prelude.{◌&&◌, not, is_some, IfSome}
+use Rattle.std.specs.Prelude.{◌&&◌, not, is_some}
 use Rattle.std.proofs.Common.{◌≡◌, ◌<◌, ℕ, Bool, true, false, List, [], ◌∷◌, ◌++◌, length, length-append, Option, Some, None, refl, sym, ap, ◌∙◌, subst, arith}
 use Rattle.nvm_core.specs.memif.Told.{DeviceTold}
 use Rattle.nvm_core.specs.memif.Clock.{Clock}
@@ -20,7 +20,7 @@ use Rattle.nvm_core.specs.Turns.{IsFirstHalf}
 use Rattle.script_walks.specs.Turn.{copies_next}
 use Rattle.nvm_shared.specs.Behind.{with_more}
 use Rattle.nvm_shared.specs.Driving.{BeginsTurn, DriverState, stack_of}
-use Rattle.nvm_shared.specs.Noted.{IsPickShown, PickIsShown}
+use Rattle.nvm_shared.specs.Noted.{PickIsShown}
 use Rattle.nvm_shared.proofs.Stale.{block_in, taken_in, same_last, stale_shown}
 
 -- WHAT WAS COPIED

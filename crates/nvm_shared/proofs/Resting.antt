@@ -1,6 +1,6 @@
 -- A turn behind which nothing is pending, or the power is off.
-use Rattle.std.specs.Prelude.{IsTrue, IfSome}
-use Rattle.std.proofs.Common.{◌≡◌, ◌⊎◌, inl, inr, ℕ, ◌||◌, if◌then◌else◌, Bool, true, false, List, [], ◌∷◌, ◌++◌, Option, Some, None, refl, sym, ap, ◌∙◌, subst}
+use Rattle.std.specs.Prelude.{IsTrue}
+use Rattle.std.proofs.Common.{◌≡◌, inl, inr, ℕ, ◌||◌, if◌then◌else◌, Bool, true, false, List, [], ◌∷◌, ◌++◌, Option, Some, None, refl, sym, ap, ◌∙◌, subst}
 use Rattle.std.proofs.lemmas.Bool.{cases_Bool}
 use Rattle.std.proofs.lemmas.List.{append-nil, append_cancel_left}
 use Rattle.nvm_core.specs.memif.Told.{DeviceTold, Stand, Open, Ended as Closed, is_open, nothing_open, ops_of}
@@ -26,7 +26,6 @@ use Rattle.nvm_core.specs.nvm_laws.declared.turned.Act.TheVariants.{Ended, Devic
 use Rattle.nvm_core.specs.nvm_laws.declared.turned.Turned.{Turned}
 use Rattle.nvm_core.specs.nvm_laws.declared.turned.Turned.TheVariants as turned
 use Rattle.script_walks.specs.Walk.{is_at_rest}
-use Rattle.nvm_shared.specs.StatusWords.{is_ask}
 use Rattle.nvm_shared.specs.Behind.{AreAsks, with_more}
 use Rattle.nvm_shared.specs.Passes.{IsDrivenOn}
 use Rattle.nvm_shared.specs.Driving.{BeginsTurn, DriverState, EndsTurn, NeedsNoMore}

@@ -1,5 +1,5 @@
 -- No planned cut comes where none is planned.
-use Rattle.std.proofs.Common.{◌≡◌, ◌≤◌, ◌<◌, ◌+◌, ◌⊎◌, ℕ, Bool, true, false, [], Some, None, refl, sym, ap, ◌∙◌, subst, inl, inr, arith}
+use Rattle.std.proofs.Common.{◌≡◌, ℕ, true, false, refl, sym, ap, ◌∙◌, subst, inl, inr, arith}
 use Rattle.nvm_core.specs.nv_base.Plan.{Planning, nearer}
 use Rattle.nvm_core.specs.memif.Told.{DeviceTold, PartTold, Part, First, Second, Fixed, Stand, Open, Ended}
 use Rattle.nvm_core.specs.memif.Clock.{Clock}

@@ -1,6 +1,5 @@
 -- What a caller knew, copied for the driver.
-use Rattle.std.specs.Prelude.{ℕ, List, [], ◌∷◌}
-use Rattle.atomic_table.specs.Seated.{TableId}
+use Rattle.std.specs.Prelude.{List, [], ◌∷◌}
 use Rattle.turn_gate.specs.declared.pass.View.{View}
 use Rattle.turn_gate.specs.Pass.{GateValue, spent}
 use Rattle.nvm_core.specs.block_machine.Words.{Entry}

@@ -1,5 +1,5 @@
 -- What came along with the stores that a Pick's looks showed.
-use Rattle.std.specs.Prelude.{◌≡◌, ◌<◌, ℕ, true, List, [], ◌∷◌, ◌++◌, Option, Some, IfSome}
+use Rattle.std.specs.Prelude.{◌≡◌, ◌<◌, ℕ, true, List, [], ◌∷◌, ◌++◌, Option, IfSome}
 use Rattle.turn_gate.specs.declared.pass.View.{View}
 use Rattle.turn_gate.specs.Pass.{IsWithin}
 use Rattle.nvm_core.specs.block_machine.Words.{Entry, Pick, JobKind, Taken, TookContent, TookStale, Configuration}

@@ -1,20 +1,15 @@
 // The driver of a shared stack.
-ghost use Rattle.std.specs.Prelude.{◌≡◌, ◌≤◌, ◌++◌, ◌∷◌, ◌⊎◌, ◌^◌, [], ℕ, List, length, true, false, Some, is_some, IfSome, IsTrue};
-ghost use Rattle.nvm_core.specs.memif.Told.{DeviceTold, faults_of};
+ghost use Rattle.std.specs.Prelude.{◌≡◌, ◌≤◌, ◌^◌, ℕ, List, length, true, is_some, IsTrue};
+ghost use Rattle.nvm_core.specs.memif.Told.{faults_of};
 ghost use Rattle.nvm_core.specs.memif.Clock.{SameClock};
-ghost use Rattle.nvm_core.specs.memif.Calls.{Turns};
 ghost use Rattle.nvm_core.specs.memif.Trials.{Lasts};
-ghost use Rattle.nvm_core.specs.block_machine.Words.{Entry as MachineEntry};
 ghost use Rattle.nvm_core.specs.nv_desk.Desk.{state_of};
 ghost use Rattle.turn_gate.specs.Pass.{knows};
 ghost use Rattle.nvm_core.specs.nvm_laws.declared.turned.Act.TheVariants.{Device};
 ghost use Rattle.nvm_core.specs.nvm_laws.Keeps.{StaysKept};
-ghost use Rattle.nvm_core.specs.nvm_laws.Calls.{DeviceTurnsKeep};
 ghost use Rattle.nvm_core.specs.nvm_laws.Work.{program_in_hand};
 ghost use Rattle.nvm_core.specs.Lowers.{HalfLeft};
-ghost use Rattle.nvm_core.specs.Turns.{IsFirstHalf};
 ghost use Rattle.nvm_core.specs.Work.{Lowers, TakesTurns};
-ghost use Rattle.nvm_shared.specs.Behind.{AreAsks, with_more};
 ghost use Rattle.nvm_shared.specs.Locked.{desk_with};
 ghost use Rattle.nvm_shared.specs.Passes.{IsUserOf, LearnsHalf, LearnsMore, LearnsTurn};
 ghost use Rattle.nvm_shared.specs.Noted.{PickIsShown};

@@ -1,12 +1,12 @@
 // The value under the lock.
-ghost use Rattle.std.specs.Prelude.{◌≡◌, ◌++◌, ◌∷◌, ◌≤◌, ◌↔◌, ℕ, [], List, length, true, false, Bool, is_some, IfOk, OnErr, IsErrOf, None, IsTrue};
+ghost use Rattle.std.specs.Prelude.{◌≡◌, ◌++◌, ◌∷◌, ◌≤◌, ◌↔◌, [], List, length, true, false, Bool, IfOk, OnErr, IsErrOf, None, IsTrue};
 ghost use Rattle.nvm_core.specs.nv_base.declared.entry.Entry.TheVariants as Entry;
 ghost use Rattle.nvm_core.specs.nv_desk.declared.ask.AskFault.TheVariants as AskFault;
 ghost use Rattle.nvm_core.specs.memif.Told.{DeviceTold};
 ghost use Rattle.nvm_core.specs.memif.Clock.{SameClock};
 ghost use Rattle.nvm_core.specs.block_machine.Words.{Entry as MachineEntry};
 ghost use Rattle.nvm_core.specs.block_machine.StartUp.{at_first};
-ghost use Rattle.nvm_core.specs.block_machine.Reply.{fits, reply_of};
+ghost use Rattle.nvm_core.specs.block_machine.Reply.{fits};
 ghost use Rattle.nvm_core.specs.block_machine.Legal.{HasStore};
 ghost use Rattle.nvm_core.specs.nv_desk.Desk.{state_of};
 ghost use Rattle.nvm_shared.specs.StatusWords.{picked_by, told_by};

@@ -1,14 +1,10 @@
 // A new shared stack.
-ghost use Rattle.std.specs.Prelude.{◌≡◌, ◌∷◌, ◌<◌, [], Bool, true, Err, IfOk, IfErr, IsTrue, None};
+ghost use Rattle.std.specs.Prelude.{◌≡◌, ◌<◌, Bool, true, Err, IfOk, IfErr};
 ghost use Rattle.nvm_core.specs.block_config.Lengths.{lengths_of};
-ghost use Rattle.nvm_core.specs.block_machine.Words.{Entry as MachineEntry};
 ghost use Rattle.nvm_core.specs.block_machine.Legal.{IsLegal};
 ghost use Rattle.nvm_core.specs.nv_desk_copies.Front.{AreSynchronized};
-ghost use Rattle.nvm_core.specs.nv_desk.Desk.{DeskState};
 ghost use Rattle.nvm_core.specs.nvm_laws.declared.turned.FoundAnswer.TheVariants as found;
-ghost use Rattle.nvm_core.specs.nvm_laws.Keeps.{StackKeeps};
-ghost use Rattle.nvm_core.specs.Stack.{StackState, first_stack};
-ghost use Rattle.nvm_core.specs.StartUps.{StartsUp};
+ghost use Rattle.nvm_core.specs.Stack.{first_stack};
 ghost use Rattle.nvm_shared.specs.Opening.{IsFirst, IsMade, IsShared, TellsAtFirst, WhyNot};
 
 use crate::WORD_COUNT;

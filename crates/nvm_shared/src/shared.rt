@@ -1,5 +1,5 @@
 // What threads share.
-ghost use Rattle.std.specs.Prelude.{◌≡◌, ◌≤◌, ◌<◌, ◌^◌, ◌++◌, ◌∷◌, ◌⊎◌, [], ℕ, length, true, false, Some, IfOk, OnErr, IsErrOf, IsTrue};
+ghost use Rattle.std.specs.Prelude.{◌≡◌, ◌≤◌, ◌<◌, ◌^◌, ◌++◌, ◌∷◌, [], length, false, Some, IfOk, OnErr, IsErrOf, IsTrue};
 ghost use Rattle.nvm_core.specs.nv_base.declared.entry.Entry.TheVariants as Entry;
 ghost use Rattle.nvm_core.specs.nv_desk.declared.ask.AskFault.TheVariants as AskFault;
 ghost use Rattle.nvm_core.specs.block_machine.Words.{Entry as MachineEntry};

@@ -32,7 +32,6 @@ use Rattle.nvm_flash.specs.nvm_device_laws.Turn.{TellsSlots, down}
 use Rattle.nvm_flash.specs.nvm_core.Stack.{StackState}
 use Rattle.nvm_flash.specs.nvm_core.StartUps.{StartsUp}
 use Rattle.nvm_flash.specs.nvm_laws.Keeps.{StackKeepsAsTold}
-use Rattle.nvm_flash.specs.nvm_laws.declared.turned.FoundAnswer.TheVariants as found
 use Rattle.nvm_flash.specs.promise_run.Run.{Played, cap}
 use Rattle.nvm_flash.specs.promise_run.Promise.{making_of}
 use Rattle.nvm_flash.specs.promise_run.Halves.{HalvesMakeIt}
@@ -46,7 +45,8 @@ use Rattle.nvm_flash.specs.job_progress.JobInHand.{IsPaired, program_for}
 use Rattle.nvm_flash.specs.promise_run.Operations.{costs_of}
 use Rattle.nvm_flash.proofs.Costs.{costs_are_figures, reads_take_one}
 use Rattle.script_player.specs.Working.{IsBegun}
-use Rattle.script_player.specs.PlainWork.{IsSimple, costs_in}
+use Rattle.nvm_flash.specs.nvm_core.DeviceWork.{IsSimple, costs_in}
+use Rattle.nvm_flash.proofs.nvm_core.StartWork.{first_leaves}
 use Rattle.script_player.proofs.PlainTurnWork.{start_work}
 use Rattle.nvm_flash.specs.nvm_figures.Left.{most_turns}
 use Rattle.nvm_flash.specs.Turns.{fixed_by}
@@ -62,7 +62,7 @@ use Rattle.nvm_flash.specs.Made.{IsOrigin, IsMadeStack, AreOfFirst, ComesBack, I
 use Rattle.nvm_flash.specs.promise_device.Bridge.{IsWornOut}
 use Rattle.nvm_flash.specs.nvm_core.Paying.{counted_of, TriesSince, has_urgent}
 use Rattle.script_player.specs.PlainPaying.{payer_by}
-use Rattle.script_player.specs.PlainDue.{pages_in}
+use Rattle.nvm_flash.specs.nvm_core.DueWrites.{pages_in}
 use Rattle.nvm_top.specs.Stack.{IsKeptFrom, IsStarted, StopsAtStart, Vouches, run_of, stop_of_make}
 use Rattle.nvm_flash.specs.fls_model.Attach.{IsFilled}
 use Rattle.nvm_top.specs.Play.{IsRightSize, IsWrongSize}
@@ -184,14 +184,18 @@ reserve_up c making entry m s t same starts made =
 
 -- what it makes of its work is the configuration's, and no try is open
 work_up : (c : Configuration) (making : Making) (entry : Told) (m s t : StackState Device (List PlainBlock)) → IsLegalConfig c → InOrder (told_of t.device) (told_clock t.device) → IsTied t.desk t.hand (told_of t.device) → t ≡ s → StartsUp told_of m s → IsMadeStack c making entry m
-    → ((payer_by told_of told_clock t).work.costs ≡ costs_of (told_by told_of t).configuration) × IsBegun (payer_by told_of told_clock t).work
+    → ((payer_by told_of told_clock t).work.costs ≡ costs_of (told_by told_of t).configuration) × IsBegun (nat_lt 0 (told_by told_of t).faults) (payer_by told_of told_clock t).work
 work_up c making entry m s t legal order tied same starts made =
     let fixed : (told_of t.device).fixed ≡ fixed_by c = ap (λ x. (told_of x.device).fixed) same ∙ starts.finds.up.restarted.fixed ∙ made.fixed in
     let config : t.desk.config ≡ c = ap (λ x. x.desk.config) same ∙ ap (λ x. x.desk.config) starts.only ∙ ap (λ x. x.desk.config) made.only in
     let none : t.hand ≡ None = ap (λ x. x.hand) same ∙ ap (λ x. x.hand) starts.only in
-    let simple : IsSimple (told_of t.device).fixed = subst IsSimple (sym fixed) (record { one = refl; reads = reads_take_one c }) in (
+    let simple : IsSimple (told_of t.device).fixed = subst IsSimple (sym fixed) (record { one = refl; reads = reads_take_one c }) in
+    let leaves =
+    subst (λ (x : StackState Device (List PlainBlock)). ((told_of x.device).left ≡ 0) ⊎ (nat_lt 0 (faults_of (told_of x.device)) ≡ true)) (sym same)
+    (first_leaves starts.marks (told_of m.device) (told_of s.device) starts.finds (subst IsSimple (sym made.fixed) (record { one = refl; reads = reads_take_one c }))) in (
       ap costs_in fixed ∙ costs_are_figures c legal ∙ ap costs_of (sym config),
-      start_work told_of told_clock (record t { ready = false }) t refl order (subst (λ (h : Option HandState). IsPaired t.desk.config (state_of t.desk) h (told_of t.device)) none tied.paired) (record { left = 0; trying = None })
+      start_work told_of told_clock (record t { ready = false }) t refl order (subst (λ (h : Option HandState). IsPaired t.desk.config (state_of t.desk) h (told_of t.device)) none tied.paired)
+          (nat_lt 0 (faults_of (told_of t.device))) (λ simple_too. leaves) (record { left = 0; trying = None })
           (simple, λ ready. absurd (let never : false ≡ true = ready in cc never)),
     )
 

@@ -10,7 +10,6 @@ use Rattle.nvm_flash.specs.fls_model.Memory.{in_memory}
 use Rattle.nvm_flash.specs.promise_device.FlashRun.{TellsBytes, StartsSound}
 use Rattle.nvm_flash.specs.promise_device.Image.{IsSoundFlash}
 use Rattle.nvm_flash.specs.promise_run.Call.{Call}
-use Rattle.nvm_flash.specs.promise_run.Run.{Run}
 use Rattle.nvm_flash.specs.promise_run.JobTurns.{job_turns}
 use Rattle.nvm_flash.specs.promise_run.Promise.{making_of}
 use Rattle.nvm_flash.proofs.fee_image.Soundness.{blank_is_sound}

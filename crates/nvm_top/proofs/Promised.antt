@@ -20,7 +20,8 @@ use Rattle.nvm_flash.specs.promise_run.Run.{Memory}
 use Rattle.nvm_flash.specs.promise_run.Promise.{making_of}
 use Rattle.nvm_script.specs.declared.script.Mode.TheVariants as mode
 use Rattle.nvm_flash.specs.promise_run.JobTurns.{job_turns, write_pages}
-use Rattle.nvm_flash.specs.promise_run.Operations.{Costs, HadRoom as HadPages, HasWork, AreWorked, costs_of}
+use Rattle.nvm_flash.specs.promise_blocks.Work.{Costs, AreWorked}
+use Rattle.nvm_flash.specs.promise_run.Operations.{HadRoom as HadPages, HasWork, costs_of, left_behind}
 use Rattle.script_player.proofs.Working.{worked_by}
 use Rattle.nvm_top.specs.Play.{IsRightSize}
 use Rattle.nvm_flash.specs.promise_run.Turns.{Moment, moment_behind, BeginsAt, EndsBy, ArePaidSince, EachMove, EachMoveSince, ServesTurn, StaysAtRest, PostsUrgent, MayGoOn, TakeKept, all_moves, CutsCome}
@@ -224,7 +225,7 @@ has_run Kept p q c cuts all made left end before old t entry exit Tells started 
         let worn = IsWornOut (making_of t.configuration) (record { entry = entry; exit = exit; operations = v.operations }) in
         let room = HadPages (making_of t.configuration) (record { entry = entry; exit = exit; operations = v.operations }) in record {
           left = begun.left;
-          few = let few = begun.few in let switch : p.work.costs.switch ≡ (costs_of t.configuration).switch = ap (λ (f : Costs). f.switch) (owes.4 ∙ ap costs_of (sym same)) in omega (arith, few, switch);
+          few = subst (λ (f : Costs). begun.left ≤ left_behind f (moment_of old)) (owes.4 ∙ ap costs_of (sym same)) begun.few;
           efforts = es;
           are =
               subst (λ (h : List Entry). AreWorked (costs_of t.configuration) room worn t.configuration (moment_of old) (after t.configuration h) (record { left = begun.left; trying = None }) (all_moves walked.moves.moves) es) (sym first)

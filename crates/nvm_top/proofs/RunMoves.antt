@@ -1,6 +1,6 @@
 -- The moves of a run of callers, by what it was on its stack, and by the bytes of its flash.
 use Rattle.std.proofs.Common.{◌≡◌, ◌≢◌, ◌⊎◌, ◌≤◌, ◌+◌, ◌++◌, ℕ, min, List, [], ◌∷◌, Option, Some, None, take, refl, sym, ap, ◌∙◌, subst, inl, inr, arith, append-nil}
-use Rattle.std.specs.Prelude.{IfSome, true, false, nat_lt, nat_le}
+use Rattle.std.specs.Prelude.{IfSome, if◌then◌else◌, true, false, nat_lt, nat_le}
 use Rattle.std.specs.Option.{option_map_or}
 use Rattle.std.proofs.lemmas.Bool.{cases_lt, and_parts, ltb-true}
 use Rattle.nvm_flash.specs.nv_base.Count.{last_count, WereCounted}
@@ -15,7 +15,8 @@ use Rattle.nvm_flash.specs.promise_device.Bridge.{Bridges, IsSuch, IsWornOut, fr
 use Rattle.nvm_flash.proofs.promise_device.Readings.{sound_starts_compute, worn_banks_compute}
 use Rattle.nvm_flash.specs.promise_run.Halves.{beyond_end}
 use Rattle.nvm_flash.specs.promise_run.JobTurns.{write_pages}
-use Rattle.nvm_flash.specs.promise_run.Operations.{Costs, Work, AreWorked, HadRoom, HasWork, costs_of}
+use Rattle.nvm_flash.specs.promise_blocks.Work.{Costs, Work, AreWorked}
+use Rattle.nvm_flash.specs.promise_run.Operations.{HadRoom, HasWork, costs_of, left_behind}
 use Rattle.nvm_flash.specs.promise_run.Promise.{making_of}
 use Rattle.nvm_flash.specs.promise_run.Run.{Run, End, Whole, FlashFault, HistoryFull, Memory}
 use Rattle.nvm_flash.specs.promise_run.Turns.{Moment, Move, entries_of, moment_behind, AreMovesMade, BeginsAt, EndsBy, CountFailed, EachMoveSince, PostsUrgent, MayGoOn, TakeKept, KeepsRunTurns}
@@ -24,9 +25,10 @@ use Rattle.nvm_flash.proofs.promise_run.TakenPages.{taken_by}
 use Rattle.nvm_flash.proofs.promise_run.UrgentPosts.{urgent_by}
 use Rattle.script_player.proofs.Working.{worked_by}
 use Rattle.nvm_callers.specs.Added.{IsUncut}
-use Rattle.nvm_callers.specs.DeviceWork.{IsSimple, costs_in, work_in}
+use Rattle.nvm_flash.specs.nvm_core.DeviceWork.{IsSimple, costs_in, work_in}
 use Rattle.nvm_callers.specs.WorkedMoves.{HadPages}
-use Rattle.nvm_callers.specs.Moved.{WasMoved, AreFirst, pages_in}
+use Rattle.nvm_flash.specs.nvm_core.DueWrites.{AreFirst, pages_in}
+use Rattle.nvm_callers.specs.Moved.{WasMoved}
 use Rattle.nvm_callers.specs.Moved as device
 use Rattle.nvm_top.proofs.Driven.{had_room}
 
@@ -68,12 +70,13 @@ moves_to c marks ops old h first moves now clock begun at adds are faults operat
           (urgent parts);
     }
 
--- behind a start-up a simple device makes of its work what the configuration says, no try of it is open, and a switch at most goes on
+-- behind a start-up a simple device makes of its work what the configuration says, no try of it is open, and nothing is left, unless a
+-- fault was counted: then a switch at most goes on
 pub record BeginsWork (c : Configuration) (d : DeviceTold) : Type 0 where
   pub costs : costs_in d.fixed ≡ costs_of c
   pub simple : IsSimple d.fixed
   pub left : ℕ
-  pub few : left ≤ d.fixed.own
+  pub few : left ≤ (if nat_lt 0 (faults_of d) then d.fixed.own else 0)
   pub is : record { left = left; trying = None } ≡ work_in d
 
 -- by what it was on its stack
@@ -85,7 +88,7 @@ moves_came marks ops desk desk_new d now clock begun at pages reserve begins unc
     (λ parts.
     let work = w.work uncut (subst AreFirst w.fixed parts) begins.simple in record {
       left = begins.left;
-      few = let few = begins.few in let same : d.fixed.own ≡ (costs_of desk.config).switch = ap (λ (f : Costs). f.switch) begins.costs in omega (arith, few, same);
+      few = subst (λ (f : Costs). begins.left ≤ left_behind f (device.moment_of d)) begins.costs begins.few;
       efforts = work.efforts;
       are =
           subst (λ (f : Costs). AreWorked f (HadPages clock) clock.worn desk.config (device.moment_of d) (state_of desk) (record { left = begins.left; trying = None }) w.moves work.efforts) begins.costs

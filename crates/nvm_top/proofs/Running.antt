@@ -1,5 +1,5 @@
 -- A run of callers keeps the promise, by what they came to on its stack.
-use Rattle.std.specs.Prelude.{not, ◌||◌, IsTrue, slice_get}
+use Rattle.std.specs.Prelude.{not, ◌||◌, nat_lt, IsTrue, slice_get}
 use Rattle.std.specs.List.{list_all}
 use Rattle.std.proofs.Common.{◌≡◌, ◌≢◌, ◌≤◌, ◌*◌, ℕ, Bool, true, false, List, [], ◌∷◌, ◌++◌, length, take, drop, Option, Some, None, Result, refl, sym, ap, ◌∙◌, subst, inl, arith}
 use Rattle.nv_streams.specs.Sink.{Written}
@@ -13,7 +13,7 @@ use Rattle.nvm_flash.specs.block_machine.Legal.{IsLegal}
 use Rattle.nvm_flash.specs.block_machine.Next.{next_of}
 use Rattle.nvm_flash.specs.block_machine.StartUp.{at_first}
 use Rattle.nvm_flash.specs.block_machine.Steps.{after}
-use Rattle.nvm_flash.specs.memif.Told.{Part, First, PartTold, DeviceTold, IfElse}
+use Rattle.nvm_flash.specs.memif.Told.{Part, First, PartTold, DeviceTold, IfElse, faults_of}
 use Rattle.nvm_flash.specs.memif.Clock.{Clock}
 use Rattle.nvm_flash.specs.fls_model.Told.{Told}
 use Rattle.nvm_flash.specs.promise_device.Bridge.{Bridges, reading_of}
@@ -40,7 +40,7 @@ use Rattle.nvm_flash.proofs.promise_run.RunHalves.{as_asked, unplanned, uncut_br
 use Rattle.nvm_script.specs.declared.script.Mode.TheVariants as mode
 use Rattle.nvm_callers.specs.Ran.{KeepsOrder, WasRun, end_of}
 use Rattle.nvm_callers.specs.Added.{IsUncut}
-use Rattle.nvm_callers.specs.Moved.{pages_in}
+use Rattle.nvm_flash.specs.nvm_core.DueWrites.{pages_in}
 use Rattle.nvm_callers.specs.declared.ending.Ending.{Ending}
 use Rattle.nvm_callers.specs.declared.ending.Ending.TheVariants as ending
 use Rattle.script_player.proofs.InHand.{power_on}
@@ -204,7 +204,7 @@ came_to before c steps s e desk d started (pages, reserve, begins) kept was keep
     cuts = was.cuts (uncut c (before First) s started)
 
 -- by what a stack says of itself behind its start-up
-pub begins_work : (s : StackState Device (List PlainBlock)) → s.ready ≡ true → (payer_by told_of told_clock s).work.costs ≡ costs_of s.desk.config → IsBegun (payer_by told_of told_clock s).work → BeginsWork s.desk.config (told_of s.device)
+pub begins_work : (s : StackState Device (List PlainBlock)) → s.ready ≡ true → (payer_by told_of told_clock s).work.costs ≡ costs_of s.desk.config → IsBegun (nat_lt 0 (faults_of (told_of s.device))) (payer_by told_of told_clock s).work → BeginsWork s.desk.config (told_of s.device)
 begins_work s ready costs begun = record {
   costs = costs;
   simple = record { one = begun.is.0.one; reads = begun.is.0.reads };

@@ -1,5 +1,5 @@
 -- The stack that a command runs over a flash.
-use Rattle.std.specs.Prelude.{◌≡◌, ◌<◌, ◌≤◌, ℕ, Bool, true, false, List, [], length, min, None}
+use Rattle.std.specs.Prelude.{◌≡◌, ◌<◌, ◌≤◌, nat_lt, ℕ, Bool, true, false, List, [], length, min, None}
 use Rattle.nvm_flash.specs.nv_base.Count.{last_count, Rose, WereCounted}
 use Rattle.nvm_flash.specs.nv_base.Geometry.{size_of}
 use Rattle.nvm_flash.specs.block_config.Config.{Configuration}
@@ -63,9 +63,10 @@ pub record StopsAtStart (c : Configuration) (entry exit : Told) (stop : Stop) : 
   pub cuts : entry.cuts ≤ exit.cuts
 
 -- nothing is owed for any fault yet, the pages of the records of a write, those that are kept for urgent ones and what the device
--- makes of its work at most are the configuration's, no operation from here on left anything yet, and no try is open
+-- makes of its work at most are the configuration's, no operation from here on left anything yet, no try is open, and nothing is left
+-- where no fault was counted
 abbrev pub BeginsPaying : Payer → StackTold → Type 0
-BeginsPaying p t = p.owes t.faults × (p.pages ≡ write_pages t.configuration) × (p.reserve ≡ (making_of t.configuration).reserve) × p.sealing t.ops × (p.work.costs ≡ costs_of t.configuration) × IsBegun p.work
+BeginsPaying p t = p.owes t.faults × (p.pages ≡ write_pages t.configuration) × (p.reserve ≡ (making_of t.configuration).reserve) × p.sealing t.ops × (p.work.costs ≡ costs_of t.configuration) × IsBegun (nat_lt 0 t.faults) p.work
 
 -- so it is, and all is kept
 abbrev pub IsKeptFrom : Type 0 → Payer → StackTold → Type 0

@@ -1,5 +1,5 @@
 // The entries of requests, with their answers.
-ghost use Rattle.std.specs.Prelude.{◌≡◌, [], ◌∷◌, ◌++◌, ◌-◌, ◌<◌, ◌≤◌, drop, take, length, IfErr, OnOk};
+ghost use Rattle.std.specs.Prelude.{◌≡◌, [], ◌∷◌, ◌++◌, ◌-◌, ◌<◌, drop, take, length, IfErr, OnOk};
 ghost use Rattle.nv_streams.specs.Sink.{Puts};
 ghost use Rattle.nvm_flash.specs.nv_base.Count.{Rose};
 ghost use Rattle.nvm_script.specs.Printed.{history_lines};

@@ -1,11 +1,10 @@
 -- What moves of worked runs did at the device.
-use Rattle.std.specs.Prelude.{if◌then◌else◌}
-use Rattle.std.proofs.Common.{◌≡◌, ◌⊎◌, ◌≤◌, ◌+◌, ℕ, Bool, true, false, Option, Some, None, refl, sym, ◌∙◌, inl, inr, arith}
+use Rattle.std.proofs.Common.{◌≡◌, ◌≤◌, ◌+◌, ℕ, Bool, true, false, Option, Some, None, refl, sym, ◌∙◌, inl, inr, arith}
 use Rattle.block_machine.specs.Words.{Configuration}
 use Rattle.block_machine.specs.State.{State}
 use Rattle.promise_blocks.specs.Payment.{Worn}
-use Rattle.promise_run.specs.Moves.{Moment, Move}
-use Rattle.promise_run.specs.Operations.{Costs, Work, Effort, MayBegin, EndsTry, IsWorked, adds_most, is_posted}
+use Rattle.promise_blocks.specs.Moves.{Moment, Move}
+use Rattle.promise_blocks.specs.Work.{Costs, Work, Effort, MayBegin, EndsTry, IsWorked, adds_most, is_posted}
 
 -- none began, and behind it so much is left, and this try open
 abbrev pub none_began : ℕ → Option ℕ → Effort

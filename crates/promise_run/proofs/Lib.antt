@@ -9,6 +9,7 @@ pub mod Operations
 pub mod OperationLaws
 mod Efforts
 pub mod UrgentPosts
+pub mod UrgentAsks
 pub mod TakenPages
 pub mod CalmPosts
 pub mod Composition

@@ -19,7 +19,8 @@ use Rattle.promise_device.specs.Making.{Making}
 use Rattle.promise_device.specs.Traits.{page_in_bank, is_kept_page, is_such_op}
 use Rattle.promise_device.specs.Bridge.{IsSuch, IsWornOut, reading_of}
 use Rattle.promise_run.specs.Promise.{making_of}
-use Rattle.promise_run.specs.Operations.{HadRoom, HasWork, MayBegin, costs_of}
+use Rattle.promise_blocks.specs.Work.{MayBegin}
+use Rattle.promise_run.specs.Operations.{HadRoom, HasWork, costs_of}
 use Rattle.promise_run.proofs.Efforts.{none_began, began, rests, goes, ends, begins}
 use Rattle.promise_run.specs.Cases.{small, one, picks_one, always, six_turns, lazy, leaps}
 

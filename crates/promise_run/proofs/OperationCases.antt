@@ -1,22 +1,18 @@
 -- Operations of an urgent write, one by one.
-use Rattle.std.specs.Prelude.{if◌then◌else◌, slice_index_or, length, Contains, ◌*◌}
-use Rattle.std.proofs.Common.{◌≡◌, ◌⊎◌, ◌≤◌, ◌<◌, ◌+◌, ℕ, zero, suc, Bool, true, false, IsTrue, List, [], ◌∷◌, is_some, Option, Some, None, refl, sym, ap, subst, ◌∙◌, inl, inr, arith}
-use Rattle.block_machine.specs.nv_base.Marks.{number_of}
-use Rattle.block_machine.specs.State.{State, Job}
+use Rattle.std.specs.Prelude.{if◌then◌else◌, Contains, ◌*◌}
+use Rattle.std.proofs.Common.{◌≡◌, ◌⊎◌, ◌≤◌, ◌+◌, ℕ, zero, suc, Bool, true, false, List, [], ◌∷◌, is_some, Option, Some, None, refl, sym, ap, subst, ◌∙◌, inl, inr, arith}
+use Rattle.block_machine.specs.State.{State}
 use Rattle.block_machine.specs.Blocks.{indices_of, job_block}
 use Rattle.block_machine.specs.Words.{Found}
 use Rattle.block_machine.specs.Steps.{after, after_from}
-use Rattle.promise_device.specs.FlashRun.{FlashRun}
 use Rattle.promise_run.specs.Promise.{making_of}
-use Rattle.promise_run.specs.Moves.{Moment, Move, entry_list}
-use Rattle.promise_run.specs.Operations.{Work, Effort, IsWorked, AreWorked, EndsTry, MayBegin, HasWork, costs_of, has_free, adds_most, begun_adds, loss_adds}
+use Rattle.promise_blocks.specs.Moves.{Move, entry_list}
+use Rattle.promise_blocks.specs.Work.{Work, Effort, IsWorked, EndsTry, MayBegin, adds_most, begun_adds, loss_adds}
+use Rattle.promise_run.specs.Operations.{costs_of, has_free}
 use Rattle.promise_run.specs.UrgentCases.{urgent, roomy, full, at, accepts, picks}
-use Rattle.promise_run.specs.OperationCases.{AreWorkedOver, HasWorkOver, operation, written_with}
+use Rattle.promise_run.specs.OperationCases.{AreWorkedFrom, HasWorkBehind, HasWorkOver, first_state, never_worn, operation, started_again, written_with}
 use Rattle.promise_run.proofs.OneByOne.{some_same}
 use Rattle.promise_run.proofs.Efforts.{none_began, began, rests, goes, ends, begins, none_some}
-
-abbrev first_state : State
-first_state = after urgent (Found [] 0 ∷ [])
 
 abbrev asked_state : State
 asked_state = after_from urgent first_state (entry_list accepts.entry)
@@ -33,10 +29,12 @@ one_adds true = omega arith
 one_adds false = omega arith
 
 pub four : HasWorkOver roomy (written_with [] 4)
-four = (
-  none_began 0 None ∷ none_began 0 None ∷ began 128 3 ∷ none_began 2 (Some 128) ∷ none_began 1 (Some 128) ∷ none_began 0 None ∷ none_began 0 None ∷ [],
-  (rests _ _ _ _ _ _ _ _ _ refl (omega arith), (rests _ _ _ _ _ _ _ _ _ refl (omega arith), (begins _ _ _ _ _ _ _ _ _ 128 refl may_try (λ test. one_adds (test 4)), (goes _ _ _ _ _ _ _ _ _ 128 refl refl (omega arith), (goes _ _ _ _ _ _ _ _ _ 128 refl refl (omega arith), (ends _ _ _ _ _ _ _ _ _ 128 refl refl (omega arith) (inl refl), (rests _ _ _ _ _ _ _ _ _ refl (omega arith), tt))))))),
-)
+four = record {
+  left = 0;
+  few = omega arith;
+  efforts = none_began 0 None ∷ none_began 0 None ∷ began 128 3 ∷ none_began 2 (Some 128) ∷ none_began 1 (Some 128) ∷ none_began 0 None ∷ none_began 0 None ∷ [];
+  are = (rests _ _ _ _ _ _ _ _ _ refl (omega arith), (rests _ _ _ _ _ _ _ _ _ refl (omega arith), (begins _ _ _ _ _ _ _ _ _ 128 refl may_try (λ test. one_adds (test 4)), (goes _ _ _ _ _ _ _ _ _ 128 refl refl (omega arith), (goes _ _ _ _ _ _ _ _ _ 128 refl refl (omega arith), (ends _ _ _ _ _ _ _ _ _ 128 refl refl (omega arith) (inl refl), (rests _ _ _ _ _ _ _ _ _ refl (omega arith), tt)))))));
+}
 
 -- WITHOUT ROOM
 switch_adds : (room : Bool) → (room ≡ true → false ≡ true) → 27 ≤ 0 + ((if room then 4 else 27) + 0)
@@ -44,12 +42,14 @@ switch_adds true none = let never = none refl in cc never
 switch_adds false none = omega arith
 
 pub switches : HasWorkOver full (written_with (operation 4 ∷ []) 5)
-switches = (
-  none_began 0 None ∷ none_began 0 None ∷ record { begins = Some 128; behind = record { left = 26; trying = Some 128 } } ∷ none_began 25 (Some 128) ∷ none_began 24 (Some 128) ∷ none_began 23 (Some 128) ∷ none_began 22 None ∷ none_began 22 None ∷ [],
-  (rests _ _ _ _ _ _ _ _ _ refl (omega arith), (rests _ _ _ _ _ _ _ _ _ refl (omega arith), (switch, (goes _ _ _ _ _ _ _ _ _ 128 refl refl (omega arith), (goes _ _ _ _ _ _ _ _ _ 128 refl refl (omega arith), (goes _ _ _ _ _ _ _ _ _ 128 refl refl (omega arith), (ends _ _ _ _ _ _ _ _ _ 128 refl refl (omega arith) (inl refl), (rests _ _ _ _ _ _ _ _ _ refl (omega arith), tt)))))))),
-)
+switches = record {
+  left = 0;
+  few = omega arith;
+  efforts = none_began 0 None ∷ none_began 0 None ∷ record { begins = Some 128; behind = record { left = 26; trying = Some 128 } } ∷ none_began 25 (Some 128) ∷ none_began 24 (Some 128) ∷ none_began 23 (Some 128) ∷ none_began 22 None ∷ none_began 22 None ∷ [];
+  are = (rests _ _ _ _ _ _ _ _ _ refl (omega arith), (rests _ _ _ _ _ _ _ _ _ refl (omega arith), (switch, (goes _ _ _ _ _ _ _ _ _ 128 refl refl (omega arith), (goes _ _ _ _ _ _ _ _ _ 128 refl refl (omega arith), (goes _ _ _ _ _ _ _ _ _ 128 refl refl (omega arith), (ends _ _ _ _ _ _ _ _ _ 128 refl refl (omega arith) (inl refl), (rests _ _ _ _ _ _ _ _ _ refl (omega arith), tt))))))));
+}
   where
-    switch : IsWorked (costs_of urgent) (λ k n. has_free (making_of urgent) full k n ≡ true) (λ k n urgent. ⊥) urgent (at 0 0) picked_state (record { left = 0; trying = None }) (operation 1) (began 128 26)
+    switch : IsWorked (costs_of urgent) (λ k n. has_free (making_of urgent) full k n ≡ true) never_worn urgent (at 0 0) picked_state (record { left = 0; trying = None }) (operation 1) (began 128 26)
     switch = record {
       begins = λ k is. let same : 128 ≡ k = cc is in subst (MayBegin urgent picked_state (record { left = 0; trying = None })) same may_try;
       adds = λ test has. switch_adds (test 4) (has 4);
@@ -60,7 +60,7 @@ switches = (
 
 -- A SWITCH FOR NOTHING
 abbrev Steps : ℕ → State → Work → Move → Effort → Type 0
-Steps k s w m e = IsWorked (costs_of urgent) (λ k n. has_free (making_of urgent) roomy k n ≡ true) (λ k n urgent. ⊥) urgent (at 0 k) s w m e
+Steps k s w m e = IsWorked (costs_of urgent) (λ k n. has_free (making_of urgent) roomy k n ≡ true) never_worn urgent (at 0 k) s w m e
 
 no_more : (k : ℕ) (s : State) (w : Work) (m : Move) (e : Effort) → loss_adds (costs_of urgent) (at 0 k) m ≡ 0 → Steps k s w m e → e.begins ≡ None → m.behind.ops + e.behind.left ≤ k + w.left
 no_more k s w m e lossless one none =
@@ -81,7 +81,7 @@ on k n b s w e trying one =
     let none = none_begins k b s w (operation n) e trying one in
     (still (one.ends b (ap (λ (o : Option ℕ). if is_some o then o else w.trying) none ∙ trying)), no_more k s w (operation n) e refl one none)
   where
-    still : (e.behind.trying ≡ Some b) ⊎ ((e.behind.trying ≡ None) × EndsTry (λ k n urgent. ⊥) urgent s b (at 0 k) (operation n)) → e.behind.trying ≡ Some b
+    still : (e.behind.trying ≡ Some b) ⊎ ((e.behind.trying ≡ None) × EndsTry never_worn urgent s b (at 0 k) (operation n)) → e.behind.trying ≡ Some b
     still (inl is) = is
     still (inr (over, inl why)) = cc why
     still (inr (over, inr never)) = absurd never.2
@@ -108,7 +108,7 @@ number_is w b may =
 begun : (w : Work) (e : Effort) → w.left ≤ 0 → Steps 0 picked_state w (operation 1) e → (e.behind.trying ≡ Some 128) × (1 + e.behind.left ≤ 4)
 begun w e few one = by e.begins refl
   where
-    still : (e.behind.trying ≡ Some 128) ⊎ ((e.behind.trying ≡ None) × EndsTry (λ k n urgent. ⊥) urgent picked_state 128 (at 0 0) (operation 1)) → e.behind.trying ≡ Some 128
+    still : (e.behind.trying ≡ Some 128) ⊎ ((e.behind.trying ≡ None) × EndsTry never_worn urgent picked_state 128 (at 0 0) (operation 1)) → e.behind.trying ≡ Some 128
     still (inl is) = is
     still (inr (over, inl why)) = cc why
     still (inr (over, inr never)) = absurd never.2
@@ -122,15 +122,18 @@ begun w e few one = by e.begins refl
         (still (one.ends 128 (ap (λ (o : Option ℕ). if is_some o then o else w.trying) is)), omega (arith, sum, four, few))
 
 pub not_for_nothing : HasWorkOver roomy (written_with (operation 4 ∷ []) 5) → ⊥
-not_for_nothing has = by has.0 has.1
+not_for_nothing has = by has.efforts has.are
   where
-    by : (es : List Effort) → AreWorkedOver roomy (written_with (operation 4 ∷ []) 5) es → ⊥
+    none : has.left ≤ 0
+    none = has.few
+
+    by : (es : List Effort) → AreWorkedFrom has.left roomy (written_with (operation 4 ∷ []) 5) es → ⊥
     by (a ∷ b ∷ c ∷ d ∷ e ∷ f ∷ g ∷ es) (one, (two, (three, (four, (five, (six, (seven, rest))))))) =
         let asks = quiet first_state _ accepts a refl refl one in
         let asked = no_more 0 first_state _ accepts a refl one asks.1 in
         let picks_it = quiet asked_state _ picks b refl asks.0 two in
         let picked = no_more 0 asked_state _ picks b refl two picks_it.1 in
-        let first = begun b.behind c (omega (arith, asked, picked)) three in
+        let first = begun b.behind c (omega (arith, none, asked, picked)) three in
         let second = on 1 2 128 _ c.behind d first.0 four in
         let third = on 2 3 128 _ d.behind e second.0 five in
         let fourth = on 3 4 128 _ e.behind f third.0 six in
@@ -143,3 +146,53 @@ not_for_nothing has = by has.0 has.1
     by (a ∷ b ∷ c ∷ d ∷ []) are = are.1.1.1.1
     by (a ∷ b ∷ c ∷ d ∷ e ∷ []) are = are.1.1.1.1.1
     by (a ∷ b ∷ c ∷ d ∷ e ∷ f ∷ []) are = are.1.1.1.1.1.1
+
+-- BEHIND A START-UP
+-- none is left by the first start-up
+pub none_behind : HasWorkOver roomy (operation 1 ∷ []) → ⊥
+none_behind has = by has.efforts has.are
+  where
+    none : has.left ≤ 0
+    none = has.few
+
+    by : (es : List Effort) → AreWorkedFrom has.left roomy (operation 1 ∷ []) es → ⊥
+    by (a ∷ es) (one, rest) =
+        let quiet_one = quiet first_state _ (operation 1) a refl refl one in
+        let sum = no_more 0 first_state _ (operation 1) a refl one quiet_one.1 in omega (arith, sum, none)
+    by [] are = are
+
+-- nor by a further one
+pub none_behind_another : HasWorkOver roomy (started_again 0) → ⊥
+none_behind_another has = by has.efforts has.are
+  where
+    none : has.left ≤ 0
+    none = has.few
+
+    by : (es : List Effort) → AreWorkedFrom has.left roomy (started_again 0) es → ⊥
+    by (a ∷ b ∷ es) (one, (two, rest)) =
+        let found : Move = record { entry = Some (Found [] 0); behind = at 0 0 } in
+        let starts = quiet first_state _ found a refl refl one in
+        let started = no_more 0 first_state _ found a refl one starts.1 in
+        let works = quiet (after_from urgent first_state (entry_list found.entry)) _ (operation 1) b refl starts.0 two in
+        let sum = no_more 0 _ _ (operation 1) b refl two works.1 in omega (arith, started, sum, none)
+    by [] are = are
+    by (a ∷ []) are = are.1
+
+-- where a fault was counted a switch may go on behind both
+abbrev turned_behind : Move
+turned_behind = record { entry = None; behind = at 1 1 }
+
+pub fault_behind : HasWorkBehind 1 roomy (turned_behind ∷ [])
+fault_behind = record { left = 22; few = omega arith; efforts = none_began 21 None ∷ []; are = (rests _ _ _ _ _ _ _ _ _ refl (omega arith), tt) }
+
+pub fault_behind_another : HasWorkOver roomy (started_again 1)
+fault_behind_another = record { left = 0; few = omega arith; efforts = none_began 22 None ∷ none_began 21 None ∷ []; are = (starts, (rests _ _ _ _ _ _ _ _ _ refl (omega arith), tt)) }
+  where
+    starts : IsWorked (costs_of urgent) (λ k n. has_free (making_of urgent) roomy k n ≡ true) never_worn urgent (at 0 0) first_state (record { left = 0; trying = None }) (record { entry = Some (Found [] 0); behind = at 1 0 }) (none_began 22 None)
+    starts = record {
+      begins = λ n is. none_some n is;
+      adds = λ test has. omega arith;
+      ends = λ n is. none_some n is;
+      none = λ is. refl;
+      over = λ posted. cc posted;
+    }

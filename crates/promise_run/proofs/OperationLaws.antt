@@ -1,10 +1,10 @@
 -- How many operations a run makes.
 use Rattle.std.specs.Prelude.{take}
-use Rattle.std.proofs.Common.{◌≡◌, ◌≤◌, ℕ, ap, ◌∙◌, arith}
+use Rattle.std.proofs.Common.{ap, ◌∙◌, arith}
 use Rattle.block_machine.specs.Steps.{after}
 use Rattle.promise_device.specs.Bridge.{IsWornOut}
 use Rattle.promise_run.specs.Promise.{making_of}
-use Rattle.promise_run.specs.Moves.{Moment}
+use Rattle.promise_blocks.specs.Moves.{Moment}
 use Rattle.promise_run.specs.Operations.{HadRoom, costs_of, has_free}
 use Rattle.promise_run.specs.OperationLaws.{CallersMakeFew, RunsMakeFew}
 use Rattle.promise_run.specs.Turns.{all_moves}

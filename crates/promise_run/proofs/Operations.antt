@@ -1,13 +1,13 @@
 -- How many operations moves make, and how many tries begin in them.
-use Rattle.std.specs.Prelude.{if◌then◌else◌, ◌||◌, nat_eq}
-use Rattle.std.proofs.Common.{◌≡◌, ◌⊎◌, ◌≤◌, ◌+◌, ℕ, Bool, true, false, IsTrue, List, [], ◌∷◌, is_some, Option, Some, None, refl, sym, ap, subst, ◌∙◌, inl, inr, arith}
-use Rattle.block_machine.specs.nv_base.Marks.{number_of}
+use Rattle.std.specs.Prelude.{if◌then◌else◌, ◌||◌}
+use Rattle.std.proofs.Common.{◌≡◌, ◌⊎◌, ◌≤◌, ◌+◌, ℕ, Bool, true, IsTrue, List, [], ◌∷◌, is_some, Option, Some, None, refl, inl, inr, arith}
 use Rattle.block_machine.specs.Words.{Entry, Ask, Pick, Wrote, Post, Off, Found, Configuration}
 use Rattle.block_machine.specs.State.{State}
 use Rattle.block_machine.specs.Steps.{after_from}
 use Rattle.promise_blocks.specs.Payment.{Worn}
-use Rattle.promise_run.specs.Moves.{Moment, Move, entry_list, moment_behind, is_found, is_picked}
-use Rattle.promise_run.specs.Operations.{Costs, Work, Effort, work_behind, tried, AreWorked, IsWorked, EndsTry, HasWork, adds_most, operations_at_most, has_risen, is_written, is_wrote, may_end, ends_most, tries_begun, WorkIsBounded, TriesAreFew}
+use Rattle.promise_blocks.specs.Moves.{Moment, Move, entry_list, moment_behind, is_found, is_picked}
+use Rattle.promise_blocks.specs.Work.{Costs, Work, Effort, work_behind, AreWorked, EndsTry, operations_at_most, has_risen, is_written, is_wrote, may_end, ends_most, tries_begun}
+use Rattle.promise_run.specs.Operations.{WorkIsBounded, TriesAreFew}
 
 -- THE OPERATIONS
 bounded_from : (f : Costs) (room : ℕ → ℕ → Type 0) (worn : Worn) (c : Configuration) (before : Moment) (s : State) (w : Work) (ms : List Move) (es : List Effort) (test : ℕ → ℕ → Bool)

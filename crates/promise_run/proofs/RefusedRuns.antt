@@ -1,6 +1,6 @@
 -- What runs in which copies are refused come to.
 use Rattle.std.specs.Prelude.{◌-◌}
-use Rattle.std.proofs.Common.{◌≡◌, ℕ, true, List, Option, Some, None, refl, ap, ◌∙◌, subst}
+use Rattle.std.proofs.Common.{ℕ, true, List, Option, Some, None, refl, ap, ◌∙◌, subst}
 use Rattle.block_machine.specs.Words.{ReqResult, Taken}
 use Rattle.script_walks.specs.Words.{Refuse}
 use Rattle.promise_run.specs.Refusals.{copied_out, copied_in, IsAsAsked, left_by, asked_by}

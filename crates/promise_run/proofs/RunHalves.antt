@@ -1,8 +1,8 @@
 -- The halves of the promise of a run of callers.
-use Rattle.std.specs.Prelude.{IsTrue, ◌==◌, ◌&&◌, not, nat_le, if◌then◌else◌, map}
+use Rattle.std.specs.Prelude.{IsTrue, ◌==◌, ◌&&◌, not, if◌then◌else◌, map}
 use Rattle.std.specs.List.{list_all}
 use Rattle.std.specs.Option.{option_map_or}
-use Rattle.std.proofs.Common.{◌≡◌, ◌≤◌, ◌<◌, ◌+◌, ◌-◌, ◌⊎◌, ℕ, zero, suc, Bool, true, false, List, [], ◌∷◌, Option, Some, None, refl, sym, ap, ◌∙◌, subst, inl, inr, arith}
+use Rattle.std.proofs.Common.{◌≡◌, ◌+◌, ◌⊎◌, ℕ, zero, suc, Bool, true, false, List, [], ◌∷◌, Option, Some, None, refl, sym, subst, inl, inr, arith}
 use Rattle.std.proofs.lemmas.Bool.{cases_Bool}
 use Rattle.std.proofs.lemmas.Bool.Decides.{leb_tells}
 use Rattle.memif.specs.Told.{First}
@@ -19,7 +19,7 @@ use Rattle.script_walks.specs.Looks.{Look}
 use Rattle.promise_blocks.specs.OverDevice.{HasStarted}
 use Rattle.promise_device.specs.FlashRun.{AreOperations, AreSeen}
 use Rattle.fls_model.specs.Told.{Change}
-use Rattle.promise_run.specs.Run.{Run, Course, Ran, RunsBy, Follows, HasOrder, DueCut, Event, Added, events_in, CutsAre, CutsExplain, has_cutter}
+use Rattle.promise_run.specs.Run.{Run, Course, Ran, RunsBy, Follows, HasOrder, Added, events_in, CutsAre, has_cutter}
 use Rattle.promise_run.specs.Refusals.{copied_out, copied_in, has_content, copy_told, IsAsAsked, left_by, AreAsAsked, RefusesAsAsked}
 use Rattle.promise_device.specs.Bridge.{Bridges, reading_of, cuts_of}
 use Rattle.promise_run.specs.Promise.{making_of}

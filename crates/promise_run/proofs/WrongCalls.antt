@@ -1,5 +1,5 @@
 -- Calls that are none of a run, and runs in which a job isn't served.
-use Rattle.std.proofs.Common.{◌≡◌, ◌<◌, ℕ, Bool, List, [], ◌∷◌, ◌++◌, length, Some, None, subst, length-append, refl, ap, inl, inr, arith}
+use Rattle.std.proofs.Common.{◌≡◌, ℕ, Bool, List, [], ◌∷◌, length, Some, None, subst, refl, ap, inl, inr, arith}
 use Rattle.std.specs.List.{concat}
 use Rattle.block_machine.specs.nv_base.Count.{Rose}
 use Rattle.nvm_script.specs.Printed.{history_lines}

@@ -8,7 +8,6 @@ pub mod Life
 pub mod Call
 pub mod Completeness
 pub mod RunHalves
-pub mod Moves
 pub mod Operations
 pub mod Turns
 pub mod OperationLaws

@@ -1,20 +1,34 @@
 -- Operations of an urgent write, one by one.
 use Rattle.std.specs.Prelude.{◌≡◌, ◌++◌, ℕ, true, List, [], ◌∷◌, Some, None}
 use Rattle.block_machine.specs.Words.{Fine, Content, Wrote, Post, Found}
+use Rattle.block_machine.specs.State.{State}
 use Rattle.block_machine.specs.Steps.{after}
 use Rattle.promise_device.specs.FlashRun.{FlashRun}
 use Rattle.promise_run.specs.Promise.{making_of}
-use Rattle.promise_run.specs.Moves.{Move}
-use Rattle.promise_run.specs.Operations.{Effort, AreWorked, costs_of, has_free}
+use Rattle.promise_blocks.specs.Payment.{Worn}
+use Rattle.promise_blocks.specs.Moves.{Move}
+use Rattle.promise_blocks.specs.Work.{Effort, AreWorked}
+use Rattle.promise_run.specs.Operations.{HasWork, costs_of, has_free}
 use Rattle.promise_run.specs.Cases.{one}
 use Rattle.promise_run.specs.UrgentCases.{urgent, at, accepts, picks}
 
--- over this flash, of a device that is never worn out, and at which nothing is open before them
-abbrev pub AreWorkedOver : FlashRun → List Move → List Effort → Type 0
-AreWorkedOver f ms es = AreWorked (costs_of urgent) (λ k n. has_free (making_of urgent) f k n ≡ true) (λ k n urgent. ⊥) urgent (at 0 0) (after urgent (Found [] 0 ∷ [])) (record { left = 0; trying = None }) ms es
+-- the state behind the start-up before them, and a device that is never worn out
+abbrev pub first_state : State
+first_state = after urgent (Found [] 0 ∷ [])
+
+abbrev pub never_worn : Worn
+never_worn operations number urgent = ⊥
+
+-- over this flash, and from so much that is left on
+abbrev pub AreWorkedFrom : (left : ℕ) → FlashRun → List Move → List Effort → Type 0
+AreWorkedFrom left f ms es = AreWorked (costs_of urgent) (λ k n. has_free (making_of urgent) f k n ≡ true) never_worn urgent (at 0 0) first_state (record { left = left; trying = None }) ms es
+
+-- behind a start-up that counted so many faults
+abbrev pub HasWorkBehind : (faults : ℕ) → FlashRun → List Move → Type 0
+HasWorkBehind faults f ms = HasWork (costs_of urgent) (λ k n. has_free (making_of urgent) f k n ≡ true) never_worn urgent (at faults 0) first_state ms
 
 abbrev pub HasWorkOver : FlashRun → List Move → Type 0
-HasWorkOver f ms = (es : List Effort) × AreWorkedOver f ms es
+HasWorkOver = HasWorkBehind 0
 
 -- a turn makes an operation
 abbrev pub operation : ℕ → Move
@@ -24,3 +38,7 @@ operation n = record { entry = None; behind = at 0 n }
 abbrev pub written_with : List Move → ℕ → List Move
 written_with more n =
     accepts ∷ picks ∷ operation 1 ∷ operation 2 ∷ operation 3 ∷ (more ++ record { entry = Some (Wrote (record { block = 2; index = 0 }) (Content one) n); behind = at 0 n } ∷ record { entry = Some (Post 2 Fine None 0 n); behind = at 0 n } ∷ [])
+
+-- a further start-up behind so many faults, and an operation
+abbrev pub started_again : (faults : ℕ) → List Move
+started_again faults = record { entry = Some (Found [] 0); behind = at faults 0 } ∷ record { entry = None; behind = at faults 1 } ∷ []

@@ -8,20 +8,21 @@ use Rattle.script_walks.specs.Words.{Step}
 use Rattle.promise_device.specs.FlashRun.{TellsBytes, StartsSound}
 use Rattle.promise_run.specs.Promise.{making_of}
 use Rattle.promise_run.specs.Run.{Run}
-use Rattle.promise_run.specs.Operations.{costs_of, has_free, operations_at_most}
+use Rattle.promise_blocks.specs.Work.{operations_at_most}
+use Rattle.promise_run.specs.Operations.{costs_of, has_free, left_behind}
 use Rattle.promise_run.specs.Turns.{KeepsTurns, KeepsRunTurns, all_moves}
 
 -- Over a flash that tells its bytes, from a sound image on, the operations of a run are at most what its tries and its faults add, where
--- a try of which the bytes had the pages free adds no switch of banks.
+-- a try of which the bytes had the pages free adds no switch of banks; and a switch, where a fault was counted by the first start-up.
 abbrev pub RunsMakeFew : Type 0
 RunsMakeFew =
     (most : State → Job → ℕ) (r : Run) (made : List Step) (pieces : List (List Entry)) (keeps : KeepsTurns most r made pieces) → TellsBytes r.flash → StartsSound (making_of r.configuration) r.flash
-    → min (length r.flash.operations) last_count ≤ keeps.first.ops + (costs_of r.configuration).switch
+    → min (length r.flash.operations) last_count ≤ keeps.first.ops + left_behind (costs_of r.configuration) keeps.first
     + operations_at_most (costs_of r.configuration) (has_free (making_of r.configuration) r.flash) r.configuration keeps.first (after r.configuration (take 1 r.history)) (all_moves keeps.moves.moves) keeps.work.efforts
 
 -- and so it is of callers beside each other
 abbrev pub CallersMakeFew : Type 0
 CallersMakeFew =
     (r : Run) (keeps : KeepsRunTurns r) → TellsBytes r.flash → StartsSound (making_of r.configuration) r.flash
-    → min (length r.flash.operations) last_count ≤ keeps.first.ops + (costs_of r.configuration).switch
+    → min (length r.flash.operations) last_count ≤ keeps.first.ops + left_behind (costs_of r.configuration) keeps.first
     + operations_at_most (costs_of r.configuration) (has_free (making_of r.configuration) r.flash) r.configuration keeps.first (after r.configuration (take 1 r.history)) keeps.moves keeps.work.efforts

@@ -4,7 +4,7 @@ use Rattle.std.specs.List.{list_all}
 use Rattle.block_machine.specs.nv_base.Count.{last_count, Rose, WereCounted}
 use Rattle.block_machine.specs.nv_base.Entry.{ops_of}
 use Rattle.script_walks.specs.Words.{Step, StepKind, AskStep, Turn, Drain, Restart, Cut}
-use Rattle.block_machine.specs.Words.{Canceled, WriteAllJob, TookNothing, Accepted, Entry, Ask, Pick, Post, Off, Found, Configuration}
+use Rattle.block_machine.specs.Words.{Canceled, WriteAllJob, TookNothing, Accepted, Entry, Ask, Pick, Post, Configuration}
 use Rattle.block_machine.specs.State.{State, Job, Sweep, jobs_of}
 use Rattle.block_machine.specs.Blocks.{asked_block, is_immediate, job_block, rank_of}
 use Rattle.block_machine.specs.Steps.{after, after_from}
@@ -13,7 +13,7 @@ use Rattle.promise_blocks.specs.Payment.{Worn, IsExcused}
 use Rattle.script_walks.specs.Walk.{is_due, is_at_rest, begins_with_pick_or_post}
 use Rattle.promise_run.specs.Completeness.{is_calm_entry, IsCalm, ends_job}
 use Rattle.promise_run.specs.Promise.{making_of}
-pub use Rattle.promise_run.specs.Moves.{Moment, Move, entry_list, entries_of, moment_behind, is_asked, is_found, is_picked, is_off}
+pub use Rattle.promise_blocks.specs.Moves.{Moment, Move, entry_list, entries_of, moment_behind, is_asked, is_found, is_picked, is_off}
 use Rattle.promise_run.specs.JobTurns.{write_pages}
 use Rattle.promise_run.specs.Operations.{HadRoom, HasWork, costs_of}
 use Rattle.memif.specs.Clock.{Seals, TakesKept}

@@ -1,8 +1,8 @@
 // Operations of a write.
-ghost use Rattle.std.specs.Prelude.{[], ◌∷◌};
+ghost use Rattle.std.specs.Prelude.{[], ◌∷◌, None};
 ghost use Rattle.promise_run.specs.OperationLaws.{RunsMakeFew};
-ghost use Rattle.promise_run.specs.OperationCases.{HasWorkOver, operation, written_with};
-ghost use Rattle.promise_run.specs.UrgentCases.{roomy, full};
+ghost use Rattle.promise_run.specs.OperationCases.{HasWorkBehind, HasWorkOver, operation, started_again, written_with};
+ghost use Rattle.promise_run.specs.UrgentCases.{at, roomy, full};
 
 /// A record of four pages takes four operations, where these pages are free, and no switch of banks; where they aren't, one may come
 /// before it. So a run makes no more operations than its tries and its faults add.
@@ -12,4 +12,13 @@ pub fn operations_are_bounded()
     ensures without_room { HasWorkOver full (written_with (operation 4 ∷ []) 5) }
     ensures a_switch_for_nothing { HasWorkOver roomy (written_with (operation 4 ∷ []) 5) → ⊥ }
     ensures runs { RunsMakeFew }
+{}
+
+/// Behind a start-up, the first or a further one, no operation comes for nothing, unless a fault was counted: then a switch may go on.
+#[tactic(auto, using(crate::proofs::OperationCases::none_behind, crate::proofs::OperationCases::none_behind_another, crate::proofs::OperationCases::fault_behind, crate::proofs::OperationCases::fault_behind_another))]
+pub fn start_ups_leave_nothing()
+    ensures first { HasWorkOver roomy (operation 1 ∷ []) → ⊥ }
+    ensures further { HasWorkOver roomy (started_again 0) → ⊥ }
+    ensures first_with_a_fault { HasWorkBehind 1 roomy (record { entry = None; behind = at 1 1 } ∷ []) }
+    ensures further_with_a_fault { HasWorkOver roomy (started_again 1) }
 {}

@@ -1,6 +1,6 @@
 -- What explains refused copies and power cuts, from entries to entries.
 use Rattle.std.specs.Prelude.{map}
-use Rattle.std.proofs.Common.{◌≡◌, ◌≤◌, ◌+◌, ℕ, zero, suc, List, [], ◌∷◌, ◌++◌, Option, None, refl, sym, ap, ◌∙◌, subst, inl, arith}
+use Rattle.std.proofs.Common.{◌≡◌, ◌≤◌, ◌+◌, ℕ, zero, suc, List, [], ◌∷◌, ◌++◌, Option, None, refl, sym, ap, subst, inl, arith}
 use Rattle.std.proofs.lemmas.List.{map-append}
 use Rattle.uds_gateway.specs.nv_base.Entry.{ops_behind}
 use Rattle.uds_gateway.specs.block_machine.Words.{Entry, Configuration}

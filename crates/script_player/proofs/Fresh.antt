@@ -1,5 +1,5 @@
 -- A stack is fresh behind its first start-up.
-use Rattle.std.proofs.Common.{◌≡◌, ℕ, List, [], ◌∷◌, ◌++◌, None, map, refl, sym, ap, ◌∙◌, inl, inr, arith}
+use Rattle.std.proofs.Common.{◌≡◌, List, [], ◌∷◌, ◌++◌, map, refl, sym, ap, ◌∙◌}
 use Rattle.uds_gateway.specs.block_machine.Words.{Found}
 use Rattle.uds_gateway.specs.memif.Told.{DeviceTold, ops_of, is_off}
 use Rattle.uds_gateway.specs.ram_blocks.declared.plain_block.PlainBlock.{PlainBlock}

@@ -9,7 +9,6 @@ pub mod Walking
 pub mod Served
 pub mod Grown
 pub mod Working
-pub mod PlainWork
 pub mod Paying
 pub mod Moves
 pub mod Coming
@@ -29,7 +28,6 @@ pub mod PlainHalves
 pub mod PlainBehind
 pub mod PlainMostTurns
 pub mod PlainServing
-pub mod JobNumbers
 pub mod PlainDue
 pub mod PlainSeals
 pub mod PlainTurnWork

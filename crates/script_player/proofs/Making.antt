@@ -12,7 +12,7 @@ use Rattle.uds_gateway.specs.ram_blocks.Copies.{next_number}
 use Rattle.script_walks.specs.Words.{Step, StepKind, AskStep, Store, Turn, Drain, Restart, Cut, Refuse}
 use Rattle.promise_run.specs.Run.{HasNoRoom, DueCut, plan_after}
 use Rattle.promise_run.specs.InRoom.{is_drain}
-use Rattle.script_walks.specs.Walk.{stores_of, request_after, is_at_rest, copies_by, TakesStore, IsPieceBy}
+use Rattle.script_walks.specs.Walk.{stores_of, request_after, copies_by, TakesStore, IsPieceBy}
 use Rattle.nvm_script.specs.Played.{CanBePlayed}
 use Rattle.script_walks.specs.Stores.{AreNewest, JobsTookStored}
 use Rattle.script_walks.specs.StoreLaws.{is_store}
@@ -28,7 +28,7 @@ use Rattle.promise_run.specs.Turns.{Moment, Move, Planned, planned_by, AreMovesO
 use Rattle.script_player.proofs.Coming.{pending_same, refuse_cuts, ask_cuts, turns_cuts}
 use Rattle.script_player.proofs.Moves.{move_to, ask_chain, start_chain}
 use Rattle.script_player.specs.Chain.{shown_of}
-use Rattle.script_player.specs.Paying.{Payer, OwesNothing, PaysNothing, AskPays}
+use Rattle.script_player.specs.Paying.{Payer, PaysNothing, StartsAnew, AskPays}
 use Rattle.script_player.proofs.Paying.{nothing_pays, ask_pays, found_pays}
 use Rattle.promise_run.specs.Refusals.{asked_by}
 use Rattle.script_player.proofs.Explained.{by_cut, by_entries, by_nothing, by_refuse, by_restart}
@@ -153,7 +153,7 @@ ask_made p q before line caller r table old new can asked pays has kept =
 
 -- a start-up
 pub restart_made : (p q : Payer) (before : List Step) (line caller : ℕ) (old new : StackTold)
-    → StartsAgain old new → OwesNothing p q new → IsKept before old → IsMade p q before (record { line = line; caller = caller; kind = Restart }) old new
+    → StartsAgain old new → StartsAnew p q old new → IsKept before old → IsMade p q before (record { line = line; caller = caller; kind = Restart }) old new
 restart_made p q before line caller old new starts_again pays kept =
     let x : Step = record { line = line; caller = caller; kind = Restart } in
     let marks = starts_again.marks in

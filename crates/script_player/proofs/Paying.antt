@@ -12,7 +12,7 @@ use Rattle.promise_run.proofs.Counted.{behind_later, counted_by, counted_more}
 use Rattle.uds_gateway.proofs.HistoryLaws.{histories_go_on}
 use Rattle.script_player.specs.Told.{StackTold, state_of, moment_of}
 use Rattle.script_player.proofs.Working.{along_more, along_none, along_ask, along_found}
-use Rattle.script_player.specs.Paying.{Payer, SparesNoMore, TraitsNoMore, IsAtSeal, FreeBy, AcceptsUrgent, OwesNothing, PaysNothing, since_behind, Pays, PaysBy}
+use Rattle.script_player.specs.Paying.{Payer, SparesNoMore, TraitsNoMore, IsAtSeal, FreeBy, AcceptsUrgent, OwesNothing, PaysNothing, StartsAnew, since_behind, Pays, PaysBy}
 
 -- what is left at a seal was known to be
 at_seal_before : (p q : Payer) (ops k : ℕ) → TraitsNoMore ops p q → k ≤ ops → (since wanted : ℕ) → IsAtSeal q since k wanted → IsAtSeal p since k wanted
@@ -66,7 +66,7 @@ nothing_pays p q old new nothing = record {
   dues = nothing.due;
   urgent = λ since sealing. tt;
   pays = λ tells since owes. (tt, (nothing.own.owes since owes).0);
-  work = along_none q.worn p.work q.work old.configuration (moment_of old) (state_of old) (nothing.own.work.known old.ops) nothing.works;
+  work = along_none q.worn p.work q.work old.configuration (moment_of old) (state_of old) (nothing.own.work old.ops) nothing.works;
 }
 
 -- ONE THAT HAS NOTHING TO PAY
@@ -96,29 +96,29 @@ ask_pays p q caller r reply old new same adds nothing accepts = record {
   urgent = λ since sealing. (accepted p q old new (Ask caller r reply) adds nothing.own accepts since sealing, tt);
   pays = λ tells since owes.
       let (now, less) = nothing.own.owes since owes in ((inl (inl (nothing_due since old.faults (omega (arith, less, same)))), tt), now);
-  work = along_ask q.worn p.work q.work old.configuration (moment_of old) (state_of old) caller r reply (nothing.own.work.known old.ops) nothing.works;
+  work = along_ask q.worn p.work q.work old.configuration (moment_of old) (state_of old) caller r reply (nothing.own.work old.ops) nothing.works;
 }
 
 none_urgent : (id : ℕ) → None ≡ Some id → ⊥
 none_urgent id is = cc is
 
-pub found_pays : (p q : Payer) (marks : List (Instance × Mark)) (ops : ℕ) (old new : StackTold) → new.ops ≡ old.ops → OwesNothing p q new
+pub found_pays : (p q : Payer) (marks : List (Instance × Mark)) (ops : ℕ) (old new : StackTold) → new.ops ≡ old.ops → StartsAnew p q old new
     → PaysBy p q old (record { entry = Some (Found marks ops); behind = moment_of new } ∷ [])
-found_pays p q marks ops old new none nothing = record {
-  tells = nothing.tells;
-  worn = nothing.worn;
-  failed = λ k few. nothing.failed k;
+found_pays p q marks ops old new none anew = record {
+  tells = anew.own.tells;
+  worn = anew.own.worn;
+  failed = λ k few. anew.own.failed k;
   counts = (record { later = omega (arith, none); own = λ k le lt failed. absurd (omega (arith, none, le, lt)) }, tt);
-  spare = λ k n few. nothing.spare k n;
-  traits = nothing.traits old.ops;
+  spare = λ k n few. anew.own.spare k n;
+  traits = anew.own.traits old.ops;
   kept = (λ k le lt is. absurd (omega (arith, none, le, lt)), tt);
-  sealing = λ since sealing. nothing.sealing;
-  pages = nothing.pages;
+  sealing = λ since sealing. anew.own.sealing;
+  pages = anew.own.pages;
   dues = λ id one turns due. inl refl;
   urgent = λ since sealing. (λ id is free. absurd (none_urgent id is), tt);
   pays = λ tells since owes.
-      let (now, less) = nothing.owes since owes in ((inl (inl (nothing_due since new.faults less)), tt), now);
-  work = along_found q.worn p.work q.work old.configuration (moment_of old) (moment_of new) (state_of old) marks ops none nothing.work;
+      let (now, less) = anew.own.owes since owes in ((inl (inl (nothing_due since new.faults less)), tt), now);
+  work = along_found q.worn p.work q.work old.configuration (moment_of old) (moment_of new) (state_of old) marks ops none anew.own.work anew.drops;
 }
 
 -- MORE

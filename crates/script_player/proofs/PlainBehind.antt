@@ -1,7 +1,7 @@
 -- A turn of the device behind the first half.
 use Rattle.std.specs.Prelude.{IsTrue, map, not}
 use Rattle.std.specs.List.{list_any}
-use Rattle.std.proofs.Common.{◌≡◌, ◌≤◌, ◌⊎◌, ℕ, Bool, true, false, List, [], ◌∷◌, ◌++◌, Option, Some, None, refl, sym, ap, ◌∙◌, subst, inl, inr, arith}
+use Rattle.std.proofs.Common.{◌≡◌, ◌⊎◌, ℕ, Bool, true, false, List, [], ◌∷◌, ◌++◌, Option, Some, None, refl, sym, ap, ◌∙◌, subst, inl, inr}
 use Rattle.uds_gateway.specs.nv_base.Marks.{instance_of}
 use Rattle.uds_gateway.specs.nv_base.Entry.{ops_of as ops_told}
 use Rattle.uds_gateway.specs.memif.declared.answer.JobResult.TheVariants.{JobOk, JobFailed, JobPending, JobCanceled, BlockInconsistent, BlockInvalid}

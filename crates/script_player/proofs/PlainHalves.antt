@@ -1,10 +1,10 @@
 -- A turn that is its first half alone.
 use Rattle.std.specs.Prelude.{IsTrue, map, not, ◌&&◌}
 use Rattle.std.specs.Option.{option_map_or}
-use Rattle.std.proofs.Common.{◌≡◌, ◌≤◌, ◌+◌, ℕ, Bool, true, false, List, [], ◌∷◌, ◌++◌, get_or, Option, None, refl, sym, ap, ◌∙◌, subst, inl, inr, arith}
+use Rattle.std.proofs.Common.{◌≡◌, ◌≤◌, ◌+◌, ℕ, Bool, true, false, List, [], ◌∷◌, ◌++◌, get_or, Option, None, refl, sym, ap, ◌∙◌, subst, inl, inr}
 use Rattle.uds_gateway.specs.memif.Told.{DeviceTold, faults_of, ops_of}
-use Rattle.uds_gateway.specs.block_machine.Words.{ReqResult, Entry, Pick, Post}
-use Rattle.uds_gateway.specs.block_machine.State.{State, Job}
+use Rattle.uds_gateway.specs.block_machine.Words.{ReqResult, Pick, Post}
+use Rattle.uds_gateway.specs.block_machine.State.{Job}
 use Rattle.uds_gateway.specs.block_machine.Blocks.{desc_of, is_synchronized, job_block, names_ram}
 use Rattle.uds_gateway.specs.block_machine.Results.{Answer}
 use Rattle.uds_gateway.specs.block_machine.Next.{Next, Nothing, PickJob, BeginSweep, PickMember, PostMember, EndSweep, next_of}
@@ -38,7 +38,7 @@ use Rattle.script_player.proofs.PlainPicks.{newest, stored_so, due_off, due_rest
 use Rattle.script_player.proofs.PlainRefused.{IsOn, IsSpent, pick_spent, post_spent, entry_asked}
 use Rattle.script_player.proofs.PlainMostTurns.{within_of}
 use Rattle.script_player.proofs.PlainServing.{IsServing, off_serves, rest_serves, pick_serves, post_serves}
-use Rattle.script_player.proofs.PlainTurning.{same_stores, grown, none_more, one_more, explained, makes_one, misses_none, no_off, begins_by, begins_late}
+use Rattle.script_player.proofs.PlainTurning.{same_stores, grown, none_more, explained, makes_one, misses_none, no_off, begins_by, begins_late}
 
 -- what is told of the application, and the newest store of a block
 abbrev pub are_told : List PlainBlock → List Told

@@ -37,17 +37,17 @@ use Rattle.uds_gateway.proofs.Paying.{asked_urgency}
 use Rattle.promise_run.specs.Turns.{entry_list, is_picked}
 use Rattle.script_player.specs.Paying.{StaysWorn, FailsNoMore, SparesNoMore, TraitsNoMore, PaysTurn, OwesNothing, PaysNothing, StartPays}
 use Rattle.script_player.specs.Calls.{MakesTurn}
-use Rattle.script_player.specs.PlainDue.{AreFirst, pages_in}
+use Rattle.uds_gateway.specs.nvm_core.DueWrites.{AreFirst, pages_in}
 use Rattle.script_player.proofs.PlainDevices.{turn_fixed}
 use Rattle.script_player.proofs.PlainSeals.{arms_keep_seal, has_immediate, none_sealed}
 use Rattle.script_player.proofs.PlainDue.{on_behind, call_keeps, same_keeps, turn_serves, true_false}
 use Rattle.script_player.specs.PlainTold.{told_by}
 use Rattle.script_player.specs.PlainKept.{IsKept}
 use Rattle.script_player.specs.PlainPaying.{payer_by}
-use Rattle.promise_run.specs.Operations.{Costs, Work, IsWorked}
-use Rattle.script_player.specs.Working.{IsBegun}
-use Rattle.script_player.specs.PlainWork.{IsSimple, at_work_by, costs_in}
-use Rattle.script_player.proofs.PlainWork.{moment_in}
+use Rattle.uds_gateway.specs.promise_blocks.Work.{Costs, Work, IsWorked, has_risen}
+use Rattle.uds_gateway.proofs.StartWork.{start_leaves}
+use Rattle.uds_gateway.specs.nvm_core.DeviceWork.{IsSimple, costs_in, moment_in}
+use Rattle.script_player.specs.PlainWork.{at_work_by}
 use Rattle.script_player.proofs.PlainTurnWork.{works_known, works_stay_known, same_work, arm_work, down_work, start_work, turn_works}
 use Rattle.uds_gateway.specs.job_progress.JobInHand.{IsPaired}
 
@@ -125,8 +125,8 @@ module _ {D : Type 0} (device : D → DeviceTold) (clock : D → Clock) (old new
         reserve = ap (λ (f : Fixed). f.reserve) fixed;
       }
 
-      pub nothing_paid : (device new.device).ops ≡ (device old.device).ops → Owes → ((w : Work) → (at_work_by device clock old).is w → (at_work_by device clock new).is w ⊎ IsBegun (at_work_by device clock new)) → OwesNothing (payer_by device clock old) (payer_by device clock new) (told_by device new)
-      nothing_paid none owes rests = record { tells = tells; worn = stays_worn; spare = λ k n is. (let few = is.0 in spares_no_more k n (omega (arith, few, none)) is); pages = same_pages; failed = λ k is. (let few = is.0 in fails_no_more k (omega (arith, few, none)) is); traits = λ ops. traits_stay none ops; sealing = λ ready. none_sealed (device new.device) (clock new.device); owes = λ since was. (((was.0.0, keeps was.0.0 was.0.1), owes since was.1), (owes since was.1).0); work = record { known = works_stay_known device clock old new lasts fixed none; rests = rests } }
+      pub nothing_paid : (device new.device).ops ≡ (device old.device).ops → Owes → OwesNothing (payer_by device clock old) (payer_by device clock new) (told_by device new)
+      nothing_paid none owes = record { tells = tells; worn = stays_worn; spare = λ k n is. (let few = is.0 in spares_no_more k n (omega (arith, few, none)) is); pages = same_pages; failed = λ k is. (let few = is.0 in fails_no_more k (omega (arith, few, none)) is); traits = λ ops. traits_stay none ops; sealing = λ ready. none_sealed (device new.device) (clock new.device); owes = λ since was. (((was.0.0, keeps was.0.0 was.0.1), owes since was.1), (owes since was.1).0); work = works_stay_known device clock old new lasts fixed none }
 
     -- A TURN
     module _ (since : ℕ) (before : Part → PartTold) (kept : IsKept new.ready before new.desk new.hand (device new.device) (clock new.device))
@@ -173,7 +173,7 @@ module _ {D : Type 0} (device : D → DeviceTold) (clock : D → Clock) (old new
           let was = due ready in
           let config = ap (λ t. t.configuration) turn.grows in
           let on = on_behind old.desk new.desk e config adds none was.on in
-          turn_serves device clock old new e (record { config = config; adds = adds; none = none; on = on; tied = tied; power = power; order = order }) id answer one turns made serving
+          turn_serves device clock old new e (record { config = config; adds = adds; on = on; tied = tied; power = power; order = order }) id answer one turns made serving
           (record {
             faultless = λ rose. calm (rose_in (device old.device).first.faults (device old.device).second.faults (device new.device).first.faults (device new.device).second.faults lasts.faults.0 lasts.faults.1 (inl rose));
             on = on;
@@ -220,7 +220,7 @@ module _ {D : Type 0} (device : D → DeviceTold) (clock : D → Clock) (old new
   -- the device and the job in hand stay
   pub same_owed : Keeps → new.device ≡ old.device → new.hand ≡ old.hand → has_urgent old.desk ≡ has_urgent new.desk → new.desk.config ≡ old.desk.config → new.ready ≡ old.ready → OwesNothing (payer_by device clock old) (payer_by device clock new) (told_by device new)
   same_owed keeps same hand urgency config ready =
-      nothing_paid keeps (λ told. subst (λ (x : D). TellsSlots (device x)) same told) (same_lasts same) (ap (λ (x : D). (device x).fixed) same) config (ap (λ (x : D). (device x).ops) same) (same_owes same hand urgency) (λ w is. inl (same_work device clock old new same ready w is))
+      nothing_paid keeps (λ told. subst (λ (x : D). TellsSlots (device x)) same told) (same_lasts same) (ap (λ (x : D). (device x).fixed) same) config (ap (λ (x : D). (device x).ops) same) (same_owes same hand urgency)
 
   -- with a request more
   pub ask_paid : Keeps → laws.KeepsDue (now_of device old) (now_of device new) → (caller : ℕ) (r : Request) (reply : Reply) → new ≡ record old { desk = record old.desk { entries = old.desk.entries ++ Ask caller r reply ∷ [] } }
@@ -271,8 +271,7 @@ module _ {D : Type 0} (device : D → DeviceTold) (clock : D → Clock) (old new
         own = nothing_paid keeps tells lasts fixed config ops (λ since owes.
             subst (λ (b : Bool). OwesSince b since new.hand (device new.device) (clock new.device)) (ap (λ (s : StackState D (List PlainBlock)). has_urgent s.desk) (sym is))
             (subst (λ (h : Option HandState). OwesSince (has_urgent old.desk) since h (device new.device) (clock new.device)) (sym hand)
-            (since_stays old.desk.config since (has_urgent old.desk) (device old.device) (clock old.device) (device new.device) (clock new.device) lasts.ops (omega (arith, faults)) lasts.past.worn old.hand owes)))
-            (λ w at. inl (arm_work device clock old new 0 nth keep arms.0 fixed (ap (λ (s : StackState D (List PlainBlock)). s.ready) is) w at));
+            (since_stays old.desk.config since (has_urgent old.desk) (device old.device) (clock old.device) (device new.device) (clock new.device) lasts.ops (omega (arith, faults)) lasts.past.worn old.hand owes)));
         due = call_keeps device old new due None config (ap (λ (s : StackState D (List PlainBlock)). s.desk.entries) is ∙ sym (append-nil old.desk.entries)) refl hand (ap (λ (s : StackState D (List PlainBlock)). s.ready) is);
         sealing = λ since sealed now. arms_keep_seal nth keep (device old.device) (clock old.device) (device new.device) (clock new.device) arms since (sealed (sym (ap (λ (s : StackState D (List PlainBlock)). s.ready) is) ∙ now));
         works = arm_work device clock old new 0 nth keep arms.0 fixed (ap (λ (s : StackState D (List PlainBlock)). s.ready) is);
@@ -310,14 +309,16 @@ module _ {D : Type 0} (device : D → DeviceTold) (clock : D → Clock) (old new
 
   -- by what it came to; behind one that failed nothing is due
   pub restart_paid : Keeps → (lasts : Lasts (device old.device) (clock old.device) (device new.device) (clock new.device)) → InOrder (device new.device) (clock new.device) → (new.ready ≡ true → IsTied new.desk new.hand (device new.device)) → (answer : FoundAnswer) → Restarts device answer old new
-      → StartPays answer (payer_by device clock old) (payer_by device clock new) (told_by device new)
+      → StartPays answer (payer_by device clock old) (payer_by device clock new) (told_by device old) (told_by device new)
   restart_paid keeps lasts order tied found.Ready restarts =
       let paired = subst (λ (h : Option HandState). IsPaired new.desk.config (state_of new.desk) h (device new.device)) (ap (λ (s : StackState D (List PlainBlock)). s.hand) restarts.only) (tied (ap (λ (s : StackState D (List PlainBlock)). s.ready) restarts.only)).paired in
-      nothing_paid keeps (restart_tells found.Ready restarts) lasts restarts.finds.up.restarted.fixed (ap (λ (s : StackState D (List PlainBlock)). s.desk.config) restarts.only) (restart_ops found.Ready restarts) (restart_owes found.Ready restarts)
-      (λ w at. inr (start_work device clock old new restarts.finds.up.restarted.fixed order paired w at))
+      record {
+        own = nothing_paid keeps (restart_tells found.Ready restarts) lasts restarts.finds.up.restarted.fixed (ap (λ (s : StackState D (List PlainBlock)). s.desk.config) restarts.only) (restart_ops found.Ready restarts) (restart_owes found.Ready restarts);
+        drops = start_work device clock old new restarts.finds.up.restarted.fixed order paired (has_risen (faults_of (device old.device)) (faults_of (device new.device)))
+            (start_leaves restarts.marks (device old.device) (device new.device) restarts.finds);
+      }
   restart_paid keeps lasts order tied found.Failed restarts = record {
-    own = nothing_paid keeps (restart_tells found.Failed restarts) lasts restarts.fails.restarted.fixed (ap (λ (s : StackState D (List PlainBlock)). s.desk.config) restarts.only) (restart_ops found.Failed restarts) (restart_owes found.Failed restarts)
-        (λ w at. inl (down_work device clock old new restarts.fails.restarted.fixed (ap (λ (s : StackState D (List PlainBlock)). s.ready) restarts.only) w at));
+    own = nothing_paid keeps (restart_tells found.Failed restarts) lasts restarts.fails.restarted.fixed (ap (λ (s : StackState D (List PlainBlock)). s.desk.config) restarts.only) (restart_ops found.Failed restarts) (restart_owes found.Failed restarts);
     due = λ id one turns due ready. absurd (let down : new.ready ≡ false = ap (λ (s : StackState D (List PlainBlock)). s.ready) restarts.only in true_false ready down);
     sealing = λ since sealed ready. absurd (let down : new.ready ≡ false = ap (λ (s : StackState D (List PlainBlock)). s.ready) restarts.only in true_false ready down);
     works = down_work device clock old new restarts.fails.restarted.fixed (ap (λ (s : StackState D (List PlainBlock)). s.ready) restarts.only);

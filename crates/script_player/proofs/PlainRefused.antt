@@ -2,7 +2,7 @@
 use Rattle.std.specs.Prelude.{◌==◌, ◌&&◌, ◌-◌, not, nat_le, is_some, map, unwrap_or, if◌then◌else◌}
 use Rattle.std.proofs.Common.{◌≡◌, ◌≢◌, ◌+◌, ◌⊎◌, ℕ, zero, suc, add-one, Bool, true, false, List, [], ◌∷◌, length, Option, Some, None, option_map, IfSome, refl, sym, ap, ◌∙◌, subst, inl, inr}
 use Rattle.std.proofs.lemmas.Bool.Decides.{eqb_tells}
-use Rattle.uds_gateway.specs.block_machine.Words.{JobKind, WriteJob, Taken, TookNothing, TookContent, TookRefused, TookStale, Entry, NotOk, Configuration}
+use Rattle.uds_gateway.specs.block_machine.Words.{JobKind, WriteJob, Taken, TookNothing, TookContent, TookRefused, TookStale, Entry, Configuration}
 use Rattle.uds_gateway.specs.block_machine.State.{State, BlockState, Job}
 use Rattle.uds_gateway.specs.block_machine.Blocks.{desc_of, block_at, is_synchronized, job_block, kind_of, asked_store}
 use Rattle.uds_gateway.specs.block_machine.Sweeps.{member_job}

@@ -1,6 +1,6 @@
 -- The steps of the player: a power cut that is planned, a store, copies that are to be refused.
 use Rattle.std.specs.Prelude.{◌==◌, ◌&&◌, ◌-◌, min, unwrap_or, option_map, map, nat_le, slice_set, if◌then◌else◌}
-use Rattle.std.proofs.Common.{◌≡◌, ◌≢◌, ◌<◌, get_or-set_other, ◌≤◌, ◌+◌, ◌⊎◌, ℕ, zero, suc, Bool, true, false, List, [], ◌∷◌, length, get_or, Option, Some, None, refl, sym, ap, ◌∙◌, subst, inl, inr, arith}
+use Rattle.std.proofs.Common.{◌≡◌, ◌≢◌, get_or-set_other, ◌≤◌, ◌+◌, ◌⊎◌, ℕ, zero, suc, Bool, true, false, List, [], ◌∷◌, length, get_or, Option, Some, None, refl, sym, ap, ◌∙◌, subst, inl, inr, arith}
 use Rattle.std.proofs.lemmas.Bool.Decides.{eqb_tells, leb_tells}
 use Rattle.std.proofs.lemmas.List.{map-set}
 use Prim.Native.Nat.compare

@@ -1,13 +1,13 @@
 -- A turn: what it adds, and how that is explained.
 use Rattle.std.specs.Prelude.{◌||◌, not, IsTrue, map}
-use Rattle.std.proofs.Common.{◌≡◌, ◌≤◌, ◌+◌, ℕ, suc, Bool, true, false, List, [], ◌∷◌, ◌++◌, length, get_or, Option, None, refl, sym, ap, ◌∙◌, subst, inl, inr, arith, append-nil}
+use Rattle.std.proofs.Common.{◌≡◌, ◌+◌, ℕ, suc, Bool, true, false, List, [], ◌∷◌, ◌++◌, length, get_or, Option, None, refl, sym, ap, ◌∙◌, subst, inl, inr, arith, append-nil}
 use Rattle.std.proofs.lemmas.List.{ext_get_or, length-map}
 use Rattle.uds_gateway.specs.memif.Told.{DeviceTold, Fixed, is_off}
-use Rattle.uds_gateway.specs.block_machine.Words.{Entry, Off, Configuration}
-use Rattle.uds_gateway.specs.block_machine.State.{State, Job}
-use Rattle.uds_gateway.specs.block_machine.Steps.{step, after}
+use Rattle.uds_gateway.specs.block_machine.Words.{Entry, Off}
+use Rattle.uds_gateway.specs.block_machine.State.{State}
+use Rattle.uds_gateway.specs.block_machine.Steps.{step}
 use Rattle.uds_gateway.specs.ram_blocks.declared.plain_block.PlainBlock.{PlainBlock}
-use Rattle.uds_gateway.specs.ram_blocks.Told.{Told, sizes_of}
+use Rattle.uds_gateway.specs.ram_blocks.Told.{sizes_of}
 use Rattle.uds_gateway.specs.ram_blocks.Plain.{told_of, store_of}
 use Rattle.uds_gateway.specs.nv_desk.Desk.{DeskState, state_of}
 use Rattle.promise_run.specs.Run.{DueCut, Added, CutsAre}

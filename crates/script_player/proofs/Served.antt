@@ -1,13 +1,12 @@
 -- Requests of a UDS gateway, one after another.
-use Rattle.std.specs.Prelude.{not, ◌||◌, ◌&&◌, if◌then◌else◌, is_none, option_to_list, IfOk}
-use Rattle.std.specs.List.{list_all}
-use Rattle.std.proofs.Common.{◌≡◌, ◌≢◌, ◌<◌, ◌≤◌, ◌+◌, ◌*◌, ◌==◌, ◌-◌, length-append, ℕ, Bool, true, false, IsTrue, List, [], ◌∷◌, ◌++◌, length, map, take, drop, get_or, zero, suc, Option, Some, None, Result, Ok, Err, refl, sym, ap, ◌∙◌, subst, inl, inr, arith, append-nil, append_assoc}
+use Rattle.std.specs.Prelude.{not}
+use Rattle.std.proofs.Common.{◌≡◌, ◌≢◌, ◌<◌, ◌≤◌, ◌+◌, ◌-◌, length-append, ℕ, true, false, IsTrue, List, [], ◌∷◌, ◌++◌, length, take, drop, get_or, zero, suc, None, Result, Ok, Err, refl, sym, ap, ◌∙◌, subst, inl, inr, arith, append-nil, append_assoc}
 use Rattle.std.proofs.lemmas.List.{map-append, take_more}
 use Rattle.std.proofs.lemmas.List.Folds.{list_all-append}
 use Rattle.uds_gateway.specs.nv_desk.Desk.{DeskState}
 use Rattle.uds_gateway.specs.nvm_laws.declared.turned.Turned.{Turned}
 use Rattle.uds_gateway.specs.nvm_laws.declared.turned.Turned.TheVariants as turned
-use Rattle.uds_gateway.specs.block_machine.Words.{Instance, Mark, Request, Read, Write, Reply, Accepted, Refused, Refusal, StatusIs, IndexIs, Entry, Ask, Post, Off, Found, Configuration}
+use Rattle.uds_gateway.specs.block_machine.Words.{Instance, Mark, Request, Reply, Accepted, Refused, StatusIs, IndexIs, Entry, Ask, Post, Off, Found, Configuration}
 use Rattle.uds_gateway.specs.block_machine.State.{State, Job}
 use Rattle.uds_gateway.specs.block_machine.Blocks.{asked_block}
 use Rattle.uds_gateway.specs.block_machine.Legal.{HasStore}
@@ -18,28 +17,24 @@ use Rattle.uds_gateway.specs.declared.code.NegativeCode.{NegativeCode}
 use Rattle.uds_gateway.specs.declared.stop.ServeStop.{ServeStop}
 use Rattle.uds_gateway.specs.declared.stop.ServeStop.TheVariants as stop
 use Rattle.uds_gateway.specs.Services.{asked_by}
-use Rattle.uds_gateway.specs.Jobs.{HasNone, HasOne, IsOwn, IsRefused, EndsPosted, EndsOff}
+use Rattle.uds_gateway.specs.Jobs.{HasNone, HasOne, IsOwn}
 use Rattle.uds_gateway.specs.Turning.{Goes, ComesToPost, ComesToOff, is_on_way}
-use Rattle.uds_gateway.specs.Served.{IsServedBy, AreServed, IsOffBy}
 use Rattle.uds_gateway.proofs.Served.{served_more}
 use Rattle.uds_gateway.proofs.Jobs.{accepted_one, refused_none, own_cases, own_reply, IsYesOrNo}
-use Rattle.script_walks.specs.Words.{Step, StepKind, AskStep, Turn}
+use Rattle.script_walks.specs.Words.{Step, AskStep, Turn}
 use Rattle.script_walks.specs.Walk.{request_after, is_at_rest, joined}
 use Rattle.nvm_script.specs.Played.{CanBePlayed}
 use Rattle.script_player.specs.Told.{StackTold, state_of, desk_of}
 use Rattle.script_player.specs.Calls.{AddsAsk, Turns}
 use Rattle.script_player.specs.Kept.{IsKept, MakesTurns}
-use Rattle.script_player.specs.Made.{IsMade, IsAsked, IsFresh, HasWalked}
+use Rattle.script_player.specs.Made.{IsAsked, IsFresh, HasWalked}
 use Rattle.script_player.specs.Paying.{Payer, PaysTurn, PaysNothing, AskPays}
-use Rattle.script_player.specs.Requests.{is_of_request, AreOfRequests, no_stores, IsServing, ServesMore, ServesNoMore, EndsJob, EndsRequest, AreServedSoFar, LeavesRequests, ServesRequests, HasServed}
-use Rattle.script_player.specs.Table.{HasLastStores}
-use Rattle.script_player.specs.Walking.{AreUnderWay}
+use Rattle.script_player.specs.Requests.{is_of_request, AreOfRequests, no_stores, IsServing, ServesNoMore, EndsJob, EndsRequest, AreServedSoFar, HasServed}
 use Rattle.script_player.proofs.Causes.{joined_more}
-use Rattle.script_player.proofs.Grown.{state_grown}
 use Rattle.script_player.proofs.Making.{ask_made, turns_made}
 use Rattle.script_player.proofs.Offs.{none_counted}
 use Rattle.script_player.proofs.Paying.{none_pays, nothing_pays}
-use Rattle.script_player.proofs.Table.{same_table, first_table}
+use Rattle.script_player.proofs.Table.{same_table}
 use Rattle.script_player.proofs.Turned.{one_turn_more}
 use Rattle.script_player.proofs.Walking.{begin, walk_on, has_walked}
 

@@ -1,16 +1,17 @@
 -- What moves do at the device, one after another.
-use Rattle.std.specs.Prelude.{◌||◌}
+use Rattle.std.specs.Prelude.{◌||◌, if◌then◌else◌}
 use Rattle.std.proofs.Common.{◌≡◌, ◌⊎◌, ◌≤◌, ◌+◌, ℕ, Bool, true, false, Some, None, List, [], ◌∷◌, ◌++◌, refl, sym, ◌∙◌, subst, inl, inr, arith}
 use Rattle.uds_gateway.specs.block_machine.Words.{Instance, Mark, Request, Reply, Ask, Found, Configuration}
 use Rattle.uds_gateway.specs.block_machine.State.{State}
 use Rattle.uds_gateway.specs.block_machine.Steps.{after_from}
 use Rattle.uds_gateway.specs.promise_blocks.Payment.{Worn}
-use Rattle.promise_run.specs.Moves.{Moment, Move, entry_list, entries_of, moment_behind}
+use Rattle.uds_gateway.specs.promise_blocks.Moves.{Moment, Move, entry_list, entries_of, moment_behind}
 use Rattle.promise_run.specs.Turns.{CountFailed}
-use Rattle.promise_run.specs.Operations.{Costs, Work, Effort, EndsTry, IsWorked, AreWorked, work_behind, has_risen}
+use Rattle.uds_gateway.specs.promise_blocks.Work.{Costs, Work, Effort, EndsTry, IsWorked, AreWorked, work_behind, has_risen}
 use Rattle.promise_run.proofs.Counted.{behind_later}
-use Rattle.uds_gateway.proofs.HistoryLaws.{histories_go_on}
-use Rattle.script_player.specs.Working.{AtWork, KnowsNoMore, WorksNot, WorksAlong}
+use Rattle.uds_gateway.proofs.DeviceWork.{none_some}
+use Rattle.uds_gateway.proofs.WorkLists.{ask_is_worked, many_more, work_more}
+use Rattle.script_player.specs.Working.{AtWork, KnowsNoMore, WorksNot, WorksAlong, DropsWork}
 
 -- WHERE LESS IS FREE
 -- a move with less room, and where the device is worn out sooner
@@ -45,21 +46,6 @@ worked_by f room other worn more failed n less sooner c before s w (m ∷ ms) (e
     )
 
 -- MORE MOVES
-work_more : (w : Work) (xs ys : List Effort) → work_behind w (xs ++ ys) ≡ work_behind (work_behind w xs) ys
-work_more w [] ys = refl
-work_more w (x ∷ xs) ys = work_more x.behind xs ys
-
-worked_more : (f : Costs) (room : ℕ → ℕ → Type 0) (worn : Worn) (c : Configuration) (before : Moment) (s : State) (w : Work) (xs ys : List Move) (es fs : List Effort) → AreWorked f room worn c before s w xs es
-    → AreWorked f room worn c (moment_behind before xs) (after_from c s (entries_of xs)) (work_behind w es) ys fs → AreWorked f room worn c before s w (xs ++ ys) (es ++ fs)
-worked_more f room worn c before s w [] ys [] fs one two = two
-worked_more f room worn c before s w [] ys (e ∷ es) fs one two = absurd one
-worked_more f room worn c before s w (m ∷ ms) ys [] fs one two = absurd one
-worked_more f room worn c before s w (m ∷ ms) ys (e ∷ es) fs (here, rest) two = (
-  here,
-  worked_more f room worn c m.behind (after_from c s (entry_list m.entry)) e.behind ms ys es fs rest
-      (subst (λ (t : State). AreWorked f room worn c (moment_behind m.behind ms) t (work_behind e.behind es) ys fs) (histories_go_on c s (entry_list m.entry) (entries_of ms)) two),
-)
-
 module _ (worn : Worn) (p q : AtWork) where
   known_more : (r : AtWork) (ops later : ℕ) → ops ≤ later → KnowsNoMore ops p q → KnowsNoMore later q r → KnowsNoMore ops p r
   known_more r ops later less one two = record {
@@ -76,7 +62,7 @@ module _ (worn : Worn) (p q : AtWork) where
         let (es, are, there) = one.along w is in
         let (fs, ares, now) = two.along (work_behind w es) there in (
           es ++ fs,
-          worked_more r.costs r.room more c before s w xs ys es fs
+          many_more r.costs r.room more c before s w xs ys es fs
               (worked_by r.costs q.room r.room worn more failed (moment_behind before xs).ops two.known.room sooner c before s w xs es (omega arith) counts
               (subst (λ (f : Costs). AreWorked f q.room worn c before s w xs es) (sym two.known.costs) are)) ares,
           subst r.is (sym (work_more w es fs)) now,
@@ -114,34 +100,29 @@ module _ (worn : Worn) (p q : AtWork) where
       → WorksAlong worn c before s (record { entry = Some (Ask caller r reply); behind = before } ∷ []) p q
   along_ask c before s caller r reply known rests = record {
     known = known;
-    along = λ w is. (
-      record { begins = None; behind = w } ∷ [],
-      (
-        record {
-          begins = λ n none. none_some n none;
-          adds = λ test has. omega arith;
-          ends = λ n on. inl on;
-          none = λ none. none;
-          over = λ posted. cc posted;
-        },
-        tt,
-      ),
-      rests w is,
-    );
+    along = λ w is. (record { begins = None; behind = w } ∷ [], (ask_is_worked q.costs q.room worn c before s w caller r reply, tt), rests w is);
   }
-    where
-      none_some : {X : Type 0} (n : ℕ) → None ≡ Some n → X
-      none_some n none = cc none
 
   -- a start-up
-  pub along_found : (c : Configuration) (before behind : Moment) (s : State) (marks : List (Instance × Mark)) (ops : ℕ) → behind.ops ≡ before.ops → WorksNot p q
+  pub along_found : (c : Configuration) (before behind : Moment) (s : State) (marks : List (Instance × Mark)) (ops : ℕ) → behind.ops ≡ before.ops → WorksNot p q → DropsWork (has_risen before.faults behind.faults) p q
       → WorksAlong worn c before s (record { entry = Some (Found marks ops); behind = behind } ∷ []) p q
-  along_found c before behind s marks ops same works = record {
-    known = works.known before.ops;
-    along = λ w is. elim (works.rests w is) [
-      | inl stays ↦ (record { begins = None; behind = w } ∷ [], (found w w (omega arith) (λ n on. inl on) (λ none. none), tt), stays)
-      | inr drops ↦ (record { begins = None; behind = record { left = drops.left; trying = None } } ∷ [], (found w (record { left = drops.left; trying = None }) (let few = drops.few in omega (arith, few)) (λ n on. inr (refl, inl (found_ends n))) (λ none. refl), tt), drops.is)
-    ];
+  along_found c before behind s marks ops same works drops = record {
+    known = works before.ops;
+    along = λ w is.
+        let begun = drops w is in (
+          record { begins = None; behind = record { left = begun.left; trying = None } } ∷ [],
+          (
+            record {
+              begins = λ n none. none_some n none;
+              adds = λ test has. by_fault (has_risen before.faults behind.faults) begun.left begun.few w.left;
+              ends = λ n on. inr (refl, inl (found_ends n));
+              none = λ none. refl;
+              over = λ posted. cc posted;
+            },
+            tt,
+          ),
+          begun.is,
+        );
   }
     where
       none_some : {X : Type 0} (n : ℕ) → None ≡ Some n → X
@@ -154,12 +135,7 @@ module _ (worn : Worn) (p q : AtWork) where
       found_ends : (n : ℕ) → (false || (has_risen before.faults behind.faults || (false || true))) ≡ true
       found_ends n = or_last (has_risen before.faults behind.faults)
 
-      found : (w u : Work) → u.left ≤ w.left + q.costs.switch → ((n : ℕ) → w.trying ≡ Some n → (u.trying ≡ Some n) ⊎ ((u.trying ≡ None) × EndsTry worn c s n before (record { entry = Some (Found marks ops); behind = behind }))) → (w.trying ≡ None → u.trying ≡ None)
-          → IsWorked q.costs q.room worn c before s w (record { entry = Some (Found marks ops); behind = behind }) (record { begins = None; behind = u })
-      found w u less ends none = record {
-        begins = λ n none. none_some n none;
-        adds = λ test has. omega (arith, less, same);
-        ends = ends;
-        none = none;
-        over = λ posted. cc posted;
-      }
+      -- what is left is paid by its fault
+      by_fault : (faulty : Bool) (left : ℕ) → left ≤ (if faulty then q.costs.switch else 0) → (was : ℕ) → behind.ops + left ≤ before.ops + was + (0 + ((if faulty then q.costs.switch + 1 else 0) + 0))
+      by_fault true left few was = omega (arith, few, same)
+      by_fault false left few was = omega (arith, few, same)

@@ -11,7 +11,6 @@ pub mod Working
 pub mod Paying
 pub mod PlainTold
 pub mod PlainKept
-pub mod PlainDue
 pub mod PlainWork
 pub mod PlainPaying
 pub use Rattle.uds_gateway.specs.ram_blocks as ram_blocks

@@ -1,19 +1,19 @@
 -- The steps that were made.
-use Rattle.std.specs.Prelude.{◌≡◌, ◌≤◌, ◌<◌, ◌+◌, ◌^◌, ℕ, true, false, IsTrue, List, [], ◌∷◌, ◌++◌, length, map, take, sum_by, Option, None}
+use Rattle.std.specs.Prelude.{◌≡◌, ◌≤◌, ◌<◌, ◌+◌, ◌^◌, ℕ, true, false, List, [], ◌∷◌, ◌++◌, length, map, take, sum_by, Option, None}
 use Rattle.uds_gateway.specs.nv_base.Count.{Rose, WereCounted}
 use Rattle.uds_gateway.specs.nv_base.Entry.{ops_behind}
 use Rattle.uds_gateway.specs.block_machine.Words.{Instance, Mark, Request, Reply, Entry, Ask, Found}
 use Rattle.uds_gateway.specs.block_machine.Steps.{after}
 use Rattle.uds_gateway.specs.ram_blocks.Plain.{store_of, plain_blocks_of}
 use Rattle.script_walks.specs.Words.{Step, StepKind, Cut, Restart}
-use Rattle.script_walks.specs.Walk.{request_after, is_at_rest, IsPiece, IsWalkOf}
+use Rattle.script_walks.specs.Walk.{request_after, IsPiece, IsWalkOf}
 use Rattle.promise_run.specs.Run.{Played, EachPiece, HasNoRoom, HadRoom, DueCut, Made, Added, CutsExplain}
 use Rattle.promise_run.specs.Refusals.{AreAsAsked, RefusesAsAsked, asked_by}
 use Rattle.promise_run.specs.InRoom.{is_drain}
 use Rattle.promise_run.specs.Turns.{Moment, Move, entries_of, moment_behind, AreMovesOf, HasMoves, EachMove, ServesTurn, StaysAtRest, ClosesAtDrains, all_moves, CutsCome}
 use Rattle.script_player.specs.declared.steps.StepFault.{StepFault}
 use Rattle.script_player.specs.declared.steps.StepFault.TheVariants.{Flash, HistoryFull, Memory}
-use Rattle.script_player.specs.Told.{StackTold, state_of, moment_of, IsWithin, IsNoEarlier, AreCut, TellsOff}
+use Rattle.script_player.specs.Told.{StackTold, state_of, moment_of, IsNoEarlier, AreCut, TellsOff}
 use Rattle.script_player.specs.Calls.{AddsAsk}
 use Rattle.script_player.specs.Kept.{IsKept, StaysCalm}
 use Rattle.script_player.specs.Chain.{shown_of, AreMoved}

@@ -7,9 +7,9 @@ use Rattle.uds_gateway.specs.promise_blocks.Payment.{Worn}
 use Rattle.uds_gateway.specs.nvm_laws.declared.turned.FoundAnswer.{FoundAnswer}
 use Rattle.uds_gateway.specs.nvm_laws.declared.turned.FoundAnswer.TheVariants as found
 use Rattle.promise_run.specs.Turns.{Moment, Move, entry_list, is_picked, is_off, posts, posts_other, urgent_block, found_behind, EachMoveSince, IsPostedSoon, PostsUrgent, IsPaidSince, ArePaidSince, CountFailed, HasImmediate, TakeKept}
-use Rattle.promise_run.specs.Operations.{Work}
+use Rattle.uds_gateway.specs.promise_blocks.Work.{Work, has_risen}
 use Rattle.script_player.specs.Told.{StackTold, state_of, moment_of}
-use Rattle.script_player.specs.Working.{AtWork, WorksOn, WorksNot, WorksAlong}
+use Rattle.script_player.specs.Working.{AtWork, WorksOn, WorksNot, WorksAlong, DropsWork}
 
 -- What is known at a moment of payment: whether the device still tells what it holds; what is kept, and that the failed tries of
 -- the job in hand were counted since so many faults; where the device was worn out, once so many operations were made; which of
@@ -120,9 +120,14 @@ pub record PaysNothing (p q : Payer) (new : StackTold) : Type 0 where
 abbrev pub AskPays : Payer → Payer → StackTold → StackTold → Type 0
 AskPays p q old new = PaysNothing p q new × AcceptsUrgent p q old new
 
-abbrev pub StartPays : FoundAnswer → Payer → Payer → StackTold → Type 0
-StartPays found.Ready p q new = OwesNothing p q new
-StartPays answer p q new = PaysNothing p q new
+-- a start-up that stands drops what is open, and leaves nothing unless it counted a fault
+pub record StartsAnew (p q : Payer) (old new : StackTold) : Type 0 where
+  pub own : OwesNothing p q new
+  pub drops : DropsWork (has_risen old.faults new.faults) p.work q.work
+
+abbrev pub StartPays : FoundAnswer → Payer → Payer → StackTold → StackTold → Type 0
+StartPays found.Ready p q old new = StartsAnew p q old new
+StartPays answer p q old new = PaysNothing p q new
 
 -- MOVES
 -- the count since which the tries behind moves were counted: that before the turn of the last Pick

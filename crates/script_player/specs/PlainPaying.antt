@@ -11,7 +11,7 @@ use Rattle.uds_gateway.specs.nvm_laws.Traits.{IsSealedSince}
 use Rattle.script_player.specs.Paying.{Payer}
 use Rattle.script_player.specs.PlainKept.{IsKept}
 use Rattle.script_player.specs.PlainWork.{at_work_by}
-use Rattle.script_player.specs.PlainDue.{IsDueFor, AreFirst, pages_in}
+use Rattle.uds_gateway.specs.nvm_core.DueWrites.{IsDueFor, AreFirst, pages_in}
 
 -- The device tells what it holds; all is kept as far as that is told, by what was told before the first start-up, and the failed tries of the job in hand were counted since; the
 -- device was worn out, operations failed and pages were spare, where its clock tells it, of the operations so far, and the pages

@@ -8,7 +8,7 @@ use Rattle.uds_gateway.specs.block_machine.State.{State, Job}
 use Rattle.uds_gateway.specs.ram_blocks.declared.plain_block.PlainBlock.{PlainBlock}
 use Rattle.uds_gateway.specs.ram_blocks.Told.{Told, to_refuse_of}
 use Rattle.uds_gateway.specs.ram_blocks.Plain.{told_of, store_of}
-use Rattle.uds_gateway.specs.nv_desk.Desk.{DeskState, state_of}
+use Rattle.uds_gateway.specs.nv_desk.Desk.{DeskState}
 use Rattle.uds_gateway.specs.job_progress.Hand.{HandState}
 use Rattle.uds_gateway.specs.nvm_core.Stack.{StackState}
 use Rattle.uds_gateway.specs.nvm_core.Work.{left_with}

@@ -1,10 +1,7 @@
 -- The steps that are made so far.
-use Rattle.std.specs.Prelude.{◌≡◌, ◌⊎◌, ◌≤◌, ◌<◌, ◌+◌, ◌-◌, ℕ, true, false, IsTrue, List, [], ◌∷◌, ◌++◌, length, sum_by, take, Option, Some, None}
-use Rattle.std.specs.List.{list_any}
+use Rattle.std.specs.Prelude.{◌≡◌, ◌≤◌, ◌+◌, ℕ, true, List, [], ◌∷◌, ◌++◌, length, Option, None}
 use Rattle.uds_gateway.specs.block_machine.Words.{Instance, Mark, Entry, Found}
-use Rattle.uds_gateway.specs.block_machine.State.{State, Job}
-use Rattle.uds_gateway.specs.block_machine.Blocks.{job_block}
-use Rattle.uds_gateway.specs.block_machine.Steps.{after, after_from}
+use Rattle.uds_gateway.specs.block_machine.Steps.{after}
 use Rattle.script_walks.specs.Words.{Step}
 use Rattle.script_walks.specs.Walk.{IsWalkOf, joined}
 use Rattle.promise_run.specs.Run.{EachPiece, HadRoom, events_of}
@@ -12,7 +9,7 @@ use Rattle.promise_run.specs.Refusals.{StepsRefuse}
 use Rattle.promise_run.specs.Turns.{HasMoves, ClosesAtDrains, all_moves, Moment, Move, Planned, planned_by, moment_behind, CutsCome}
 use Rattle.script_player.specs.Chain.{shown_of, AreMoved}
 use Rattle.script_player.specs.Coming.{IsPending}
-use Rattle.script_player.specs.Told.{StackTold, state_of, moment_of, IsWithin, AreCut}
+use Rattle.script_player.specs.Told.{StackTold, state_of, moment_of, AreCut}
 use Rattle.script_player.specs.Kept.{IsKept, StaysCalm}
 use Rattle.script_player.specs.Made.{cuts_of}
 use Rattle.script_player.specs.Paying.{Payer, PaysBy}

@@ -1,10 +1,10 @@
 -- What moves do at the device: the operations that they make, and those that are left.
-use Rattle.std.specs.Prelude.{◌≡◌, ◌⊎◌, ◌≤◌, ◌++◌, ℕ, List, None}
+use Rattle.std.specs.Prelude.{◌≡◌, ◌≤◌, ◌++◌, if◌then◌else◌, ℕ, Bool, List, None}
 use Rattle.uds_gateway.specs.block_machine.Words.{Configuration}
 use Rattle.uds_gateway.specs.block_machine.State.{State}
 use Rattle.uds_gateway.specs.promise_blocks.Payment.{Worn}
-use Rattle.promise_run.specs.Moves.{Moment, Move, entry_list}
-use Rattle.promise_run.specs.Operations.{Costs, Work, Effort, IsWorked, AreWorked, work_behind}
+use Rattle.uds_gateway.specs.promise_blocks.Moves.{Moment, Move, entry_list}
+use Rattle.uds_gateway.specs.promise_blocks.Work.{Costs, Work, Effort, IsWorked, AreWorked, work_behind}
 use Rattle.script_player.specs.Told.{StackTold, state_of, moment_of}
 
 -- What is known at a moment of the device's work: what it takes at most, which never changes; how many pages were free, once so many
@@ -19,10 +19,10 @@ pub record KnowsNoMore (ops : ℕ) (p q : AtWork) : Type 0 where
   pub costs : q.costs ≡ p.costs
   pub room : (k n : ℕ) → k ≤ ops → q.room k n → p.room k n
 
--- behind a start-up no try is open, and a switch of banks at most goes on
-pub record IsBegun (q : AtWork) : Type 0 where
+-- behind a start-up no try is open and nothing is left, unless a fault was counted: then a switch of banks at most goes on
+pub record IsBegun (faulty : Bool) (q : AtWork) : Type 0 where
   pub left : ℕ
-  pub few : left ≤ q.costs.switch
+  pub few : left ≤ (if faulty then q.costs.switch else 0)
   pub is : q.is (record { left = left; trying = None })
 
 -- CALLS
@@ -32,10 +32,13 @@ pub record WorksOn (worn : Worn) (p q : AtWork) (old new : StackTold) : Type 0 w
   pub moves : (w : Work) (m : Move) → p.is w → m.behind ≡ moment_of new → new.entries ≡ old.entries ++ entry_list m.entry
       → (e : Effort) × IsWorked q.costs q.room worn old.configuration (moment_of old) (state_of old) w m e × q.is e.behind
 
--- any other call makes no operation: what is open stays so, or a start-up drops it, and may find a switch that is to go on
-pub record WorksNot (p q : AtWork) : Type 0 where
-  pub known : (ops : ℕ) → KnowsNoMore ops p q
-  pub rests : (w : Work) → p.is w → q.is w ⊎ IsBegun q
+-- any other call makes no operation
+abbrev pub WorksNot : AtWork → AtWork → Type 0
+WorksNot p q = (ops : ℕ) → KnowsNoMore ops p q
+
+-- what is open is dropped by a start-up
+abbrev pub DropsWork : (faulty : Bool) → AtWork → AtWork → Type 0
+DropsWork faulty p q = (w : Work) → p.is w → IsBegun faulty q
 
 -- MOVES
 -- each keeps to the work that was open before it

@@ -1,5 +1,5 @@
 // The last store of each caller.
-ghost use Rattle.std.specs.Prelude.{◌≡◌, ◌≤◌, ◌+◌, ◌*◌, IfOk, get_or, replicate, slice_set};
+ghost use Rattle.std.specs.Prelude.{◌≡◌, ◌+◌, ◌*◌, IfOk, get_or, replicate, slice_set};
 ghost use Rattle.script_player.specs.Table.{place_of as place};
 
 use std::alloc::{AllocError, Global};

@@ -47,7 +47,7 @@ pub trait PlayedStack {
     /// A further start-up.
     fn restart(&mut self, alloc: Global) -> FoundAnswer
         ensures restarts { Restarts result (told self.old) (told self.new) }
-        ensures pays { StartPays result (payer self.old) (payer self.new) (told self.new) }
+        ensures pays { StartPays result (payer self.old) (payer self.new) (told self.old) (told self.new) }
         ensures keeps { (before : Part → PartTold) → kept self.old before → kept self.new before };
 
     /// Plans a power cut of the device's flash at its nth changing operation from now, with so many bytes of it done.

@@ -1,5 +1,5 @@
 // Requests of a UDS gateway, one after another on a stack.
-ghost use Rattle.std.specs.Prelude.{◌≡◌, ◌<◌, ◌≤◌, ℕ, List, [], All, true, false, length, IfOk, OnOk};
+ghost use Rattle.std.specs.Prelude.{◌≡◌, ◌<◌, ◌≤◌, ℕ, List, [], All, true, false, length};
 ghost use Rattle.uds_gateway.specs.memif.Told.{Part, PartTold};
 ghost use Rattle.uds_gateway.specs.block_machine.Words.{Request as Asked};
 ghost use Rattle.uds_gateway.specs.Jobs.{HasNone, HasOne, IsOwn};

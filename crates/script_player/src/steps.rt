@@ -1,5 +1,5 @@
 // The steps of a script.
-ghost use Rattle.std.specs.Prelude.{◌≡◌, ◌≤◌, ℕ, List, [], true, length, OnOk, OnErr, IfOk, IfErr};
+ghost use Rattle.std.specs.Prelude.{◌≡◌, ◌≤◌, ℕ, List, [], true, length, OnOk, OnErr, IfErr};
 ghost use Rattle.uds_gateway.specs.memif.Told.{Part, PartTold};
 ghost use Rattle.uds_gateway.specs.block_machine.Words.{Configuration};
 ghost use Rattle.uds_gateway.specs.block_machine.Legal.{HasStore};
@@ -8,7 +8,7 @@ ghost use Rattle.script_walks.specs.Walk.{request_after};
 ghost use Rattle.nvm_script.specs.Played.{IsPlayed, ArePlayed, CanBePlayed};
 ghost use Rattle.script_player.specs.Calls.{StartsAgain};
 ghost use Rattle.script_player.specs.Made.{Makes, IsAsked, IsLeft, IsFresh, HasWalked, WasBroken, cuts_of};
-ghost use Rattle.script_player.specs.Paying.{PaysBy, OwesNothing, AskPays};
+ghost use Rattle.script_player.specs.Paying.{PaysBy, StartsAnew, AskPays};
 ghost use Rattle.script_player.specs.Table.{HasLastStores, HoldsSynchronized};
 
 use crate::turns::{drain, make_turns};
@@ -146,7 +146,7 @@ fn ask<S: PlayedStack>(
 
 fn restart<S: PlayedStack>(alloc: Global, stack: &mut S) -> Result<(), StepFault>
     ensures ready { OnOk result ((S.told stack.new).ready ≡ true) }
-    ensures made { OnOk result (StartsAgain (S.told stack.old) (S.told stack.new) × OwesNothing (S.payer stack.old) (S.payer stack.new) (S.told stack.new)) }
+    ensures made { OnOk result (StartsAgain (S.told stack.old) (S.told stack.new) × StartsAnew (S.payer stack.old) (S.payer stack.new) (S.told stack.old) (S.told stack.new)) }
     ensures owes { OnErr result (PaysBy (S.payer stack.old) (S.payer stack.new) (S.told stack.old) []) }
     ensures left { IfErr result (λ fault. (line caller : ℕ) → IsLeft fault (record { line = line; caller = caller; kind = Restart }) (S.told stack.old) (S.told stack.new)) }
     ensures keeps { (before : Part → PartTold) → S.kept stack.old before → S.kept stack.new before }

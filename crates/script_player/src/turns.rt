@@ -1,5 +1,5 @@
 // Turns of a stack.
-ghost use Rattle.std.specs.Prelude.{◌≡◌, ◌<◌, ◌≤◌, ◌||◌, ℕ, List, IsTrue, true, false};
+ghost use Rattle.std.specs.Prelude.{◌≡◌, ◌<◌, ◌≤◌, ◌||◌, List, IsTrue, true, false};
 ghost use Rattle.script_walks.specs.Words.{Step};
 ghost use Rattle.script_walks.specs.Walk.{is_at_rest};
 ghost use Rattle.uds_gateway.specs.memif.Told.{Part, PartTold};

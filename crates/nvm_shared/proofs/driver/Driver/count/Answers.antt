@@ -1,6 +1,6 @@
 use Rattle.std.proofs.Common.{◌∙◌, subst}
 use Rattle.turn_gate.specs.Pass.{knows}
-use Rattle.nvm_shared.proofs.Counting.{drives_on, kept_on, more_learns, sees_requests}
+use Rattle.nvm_shared.proofs.Counting.{drives_on, kept_on, sees_requests}
 use Rattle.nvm_shared.specs.Driving.{DriverState, TellsReady}
 use Rattle.nvm_shared.proofs.driver.Driver.count.Goals as goal
 

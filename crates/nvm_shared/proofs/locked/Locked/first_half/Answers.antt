@@ -1,4 +1,4 @@
-use Rattle.std.proofs.Common.{◌≡◌, sym, ap, subst, ◌∙◌}
+use Rattle.std.proofs.Common.{sym, ap, subst, ◌∙◌}
 use Rattle.nvm_core.specs.nv_desk.Desk.{state_of}
 use Rattle.nvm_core.specs.job_progress.JobInHand.{HandFits}
 use Rattle.nvm_core.specs.Stack.{stack_with}

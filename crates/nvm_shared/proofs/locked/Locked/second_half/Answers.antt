@@ -1,4 +1,4 @@
-use Rattle.std.proofs.Common.{◌≡◌, refl, sym, ap, subst, ◌∙◌}
+use Rattle.std.proofs.Common.{refl, sym, ap, subst, ◌∙◌}
 use Rattle.nvm_core.specs.BehindDevice.{IsBehindTurn, TakesTurn}
 use Rattle.nvm_shared.specs.Locked.{LockedState, IsLocked, terms_of}
 use Rattle.nvm_shared.proofs.Writing.{turn_writes, locked_on, writes_terms}

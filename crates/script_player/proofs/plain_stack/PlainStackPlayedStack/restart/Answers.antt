@@ -75,7 +75,7 @@ returns-clause-pays g c =
     let new = c.restart-answer.new.self in
     let told = g.D.MemDevice.told in
     let clock = g.D.MemDevice.clock in
-    subst (λ (t : StackState g.row.D.Denot (List PlainBlock)). StartPays c.restart-answer.result (payer_by told clock t) (payer_by told clock new) (told_by told new)) c.self.view_is
+    subst (λ (t : StackState g.row.D.Denot (List PlainBlock)). StartPays c.restart-answer.result (payer_by told clock t) (payer_by told clock new) (told_by told t) (told_by told new)) c.self.view_is
     (restart_paid told clock s new
     (λ before kept. restart_keeps told clock before s new (c.restart-answer.ensures.down before) kept c.restart-answer.result c.restart-answer.ensures.restarts c.restart-answer.ensures.keeps)
     c.restart-answer.ensures.lasts (subst (λ (x : g.row.D.Denot). InOrder (told x) (clock x)) c.device-behind.ensures.device c.status-status.ensures.order) c.device-behind.ensures.tied c.restart-answer.result c.restart-answer.ensures.restarts)
