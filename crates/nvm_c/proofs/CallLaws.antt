@@ -10,13 +10,13 @@ use Rattle.nvm.specs.fls_model.Told.{Told}
 use Rattle.nvm.specs.nvm_flash.declared.device.MakeFault.{MakeFault}
 use Rattle.lent_flash.specs.Flash.{flash_over}
 use Rattle.lent_flash.specs.declared.lent.Lent.{Lent}
-use Rattle.nvm_c.specs.Exports.{Goes, IsAsked, IsNotOpened, IsStopped, fault_code}
+use Rattle.nvm_c.specs.Exports.{Goes, IsAsked, IsNotOpened, IsOpened, IsOpenedOver, IsStopped, fault_code}
 use Rattle.nvm_c.specs.Held.{Kept, Ran, kept_as, origin_of}
 use Rattle.nvm_c.specs.Services.{answer_code, answer_value, number_of, request_of}
 use Rattle.nvm_c.specs.Unit.{UnitState, CameBack, Closes}
 use Rattle.nvm_c.specs.Work.{Serves}
 use Rattle.nvm_c.specs.declared.services.Service.{Service}
-use Rattle.nvm_c.specs.declared.work.Outcome.TheVariants.{Asked, Closed, NotOpened}
+use Rattle.nvm_c.specs.declared.work.Outcome.TheVariants.{Asked, Closed, NotOpened, Shut}
 use Rattle.nvm_c.specs.declared.work.Task.TheVariants.{Ask}
 use Rattle.nvm_c.specs.declared.work.Work.TheVariants.{Open, Serve, Close}
 
@@ -77,7 +77,23 @@ refused None text rule block why = tt
 refused (Some b) text rule block (inl is) = cc is
 refused (Some b) text rule block (inr is) = inl (Broken rule block, is, refl, refl)
 
--- the memory came back
+-- a unit of the configuration of a text is opened over its bytes
+pub opened : (bytes : Option (List ℕ)) (text : List ℕ) (c : Configuration) (flash : Told) (cuts code : ℕ) (behind : Option Kept) → meaning_of text ≡ Ok c → IfSome bytes (λ b. flash ≡ flash_over b)
+    → (code ≡ 0 → IsSomeAnd behind (λ k. IsOpenedOver c flash cuts k)) → code ≡ 0 → IsSomeAnd behind (λ k. IfSome bytes (λ b. IsOpened text b cuts k))
+opened bytes text c flash cuts code None means over told done = told done
+opened None text c flash cuts code (Some k) means over told done = tt
+opened (Some b) text c flash cuts code (Some k) means over told done = (c, means, subst (λ (f : Told). IsOpenedOver c f cuts k) over (told done))
+
+-- the memory came back, of a unit that was shut at once
+shut_over : (s : UnitState) (entry : Told) (bytes : Option (List ℕ)) → CameBack entry s bytes → IsSome bytes
+shut_over s entry None came = absurd came
+shut_over s entry (Some image) came = refl
+
+pub shut : (kept behind : Option Kept) (c : Configuration) (flash : Told) (cuts : ℕ) (lent : Lent) → kept ≡ None → Ran kept (Open c flash cuts) (Shut lent) behind → IsSome lent.bytes
+shut None behind c flash cuts lent none ran = shut_over ran.2.1.0 _ lent.bytes ran.2.1.2
+shut (Some k) behind c flash cuts lent none ran = cc none
+
+-- and of one that is closed
 pub closed : (kept behind : Option Kept) (lent : Lent) → Ran kept Close (Closed lent) behind → IfSome kept (λ k. IsSomeAnd lent.bytes (Closes k.flash k.state))
 closed None behind lent ran = tt
 closed (Some k) behind lent ran = closed_over k lent.bytes ran.2.1

@@ -2,8 +2,12 @@ use Rattle.std.proofs.Common.{◌≡◌, ◌⊎◌, Err, subst}
 use Rattle.nvm.specs.block_config.Reading.{meaning_of}
 use Rattle.nvm.specs.block_config.declared.fault.ConfigFault.{ConfigFault}
 use Rattle.nvm.specs.block_config.declared.fault.ConfigFault.TheVariants.{Memory}
-use Rattle.nvm_c.proofs.CallLaws.{no_memory, refused, stopped}
+use Rattle.nvm_c.proofs.CallLaws.{no_memory, opened, refused, stopped}
 use Rattle.nvm_c.proofs.turns.nvm_open.Goals as goal
+
+pub returns-in-Ok-over-clause-opened : goal.returns-in-Ok-over-clause-opened
+returns-in-Ok-over-clause-opened c =
+    opened c.args.flash.bytes c.args.text.now c.in-Ok.config c.in-Ok-over.flash c.args.cuts c.open_over.result c.open_over.new.handle.kept c.in-Ok.ensures.ok c.in-Ok-over.ensures.over c.open_over.ensures.opened
 
 pub returns-in-Ok-over-clause-stopped : goal.returns-in-Ok-over-clause-stopped
 returns-in-Ok-over-clause-stopped c =
