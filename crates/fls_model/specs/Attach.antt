@@ -5,7 +5,7 @@ use Rattle.nv_base.specs.Plan.{listed_anew}
 use Rattle.nv_base.specs.Geometry.{size_of}
 use Rattle.nv_base.specs.declared.geometry.Geometry.{Geometry}
 use Rattle.fls_model.specs.declared.flash.AttachFault.{AttachFault}
-use Rattle.fls_model.specs.declared.flash.AttachFault.TheVariants.{Failed, WrongSize, Memory}
+use Rattle.fls_model.specs.declared.flash.AttachFault.TheVariants.{Failed, InUse, WrongSize, Memory}
 use Rattle.fls_model.specs.Told.{Told, ToldBytes, TellsFor, IfBothTold}
 use Rattle.fls_model.specs.Bytes.{AreBytes}
 
@@ -43,9 +43,10 @@ pub record IsAttached (g : Geometry) (s t : Told) : Type 0 where
   -- the cuts that came without a plan are among its cuts
   pub unplanned : t.planning.unplanned ≤ t.cuts
 
--- by its answer: attached, failed with a counted fault, of a wrong size, or without memory
+-- by its answer: attached, failed or in use by another call, each with a counted fault, of a wrong size, or without memory
 abbrev pub IsAttach : Geometry → Told → Result (Unit {0}) AttachFault → Told → Type 0
 IsAttach g s (Ok _) t = IsAttached g s t
 IsAttach g s (Err Failed) t = Rose s.faults t.faults × (t ≡ record s { faults = t.faults })
+IsAttach g s (Err InUse) t = Rose s.faults t.faults × (t ≡ record s { faults = t.faults })
 IsAttach g s (Err (WrongSize found)) t = IfSome s.bytes (λ b. (length b.now ≡ found) × (found ≢ 0) × (found ≢ size_of g)) × (t ≡ s)
 IsAttach g s (Err Memory) t = t ≡ s

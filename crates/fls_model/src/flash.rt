@@ -18,12 +18,14 @@ pub enum FlashAnswer {
     Off,
 }
 
-/// Why a flash couldn't be attached: a counted fault, a size in bytes that is neither 0 nor the geometry's, or want
-/// of memory.
+/// Why a flash couldn't be attached: a counted fault, another call that has it in use, which counts as a fault too, a size in
+/// bytes that is neither 0 nor the geometry's, or want of memory.
 #[derive(Clone, Copy, Debug, Error)]
 pub enum AttachFault {
     #[error("the flash counted a fault while it was attached")]
     Failed,
+    #[error("another call has the flash in use")]
+    InUse,
     #[error("the flash has {found} bytes in place of the geometry's sector times sectors")]
     WrongSize { found: u64 },
     #[error("there is no memory to attach the flash")]

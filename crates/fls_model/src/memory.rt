@@ -161,6 +161,7 @@ impl Flash for MemFlash {
         ensures attach { IsAttach geometry self.old.told result self.new.told }
         ensures begun { OnOk result (IsBegun self.old self.new) }
         ensures never_fails { result ≢ Err AttachFault.Failed }
+        ensures never_in_use { result ≢ Err AttachFault.InUse }
         ensures err { OnErr result (self.new ≡ self.old) }
     {
         let size = geometry.size() as usize;

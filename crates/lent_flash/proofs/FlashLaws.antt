@@ -8,7 +8,7 @@ use Rattle.nv_base.specs.declared.geometry.Geometry.{Geometry}
 use Rattle.fls_model.specs.declared.flash.FlashAnswer.{FlashAnswer}
 use Rattle.fls_model.specs.declared.flash.FlashAnswer.TheVariants.{Done}
 use Rattle.fls_model.specs.declared.flash.AttachFault.{AttachFault}
-use Rattle.fls_model.specs.declared.flash.AttachFault.TheVariants.{Failed, WrongSize, Memory}
+use Rattle.fls_model.specs.declared.flash.AttachFault.TheVariants.{Failed, InUse, WrongSize, Memory}
 use Rattle.fls_model.specs.Attach.{IsAttach, IsAttached, IsFilled}
 use Rattle.fls_model.specs.Bytes.{piece, SameOutside}
 use Rattle.fls_model.specs.Op.{Op, MayLeave}
@@ -78,11 +78,12 @@ if_now : (x : Option ToldBytes) (changes : List Change) (P : List ℕ → Type 0
 if_now None changes P is = tt
 if_now (Some b) changes P is = is
 
-pub refusals_show : (g : Geometry) (s t : Told) (fault : AttachFault) (changes : List Change) → t ≡ s → fault ≢ Failed → IsAttach g s (Err fault) t → IsAttach g (shown changes s) (Err fault) (shown changes t)
-refusals_show g s t Failed changes same not is = absurd (not refl)
-refusals_show g s t (WrongSize found) changes same not is =
+pub refusals_show : (g : Geometry) (s t : Told) (fault : AttachFault) (changes : List Change) → t ≡ s → fault ≢ Failed → fault ≢ InUse → IsAttach g s (Err fault) t → IsAttach g (shown changes s) (Err fault) (shown changes t)
+refusals_show g s t Failed changes same not free is = absurd (not refl)
+refusals_show g s t InUse changes same not free is = absurd (free refl)
+refusals_show g s t (WrongSize found) changes same not free is =
     (if_now s.bytes changes (λ now. (length now ≡ found) × (found ≢ 0) × (found ≢ size_of g)) is.0, ap (shown changes) same)
-refusals_show g s t Memory changes same not is = ap (shown changes) same
+refusals_show g s t Memory changes same not free is = ap (shown changes) same
 
 -- READING
 pub reads_show : (address : ℕ) (s t : Told) (before into : List ℕ) (changes : List Change) → IsRead address s before Done into t → IsRead address (shown changes s) before Done into (shown changes t)
