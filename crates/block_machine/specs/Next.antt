@@ -1,4 +1,4 @@
--- What the manager turns to next.
+-- What the manager turns to next: which of the pending jobs comes first says Order.
 use Rattle.std.specs.Prelude.{ℕ, List, [], ◌∷◌, fold, if◌then◌else◌, Option, Some, None}
 use Rattle.block_machine.specs.Words.{Configuration}
 use Rattle.block_machine.specs.State.{State, Job, Sweep}

@@ -1,4 +1,4 @@
--- The order in which jobs are picked.
+-- The order in which jobs are picked; Next takes the first by it.
 use Rattle.std.specs.Prelude.{ℕ, ◌==◌, ◌&&◌, ◌||◌, nat_lt, Bool, true, false, if◌then◌else◌}
 
 -- what the order reads of a job: whether it is immediate, its block's priority, and the number of its acceptance

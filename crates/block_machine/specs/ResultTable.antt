@@ -1,5 +1,5 @@
 -- The table of results: what a job ends with, by the outcomes of its device operations, and where the content comes from
--- that it gives.
+-- that it gives. The outcomes that it is taken over stand in Results.
 use Rattle.std.specs.Prelude.{Bool, true, false, List, [], ◌∷◌, if◌then◌else◌}
 use Rattle.block_machine.specs.Words.{ReqResult, Fine, NotOk, IntegrityFailed, BlockSkipped, Invalidated, RedundancyFailed, Restored, JobKind, ReadJob, RestoreJob, Outcome, WroteMark, ReadContent, FoundErased, FoundInvalid, GivenFrom, FromNowhere, FromDevice, FromDefaults, FromRom}
 

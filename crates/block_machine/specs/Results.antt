@@ -1,4 +1,5 @@
--- What a job is posted with: the table of results over what its block is and holds, and the device operations that failed.
+-- What a job is posted with: the table of results, which stands in ResultTable, over what its block is and holds, and the device
+-- operations that failed.
 use Rattle.std.specs.Prelude.{ℕ, ◌-◌, ◌==◌, ◌&&◌, not, Bool, true, false, List, [], ◌∷◌, ◌++◌, map, filter, find, slice_get, is_some, if◌then◌else◌, Option, Some, None}
 use Rattle.std.specs.Option.{option_eq, option_and_then}
 use Rattle.std.specs.Str.{bytes_eq}

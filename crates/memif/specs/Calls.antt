@@ -1,4 +1,5 @@
--- What the calls of a memory device do. Each says first what it may change, as `new ≡ record old { .. }`, then how.
+-- What the calls of a memory device do. Each says first what it may change, as `new ≡ record old { .. }`, then how. The refusals'
+-- numbers stand in Refusal.
 use Rattle.std.specs.Prelude.{◌≡◌, ◌≢◌, ◌⊎◌, ◌==◌, ◌<◌, ◌≤◌, ◌+◌, ◌-◌, ◌*◌, ◌^◌, ◌&&◌, min, ℕ, Bool, true, false, if◌then◌else◌, List, [], length, Option, Some, None, IfSome, is_none, is_some, Result, Ok, Err}
 use Rattle.nv_base.specs.Count.{Rose, next_count, last_count}
 use Rattle.nv_base.specs.Plan.{Nears, Comes, ComesUnplanned, dropped}

@@ -1,4 +1,4 @@
--- The numbers of the refusals.
+-- The numbers of the refusals. When each comes says `refusal_of` of Calls.
 use Rattle.std.specs.Prelude.{ℕ}
 use Rattle.memif.specs.declared.answer.DeviceRefusal.{DeviceRefusal}
 use Rattle.memif.specs.declared.answer.DeviceRefusal.TheVariants.{Busy, Uninit, BadNumber, BadLength}

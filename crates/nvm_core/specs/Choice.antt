@@ -1,4 +1,4 @@
--- What a turn has to do first.
+-- What a turn has to do first: the cases, in order, of what Turns tells.
 use Rattle.std.specs.Prelude.{◌≡◌, ◌≤◌, ℕ, Bool, true, false, is_some, IsTrue, Option, Some, None}
 use Rattle.nvm_laws.specs.memif.Told.{DeviceTold, ops_of, is_open}
 use Rattle.nvm_laws.specs.block_config.Lengths.{lengths_of}

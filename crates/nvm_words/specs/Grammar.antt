@@ -1,4 +1,5 @@
--- The command line as it is told to `clap`: four positionals, the last two optional, and no flags.
+-- The command line as it is told to `clap`: four positionals, the last two optional, and no flags. Which words it takes, and what
+-- they mean, says Words.
 use Rattle.std.specs.Prelude.{true, codes}
 use Rattle.clap.specs.Words.{App, Rule, new_app, new_rule, with_rule}
 

@@ -1,4 +1,4 @@
--- What the words of a call mean.
+-- What the words of a call mean; how they are told to `clap` says Grammar.
 use Rattle.std.specs.Prelude.{ℕ, ◌==◌, ◌&&◌, Bool, true, false, not, if◌then◌else◌, List, [], ◌∷◌, codes, Option, Some, None}
 use Rattle.std.specs.List.{list_all}
 use Rattle.std.specs.Str.{bytes_eq}
