@@ -155,7 +155,8 @@ Std_ReturnType NvM_GetErrorStatus(NvM_BlockIdType id, NvM_RequestResultType *res
     return E_OK;
 }
 
-/* A job has ended: what it gave is put where it was asked for, before the callback. */
+/* A job has ended: what it gave is put where it was asked for, before the callback. Behind a ReadAll that is the stack's RAM of each
+   block whose status is OK, 7 or 8, also of one that is no member. */
 static void end_job(NvM_BlockIdType id, NvM_RequestResultType result) {
     block_state *state = &states[id];
     const NvM_BlockType *block = block_of(id);

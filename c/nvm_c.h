@@ -21,7 +21,8 @@ enum {
     NVM_RESTORE_PERMANENT_RAM = 24, NVM_PUT_RAM = 128
 };
 
-/* 0 it is open; else the memory is in back: 1 the text is no configuration, 2 it hasn't the flash's size, 4 no memory. */
+/* 0 it is open; else the memory is in back: 1 the text is no configuration, 2 it hasn't the flash's size, 4 no memory. At 1 and 2 its
+   bytes are proved to be as they were. cuts is how many power cuts can be planned. */
 uint8_t nvm_open(nvm_handle *handle, const uint8_t *text, size_t text_length, nvm_memory flash, uint32_t cuts, nvm_memory *back);
 
 /* 0 accepted, 1 refused for the reason in value, 2 the data index is in value, 3 the history is full, 4 no memory, 5 the last
@@ -31,7 +32,8 @@ uint8_t nvm_ask(nvm_handle *handle, uint8_t service, uint16_t block, uint8_t num
 /* 0 nothing was to be done, 1 a step was made, 2 a job was taken in hand, 3 a job was posted, 4 the power is off, 5 as above. */
 uint8_t nvm_turn(nvm_handle *handle);
 
-/* 0 it is planned: in the nth changing operation of the flash from now, keep bytes of it done; 5 as above. */
+/* 0 it is planned: in the nth changing operation of the flash from now, keep bytes of it done; but where as many were planned as
+   nvm_open was told, or nth is 0, none is, also at 0. 5 as above. */
 uint8_t nvm_cut(nvm_handle *handle, uint32_t nth, uint32_t keep);
 
 /* 0 the start-up stands, 1 it failed, 3 the history is full, 4 no memory. */
