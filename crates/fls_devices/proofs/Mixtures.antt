@@ -38,6 +38,21 @@ mixed_again (x ∷ xs) (y ∷ ys) (z ∷ zs) (w ∷ ws) mixed again = (
   mixed_again xs ys zs ws mixed.1 again.1,
 )
 
+-- mixed of two that are
+pub mixed_both : (xs ys us vs ws : List ℕ) → Mixed xs ys us → Mixed xs ys vs → Mixed us vs ws → Mixed xs ys ws
+mixed_both [] [] [] [] ws one two both = both
+mixed_both [] [] [] (v ∷ vs) ws one two both = absurd two
+mixed_both [] [] (u ∷ us) vs ws one two both = absurd one
+mixed_both [] (y ∷ ys) us vs ws one two both = absurd one
+mixed_both (x ∷ xs) [] us vs ws one two both = absurd one
+mixed_both (x ∷ xs) (y ∷ ys) [] vs ws one two both = absurd one
+mixed_both (x ∷ xs) (y ∷ ys) (u ∷ us) [] ws one two both = absurd two
+mixed_both (x ∷ xs) (y ∷ ys) (u ∷ us) (v ∷ vs) [] one two both = absurd both
+mixed_both (x ∷ xs) (y ∷ ys) (u ∷ us) (v ∷ vs) (w ∷ ws) one two both = (
+  elim both.0 [ inl e ↦ elim one.0 [ inl f ↦ inl (e ∙ f) | inr f ↦ inr (e ∙ f) ] | inr e ↦ elim two.0 [ inl f ↦ inl (e ∙ f) | inr f ↦ inr (e ∙ f) ] ],
+  mixed_both xs ys us vs ws one.1 two.1 both.1,
+)
+
 -- before a place, and from it on
 mixed_parts : (n : ℕ) (xs ys zs : List ℕ) → Mixed xs ys zs → Mixed (take n xs) (take n ys) (take n zs) × Mixed (drop n xs) (drop n ys) (drop n zs)
 mixed_parts zero xs ys zs mixed = (tt, mixed)
@@ -49,7 +64,7 @@ mixed_parts (suc n) (x ∷ xs) (y ∷ ys) [] mixed = absurd mixed
 mixed_parts (suc n) (x ∷ xs) (y ∷ ys) (z ∷ zs) mixed = let rest = mixed_parts n xs ys zs mixed.1 in ((mixed.0, rest.0), rest.1)
 
 -- where both are alike
-mixed_same : (xs zs : List ℕ) → Mixed xs xs zs → zs ≡ xs
+pub mixed_same : (xs zs : List ℕ) → Mixed xs xs zs → zs ≡ xs
 mixed_same [] [] mixed = refl
 mixed_same [] (z ∷ zs) mixed = absurd mixed
 mixed_same (x ∷ xs) [] mixed = absurd mixed

@@ -5,8 +5,6 @@ use Rattle.nv_base.specs.declared.geometry.Geometry.{Geometry}
 use Rattle.nv_base.specs.Plan.{no_planning}
 use Rattle.fls_model.specs.Op.{Op, MayLeave}
 use Rattle.fls_model.specs.Told.{Told, ToldBytes, Change, IfBothTold, bytes_now}
-use Rattle.fls_model.specs.declared.flash.FlashAnswer.{FlashAnswer}
-use Rattle.fls_model.specs.declared.flash.FlashAnswer.TheVariants.{Done}
 use Rattle.fls_devices.specs.ByteFile.{FileBytes}
 
 -- what is told of it, whether the file was opened, and what a power cut leaves, where the file tells its bytes
@@ -15,7 +13,7 @@ pub record InFile : Type 0 where
   pub opened : Bool
   pub kept : Option (List ℕ)
 
--- the flash's bytes. A file whose enlargement was broken off, and that could not be cut back, is a flash of none yet.
+-- the flash's bytes. A file whose enlargement was broken off is a flash of none yet.
 abbrev pub bytes_of : Bool → FileBytes → List ℕ
 bytes_of torn f = if torn then [] else f.now
 
@@ -42,8 +40,8 @@ in_file opened held = in_file_of (record { page = 0; sector = 0; sectors = 0 }) 
 abbrev pub IsSynced : InFile → Type 0
 IsSynced m = m.kept ≡ bytes_now m.told
 
--- what is answered Done outlives a power cut; whatever its answer, a power cut behind an operation leaves what it may
--- leave of the bytes before it
-pub record LeavesOnDisk (op : Op) (old : InFile) (answer : FlashAnswer) (new : InFile) : Type 0 where
-  pub synced : answer ≡ Done → IsSynced new
-  pub kept : IsSynced old → IfBothTold (bytes_now old.told) new.kept (MayLeave op)
+-- whatever the answer to an operation, what later reads give outlives a power cut, and that leaves what the operation may leave of
+-- the bytes before it
+pub record LeavesOnDisk (op : Op) (old new : InFile) : Type 0 where
+  pub synced : IsSynced new
+  pub kept : IfBothTold (bytes_now old.told) new.kept (MayLeave op)

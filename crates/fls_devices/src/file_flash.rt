@@ -1,17 +1,17 @@
 // A flash in an image file.
-ghost use Rattle.std.specs.Prelude.{◌≡◌, ◌≢◌, ◌⊎◌, ◌≤◌, ◌+◌, ◌*◌, ◌↔◌, IsTrue, IsSome, IfSome, is_some, true, false, length, min, replicate};
+ghost use Rattle.std.specs.Prelude.{◌≡◌, ◌≢◌, ◌⊎◌, ◌≤◌, ◌+◌, ◌*◌, Err, IfOk, IfSome, OnOk, is_some, not, true, false, length, replicate};
 ghost use Rattle.nv_base.specs.Count.{next_count};
 ghost use Rattle.nv_base.specs.Geometry.{IsLegal, size_of};
 ghost use Rattle.fls_model.specs.Bytes.{AreBytes, and_bytes, piece};
 ghost use Rattle.fls_model.specs.Told.{IfBothTold};
 ghost use Rattle.fls_model.specs.Op.{Program, Erase};
-ghost use Rattle.fls_devices.specs.ByteFile.{held_by};
+ghost use Rattle.fls_devices.specs.ByteFile.{Settles, held_by};
 ghost use Rattle.fls_devices.specs.FileFlash.{bytes_of};
-ghost use Rattle.fls_devices.specs.FileFlashInside.{Stores, Operates, Answers, Fills};
+ghost use Rattle.fls_devices.specs.FileFlashInside.{Finds, IsReady, IsWritten, Stores, Operates, Answers, Fills, fault_of};
 
-use crate::ByteFile;
 use crate::asked::Asked;
 use crate::system_file::open_apart;
+use crate::{ByteFile, OpenFault};
 use fls_model::{AttachFault, Call, Flash, FlashAnswer, program_call};
 use nv_base::{Geometry, Trace};
 use std::alloc::Global;
@@ -24,7 +24,9 @@ use std::rt::Files;
 #[derive(Drop)]
 pub struct FileFlash<T: ByteFile + Drop> {
     file: Option<T>,
-    // an enlargement was broken off and could not be cut back
+    // it has to be settled before anything else is asked of it
+    lost: bool,
+    // an enlargement was broken off
     torn: bool,
     geometry: Geometry,
     // the bytes of an erased sector, from the attach on
@@ -45,7 +47,7 @@ impl<T: ByteFile + Drop> Model for FileFlash<T> {
 
     ghost view = { λ f. in_file_of f.geometry f.ops f.faults f.torn (changes_of f.geometry f.asked.items) (is_some f.file) (held_by T.held f.file) };
 
-    ghost invariant = { λ f. IfSome (held_by T.held f.file) (IsHeld f.geometry f.torn) × IfSome f.blank (λ b. b.items ≡ replicate f.geometry.sector 255) };
+    ghost invariant = { λ f. IfSome (held_by T.held f.file) (IsHeld f.geometry f.torn f.lost) × IfSome f.blank (λ b. b.items ≡ replicate f.geometry.sector 255) };
 }
 
 // Tells proofs that bytes are below 256.
@@ -63,54 +65,93 @@ fn clear_bits(bytes: &mut [u8], page: &[u8])
     }
 }
 
-// Writes and syncs bytes.
-fn is_stored<T: ByteFile>(file: &mut T, address: u64, bytes: &[u8]) -> bool
-    ensures { IfBothTold (T.held file.old) (T.held file.new) (Stores address bytes.now result) }
+// Settles a file.
+fn settle<T: ByteFile>(file: &mut T, lost: &mut bool)
+    ensures { IfBothTold (T.held file.old) (T.held file.new) (Settles (not lost.new)) }
+{
+    *lost = file.settle().is_err();
+}
+
+// Whether a file isn't lost. One that may be is settled.
+fn is_known<T: ByteFile>(file: &mut T, lost: &mut bool) -> bool
+    ensures found { IfBothTold (T.held file.old) (T.held file.new) (Finds lost.old lost.new) }
+    ensures known { result ≡ true → lost.new ≡ false }
+{
+    if !*lost {
+        return true;
+    }
+    settle(file, lost);
+    !*lost
+}
+
+// Writes and syncs bytes. Where that failed, the file is settled, or is lost.
+fn is_stored<T: ByteFile>(file: &mut T, lost: &mut bool, address: u64, bytes: &[u8]) -> bool
+    ensures { IfBothTold (T.held file.old) (T.held file.new) (Stores address bytes.now result lost.old lost.new) }
+{
+    if !is_known(file, lost) {
+        return false;
+    }
+    if is_written(file, address, bytes) {
+        return true;
+    }
+    settle(file, lost);
+    false
+}
+
+fn is_written<T: ByteFile>(file: &mut T, address: u64, bytes: &[u8]) -> bool
+    ensures { IfBothTold (T.held file.old) (T.held file.new) (IsWritten address bytes.now result) }
 {
     file.write_at(address, bytes).is_ok() && file.sync().is_ok()
 }
 
-fn reads<T: ByteFile>(file: &mut T, address: u64, into: &mut [u8]) -> bool
-    ensures same { T.held file.new ≡ T.held file.old }
-    ensures done { result ≡ true → IfSome (T.held file.new) (λ f. into.new ≡ piece address (length into.old) f.now) }
+// Reads bytes of a file that isn't lost.
+fn reads<T: ByteFile>(file: &mut T, lost: &mut bool, address: u64, into: &mut [u8]) -> bool
+    ensures found { IfBothTold (T.held file.old) (T.held file.new) (Finds lost.old lost.new) }
+    ensures done { result ≡ true → IfBothTold (T.held file.old) (T.held file.new) (λ f g. IsReady lost.old f → into.new ≡ piece address (length into.old) g.now) }
 {
-    file.read_at(address, into).is_ok()
+    is_known(file, lost) && file.read_at(address, into).is_ok()
 }
 
 // Clears bits of a page.
-fn program_page<T: ByteFile>(file: &mut T, address: u64, page: &[u8]) -> bool
+fn program_page<T: ByteFile>(file: &mut T, lost: &mut bool, address: u64, page: &[u8]) -> bool
     requires { length page.now ≤ 256 }
-    ensures { IfBothTold (T.held file.old) (T.held file.new) (λ f g. AreBytes f.now → address + length page.now ≤ length f.now → Operates (Program address page.now) result f g) }
+    ensures { IfBothTold (T.held file.old) (T.held file.new) (λ f g. AreBytes f.now → address + length page.now ≤ length f.now → Operates (Program address page.now) result lost.old lost.new f g) }
 {
     let mut buffer = [0; 256];
     let bytes = &mut buffer[..page.len()];
-    if !reads(file, address, bytes) {
+    if !reads(file, lost, address, bytes) {
         return false;
     }
     clear_bits(bytes, page);
     below_256(bytes);
-    is_stored(file, address, bytes)
+    is_stored(file, lost, address, bytes)
 }
 
-fn is_programmed<T: ByteFile>(file: &mut Option<T>, address: u64, page: &[u8]) -> bool
+fn is_programmed<T: ByteFile>(
+    file: &mut Option<T>,
+    lost: &mut bool,
+    address: u64,
+    page: &[u8],
+) -> bool
     requires { length page.now ≤ 256 }
-    ensures done { IfBothTold (held_by T.held file.old) (held_by T.held file.new) (λ f g. AreBytes f.now → address + length page.now ≤ length f.now → Operates (Program address page.now) result f g) }
+    ensures done { IfBothTold (held_by T.held file.old) (held_by T.held file.new) (λ f g. AreBytes f.now → address + length page.now ≤ length f.now → Operates (Program address page.now) result lost.old lost.new f g) }
     ensures opened { is_some file.new ≡ is_some file.old }
 {
     match file {
-        Some(file) => program_page(file, address, page),
+        Some(file) => program_page(file, lost, address, page),
         None => false,
     }
 }
 
 fn is_blanked<T: ByteFile>(
     file: &mut Option<T>,
+    lost: &mut bool,
     address: u64,
     blank: &Option<Vec<u8>>,
     count: u32,
 ) -> bool
     requires { IfSome blank.now (λ b. b.items ≡ replicate count 255) }
-    ensures done { IfBothTold (held_by T.held file.old) (held_by T.held file.new) (λ f g. AreBytes f.now → address + count ≤ length f.now → Operates (Erase address count) result f g) }
+    ensures done { IfBothTold (held_by T.held file.old) (held_by T.held file.new) (λ f g. AreBytes f.now → address + count ≤ length f.now → Operates (Erase address count) result lost.old lost.new f g) }
     ensures opened { is_some file.new ≡ is_some file.old }
 {
     let Some(file) = file else {
@@ -119,35 +160,63 @@ fn is_blanked<T: ByteFile>(
     let Some(blank) = blank else {
         return false;
     };
-    is_stored(file, address, blank)
+    is_stored(file, lost, address, blank)
 }
 
-fn is_read<T: ByteFile>(file: &mut Option<T>, address: u64, into: &mut [u8]) -> bool
-    ensures same { held_by T.held file.new ≡ held_by T.held file.old }
-    ensures done { result ≡ true → IfSome (held_by T.held file.new) (λ f. into.new ≡ piece address (length into.old) f.now) }
+fn is_read<T: ByteFile>(
+    file: &mut Option<T>,
+    lost: &mut bool,
+    address: u64,
+    into: &mut [u8],
+) -> bool
+    ensures found { IfBothTold (held_by T.held file.old) (held_by T.held file.new) (Finds lost.old lost.new) }
+    ensures done { result ≡ true → IfBothTold (held_by T.held file.old) (held_by T.held file.new) (λ f g. IsReady lost.old f → into.new ≡ piece address (length into.old) g.now) }
     ensures opened { is_some file.new ≡ is_some file.old }
 {
     match file {
-        Some(file) => reads(file, address, into),
+        Some(file) => reads(file, lost, address, into),
         None => false,
     }
 }
 
-// The size of the flash in bytes, where the file could be asked for it.
-fn found_size<T: ByteFile>(file: &mut Option<T>, torn: bool) -> Option<u64>
+// Opens the file, and gives the size of the flash in bytes.
+fn found_size<T: ByteFile>(file: &mut Option<T>, torn: bool, most: u64) -> Result<u64, OpenFault>
     ensures same { held_by T.held file.new ≡ held_by T.held file.old }
-    ensures size { IfSome result (λ n. IfSome (held_by T.held file.new) (λ f. n ≡ length (bytes_of torn f))) }
-    ensures bytes { IfSome result (λ n. IfSome (held_by T.held file.new) (λ f. AreBytes f.now)) }
+    ensures size { IfOk result (λ n. IfSome (held_by T.held file.new) (λ f. n ≡ length (bytes_of torn f))) }
+    ensures bytes { IfOk result (λ n. IfSome (held_by T.held file.new) (λ f. AreBytes f.now)) }
     ensures opened { is_some file.new ≡ is_some file.old }
-    ensures closed { is_some file.old ≡ false → is_some result ≡ false }
+    ensures closed { is_some file.old ≡ false → result ≡ Err OpenFault.Failed }
 {
-    let found = match file {
-        Some(file) => file.size().ok(),
-        None => None,
+    let Some(file) = file else {
+        return Err(OpenFault::Failed);
     };
-    match found {
-        Some(_) if torn => Some(0),
+    match file.open(most) {
+        Ok(_) if torn => Ok(0),
         found => found,
+    }
+}
+
+// Settles the file.
+fn is_settled<T: ByteFile>(file: &mut Option<T>, lost: &mut bool) -> bool
+    ensures found { IfBothTold (held_by T.held file.old) (held_by T.held file.new) (Finds lost.old lost.new) }
+    ensures known { result ≡ true → lost.new ≡ false }
+    ensures still { result ≡ true → IfSome (held_by T.held file.new) (λ f. f.disk ≡ f.now) }
+    ensures opened { is_some file.new ≡ is_some file.old }
+{
+    let Some(file) = file else {
+        return false;
+    };
+    settle(file, lost);
+    !*lost
+}
+
+// Why a flash isn't attached whose file isn't opened.
+fn fault_of(fault: OpenFault) -> AttachFault
+    ensures { result ≡ fault_of fault }
+{
+    match fault {
+        OpenFault::InUse => AttachFault::InUse,
+        OpenFault::Failed => AttachFault::Failed,
     }
 }
 
@@ -160,10 +229,10 @@ fn is_wrong(found: u64, geometry: Geometry) -> bool
     found != 0 && found != u64::from(geometry.size())
 }
 
-// Fills a file with so many erased sectors, each of which it writes at once, and syncs it.
+// Fills a file that isn't lost with so many erased sectors, each of which it writes at once, and syncs it.
 fn is_enlarged<T: ByteFile>(file: &mut T, blank: &[u8], sector: u32, sectors: u32) -> bool
     requires { blank.now ≡ replicate sector 255 }
-    ensures { IfBothTold (T.held file.old) (T.held file.new) (λ f g. result ≡ true → (g.now ≡ replicate (sectors * sector) 255) × (g.disk ≡ g.now)) }
+    ensures { IfBothTold (T.held file.old) (T.held file.new) (λ f g. f.lost ≡ false → result ≡ true → (g.now ≡ replicate (sectors * sector) 255) × (g.disk ≡ g.now) × (g.lost ≡ false)) }
 {
     if file.clear().is_err() {
         return false;
@@ -176,9 +245,21 @@ fn is_enlarged<T: ByteFile>(file: &mut T, blank: &[u8], sector: u32, sectors: u3
     file.sync().is_ok()
 }
 
-// Brings the flash that was found to the disk, one of no bytes as a blank one.
+// Takes away what was begun.
+fn cut_back<T: ByteFile>(file: &mut T, lost: &mut bool)
+    ensures { IfBothTold (T.held file.old) (T.held file.new) (λ f g. lost.new ≡ false → g.lost ≡ false) }
+{
+    settle(file, lost);
+    if *lost {
+        return;
+    }
+    let _cleared = file.clear();
+}
+
+// Brings a flash of no bytes to the disk as a blank one.
 fn is_filled<T: ByteFile>(
     file: &mut Option<T>,
+    lost: &mut bool,
     torn: &mut bool,
     found: u64,
     blank: &[u8],
@@ -186,20 +267,22 @@ fn is_filled<T: ByteFile>(
 ) -> bool
     requires blank { blank.now ≡ replicate geometry.sector 255 }
     requires found { IfSome (held_by T.held file.old) (λ f. found ≡ length (bytes_of torn.old f)) }
-    ensures filled { IfBothTold (held_by T.held file.old) (held_by T.held file.new) (Fills (size_of geometry) torn.old torn.new result) }
+    requires known { lost.old ≡ false }
+    ensures filled { IfBothTold (held_by T.held file.old) (held_by T.held file.new) (Fills (size_of geometry) torn.old torn.new result lost.old lost.new) }
     ensures opened { is_some file.new ≡ is_some file.old }
 {
     let Some(file) = file else {
         return false;
     };
     if found != 0 {
-        return file.sync().is_ok();
+        return true;
     }
     if is_enlarged(file, blank, geometry.sector, geometry.sectors) {
         *torn = false;
         return true;
     }
-    *torn = file.clear().is_err();
+    *torn = true;
+    cut_back(file, lost);
     false
 }
 
@@ -217,15 +300,17 @@ fn count(done: bool, ops: &mut u64, faults: &mut u64) -> FlashAnswer
 }
 
 impl<T: ByteFile + Drop> FileFlash<T> {
-    ghost use Rattle.std.specs.Prelude.{◌≡◌, ◌⊎◌, None, Some, Option};
+    ghost use Rattle.std.specs.Prelude.{◌≡◌, ◌⊎◌, IfSome, None, Option, is_some};
     ghost use Rattle.fls_devices.specs.ByteFile.{FileBytes};
     ghost use Rattle.fls_devices.specs.FileFlash.{in_file};
 
     fn with(file: Option<T>) -> FileFlash<T>
+        requires { IfSome (held_by T.held file) (λ f. f.disk ≡ f.now) }
         ensures { result ≡ in_file (is_some file) (held_by T.held file) }
     {
         FileFlash {
             file,
+            lost: true,
             torn: false,
             geometry: Geometry {
                 page: 0,
@@ -239,27 +324,36 @@ impl<T: ByteFile + Drop> FileFlash<T> {
         }
     }
 
-    /// Over a file.
+    /// Over a file, of which all that was written is on the disk, where it tells its bytes.
     pub fn over(file: T) -> FileFlash<T>
+        requires { IfSome (T.held file) (λ f. f.disk ≡ f.now) }
         ensures { result ≡ in_file true (T.held file) }
     {
         FileFlash::with(Some(file))
     }
 
     /// Opens an image file for reading and writing, and makes it where it is absent. Where that fails, each `attach`
-    /// does.
+    /// does. Files of its runtime tell no bytes, as those of the system don't.
     pub fn make<R: Files<File = T>>(rt: &R, path: &str) -> FileFlash<T>
-        ensures { (held : Option FileBytes) × ((result ≡ in_file true held) ⊎ (result ≡ in_file false None)) }
+        requires { (file : T) → T.held file ≡ None }
+        ensures { (result ≡ in_file true None) ⊎ (result ≡ in_file false None) }
     {
         match open_apart(rt, path, true, true) {
             Ok(file) => FileFlash::with(Some(file)),
             Err(_) => FileFlash::with(None),
         }
     }
+
+    /// Its file.
+    pub fn file(&self) -> Option<&T>
+        ensures { self.now.opened ≡ is_some result }
+    {
+        self.file.as_ref()
+    }
 }
 
 impl<T: ByteFile + Drop> Flash for FileFlash<T> {
-    ghost use Rattle.std.specs.Prelude.{◌≡◌, ◌≢◌, length, false, Err, OnOk};
+    ghost use Rattle.std.specs.Prelude.{◌≡◌, ◌≢◌, ◌<◌, length, false, Err, OnOk};
     ghost use Rattle.nv_base.specs.Geometry.{IsLegal};
     ghost use Rattle.fls_model.specs.Told.{armed, powered, HasRange, HasPage, HasSector};
     ghost use Rattle.fls_model.specs.Step.{IsStep, programs, erases};
@@ -278,9 +372,13 @@ impl<T: ByteFile + Drop> Flash for FileFlash<T> {
         ensures closed { self.old.opened ≡ false → result ≡ Err AttachFault.Failed }
         ensures opened { self.new.opened ≡ self.old.opened }
     {
-        let Some(found) = found_size(&mut self.file, self.torn) else {
-            self.faults = self.faults.saturating_add(1);
-            return Err(AttachFault::Failed);
+        let most = u64::from(geometry.size());
+        let found = match found_size(&mut self.file, self.torn, most) {
+            Ok(found) => found,
+            Err(fault) => {
+                self.faults = self.faults.saturating_add(1);
+                return Err(fault_of(fault));
+            }
         };
         if is_wrong(found, geometry) {
             return Err(AttachFault::WrongSize { found });
@@ -288,7 +386,18 @@ impl<T: ByteFile + Drop> Flash for FileFlash<T> {
         let Ok(blank) = vec![in alloc; 255u8; geometry.sector as usize] else {
             return Err(AttachFault::Memory);
         };
-        if !is_filled(&mut self.file, &mut self.torn, found, &blank, geometry) {
+        if !is_settled(&mut self.file, &mut self.lost) {
+            self.faults = self.faults.saturating_add(1);
+            return Err(AttachFault::Failed);
+        }
+        if !is_filled(
+            &mut self.file,
+            &mut self.lost,
+            &mut self.torn,
+            found,
+            &blank,
+            geometry,
+        ) {
             self.faults = self.faults.saturating_add(1);
             return Err(AttachFault::Failed);
         }
@@ -315,9 +424,10 @@ impl<T: ByteFile + Drop> Flash for FileFlash<T> {
     fn read(&mut self, address: u32, into: &mut [u8]) -> FlashAnswer
         requires { HasRange self.old.told address (length into.old) }
         ensures read { IsRead address self.old.told into.old result into.new self.new.told }
+        ensures on_disk { 0 < length into.old → IsSynced self.new }
         ensures never_off { result ≢ FlashAnswer.Off }
     {
-        if is_read(&mut self.file, address as u64, into) {
+        if is_read(&mut self.file, &mut self.lost, address as u64, into) {
             return FlashAnswer::Done;
         }
         self.faults = self.faults.saturating_add(1);
@@ -327,11 +437,11 @@ impl<T: ByteFile + Drop> Flash for FileFlash<T> {
     fn program(&mut self, address: u32, page: &[u8]) -> FlashAnswer
         requires { HasPage self.old.told address (length page.now) }
         ensures step { IsStep (programs address page.now) self.old.told result self.new.told }
-        ensures on_disk { LeavesOnDisk (programs address page.now) self.old result self.new }
+        ensures on_disk { LeavesOnDisk (programs address page.now) self.old self.new }
         ensures never_off { result ≢ FlashAnswer.Off }
     {
         let before = Trace::new().with(&self.file);
-        let done = is_programmed(&mut self.file, address as u64, page);
+        let done = is_programmed(&mut self.file, &mut self.lost, address as u64, page);
         let answer = count(done, &mut self.ops, &mut self.faults);
         let call = program_call(address, page);
         self.asked = self.asked.with(&Asked {
@@ -345,13 +455,13 @@ impl<T: ByteFile + Drop> Flash for FileFlash<T> {
     fn erase(&mut self, sector: u32) -> FlashAnswer
         requires { HasSector self.old.told sector }
         ensures step { IsStep (erases self.old.told.geometry sector) self.old.told result self.new.told }
-        ensures on_disk { LeavesOnDisk (erases self.old.told.geometry sector) self.old result self.new }
+        ensures on_disk { LeavesOnDisk (erases self.old.told.geometry sector) self.old self.new }
         ensures never_off { result ≢ FlashAnswer.Off }
     {
         let before = Trace::new().with(&self.file);
         let length = self.geometry.sector;
         let address = sector as u64 * length as u64;
-        let done = is_blanked(&mut self.file, address, &self.blank, length);
+        let done = is_blanked(&mut self.file, &mut self.lost, address, &self.blank, length);
         let answer = count(done, &mut self.ops, &mut self.faults);
         let call = Call::Sector { sector };
         self.asked = self.asked.with(&Asked {

@@ -1,8 +1,8 @@
 // A file in memory.
-ghost use Rattle.std.specs.Prelude.{◌≡◌, ◌≤◌, ◌+◌, Some, IfOk, OnOk, OnErr, length};
+ghost use Rattle.std.specs.Prelude.{◌≡◌, ◌≤◌, ◌+◌, false, Some, IfOk, OnOk, OnErr, length};
 ghost use Rattle.fls_model.specs.Bytes.{AreBytes, spliced};
 
-use crate::ByteFile;
+use crate::{ByteFile, OpenFault};
 use std::alloc::{AllocError, Global};
 use std::io;
 use std::io::ErrorKind;
@@ -16,16 +16,17 @@ pub struct MemFile {
 }
 
 impl Model for MemFile {
+    ghost use Rattle.std.specs.Prelude.{false};
     ghost use Rattle.fls_devices.specs.ByteFile.{FileBytes};
 
     ghost Value = { FileBytes };
 
-    ghost view = { λ f. record { now = f.bytes.items; disk = f.synced.items } };
+    ghost view = { λ f. record { now = f.bytes.items; disk = f.synced.items; lost = false } };
 }
 
 /// A file of these bytes, all on its disk.
 pub fn mem_file(alloc: Global, bytes: &[u8]) -> Result<MemFile, AllocError>
-    ensures { IfOk result (λ f. f ≡ record { now = bytes.now; disk = bytes.now }) }
+    ensures { IfOk result (λ f. f ≡ record { now = bytes.now; disk = bytes.now; lost = false }) }
 {
     Ok(MemFile {
         bytes: bytes.to_vec(alloc)?,
@@ -62,9 +63,17 @@ impl MemFile {
 impl ByteFile for MemFile {
     ghost held = { λ f. Some f };
 
-    fn size(&mut self) -> io::Result<u64> {
+    fn open(&mut self, _most: u64) -> Result<u64, OpenFault> {
         below_256(&self.bytes);
         Ok(self.bytes.len() as u64)
+    }
+
+    fn settle(&mut self) -> io::Result<()> {
+        if self.synced.len() == self.bytes.len() {
+            self.synced.copy_from_slice(&self.bytes);
+            return Ok(());
+        }
+        self.sync()
     }
 
     fn read_at(&mut self, address: u64, into: &mut [u8]) -> io::Result<()> {

@@ -2,7 +2,7 @@
 //! else is the commands'.
 #![tactic(auto)]
 
-use fls_devices::{FileFlash, ImageFile};
+use fls_devices::{FileFlash, ImageFault, ImageFile};
 use fls_model::mem_flash;
 use nv_streams::{StdSink, StdSource};
 use nvm_top::{Status, command};
@@ -46,6 +46,24 @@ fn beside(alloc: Global, path: &str) -> Result<String, AllocError> {
     Ok(name)
 }
 
+/// Says which file is at fault, where the image file wasn't opened for that.
+fn tell(rt: &HostRuntime, path: &str, beside: &str, flash: &FileFlash<ImageFile<'_, HostRuntime>>) {
+    let Some(file) = flash.file() else {
+        return;
+    };
+    let _ = match file.fault() {
+        Some(ImageFault::InUse) => {
+            eprintln!(rt; "nvm: another call has {path}: try again when it has ended")
+        }
+        Some(ImageFault::InTheWay) => {
+            eprintln!(rt;
+                "nvm: {beside} is in the way, and no call of nvm has left it there: move it away"
+            )
+        }
+        _ => Ok(()),
+    };
+}
+
 fn main(rt: HostRuntime) -> ExitCode {
     let alloc = rt.alloc();
     let Ok(words) = words(&rt) else {
@@ -60,7 +78,9 @@ fn main(rt: HostRuntime) -> ExitCode {
         Some(path) => match beside(alloc, path) {
             Ok(beside) => {
                 let flash = FileFlash::over(image(&rt, path, beside.as_str(), &words));
-                command(&rt, alloc, &words, &mut input, &mut output, flash).0
+                let (status, flash) = command(&rt, alloc, &words, &mut input, &mut output, flash);
+                tell(&rt, path, beside.as_str(), &flash);
+                status
             }
             Err(_) => Status::Memory,
         },

@@ -88,6 +88,7 @@ IsOpened text bytes cuts k = (c : Configuration) × (meaning_of text ≡ Ok c) �
 abbrev pub fault_code : MakeFault → ℕ
 fault_code (fault.WrongSize found) = 2
 fault_code fault.Flash = 3
+fault_code fault.InUse = 3
 fault_code fault.Memory = 4
 
 -- Of a configuration over a flash there is no unit: the stack says why, and the flash comes back as it was, or attached, in the memory

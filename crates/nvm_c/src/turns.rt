@@ -53,7 +53,7 @@ fn fault_code(fault: MakeFault) -> u8
 {
     match fault {
         MakeFault::WrongSize { .. } => 2,
-        MakeFault::Flash => 3,
+        MakeFault::Flash | MakeFault::InUse => 3,
         MakeFault::Memory => 4,
     }
 }

@@ -5,7 +5,7 @@ use Rattle.fee_core.specs.nv_base.Count.{Rose}
 use Rattle.fee_core.specs.nv_base.Geometry.{size_of}
 use Rattle.fee_core.specs.nv_base.declared.geometry.Geometry.{Geometry}
 use Rattle.fee_core.specs.fls_model.declared.flash.AttachFault.{AttachFault}
-use Rattle.fee_core.specs.fls_model.declared.flash.AttachFault.TheVariants.{Failed, WrongSize, Memory}
+use Rattle.fee_core.specs.fls_model.declared.flash.AttachFault.TheVariants.{Failed, InUse, WrongSize, Memory}
 use Rattle.fee_core.specs.fls_model.Told.{Told, ToldBytes, bytes_now}
 use Rattle.fls_devices.specs.Cutter.{Cutting, cutting, told_cutting, OnlyCuts}
 use Rattle.fls_devices.specs.Journal.{Journaled, bytes_over}
@@ -53,6 +53,8 @@ size_of_found g (Some b) found has = has.0
 pub refused_within : RefusedWithin
 refused_within g inner cuts c Failed only (rose, same) =
     left inner cuts c Failed (told_cutting c).faults only same (rose_within c inner.faults only rose)
+refused_within g inner cuts c InUse only (rose, same) =
+    left inner cuts c InUse (told_cutting c).faults only same (rose_within c inner.faults only rose)
 refused_within g inner cuts c (WrongSize found) only (size, same) =
     let first = told_cutting (cutting inner cuts) in
     let found_size : IfSome first.bytes (λ (b : ToldBytes). length b.now ≡ found) = size_of_found g first.bytes found size in

@@ -4,7 +4,7 @@ use Rattle.fee_core.specs.nv_base.Count.{Rose}
 use Rattle.fee_core.specs.nv_base.declared.geometry.Geometry.{Geometry}
 use Rattle.fee_core.specs.fls_model.Attach.{IsAttach}
 use Rattle.fee_core.specs.fls_model.declared.flash.AttachFault.{AttachFault}
-use Rattle.fee_core.specs.fls_model.declared.flash.AttachFault.TheVariants.{Failed, WrongSize, Memory}
+use Rattle.fee_core.specs.fls_model.declared.flash.AttachFault.TheVariants.{Failed, InUse, WrongSize, Memory}
 use Rattle.fee_core.specs.fls_model.Told.{Told, bytes_now}
 use Rattle.fls_devices.specs.Cutter.{Cutting, cutting, told_cutting, OnlyCuts}
 
@@ -26,6 +26,7 @@ CountsStayWithin =
 -- why an attach was refused, by the bytes before it and the faults
 abbrev pub IsRefusal : Told → AttachFault → Told → Type 0
 IsRefusal s Failed t = Rose s.faults t.faults
+IsRefusal s InUse t = Rose s.faults t.faults
 IsRefusal s (WrongSize found) t = IfSome s.bytes (λ b. length b.now ≡ found) × (t.faults ≡ s.faults)
 IsRefusal s Memory t = t.faults ≡ s.faults
 

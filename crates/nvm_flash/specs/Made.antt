@@ -21,7 +21,7 @@ use Rattle.promise_run.specs.Promise.{making_of}
 use Rattle.nvm_core.specs.Stack.{StackState, first_stack}
 use Rattle.nvm_flash.specs.Turns.{fixed_by}
 use Rattle.nvm_flash.specs.declared.device.MakeFault.{MakeFault}
-use Rattle.nvm_flash.specs.declared.device.MakeFault.TheVariants.{WrongSize, Flash, Memory}
+use Rattle.nvm_flash.specs.declared.device.MakeFault.TheVariants.{WrongSize, Flash, InUse, Memory}
 
 -- what a device is made of: this configuration, over a flash that tells this, with so many power cuts that can be planned
 pub record IsOrigin (c : Configuration) (inner : Told) (cuts : ℕ) (making : Making) (entry : Told) : Type 0 where
@@ -29,11 +29,16 @@ pub record IsOrigin (c : Configuration) (inner : Told) (cuts : ℕ) (making : Ma
   pub over : entry ≡ told_cutting (cutting inner cuts)
 
 -- WITHOUT A START-UP
+-- of a flash the faults alone changed, which rose
+abbrev pub IsOnlyFaulty : Told → Told → Type 0
+IsOnlyFaulty s t = Rose s.faults t.faults × LeavesAlone (record s { faults = t.faults }) t
+
 -- why it isn't made or started: the flash has another size than the configuration's, and is left alone; a fault of the flash;
--- or want of memory
+-- another call has the flash in use; or want of memory
 abbrev pub IsCause : Configuration → MakeFault → Told → Told → Type 0
 IsCause c (WrongSize found) s t = IfSome s.bytes (λ b. (length b.now ≡ found) × (found ≢ 0) × (found ≢ size_of c.geometry)) × LeavesAlone s t
 IsCause c Flash s t = Rose s.faults t.faults
+IsCause c InUse s t = IsOnlyFaulty s t
 IsCause c Memory s t = Unit {0}
 
 -- the flash comes back as it was, or attached
@@ -82,5 +87,6 @@ IsMadeStack c making entry s = IsMadeWith c making entry (plain_blocks_of c) s
 -- why the flash isn't attached
 abbrev pub fault_of : AttachFault → MakeFault
 fault_of attach.Failed = Flash
+fault_of attach.InUse = InUse
 fault_of (attach.WrongSize found) = WrongSize found
 fault_of attach.Memory = Memory

@@ -13,13 +13,16 @@ use nvm_core::block_config::{BANKS, Config};
 use std::alloc::Global;
 use thiserror::Error;
 
-/// Why a stack isn't made or started: its flash has a wrong size in bytes, or failed by a counted fault, or want of memory.
+/// Why a stack isn't made or started: its flash has a wrong size in bytes, or failed by a counted fault, or another call has it in
+/// use, which counts as a fault too, or want of memory.
 #[derive(Clone, Copy, Debug, Error)]
 pub enum MakeFault {
     #[error("the flash has {found} bytes in place of the configuration's sector times sectors")]
     WrongSize { found: u64 },
     #[error("the flash counted a fault while the stack was made or started")]
     Flash,
+    #[error("another call has the flash in use")]
+    InUse,
     #[error("there is no memory for the stack")]
     Memory,
 }
@@ -66,6 +69,7 @@ fn fault_of(fault: AttachFault) -> MakeFault
 {
     match fault {
         AttachFault::Failed => MakeFault::Flash,
+        AttachFault::InUse => MakeFault::InUse,
         AttachFault::WrongSize { found } => MakeFault::WrongSize { found },
         AttachFault::Memory => MakeFault::Memory,
     }

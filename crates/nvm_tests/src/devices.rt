@@ -1,9 +1,10 @@
 // A flash in a file.
-use nvm_flash::fls_devices::{ByteFile, FileFlash, ImageFile, mem_file};
+use nvm_flash::fls_devices::{ByteFile, FileFlash, ImageFault, ImageFile, mem_file};
 use nvm_flash::fls_model::{AttachFault, Flash};
 use nvm_laws::nv_base::Geometry;
 use std::alloc::Global;
 use std::fs;
+use std::os::unix::fs::symlink;
 
 const SMALLEST: Geometry = Geometry {
     page: 16,
@@ -112,4 +113,82 @@ fn is_made_late(rt: &HostRuntime) -> bool {
 fn an_image_file_is_made_at_its_attach(rt: HostRuntime) {
     let _ = fs::remove_file(&rt, LATE);
     assert!(rt; is_made_late(&rt) && fs::remove_file(&rt, LATE).is_ok());
+}
+
+// Attaches a flash of an image file that may be made, and says why that failed, and what the file says of it.
+fn attach_file(
+    rt: &HostRuntime,
+    path: &str,
+    beside: &str,
+) -> (Result<(), AttachFault>, Option<ImageFault>) {
+    let mut flash = FileFlash::over(ImageFile::to_change(rt, path, beside));
+    let attached = flash.attach(rt.alloc(), SMALLEST);
+    let why = match flash.file() {
+        Some(file) => file.fault(),
+        None => None,
+    };
+    (attached, why)
+}
+
+const HELD: &str = "fls_devices_held.img";
+
+const HELD_NEW: &str = "fls_devices_held.img.new";
+
+// Whether another call, also one that reads alone, finds the flash in use while this one has it, and no longer.
+fn is_held_alone(rt: &HostRuntime) -> bool {
+    let mut flash = FileFlash::over(ImageFile::to_change(rt, HELD, HELD_NEW));
+    let first = flash.attach(rt.alloc(), SMALLEST).is_ok();
+    let (second, why) = attach_file(rt, HELD, HELD_NEW);
+    let mut read = FileFlash::over(ImageFile::to_read(rt, HELD));
+    let third = read.attach(rt.alloc(), SMALLEST);
+    drop(flash);
+    let refused = matches!(second, Err(AttachFault::InUse)) && why == Some(ImageFault::InUse);
+    let shared = matches!(third, Err(AttachFault::InUse));
+    first && refused && shared && attach_file(rt, HELD, HELD_NEW).0.is_ok()
+}
+
+#[test]
+fn an_image_file_that_another_call_has(rt: HostRuntime) {
+    let _ = fs::remove_file(&rt, HELD);
+    assert!(rt; is_held_alone(&rt) && fs::remove_file(&rt, HELD).is_ok());
+}
+
+const MADE: &str = "fls_devices_made.img";
+
+const MADE_NEW: &str = "fls_devices_made.img.new";
+
+// Whether what stands under the other name ends the attach, and stays as it is.
+fn stays(rt: &HostRuntime, found: &[u8]) -> bool {
+    let written = fs::write(rt, MADE_NEW, found).is_ok();
+    let (attached, why) = attach_file(rt, MADE, MADE_NEW);
+    let failed = matches!(attached, Err(AttachFault::Failed)) && why == Some(ImageFault::InTheWay);
+    let same = match fs::read(rt, MADE_NEW) {
+        Ok(bytes) => bytes.as_slice() == found,
+        Err(_) => false,
+    };
+    written && failed && same && fs::metadata(rt, MADE).is_err()
+}
+
+// Whether a link there is followed by nothing.
+fn is_no_link(rt: &HostRuntime) -> bool {
+    let linked = symlink(rt, "fls_devices_other.img", MADE_NEW).is_ok();
+    let (attached, why) = attach_file(rt, MADE, MADE_NEW);
+    let failed = attached.is_err() && why == Some(ImageFault::InTheWay);
+    linked && failed && fs::metadata(rt, "fls_devices_other.img").is_err()
+}
+
+// Whether the part that a call that was killed left is taken.
+fn is_taken(rt: &HostRuntime) -> bool {
+    let written = fs::write(rt, MADE_NEW, [255; 100].as_slice()).is_ok();
+    let taken = attach_file(rt, MADE, MADE_NEW).0.is_ok();
+    written && taken && fs::metadata(rt, MADE_NEW).is_err()
+}
+
+#[test]
+fn a_file_in_the_way_of_an_image_file(rt: HostRuntime) {
+    let _ = fs::remove_file(&rt, MADE);
+    assert!(rt; stays(&rt, [7; 3].as_slice()) && stays(&rt, [255; 129].as_slice()));
+    assert!(rt; fs::remove_file(&rt, MADE_NEW).is_ok() && is_no_link(&rt));
+    assert!(rt; fs::remove_file(&rt, MADE_NEW).is_ok() && is_taken(&rt));
+    assert!(rt; fs::remove_file(&rt, MADE).is_ok());
 }

@@ -26,6 +26,7 @@ fn why_no_configuration_was_read(rt: HostRuntime) {
 fn why_no_flash_was_attached(rt: HostRuntime) {
     let fault = "the flash counted a fault while it was attached";
     assert!(rt; prints(AttachFault::Failed, fault));
+    assert!(rt; prints(AttachFault::InUse, "another call has the flash in use"));
     let size = "the flash has 100 bytes in place of the geometry's sector times sectors";
     assert!(rt; prints(AttachFault::WrongSize { found: 100 }, size));
     let memory = "there is no memory to attach the flash";
@@ -38,6 +39,7 @@ fn why_no_stack_was_made(rt: HostRuntime) {
     assert!(rt; prints(MakeFault::WrongSize { found: 2048 }, size));
     let fault = "the flash counted a fault while the stack was made or started";
     assert!(rt; prints(MakeFault::Flash, fault));
+    assert!(rt; prints(MakeFault::InUse, "another call has the flash in use"));
     let memory = "there is no memory for the stack";
     assert!(rt; prints(MakeFault::Memory, memory));
 }

@@ -87,6 +87,7 @@ stops c (fault.WrongSize found) s t back = record {
   cuts = back.cuts;
 }
 stops c fault.Flash s t back = record { why = tt; end = back.cause; flash = back.flash; faults = back.faults; cuts = back.cuts }
+stops c fault.InUse s t back = record { why = tt; end = back.cause; flash = back.flash; faults = back.faults; cuts = back.cuts }
 stops c fault.Memory s t back = record { why = tt; end = tt; flash = back.flash; faults = back.faults; cuts = back.cuts }
 
 -- THE FIRST START-UP

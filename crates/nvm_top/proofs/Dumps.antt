@@ -23,6 +23,7 @@ use Rattle.nvm_top.proofs.RunLines.{Writes-as, by_stop, read_line}
 stop_line : (g : Geometry) (s t : Told) (why : Stop) → IsAttachStop (size_of g) s.bytes why → IsPlayEnd (size_of g) s t (status_of why) → why ≢ stop.Memory → DumpsFlash g s t (status_of why) (line_of why ∷ [])
 stop_line g s t (stop.WrongSize found needed) is end other = (end.0, (found, is.0, ap (λ (n : ℕ). line_of (stop.WrongSize found n) ∷ []) is.1))
 stop_line g s t stop.FlashFault is end other = (end, refl)
+stop_line g s t stop.InUse is end other = (end.0, refl)
 stop_line g s t stop.Memory is end other = absurd (other refl)
 stop_line g s t _ is end other = absurd is
 
@@ -47,6 +48,7 @@ unread-text left reads reads' s t why w w' x fault stops is =
 before : (need : ℕ) (s t : Told) (x : Status) → IsPlayEnd need s t x → IsBeforeStart x → t ≡ s
 before need s t status.WrongSize end is = end.1
 before need s t status.FlashFault end is = absurd is
+before need s t status.InUse end is = absurd is
 before need s t status.Memory end is = absurd is
 before need s t _ end is = absurd end
 

@@ -17,7 +17,7 @@ use Rattle.nvm_script.specs.declared.script.Mode.{Mode}
 use Rattle.nvm_script.specs.declared.script.Mode.TheVariants as mode
 use Rattle.nvm_flash.specs.promise_run.Completeness.{Completeness}
 use Rattle.nvm_flash.specs.promise_run.JobTurns.{job_turns}
-use Rattle.nvm_top.specs.Play.{IsSizeStop}
+use Rattle.nvm_top.specs.Play.{IsFlashStop}
 use Rattle.nvm_flash.specs.promise_run.Turns.{EndsBy, HasTurns}
 use Rattle.nvm_flash.proofs.promise_run.Callers.{callers_are_served}
 use Rattle.nvm_top.specs.declared.status.Status.{Status}
@@ -167,17 +167,30 @@ early_line why meant lines History w w' x one two is = stop_alone why meant line
 early_line why meant lines Summary w w' x one two is = stop_alone why meant lines w w' x one two is
 
 -- the flash isn't attached for its size
-pub wrong_size : (c : Configuration) (entry exit : Told) (found needed : ℕ) (x : Status) (w w' : Written) → StopsAtStart c entry exit (stop.WrongSize found needed) → Writes (IsStop (stop.WrongSize found needed)) w w' x → HasNoRun (IsSizeStop (size_of c.geometry) entry.bytes) w w' x entry exit
+pub wrong_size : (c : Configuration) (entry exit : Told) (found needed : ℕ) (x : Status) (w w' : Written) → StopsAtStart c entry exit (stop.WrongSize found needed) → Writes (IsStop (stop.WrongSize found needed)) w w' x → HasNoRun (IsFlashStop (size_of c.geometry) entry.bytes) w w' x entry exit
 wrong_size c entry exit found needed x w w' stops is = record {
-  line = Writes-as (IsStop (stop.WrongSize found needed)) (IsSizeStop (size_of c.geometry) entry.bytes) w w' x
-      (λ y lines at. by_stop (IsSizeStop (size_of c.geometry) entry.bytes) (stop.WrongSize found needed) y lines (λ other. (stops.end.0, (found, stops.why.0, ap (λ n. line_of (stop.WrongSize found n) ∷ []) stops.why.1))) at) is;
-  alone = stops.end.1;
+  line = Writes-as (IsStop (stop.WrongSize found needed)) (IsFlashStop (size_of c.geometry) entry.bytes) w w' x
+      (λ y lines at. by_stop (IsFlashStop (size_of c.geometry) entry.bytes) (stop.WrongSize found needed) y lines (λ other. (stops.end.0, (found, stops.why.0, ap (λ n. line_of (stop.WrongSize found n) ∷ []) stops.why.1))) at) is;
+  flash = inl (stops.end.1, sized w w' x is);
+}
+  where
+    sized : (v v' : Written) (y : Status) → Writes (IsStop (stop.WrongSize found needed)) v v' y → y ≢ status.InUse
+    sized v v' status.InUse at = absurd (let same = at.1.1 in cc same)
+    sized v v' _ at = λ e. cc e
+
+-- nor where another call has it in use
+pub found_in_use : (c : Configuration) (entry exit : Told) (x : Status) (w w' : Written) → StopsAtStart c entry exit stop.InUse → Writes (IsStop stop.InUse) w w' x → HasNoRun (IsFlashStop (size_of c.geometry) entry.bytes) w w' x entry exit
+found_in_use c entry exit x w w' stops is = record {
+  line = Writes-as (IsStop stop.InUse) (IsFlashStop (size_of c.geometry) entry.bytes) w w' x
+      (λ y lines at. by_stop (IsFlashStop (size_of c.geometry) entry.bytes) stop.InUse y lines (λ other. refl) at) is;
+  flash = inr (record { line = is; faults = stops.end });
 }
 
 -- or there is a run without a start-up
 pub early_in : (text : RunText) (m : Mode) (c : Configuration) (steps : List Step) (entry exit : Told) (why : Stop) (x : Status) (w w' : Written) (input : Option (List ℕ)) → StopsAtStart c entry exit why → Writes (IsStop why) w w' x
-    → HasRun m c steps (EndsIn text (call_by m input x entry exit w w')) entry exit ⊎ HasNoRun (IsSizeStop (size_of c.geometry) entry.bytes) w w' x entry exit
+    → HasRun m c steps (EndsIn text (call_by m input x entry exit w w')) entry exit ⊎ HasNoRun (IsFlashStop (size_of c.geometry) entry.bytes) w w' x entry exit
 early_in text m c steps entry exit (stop.WrongSize found needed) x w w' input stops is = inr (wrong_size c entry exit found needed x w w' stops is)
+early_in text m c steps entry exit stop.InUse x w w' input stops is = inr (found_in_use c entry exit x w w' stops is)
 early_in text m c steps entry exit stop.FlashFault x w w' input stops is =
     inl (early_end text m c steps entry exit stop.FlashFault FlashFault x w w' input stops stops.end (early_line stop.FlashFault status.FlashFault (lines_in text FlashFault []) text w w' x refl (fault_line text) is))
   where

@@ -15,7 +15,7 @@ use Rattle.nvm_script.specs.Script.{IsScript, later_lines}
 use Rattle.nvm_script.specs.declared.script.Mode.{Mode}
 use Rattle.nvm_script.specs.declared.script.Mode.TheVariants as mode
 use Rattle.nvm_top.specs.Ends.{HasScript, HasStepsOf, HasWrongLine}
-use Rattle.nvm_top.specs.Play.{IsAttachStop, IsBeforeAttach, IsSizeStop, StepsStopBy, StopsBy}
+use Rattle.nvm_top.specs.Play.{IsAttachStop, IsBeforeAttach, IsFlashStop, StepsStopBy, StopsBy}
 use Rattle.nvm_top.specs.Reading.{IsReadStop}
 use Rattle.nvm_top.specs.Input.{input_limit}
 use Rattle.script_player.specs.declared.steps.StepFault.{StepFault}
@@ -53,6 +53,7 @@ ran_late result run x entries lines w w' is_run is =
 attach_late : (need : ℕ) (bytes : Option ToldBytes) (why : Stop) → IsAttachStop need bytes why → IsBeforeAttach (status_of why) → ⊥
 attach_late need bytes (stop.WrongSize found needed) is early = early
 attach_late need bytes stop.FlashFault is early = early
+attach_late need bytes stop.InUse is early = early
 attach_late need bytes stop.Memory is early = early
 attach_late need bytes _ is early = absurd is
 
@@ -97,17 +98,18 @@ alone told = record { geometry = refl; off = λ off. off; bytes = refl; ops = re
 
 -- WHERE NO RUN IS BEGUN
 
--- the flash has a wrong size
-sized_line : (IsWrong : List ℕ → ℕ → Type 0) (Has : Configuration → List ℕ → Type 0) (left : Option (List ℕ)) (reads reads' : ℕ) (bytes : Option ToldBytes) (c : Configuration) (y : Status) (lines : List (List ℕ)) → IfSome left (Has c) → IsSizeStop (size_of c.geometry) bytes y lines
+-- the flash has a wrong size, or is in use
+sized_line : (IsWrong : List ℕ → ℕ → Type 0) (Has : Configuration → List ℕ → Type 0) (left : Option (List ℕ)) (reads reads' : ℕ) (bytes : Option ToldBytes) (c : Configuration) (y : Status) (lines : List (List ℕ)) → IfSome left (Has c) → IsFlashStop (size_of c.geometry) bytes y lines
     → StopsBy IsWrong Has left reads reads' bytes y lines
 sized_line IsWrong Has left reads reads' bytes c status.WrongSize lines has is = (c, has, is)
+sized_line IsWrong Has left reads reads' bytes c status.InUse lines has is = (c, has, is)
 sized_line IsWrong Has left reads reads' bytes c _ lines has is = absurd is
 
-pub sized : (IsWrong : List ℕ → ℕ → Type 0) (Has : Configuration → List ℕ → Type 0) (left : Option (List ℕ)) (reads reads' : ℕ) (c : Configuration) (w w' : Written) (x : Status) (entry exit : Told) → IfSome left (Has c) → HasNoRun (IsSizeStop (size_of c.geometry) entry.bytes) w w' x entry exit
+pub sized : (IsWrong : List ℕ → ℕ → Type 0) (Has : Configuration → List ℕ → Type 0) (left : Option (List ℕ)) (reads reads' : ℕ) (c : Configuration) (w w' : Written) (x : Status) (entry exit : Told) → IfSome left (Has c) → HasNoRun (IsFlashStop (size_of c.geometry) entry.bytes) w w' x entry exit
     → HasNoRun (StopsBy IsWrong Has left reads reads' entry.bytes) w w' x entry exit
 sized IsWrong Has left reads reads' c w w' x entry exit has none = record {
-  line = Writes-as (IsSizeStop (size_of c.geometry) entry.bytes) (StopsBy IsWrong Has left reads reads' entry.bytes) w w' x (λ y lines at. sized_line IsWrong Has left reads reads' entry.bytes c y lines has at) none.line;
-  alone = none.alone;
+  line = Writes-as (IsFlashStop (size_of c.geometry) entry.bytes) (StopsBy IsWrong Has left reads reads' entry.bytes) w w' x (λ y lines at. sized_line IsWrong Has left reads reads' entry.bytes c y lines has at) none.line;
+  flash = none.flash;
 }
 
 -- the input isn't read, or a line of it is wrong
@@ -115,13 +117,23 @@ unread_line : (IsWrong : List ℕ → ℕ → Type 0) (Has : Configuration → L
     → StopsBy IsWrong Has left reads reads' bytes (status_of why) (line_of why ∷ [])
 unread_line IsWrong Has left reads reads' bytes (stop.BadScript number) fault is other = (number, is, refl)
 unread_line IsWrong Has left reads reads' bytes (stop.WrongSize found need) fault is other = absurd is
+unread_line IsWrong Has left reads reads' bytes stop.InUse fault is other = absurd is
 unread_line IsWrong Has left reads reads' bytes why fault is other = read_line left reads reads' why fault is other
+
+-- no flash is in use before its attach
+not_in_use : (IsWrong : List ℕ → ℕ → Type 0) (left : Option (List ℕ)) (why : Stop) → IsReadStop IsWrong left why → status_of why ≢ status.InUse
+not_in_use IsWrong left stop.InUse is = absurd is
+not_in_use IsWrong left _ is = λ e. cc e
+
+unused : (IsWrong : List ℕ → ℕ → Type 0) (left : Option (List ℕ)) (why : Stop) (w w' : Written) (x : Status) → IsReadStop IsWrong left why → Writes (IsStop why) w w' x → x ≢ status.InUse
+unused IsWrong left why w w' status.InUse stops is = λ e. not_in_use IsWrong left why stops (sym is.1.1)
+unused IsWrong left why w w' _ stops is = λ e. cc e
 
 pub unread : (IsWrong : List ℕ → ℕ → Type 0) (Has : Configuration → List ℕ → Type 0) (left : Option (List ℕ)) (reads reads' : ℕ) (why : Stop) (w w' : Written) (x : Status) (told : Told) → (why ≡ stop.ReadFault → Rose reads reads') → IsReadStop IsWrong left why → Writes (IsStop why) w w' x
     → HasNoRun (StopsBy IsWrong Has left reads reads' told.bytes) w w' x told told
 unread IsWrong Has left reads reads' why w w' x told fault stops is = record {
   line = Writes-as (IsStop why) (StopsBy IsWrong Has left reads reads' told.bytes) w w' x (λ y lines at. by_stop (StopsBy IsWrong Has left reads reads' told.bytes) why y lines (unread_line IsWrong Has left reads reads' told.bytes why fault stops) at) is;
-  alone = alone told;
+  flash = inl (alone told, unused IsWrong left why w w' x stops is);
 }
 
 -- `PLAY` AND `RUN`
@@ -131,7 +143,7 @@ has_steps m None c steps has = tt
 has_steps m (Some bytes) c steps has = (has.config, steps, has.script)
 
 pub steps_made : (m : Mode) (left : Option (List ℕ)) (reads reads' : ℕ) (x : Status) (c : Configuration) (steps : List Step) (entry exit : Told) (w w' : Written) → IfSome left (λ bytes. HasScript m bytes c steps)
-    → HasRun m c steps (EndsIn History (call_by m left x entry exit w w')) entry exit ⊎ HasNoRun (IsSizeStop (size_of c.geometry) entry.bytes) w w' x entry exit
+    → HasRun m c steps (EndsIn History (call_by m left x entry exit w w')) entry exit ⊎ HasNoRun (IsFlashStop (size_of c.geometry) entry.bytes) w w' x entry exit
     → HasPromise (call_by m left x entry exit w w') ⊎ HasNoRun (StepsStopBy m left reads reads' entry.bytes) w w' x entry exit
 steps_made m left reads reads' x c steps entry exit w w' has (inl run) = inl (has_promise m left x c steps entry exit w w' has run)
 steps_made m left reads reads' x c steps entry exit w w' has (inr none) = inr (sized (HasWrongLine m) (HasStepsOf m) left reads reads' c w w' x entry exit (has_steps m left c steps has) none)

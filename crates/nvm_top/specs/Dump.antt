@@ -30,6 +30,7 @@ abbrev pub DumpsFlash : Geometry → (s t : Told) → Status → List (List ℕ)
 DumpsFlash g s t status.Ok lines = (image : List ℕ) × IsImageOf g s.bytes image × (lines ≡ cut_lines (dump_text (layout_of g bank_count) image))
 DumpsFlash g s t status.WrongSize lines = NamesSize (size_of g) s.bytes lines
 DumpsFlash g s t status.FlashFault lines = Rose s.faults t.faults × (lines ≡ line_of stop.FlashFault ∷ [])
+DumpsFlash g s t status.InUse lines = Rose s.faults t.faults × (lines ≡ line_of stop.InUse ∷ [])
 DumpsFlash g s t _ lines = ⊥
 
 -- as a whole, with the bytes of the input, where they are told, and with its faults before and after

@@ -5,6 +5,7 @@ use Rattle.nvm_flash.specs.nv_base.Geometry.{size_of}
 use Rattle.nvm_flash.specs.block_config.Config.{Configuration}
 use Rattle.nvm_flash.specs.fls_model.Told.{Told, ToldBytes}
 use Rattle.nvm_flash.specs.promise_run.Run.{LeavesAlone}
+use Rattle.nvm_flash.specs.Made.{IsOnlyFaulty}
 use Rattle.nvm_script.specs.declared.script.Mode.{Mode}
 use Rattle.nvm_top.specs.declared.status.Status.{Status}
 use Rattle.nvm_top.specs.declared.status.Status.TheVariants as status
@@ -25,6 +26,7 @@ IsRightSize need bytes = IfSome bytes (λ b. (b.now ≡ []) ⊎ (length b.now �
 abbrev pub IsAttachStop : ℕ → Option ToldBytes → Stop → Type 0
 IsAttachStop need bytes (stop.WrongSize found needed) = IfSome bytes (λ b. length b.now ≡ found) × (needed ≡ need)
 IsAttachStop need bytes stop.FlashFault = Unit {0}
+IsAttachStop need bytes stop.InUse = Unit {0}
 IsAttachStop need bytes stop.Memory = Unit {0}
 IsAttachStop need bytes _ = ⊥
 
@@ -46,6 +48,7 @@ IsBeforeStart x = IsBeforeAttach x
 -- at the attach of a flash that is to have so many bytes
 abbrev pub IsPlayEnd : ℕ → Told → Told → Status → Type 0
 IsPlayEnd need s t status.FlashFault = Rose s.faults t.faults
+IsPlayEnd need s t status.InUse = Rose s.faults t.faults × (t ≡ record s { faults = t.faults })
 IsPlayEnd need s t status.WrongSize = IsWrongSize need s.bytes × (t ≡ s)
 IsPlayEnd need s t status.Memory = Unit {0}
 IsPlayEnd need s t _ = ⊥
@@ -53,6 +56,7 @@ IsPlayEnd need s t _ = ⊥
 -- before the first step on a stack over it
 abbrev pub IsStepsEnd : ℕ → Told → Told → Status → Type 0
 IsStepsEnd need s t status.FlashFault = Rose s.faults t.faults
+IsStepsEnd need s t status.InUse = IsOnlyFaulty s t
 IsStepsEnd need s t status.WrongSize = IsWrongSize need s.bytes × LeavesAlone s t
 IsStepsEnd need s t status.Memory = Unit {0}
 IsStepsEnd need s t _ = ⊥
@@ -63,17 +67,19 @@ abbrev pub NamesSize : ℕ → Option ToldBytes → List (List ℕ) → Type 0
 NamesSize need bytes lines =
     IsWrongSize need bytes × ((found : ℕ) × IfSome bytes (λ b. length b.now ≡ found) × (lines ≡ line_of (stop.WrongSize found need) ∷ []))
 
--- no other stop than that
-abbrev pub IsSizeStop : ℕ → Option ToldBytes → Status → List (List ℕ) → Type 0
-IsSizeStop need bytes status.WrongSize lines = NamesSize need bytes lines
-IsSizeStop need bytes _ lines = ⊥
+-- or another call has it in use; no other stop than these
+abbrev pub IsFlashStop : ℕ → Option ToldBytes → Status → List (List ℕ) → Type 0
+IsFlashStop need bytes status.WrongSize lines = NamesSize need bytes lines
+IsFlashStop need bytes status.InUse lines = lines ≡ line_of stop.InUse ∷ []
+IsFlashStop need bytes _ lines = ⊥
 
 -- Why no run is begun, by what makes a later line of the input a wrong one, and by which inputs have a configuration: the
--- input isn't read, a line is wrong, or the flash has a wrong size. It takes the bytes of the input and of the flash, where
+-- input isn't read, a line is wrong, or the flash has a wrong size or is in use. It takes the bytes of the input and of the flash, where
 -- they are told, the input's faults before and after, and the line that is written.
 abbrev pub StopsBy : (List ℕ → ℕ → Type 0) → (Configuration → List ℕ → Type 0) → (left : Option (List ℕ)) (reads reads' : ℕ) → Option ToldBytes → Status → List (List ℕ) → Type 0
 StopsBy IsWrong Has left reads reads' bytes status.BadScript lines = (number : ℕ) × IfSome left (λ input. IsWrong input number) × (lines ≡ line_of (stop.BadScript number) ∷ [])
 StopsBy IsWrong Has left reads reads' bytes status.WrongSize lines = (c : Configuration) × IfSome left (Has c) × NamesSize (size_of c.geometry) bytes lines
+StopsBy IsWrong Has left reads reads' bytes status.InUse lines = (c : Configuration) × IfSome left (Has c) × (lines ≡ line_of stop.InUse ∷ [])
 StopsBy IsWrong Has left reads reads' bytes x lines = ReadsBy left reads reads' x lines
 
 -- of `play`, or of `run`

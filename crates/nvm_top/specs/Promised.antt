@@ -1,5 +1,5 @@
 -- The promise of a whole run, as a command keeps it.
-use Rattle.std.specs.Prelude.{◌≡◌, ◌≢◌, ◌≤◌, ◌++◌, ℕ, not, true, false, IsTrue, List, [], length, take, drop, Option, None, IfSome, ◌∷◌}
+use Rattle.std.specs.Prelude.{◌≡◌, ◌≢◌, ◌⊎◌, ◌≤◌, ◌++◌, ℕ, not, true, false, IsTrue, List, [], length, take, drop, Option, None, IfSome, ◌∷◌}
 use Rattle.std.specs.List.{list_all}
 use Rattle.nv_streams.specs.Sink.{Written, Puts, PutsPart}
 use Rattle.nvm_flash.specs.nv_base.Geometry.{size_of}
@@ -17,6 +17,7 @@ use Rattle.script_walks.specs.Texts.{AreValues}
 use Rattle.nvm_flash.specs.block_machine.Words.{Entry}
 use Rattle.nvm_flash.specs.promise_blocks.OverDevice.{HasStarted}
 use Rattle.nvm_flash.specs.promise_run.Run.{Run, Course, Played, Ran, End, Whole, FlashFault, Memory, HasOrder, LeavesAlone, CutsExplain}
+use Rattle.nvm_flash.specs.Made.{IsOnlyFaulty}
 use Rattle.nvm_flash.specs.promise_run.Refusals.{RefusesAsAsked}
 use Rattle.nvm_flash.specs.block_machine.Steps.{after}
 use Rattle.nvm_flash.specs.promise_device.FlashRun.{TellsBytes, StartsSound, CountsAll}
@@ -29,11 +30,13 @@ use Rattle.nvm_top.specs.declared.status.Status.{Status}
 use Rattle.nvm_top.specs.declared.status.Status.TheVariants as status
 use Rattle.nvm_top.specs.declared.runs.RunText.{RunText}
 use Rattle.nvm_top.specs.declared.runs.RunText.TheVariants.{History, Summary}
+use Rattle.nvm_top.specs.declared.stop.Stop.TheVariants as stop
 use Rattle.nvm_top.specs.Ends.{HasScript}
 use Rattle.nvm_top.specs.Input.{input_limit}
 use Rattle.nvm_top.specs.Output.{Writes}
 use Rattle.nvm_top.specs.Play.{IsRightSize}
 use Rattle.nvm_top.specs.Status.{code_of_status}
+use Rattle.nvm_top.specs.Stop.{IsStop}
 
 -- a call of `play`, or of `run`
 abbrev pub call_by : Mode → Option (List ℕ) → Status → Told → Told → Written → Written → Call
@@ -101,10 +104,16 @@ IsCourseIn m course = ⊥
 abbrev pub HasPromise : Call → Type 0
 HasPromise call = (r : Run) × IsRunOf call r × IsCourseIn call.mode r.course × IfSome call.input (λ bytes. length bytes ≤ input_limit) × KeepsRun r
 
--- no run was begun: the line of a stop was written, at want of memory none, and the flash is left alone
+-- another call has the flash in use: no other line was written than that, and of the flash the faults alone changed, which rose
+pub record FindsInUse (written written' : Written) (x : Status) (entry exit : Told) : Type 0 where
+  pub line : Writes (IsStop stop.InUse) written written' x
+  pub faults : IsOnlyFaulty entry exit
+
+-- no run was begun: the line of a stop was written, at want of memory none, and the flash is left alone, but where another call
+-- has it in use
 pub record HasNoRun (IsEnd : Status → List (List ℕ) → Type 0) (written written' : Written) (x : Status) (entry exit : Told) : Type 0 where
   pub line : Writes IsEnd written written' x
-  pub alone : LeavesAlone entry exit
+  pub flash : (LeavesAlone entry exit × (x ≢ status.InUse)) ⊎ FindsInUse written written' x entry exit
 
 -- FROM THE ATTACH ON
 

@@ -52,6 +52,7 @@ pub record IsStarted (c : Configuration) (cuts : ℕ) (before : PartTold) (t : S
 abbrev pub stop_of_make : MakeFault → ℕ → Stop
 stop_of_make (fault.WrongSize found) need = stop.WrongSize found need
 stop_of_make fault.Flash need = stop.FlashFault
+stop_of_make fault.InUse need = stop.InUse
 stop_of_make fault.Memory need = stop.Memory
 
 -- why it isn't started: the flash isn't attached, or start-up failed by a fault, or memory was wanting

@@ -4,7 +4,7 @@ use Rattle.std.specs.Fmt.{decimal}
 use Rattle.nvm_top.specs.declared.status.Status.{Status}
 use Rattle.nvm_top.specs.declared.status.Status.TheVariants as status
 use Rattle.nvm_top.specs.declared.stop.Stop.{Stop}
-use Rattle.nvm_top.specs.declared.stop.Stop.TheVariants.{BadWords, BadConfig, BadScript, ReadFault, TooLong, WrongSize, FlashFault, HistoryFull, Memory, PowerOff}
+use Rattle.nvm_top.specs.declared.stop.Stop.TheVariants.{BadWords, BadConfig, BadScript, ReadFault, TooLong, WrongSize, FlashFault, HistoryFull, Memory, PowerOff, InUse}
 
 abbrev pub status_of : Stop → Status
 status_of BadWords = status.BadWords
@@ -17,6 +17,7 @@ status_of FlashFault = status.FlashFault
 status_of HistoryFull = status.HistoryFull
 status_of Memory = status.Memory
 status_of PowerOff = status.PowerOff
+status_of InUse = status.InUse
 
 -- the line, with its newline; none at want of memory
 abbrev pub line_of : Stop → List ℕ
@@ -30,6 +31,7 @@ line_of FlashFault = codes "flash fault\n"
 line_of HistoryFull = codes "history full\n"
 line_of Memory = []
 line_of PowerOff = codes "power off\n"
+line_of InUse = codes "flash in use\n"
 
 -- a command that stops has this status, and writes this line last; at want of memory it writes none
 abbrev pub IsStop : Stop → Status → List (List ℕ) → Type 0

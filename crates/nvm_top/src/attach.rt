@@ -18,6 +18,7 @@ pub fn attach_stop(fault: AttachFault, geometry: Geometry) -> Stop
 {
     match fault {
         AttachFault::Failed => Stop::FlashFault,
+        AttachFault::InUse => Stop::InUse,
         AttachFault::WrongSize { found } => Stop::WrongSize {
             found,
             need: u64::from(geometry.sector) * u64::from(geometry.sectors),

@@ -6,7 +6,7 @@ ghost use Rattle.nvm_flash.specs.Made.{IsOrigin};
 ghost use Rattle.nvm_script.specs.Played.{ArePlayed};
 ghost use Rattle.script_player.specs.Made.{cuts_of};
 ghost use Rattle.nvm_top.specs.Causes.{HasCauses};
-ghost use Rattle.nvm_top.specs.Play.{IsBeforeAttach, IsSizeStop, StepsStopBy};
+ghost use Rattle.nvm_top.specs.Play.{IsBeforeAttach, IsFlashStop, StepsStopBy};
 ghost use Rattle.nvm_top.specs.Promised.{EndsIn, HasNoRun, HasPromise, HasRun, played_call};
 
 use crate::Status;
@@ -53,7 +53,7 @@ pub(crate) fn play_flash<K: Sink, F: Flash>(
     requires played { ArePlayed script.config script.steps }
     ensures promise { (input : Option (List ℕ))
         → HasRun Mode.Play script.config script.steps (EndsIn text (played_call input result.0 (F.told flash) (F.told result.1) (K.written output.old) (K.written output.new))) (F.told flash) (F.told result.1)
-        ⊎ HasNoRun (IsSizeStop (size_of script.config.geometry) (F.told flash).bytes) (K.written output.old) (K.written output.new) result.0 (F.told flash) (F.told result.1) }
+        ⊎ HasNoRun (IsFlashStop (size_of script.config.geometry) (F.told flash).bytes) (K.written output.old) (K.written output.new) result.0 (F.told flash) (F.told result.1) }
     ensures late { IsBeforeAttach result.0 → ⊥ }
     ensures write_fault { result.0 ≡ Status.WriteFault → Rose (K.faults output.old) (K.faults output.new) }
 {
@@ -72,7 +72,7 @@ fn play_steps<K: Sink, F: Flash, O: Origin>(
     requires played { ArePlayed script.config script.steps }
     ensures promise { (input : Option (List ℕ))
         → HasRun Mode.Play script.config script.steps (EndsIn text (played_call input result.0 (F.told flash) (F.told result.1) (K.written output.old) (K.written output.new))) (F.told flash) (F.told result.1)
-        ⊎ HasNoRun (IsSizeStop (size_of script.config.geometry) (F.told flash).bytes) (K.written output.old) (K.written output.new) result.0 (F.told flash) (F.told result.1) }
+        ⊎ HasNoRun (IsFlashStop (size_of script.config.geometry) (F.told flash).bytes) (K.written output.old) (K.written output.new) result.0 (F.told flash) (F.told result.1) }
     ensures late { IsBeforeAttach result.0 → ⊥ }
     ensures write_fault { result.0 ≡ Status.WriteFault → Rose (K.faults output.old) (K.faults output.new) }
 {

@@ -5,7 +5,7 @@ ghost use Rattle.nvm_flash.specs.nv_base.Geometry.{size_of};
 ghost use Rattle.nvm_flash.specs.Made.{IsOrigin};
 ghost use Rattle.script_callers.specs.RunScripts.{AreRun};
 ghost use Rattle.nvm_top.specs.Causes.{HasCauses};
-ghost use Rattle.nvm_top.specs.Play.{IsBeforeAttach, IsSizeStop, StepsStopBy};
+ghost use Rattle.nvm_top.specs.Play.{IsBeforeAttach, IsFlashStop, StepsStopBy};
 ghost use Rattle.nvm_top.specs.Promised.{EndsIn, HasNoRun, HasPromise, HasRun, call_by};
 ghost use Rattle.nvm_top.specs.Running.{stop_of_ending};
 
@@ -59,7 +59,7 @@ fn run_flash<R: Threads + Wait + Sync, K: Sink, F: Flash>(
     requires run { AreRun callers.config callers.steps }
     ensures promise { (input : Option (List ℕ))
         → HasRun Mode.Run callers.config callers.steps (EndsIn RunText.History (call_by Mode.Run input result.0 (F.told flash) (F.told result.1) (K.written output.old) (K.written output.new))) (F.told flash) (F.told result.1)
-        ⊎ HasNoRun (IsSizeStop (size_of callers.config.geometry) (F.told flash).bytes) (K.written output.old) (K.written output.new) result.0 (F.told flash) (F.told result.1) }
+        ⊎ HasNoRun (IsFlashStop (size_of callers.config.geometry) (F.told flash).bytes) (K.written output.old) (K.written output.new) result.0 (F.told flash) (F.told result.1) }
     ensures late { IsBeforeAttach result.0 → ⊥ }
     ensures write_fault { result.0 ≡ Status.WriteFault → Rose (K.faults output.old) (K.faults output.new) }
 {
@@ -82,7 +82,7 @@ fn run_over<R: Threads + Wait + Sync, K: Sink, F: Flash, O: Origin>(
     requires run { AreRun config steps.now }
     ensures promise { (input : Option (List ℕ))
         → HasRun Mode.Run config steps.now (EndsIn RunText.History (call_by Mode.Run input result.0 (F.told flash) (F.told result.1) (K.written output.old) (K.written output.new))) (F.told flash) (F.told result.1)
-        ⊎ HasNoRun (IsSizeStop (size_of config.geometry) (F.told flash).bytes) (K.written output.old) (K.written output.new) result.0 (F.told flash) (F.told result.1) }
+        ⊎ HasNoRun (IsFlashStop (size_of config.geometry) (F.told flash).bytes) (K.written output.old) (K.written output.new) result.0 (F.told flash) (F.told result.1) }
     ensures late { IsBeforeAttach result.0 → ⊥ }
     ensures write_fault { result.0 ≡ Status.WriteFault → Rose (K.faults output.old) (K.faults output.new) }
 {

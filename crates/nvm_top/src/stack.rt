@@ -105,6 +105,7 @@ fn stop_of_make(fault: MakeFault, geometry: Geometry) -> Stop
             need: u64::from(geometry.sector) * u64::from(geometry.sectors),
         },
         MakeFault::Flash => Stop::FlashFault,
+        MakeFault::InUse => Stop::InUse,
         MakeFault::Memory => Stop::Memory,
     }
 }

@@ -17,16 +17,18 @@ pub enum Status {
     TooLong,
     HistoryFull,
     PowerOff,
+    InUse,
 }
 
 impl Status {
-    /// The exit status of the program: 0 for Ok, 15 for PowerOff, and 2 to 11 for the others.
+    /// The exit status of the program: 0 for Ok, 15 for PowerOff, 75 for InUse, and 2 to 11 for the others.
     pub fn code(self) -> u8
         ensures { result ≡ code_of_status self }
     {
         match self {
             Status::Ok => 0,
             Status::PowerOff => 15,
+            Status::InUse => 75,
             other => other as u8 + 1,
         }
     }

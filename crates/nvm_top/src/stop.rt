@@ -6,7 +6,7 @@ use crate::Status;
 use std::alloc::{AllocError, Global};
 
 /// Why a command stops: its words are of no command, its first line breaks a rule, a line is no step, its input failed
-/// or is too long, the flash failed or has a wrong size, the history has no room, want of memory, or the
+/// or is too long, the flash failed, has a wrong size, or is in use by another call, the history has no room, want of memory, or the
 /// power went off.
 #[derive(Clone, Copy, PartialEq, Eq)]
 pub enum Stop {
@@ -20,6 +20,7 @@ pub enum Stop {
     HistoryFull,
     Memory,
     PowerOff,
+    InUse,
 }
 
 impl From<AllocError> for Stop {
@@ -48,6 +49,7 @@ impl Stop {
             Stop::HistoryFull => Status::HistoryFull,
             Stop::Memory => Status::Memory,
             Stop::PowerOff => Status::PowerOff,
+            Stop::InUse => Status::InUse,
         }
     }
 
@@ -68,6 +70,7 @@ impl Stop {
             Stop::HistoryFull => String::from_str(alloc, "history full\n"),
             Stop::Memory => Ok(String::new(alloc)),
             Stop::PowerOff => String::from_str(alloc, "power off\n"),
+            Stop::InUse => String::from_str(alloc, "flash in use\n"),
         }
     }
 }

@@ -5,7 +5,7 @@ ghost use Rattle.nvm_flash.specs.nv_base.Geometry.{size_of};
 ghost use Rattle.nvm_flash.specs.Made.{IsOrigin};
 ghost use Rattle.uds_script.specs.Requests.{HaveBytes};
 ghost use Rattle.nvm_top.specs.Causes.{HasCauses};
-ghost use Rattle.nvm_top.specs.Play.{IsBeforeAttach, IsSizeStop};
+ghost use Rattle.nvm_top.specs.Play.{IsBeforeAttach, IsFlashStop};
 ghost use Rattle.nvm_top.specs.Promised.{HasNoRun, played_call};
 ghost use Rattle.nvm_top.specs.Uds.{HasAnswered, HasServing, UdsStopsBy};
 
@@ -53,7 +53,7 @@ fn serve_flash<K: Sink, F: Flash>(
     requires own { gateway.own ≡ gateway.config }
     ensures promise { (input : Option (List ℕ))
         → HasServing gateway.config gateway.requests (played_call input result.0 (F.told flash) (F.told result.1) (K.written output.old) (K.written output.new)) result.0
-        ⊎ HasNoRun (IsSizeStop (size_of gateway.config.geometry) (F.told flash).bytes) (K.written output.old) (K.written output.new) result.0 (F.told flash) (F.told result.1) }
+        ⊎ HasNoRun (IsFlashStop (size_of gateway.config.geometry) (F.told flash).bytes) (K.written output.old) (K.written output.new) result.0 (F.told flash) (F.told result.1) }
     ensures late { IsBeforeAttach result.0 → ⊥ }
     ensures write_fault { result.0 ≡ Status.WriteFault → Rose (K.faults output.old) (K.faults output.new) }
 {
@@ -80,7 +80,7 @@ fn serve_over<K: Sink, F: Flash, O: Origin>(
     requires some { HaveBytes requests.now }
     ensures promise { (input : Option (List ℕ))
         → HasServing config requests.now (played_call input result.0 (F.told flash) (F.told result.1) (K.written output.old) (K.written output.new)) result.0
-        ⊎ HasNoRun (IsSizeStop (size_of config.geometry) (F.told flash).bytes) (K.written output.old) (K.written output.new) result.0 (F.told flash) (F.told result.1) }
+        ⊎ HasNoRun (IsFlashStop (size_of config.geometry) (F.told flash).bytes) (K.written output.old) (K.written output.new) result.0 (F.told flash) (F.told result.1) }
     ensures late { IsBeforeAttach result.0 → ⊥ }
     ensures write_fault { result.0 ≡ Status.WriteFault → Rose (K.faults output.old) (K.faults output.new) }
 {

@@ -1,15 +1,24 @@
-use Rattle.std.proofs.Common.{subst, ◌∙◌, sym}
-use Rattle.std.specs.Prelude.{true, is_ok, Bool}
+use Rattle.std.proofs.Common.{subst, ◌≡◌, false}
+use Rattle.std.specs.Prelude.{Bool}
 use Rattle.fls_model.specs.Told.{IfBothTold}
-use Rattle.fls_devices.specs.ByteFile.{Writes, Syncs}
-use Rattle.fls_devices.specs.FileFlashInside.{Stores}
-use Rattle.fls_devices.proofs.FileOperations.{both_then, stores}
+use Rattle.fls_devices.specs.FileFlashInside.{Finds, IsWritten}
+use Rattle.fls_devices.proofs.FileOperations.{stored, stored_again, stored_not}
 use Rattle.fls_devices.proofs.file_flash.is_stored.Goals as goal
 
-pub returns-then-is_ok : goal.returns-then-is_ok
-returns-then-is_ok g c =
-    let a = c.args.address in
-    let bytes = c.args.bytes.now in
-    rw c.is_ok-then-is_ok.ensures.value
-    (both_then (Writes a bytes true) (Syncs (is_ok c.sync.result)) (Stores a bytes (is_ok c.sync.result)) (λ f h i. stores a bytes (is_ok c.sync.result) f h i) _ _ _
-    (subst (λ (b : Bool). IfBothTold (g.T.ByteFile.held c.args.file.now) (g.T.ByteFile.held c.write_at.new.self) (Writes a bytes b)) (sym c.is_ok.ensures.value ∙ c.if-is_ok.true) c.write_at.ensures) c.sync.ensures)
+pub returns-then-not-is_known : goal.returns-then-not-is_known
+returns-then-not-is_known g c =
+    stored_not c.args.address c.args.bytes.now c.args.lost.now c.is_known.new.lost (g.T.ByteFile.held c.args.file.now) (g.T.ByteFile.held c.is_known.new.file) c.is_known.ensures.found
+
+pub returns-then-is_written : goal.returns-then-is_written
+returns-then-is_written g c =
+    let now : c.is_known.new.lost ≡ false = c.is_known.ensures.known (search) in
+    let found = subst (λ (b : Bool). IfBothTold (g.T.ByteFile.held c.args.file.now) (g.T.ByteFile.held c.is_known.new.file) (Finds c.args.lost.now b)) now c.is_known.ensures.found in
+    rw now (stored c.args.address c.args.bytes.now c.args.lost.now (g.T.ByteFile.held c.args.file.now) (g.T.ByteFile.held c.is_known.new.file) (g.T.ByteFile.held c.is_written.new.file) found
+    (subst (λ (b : Bool). IfBothTold (g.T.ByteFile.held c.is_known.new.file) (g.T.ByteFile.held c.is_written.new.file) (IsWritten c.args.address c.args.bytes.now b)) c.if-is_written.true c.is_written.ensures))
+
+pub returns : goal.returns
+returns g c =
+    let now : c.is_known.new.lost ≡ false = c.is_known.ensures.known (search) in
+    let found = subst (λ (b : Bool). IfBothTold (g.T.ByteFile.held c.args.file.now) (g.T.ByteFile.held c.is_known.new.file) (Finds c.args.lost.now b)) now c.is_known.ensures.found in
+    stored_again c.args.address c.args.bytes.now c.args.lost.now c.settle.new.lost (g.T.ByteFile.held c.args.file.now) (g.T.ByteFile.held c.is_known.new.file) (g.T.ByteFile.held c.is_written.new.file) (g.T.ByteFile.held c.settle.new.file) found
+    (subst (λ (b : Bool). IfBothTold (g.T.ByteFile.held c.is_known.new.file) (g.T.ByteFile.held c.is_written.new.file) (IsWritten c.args.address c.args.bytes.now b)) c.if-is_written.false c.is_written.ensures) c.settle.ensures
