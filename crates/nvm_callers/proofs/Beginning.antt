@@ -4,25 +4,25 @@ use Rattle.std.specs.List.{All, range_with_len}
 use Rattle.std.proofs.Common.{◌≡◌, ◌^◌, ◌≤◌, length, ℕ, true, false, List, [], get_or, sym, ap, ◌∙◌, subst, arith}
 use Rattle.std.proofs.lemmas.List.Elements.{All-filter, All-map}
 use Rattle.std.proofs.lemmas.List.FromFn.{get_or-range_with_len, length-range_with_len}
-use Rattle.nvm_core.specs.memif.Told.{DeviceTold}
-use Rattle.nvm_core.specs.memif.Clock.{Clock}
-use Rattle.nvm_core.specs.block_machine.Words.{Entry, Configuration}
-use Rattle.nvm_core.specs.ram_blocks.Told.{Told}
-use Rattle.nvm_core.specs.ram_blocks.declared.plain_block.PlainBlock.{PlainBlock}
-use Rattle.nvm_core.specs.nv_desk.Desk.{DeskState, state_of}
-use Rattle.nvm_core.specs.nv_desk_copies.Front.{AreSynchronized}
-use Rattle.nvm_core.specs.nvm_laws.Ties.{IsTied}
-use Rattle.nvm_core.specs.nvm_laws.DueLaws.{NextIsPending}
-use Rattle.nvm_core.specs.Stack.{StackState}
+use Rattle.driver_moves.specs.memif.Told.{DeviceTold}
+use Rattle.driver_moves.specs.memif.Clock.{Clock}
+use Rattle.driver_moves.specs.block_machine.Words.{Entry, Configuration}
+use Rattle.driver_moves.specs.ram_blocks.Told.{Told}
+use Rattle.driver_moves.specs.ram_blocks.declared.plain_block.PlainBlock.{PlainBlock}
+use Rattle.driver_moves.specs.nv_desk.Desk.{DeskState, state_of}
+use Rattle.driver_moves.specs.nv_desk_copies.Front.{AreSynchronized}
+use Rattle.driver_moves.specs.nvm_laws.Ties.{IsTied}
+use Rattle.driver_moves.specs.nvm_laws.DueLaws.{NextIsPending}
+use Rattle.driver_moves.specs.nvm_core.Stack.{StackState}
 use Rattle.turn_gate.specs.declared.pass.View.{View}
 use Rattle.turn_gate.specs.Pass.{Has, beginner, knows}
-use Rattle.nvm_shared.specs.declared.terms.Terms.{Terms}
-use Rattle.nvm_shared.specs.Behind.{HandIsPending}
-use Rattle.nvm_shared.specs.Locked.{desk_with}
-use Rattle.nvm_shared.specs.Opening.{IsFirst, IsShared, terms_at}
-use Rattle.nvm_shared.specs.Passes.{PassValue, SharedState, IsDriven}
-use Rattle.nvm_shared.specs.Driving.{DriverState, IsDriverOf, driver_of, stack_of}
-use Rattle.promise_run.specs.Run.{cap}
+use Rattle.driver_moves.specs.nvm_shared.declared.terms.Terms.{Terms}
+use Rattle.driver_moves.specs.nvm_shared.Behind.{HandIsPending}
+use Rattle.driver_moves.specs.nvm_shared.Locked.{desk_with}
+use Rattle.driver_moves.specs.nvm_shared.Opening.{IsFirst, IsShared, terms_at}
+use Rattle.driver_moves.specs.nvm_shared.Passes.{PassValue, SharedState, IsDriven}
+use Rattle.driver_moves.specs.nvm_shared.Driving.{DriverState, IsDriverOf, driver_of, stack_of}
+use Rattle.driver_moves.specs.promise_run.Run.{cap}
 use Rattle.script_walks.specs.Words.{Step}
 use Rattle.script_walks.specs.Callers.{program_of}
 use Rattle.script_callers.specs.declared.deed.Deed.{Deed}

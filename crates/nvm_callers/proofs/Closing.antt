@@ -1,25 +1,25 @@
 -- A run of callers over mirrors.
 use Rattle.std.specs.Prelude.{map, IsTrue, All}
 use Rattle.std.proofs.Common.{◌≡◌, ℕ, List, [], ◌∷◌, sym, ap, subst}
-use Rattle.nvm_core.specs.memif.Told.{DeviceTold}
-use Rattle.nvm_core.specs.memif.Clock.{Clock}
-use Rattle.nvm_core.specs.block_machine.Words.{Entry, Ask, Found, Instance, Mark}
-use Rattle.nvm_core.specs.block_machine.Legal.{IsLegal}
-use Rattle.nvm_core.specs.ram_blocks.declared.plain_block.PlainBlock.{PlainBlock}
+use Rattle.driver_moves.specs.memif.Told.{DeviceTold}
+use Rattle.driver_moves.specs.memif.Clock.{Clock}
+use Rattle.driver_moves.specs.block_machine.Words.{Entry, Ask, Found, Instance, Mark}
+use Rattle.driver_moves.specs.block_machine.Legal.{IsLegal}
+use Rattle.driver_moves.specs.ram_blocks.declared.plain_block.PlainBlock.{PlainBlock}
 use Rattle.ram_mirrors_sync.specs.Blocks.{AreClosed, AreMade, EndList, EndsGoOn, HasCameWith, HasLooked, IsOver, IsStore, Pairs, SideList, SyncValue, told_by}
-use Rattle.nvm_core.specs.nv_desk.Desk.{DeskState}
-use Rattle.nvm_core.specs.nv_desk_copies.Front.{AreSynchronized}
+use Rattle.driver_moves.specs.nv_desk.Desk.{DeskState}
+use Rattle.driver_moves.specs.nv_desk_copies.Front.{AreSynchronized}
 use Rattle.turn_gate.specs.declared.pass.View.{View}
 use Rattle.turn_gate.specs.Pass.{knows}
 use Rattle.script_walks.specs.Words.{Step}
 use Rattle.script_walks.specs.Runs.{has_ended}
 use Rattle.script_callers.specs.declared.program.Program.{Program}
-use Rattle.nvm_shared.specs.declared.terms.Terms.{Terms}
-use Rattle.nvm_shared.specs.Locked.{desk_with}
-use Rattle.nvm_shared.specs.Passes.{IsEntry, PassValue, SharedState}
-use Rattle.nvm_shared.specs.Noted.{StandsIn}
-use Rattle.nvm_shared.specs.Opening.{IsFirst}
-use Rattle.nvm_shared.specs.Driving.{DriverState, IsDriverOf, driver_of, stack_of}
+use Rattle.driver_moves.specs.nvm_shared.declared.terms.Terms.{Terms}
+use Rattle.driver_moves.specs.nvm_shared.Locked.{desk_with}
+use Rattle.driver_moves.specs.nvm_shared.Passes.{IsEntry, PassValue, SharedState}
+use Rattle.driver_moves.specs.nvm_shared.Noted.{StandsIn}
+use Rattle.driver_moves.specs.nvm_shared.Opening.{IsFirst}
+use Rattle.driver_moves.specs.nvm_shared.Driving.{DriverState, IsDriverOf, driver_of, stack_of}
 use Rattle.nvm_callers.specs.Driven.{HasDriven}
 use Rattle.nvm_callers.specs.Looked.{HasLooked as LooksAre, IsLookOf, LooksAreOrdered}
 use Rattle.nvm_callers.specs.Dealt.{AllDealt, AllGathered}
@@ -37,7 +37,7 @@ use Rattle.nvm_callers.proofs.Finishing.{keeps_order_of, refuse_none, was_run}
 use Rattle.nvm_callers.proofs.Keeping.{driving_keeps}
 use Rattle.nvm_callers.proofs.Owned.{sides_in, still_bytes, were_stored}
 use Rattle.nvm_callers.proofs.StoresTaken.{WereStored, stores_are_taken}
-use Rattle.promise_run.specs.Run.{cap}
+use Rattle.driver_moves.specs.promise_run.Run.{cap}
 use Rattle.script_callers.specs.Programs.{programs_of}
 
 -- what mirrors showed stays in order

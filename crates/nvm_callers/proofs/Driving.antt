@@ -1,14 +1,14 @@
 -- What the driver did beside the callers, call by call.
 use Rattle.std.proofs.Common.{◌≡◌, inl, inr, ℕ, List, refl, ◌∙◌}
-use Rattle.nvm_core.specs.memif.Told.{DeviceTold}
-use Rattle.nvm_core.specs.memif.Clock.{Clock}
-use Rattle.nvm_core.specs.block_machine.Words.{Entry}
-use Rattle.nvm_core.specs.ram_blocks.Told.{Told}
+use Rattle.driver_moves.specs.memif.Told.{DeviceTold}
+use Rattle.driver_moves.specs.memif.Clock.{Clock}
+use Rattle.driver_moves.specs.block_machine.Words.{Entry}
+use Rattle.driver_moves.specs.ram_blocks.Told.{Told}
 use Rattle.turn_gate.specs.declared.pass.View.{View}
-use Rattle.nvm_shared.specs.declared.terms.Terms.{Terms}
-use Rattle.nvm_shared.specs.Locked.{desk_with}
-use Rattle.nvm_shared.specs.Passes.{LearnsMore, LearnsTurn}
-use Rattle.nvm_shared.specs.Driving.{DriverState, Drives, SeesRequests}
+use Rattle.driver_moves.specs.nvm_shared.declared.terms.Terms.{Terms}
+use Rattle.driver_moves.specs.nvm_shared.Locked.{desk_with}
+use Rattle.driver_moves.specs.nvm_shared.Passes.{LearnsMore, LearnsTurn}
+use Rattle.driver_moves.specs.nvm_shared.Driving.{DriverState, Drives, SeesRequests}
 use Rattle.nvm_callers.specs.Driven.{StaysKeptOver, TurnsOn}
 use Rattle.nvm_callers.proofs.Following.{drives_follow}
 use Rattle.nvm_callers.proofs.JoinedPasses.{turns_collect}

@@ -2,30 +2,30 @@
 use Rattle.std.specs.Prelude.{map, IsTrue, drop}
 use Rattle.std.specs.List.{list_all}
 use Rattle.std.proofs.Common.{◌≡◌, ℕ, zero, suc, not, List, [], ◌∷◌, Option, Some, None, refl, sym, ap, ◌∙◌, subst}
-use Rattle.nvm_core.specs.memif.Told.{DeviceTold}
-use Rattle.nvm_core.specs.memif.Clock.{Clock}
-use Rattle.nvm_core.specs.block_machine.Words.{Entry, Ask, Found, Instance, Mark}
-use Rattle.nvm_core.specs.block_machine.Legal.{IsLegal}
-use Rattle.nvm_core.specs.ram_blocks.Told.{Told}
-use Rattle.nvm_core.specs.ram_blocks.declared.plain_block.PlainBlock.{PlainBlock}
+use Rattle.driver_moves.specs.memif.Told.{DeviceTold}
+use Rattle.driver_moves.specs.memif.Clock.{Clock}
+use Rattle.driver_moves.specs.block_machine.Words.{Entry, Ask, Found, Instance, Mark}
+use Rattle.driver_moves.specs.block_machine.Legal.{IsLegal}
+use Rattle.driver_moves.specs.ram_blocks.Told.{Told}
+use Rattle.driver_moves.specs.ram_blocks.declared.plain_block.PlainBlock.{PlainBlock}
 use Rattle.ram_mirrors_sync.specs.Blocks.{EndList, Pairs, told_by}
-use Rattle.nvm_core.specs.nv_desk.Desk.{DeskState}
-use Rattle.nvm_core.specs.nv_desk_copies.Front.{AreSynchronized}
+use Rattle.driver_moves.specs.nv_desk.Desk.{DeskState}
+use Rattle.driver_moves.specs.nv_desk_copies.Front.{AreSynchronized}
 use Rattle.turn_gate.specs.declared.pass.View.{View}
 use Rattle.script_walks.specs.Words.{Step}
 use Rattle.script_walks.specs.Callers.{IsInOrder, program_of}
 use Rattle.script_walks.specs.Runs.{IsRun, has_ended, is_found}
 use Rattle.script_callers.specs.Programs.{programs_of}
 use Rattle.script_callers.specs.RunScripts.{AreRun}
-use Rattle.nvm_shared.specs.declared.terms.Terms.{Terms}
-use Rattle.nvm_shared.specs.Locked.{desk_with}
-use Rattle.nvm_shared.specs.Passes.{IsEntry}
-use Rattle.nvm_shared.specs.Driving.{DriverState, driver_of, stack_of}
+use Rattle.driver_moves.specs.nvm_shared.declared.terms.Terms.{Terms}
+use Rattle.driver_moves.specs.nvm_shared.Locked.{desk_with}
+use Rattle.driver_moves.specs.nvm_shared.Passes.{IsEntry}
+use Rattle.driver_moves.specs.nvm_shared.Driving.{DriverState, driver_of, stack_of}
 use Rattle.nvm_callers.specs.Driven.{HasDriven}
 use Rattle.nvm_callers.specs.Added.{RefusesNone}
 use Rattle.nvm_callers.specs.Looked.{HasLooked, LooksAreOrdered}
 use Rattle.nvm_callers.specs.Shares.{BeginsUnasked}
-use Rattle.promise_run.specs.Run.{RunsBy, cap}
+use Rattle.driver_moves.specs.promise_run.Run.{RunsBy, cap}
 use Rattle.nvm_callers.specs.Stored.{Stored}
 use Rattle.nvm_callers.specs.Callers.{HaveRun}
 use Rattle.nvm_callers.specs.KeptSteps.{EndSo, IsClosedBy}
@@ -33,7 +33,7 @@ use Rattle.nvm_callers.specs.declared.ending.Ending.{Ending}
 use Rattle.nvm_callers.specs.declared.ending.Ending.TheVariants as ending
 use Rattle.nvm_callers.proofs.Keeping.{driving_keeps}
 use Rattle.nvm_callers.proofs.Adding.{driving_adds}
-use Rattle.nvm_callers.proofs.Moved.{driving_moves, was_moved}
+use Rattle.nvm_callers.proofs.Moved.{driving_moves}
 use Rattle.nvm_callers.proofs.Looking.{driving_looks}
 use Rattle.nvm_callers.proofs.KeptSteps.{callers_ask, callers_keep_steps}
 use Rattle.nvm_callers.specs.TakenCopies.{StoresAreTaken}
@@ -64,8 +64,7 @@ module _ {D C : Type 0} (told : D → DeviceTold) (clock : D → Clock) (copies 
         hand = now.hand;
         keeps = kept.keeps;
         cuts = added.cuts;
-        moved = was_moved told clock (desk_with t begin) (desk_with t seen) (driver_of first.device m first.hand) now
-            (driving_moves told clock copies is_store looked over stands t begin seen (driver_of first.device m first.hand) now driven);
+        moved = driving_moves told clock copies is_store looked over stands t begin seen (driver_of first.device m first.hand) now driven;
         ends = λ other. ended;
       } in
       subst (λ (y : DeskState). WasRun told clock (stack_of (desk_with t begin) first) e y device) (sym is_desk)

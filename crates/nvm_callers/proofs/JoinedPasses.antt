@@ -4,11 +4,11 @@ use Rattle.std.proofs.lemmas.List.{append-nil}
 use mathlib.Core.Option.{some, some-ne-none}
 use lib.ListN.{get_elem?}
 use Rattle.atomic_table.proofs.Lists.{at_longer}
-use Rattle.nvm_core.specs.block_machine.Words.{Entry}
+use Rattle.driver_moves.specs.block_machine.Words.{Entry}
 use Rattle.turn_gate.specs.Entries.{Note, StartsWith, AllAgree, AllHeard}
 use Rattle.turn_gate.specs.Pass.{Has}
-use Rattle.nvm_shared.specs.StatusWords.{gives}
-use Rattle.nvm_shared.specs.Passes.{IsDriven}
+use Rattle.driver_moves.specs.nvm_shared.StatusWords.{gives}
+use Rattle.driver_moves.specs.nvm_shared.Passes.{IsDriven}
 use Rattle.nvm_callers.specs.Shares.{Share}
 use Rattle.nvm_callers.specs.Joins.{NoneIsJoined, TurnsCollect, JoinsCollect, NothingIsCollected, CollectedAreAll}
 use Rattle.nvm_callers.proofs.Waiting.{starts_again}

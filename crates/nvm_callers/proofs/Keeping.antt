@@ -1,18 +1,18 @@
 -- What any number of a driver's turns keeps.
 use Rattle.std.proofs.Common.{ℕ, zero, suc, List, refl, sym, subst, inl, inr}
-use Rattle.nvm_core.specs.memif.Told.{DeviceTold}
-use Rattle.nvm_core.specs.memif.Clock.{Clock}
-use Rattle.nvm_core.specs.memif.Trials.{Lasts}
-use Rattle.nvm_core.specs.block_machine.Words.{Entry}
-use Rattle.nvm_core.specs.ram_blocks.Told.{Told}
-use Rattle.nvm_core.specs.nv_desk_copies.Front.{AreSynchronized}
-use Rattle.nvm_shared.specs.declared.terms.Terms.{Terms}
-use Rattle.nvm_shared.specs.Locked.{desk_with}
-use Rattle.nvm_shared.specs.Driving.{DriverState}
-use Rattle.nvm_core.proofs.memif.Turning.{lasts_more, same_clock}
-use Rattle.nvm_core.proofs.nv_desk_copies.Sizes.{still_synchronized}
-use Rattle.nvm_core.proofs.nvm_laws.Keeping.{stays_more, stays_still}
-use Rattle.nvm_core.proofs.Paying.{half_lasts}
+use Rattle.driver_moves.specs.memif.Told.{DeviceTold}
+use Rattle.driver_moves.specs.memif.Clock.{Clock}
+use Rattle.driver_moves.specs.memif.Trials.{Lasts}
+use Rattle.driver_moves.specs.block_machine.Words.{Entry}
+use Rattle.driver_moves.specs.ram_blocks.Told.{Told}
+use Rattle.driver_moves.specs.nv_desk_copies.Front.{AreSynchronized}
+use Rattle.driver_moves.specs.nvm_shared.declared.terms.Terms.{Terms}
+use Rattle.driver_moves.specs.nvm_shared.Locked.{desk_with}
+use Rattle.driver_moves.specs.nvm_shared.Driving.{DriverState}
+use Rattle.driver_moves.proofs.nvm_moves.Turning.{lasts_more, same_clock}
+use Rattle.driver_moves.proofs.nvm_moves.Sizes.{still_synchronized}
+use Rattle.driver_moves.proofs.nvm_moves.Keeping.{stays_more, stays_still}
+use Rattle.driver_moves.proofs.nvm_moves.Paying.{half_lasts}
 use Rattle.nvm_callers.specs.Driven.{DrivesBy, DrivesOn, TurnsOn, SeesOn}
 use Rattle.nvm_callers.specs.Kept.{HasKept, DrivingKeeps}
 

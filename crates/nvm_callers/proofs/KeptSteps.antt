@@ -4,12 +4,12 @@ use Rattle.std.proofs.Common.{◌≡◌, ◌⊎◌, inl, inr, ℕ, zero, suc, �
 use Rattle.std.proofs.lemmas.List.{take-append-drop}
 use Rattle.std.proofs.lemmas.List.Elements.{All-contains, All-take}
 use Rattle.turn_gate.specs.declared.pass.View.{View}
-use Rattle.nvm_core.specs.block_machine.Words.{Entry, Configuration}
-use Rattle.nvm_core.specs.block_machine.Legal.{IsLegal}
+use Rattle.driver_moves.specs.block_machine.Words.{Entry, Configuration}
+use Rattle.driver_moves.specs.block_machine.Legal.{IsLegal}
 use Rattle.script_walks.specs.Words.{Step}
 use Rattle.script_walks.specs.Callers.{IsInOrder, asks_of, program_of, requests_of}
 use Rattle.script_walks.specs.Runs.{AskedAll, HadNoRoom}
-use Rattle.nvm_shared.specs.declared.terms.Terms.{Terms}
+use Rattle.driver_moves.specs.nvm_shared.declared.terms.Terms.{Terms}
 use Rattle.script_callers.specs.declared.deed.Deed.{Deed}
 use Rattle.script_callers.specs.declared.deed.Deed.TheVariants.{Ask}
 use Rattle.script_callers.specs.declared.program.Program.{Program}

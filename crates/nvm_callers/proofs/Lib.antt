@@ -1,12 +1,4 @@
 mod Refusing
-mod MoveLists
-mod AskedBlocks
-mod DueAsked
-mod TurnEntries
-mod TurnServed
-mod DeviceServed
-mod Servable
-mod WorkedMoves
 pub mod Moved
 mod Turning
 pub mod Following

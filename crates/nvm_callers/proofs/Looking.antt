@@ -4,20 +4,20 @@ use Rattle.std.proofs.Common.{◌≡◌, ◌+◌, ◌≤◌, ◌⊎◌, ℕ, zer
 use Rattle.std.proofs.lemmas.List.{append-nil, take-append-le}
 use Rattle.std.proofs.lemmas.List.Elements.{Contains-append_left, Contains-append_right, Contains-append_cases}
 use Rattle.std.proofs.Math.Seq.{take-append_seam}
-use Rattle.nvm_core.specs.memif.Told.{DeviceTold}
-use Rattle.nvm_core.specs.memif.Clock.{Clock}
-use Rattle.nvm_core.specs.block_machine.Words.{JobKind, Taken, TookNothing, TookContent, TookRefused, TookStale, Entry, Ask, Pick, Wrote, Post, Off, Found, Configuration}
-use Rattle.nvm_core.specs.block_machine.Next.{next_of}
-use Rattle.nvm_core.specs.block_machine.Steps.{after}
-use Rattle.nvm_core.specs.ram_blocks.Told.{Told}
-use Rattle.nvm_core.specs.nv_desk.Desk.{DeskState}
-use Rattle.nvm_core.specs.nvm_laws.declared.turned.Turned.TheVariants as turned
+use Rattle.driver_moves.specs.memif.Told.{DeviceTold}
+use Rattle.driver_moves.specs.memif.Clock.{Clock}
+use Rattle.driver_moves.specs.block_machine.Words.{JobKind, Taken, TookNothing, TookContent, TookRefused, TookStale, Entry, Ask, Pick, Wrote, Post, Off, Found, Configuration}
+use Rattle.driver_moves.specs.block_machine.Next.{next_of}
+use Rattle.driver_moves.specs.block_machine.Steps.{after}
+use Rattle.driver_moves.specs.ram_blocks.Told.{Told}
+use Rattle.driver_moves.specs.nv_desk.Desk.{DeskState}
+use Rattle.driver_moves.specs.nvm_laws.declared.turned.Turned.TheVariants as turned
 use Rattle.script_walks.specs.Looks.{Look, AreInOrder}
 use Rattle.script_walks.specs.Turn.{copies_next}
-use Rattle.nvm_shared.specs.declared.terms.Terms.{Terms}
-use Rattle.nvm_shared.specs.Behind.{AreAsks}
-use Rattle.nvm_shared.specs.Driving.{DriverState}
-use Rattle.nvm_shared.specs.Noted.{IsPickShown}
+use Rattle.driver_moves.specs.nvm_shared.declared.terms.Terms.{Terms}
+use Rattle.driver_moves.specs.nvm_shared.Behind.{AreAsks}
+use Rattle.driver_moves.specs.nvm_shared.Driving.{DriverState}
+use Rattle.driver_moves.specs.nvm_shared.Noted.{IsPickShown}
 use Rattle.nvm_callers.specs.Driven.{DrivesBy, DrivesOn, TurnsOn, SeesOn}
 use Rattle.nvm_callers.specs.Looked.{LooksAreOrdered, look_behind, TookShown, AllTookShown, IsLookOf, HasLooked, DrivingLooks}
 use Rattle.nvm_callers.proofs.Keeping.{driving_keeps}

@@ -5,11 +5,11 @@ use Rattle.std.proofs.lemmas.List.Elements.{All-pop}
 use Rattle.turn_gate.specs.declared.pass.View.{View}
 use Rattle.turn_gate.specs.Entries.{Note, NotBelow, StartsWith}
 use Rattle.turn_gate.specs.Pass.{copied, noted}
-use Rattle.nvm_core.specs.nv_base.Result.{code_of}
-use Rattle.nvm_core.specs.block_machine.Words.{Pending, Request, Reply, Entry, Ask}
-use Rattle.nvm_shared.specs.StatusWords.{gives, off_word}
-use Rattle.nvm_shared.specs.declared.terms.Terms.{Terms}
-use Rattle.nvm_shared.specs.Passes.{Asked}
+use Rattle.driver_moves.specs.nv_base.Result.{code_of}
+use Rattle.driver_moves.specs.block_machine.Words.{Pending, Request, Reply, Entry, Ask}
+use Rattle.driver_moves.specs.nvm_shared.StatusWords.{gives, off_word}
+use Rattle.driver_moves.specs.nvm_shared.declared.terms.Terms.{Terms}
+use Rattle.driver_moves.specs.nvm_shared.Passes.{Asked}
 use Rattle.script_callers.specs.declared.deed.Deed.{Deed}
 use Rattle.script_callers.specs.declared.deed.Deed.TheVariants.{Ask as AskDeed, Store as StoreDeed, Await}
 use Rattle.nvm_callers.specs.Deeds.{HasDone}

@@ -6,18 +6,18 @@ use Rattle.std.proofs.Math.Seq.{take-append_seam}
 use mathlib.Core.Option.{some}
 use lib.ListN.{get_elem?}
 use Rattle.atomic_table.proofs.Lists.{at_longer}
-use Rattle.nvm_core.specs.block_machine.Words.{Request, Entry, Ask, Configuration}
-use Rattle.nvm_core.specs.block_machine.Legal.{IsLegal}
-use Rattle.nvm_core.specs.block_machine.Reply.{fits}
-use Rattle.nvm_core.specs.block_machine.Steps.{after}
+use Rattle.driver_moves.specs.block_machine.Words.{Request, Entry, Ask, Configuration}
+use Rattle.driver_moves.specs.block_machine.Legal.{IsLegal}
+use Rattle.driver_moves.specs.block_machine.Reply.{fits}
+use Rattle.driver_moves.specs.block_machine.Steps.{after}
 use Rattle.turn_gate.specs.Entries.{Note, StartsWith, AllAgree}
 use Rattle.script_walks.specs.Words.{Step, StepKind, AskStep, Store, Turn, Drain, Restart, Cut, Refuse, Await as AwaitStep}
 use Rattle.script_walks.specs.Walk.{request_after}
 use Rattle.script_walks.specs.Callers.{KeepsAwait, KeepsAwaitBy, WaitedFor, asks_of, program_of, request_of_step, requests_from, requests_of}
 use Rattle.script_walks.specs.Looks.{CanBeMade}
 use Rattle.script_walks.specs.Runs.{HadNoRoom, IsNextAsk}
-use Rattle.nvm_shared.specs.StatusWords.{gives}
-use Rattle.nvm_shared.specs.Numbers.{IsEntry, AreAll}
+use Rattle.driver_moves.specs.nvm_shared.StatusWords.{gives}
+use Rattle.driver_moves.specs.nvm_shared.Numbers.{IsEntry, AreAll}
 use Rattle.script_callers.specs.declared.deed.Deed.{Deed}
 use Rattle.script_callers.specs.declared.deed.Deed.TheVariants.{Ask as AskDeed, Store as StoreDeed, Await}
 use Rattle.script_callers.specs.Deeds.{requests_in, deeds_by, deeds_from, deeds_of}

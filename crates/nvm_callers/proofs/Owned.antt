@@ -6,13 +6,13 @@ use Rattle.std.proofs.lemmas.Bool.{cases_Bool, cases_lt, eqb-true, eq-eqb}
 use Rattle.std.proofs.lemmas.List.{get_or_past}
 use Rattle.std.proofs.lemmas.List.Elements.{All-contains, All-cons, All-nil}
 use Rattle.turn_gate.specs.declared.pass.View.{View}
-use Rattle.nvm_core.specs.block_config.declared.block.BlockDesc.{BlockDesc}
-use Rattle.nvm_core.specs.block_config.declared.block.RamKind.{RamKind}
-use Rattle.nvm_core.specs.block_config.declared.block.RamKind.TheVariants as ram
-use Rattle.nvm_core.specs.block_config.Config.{block_of}
-use Rattle.nvm_core.specs.block_machine.Words.{Entry, Configuration}
-use Rattle.nvm_core.specs.block_machine.Blocks.{is_synchronized}
-use Rattle.nvm_core.specs.block_config.Block.{plain_block}
+use Rattle.driver_moves.specs.block_config.declared.block.BlockDesc.{BlockDesc}
+use Rattle.driver_moves.specs.block_config.declared.block.RamKind.{RamKind}
+use Rattle.driver_moves.specs.block_config.declared.block.RamKind.TheVariants as ram
+use Rattle.driver_moves.specs.block_config.Config.{block_of}
+use Rattle.driver_moves.specs.block_machine.Words.{Entry, Configuration}
+use Rattle.driver_moves.specs.block_machine.Blocks.{is_synchronized}
+use Rattle.driver_moves.specs.block_config.Block.{plain_block}
 use Rattle.ram_mirrors_sync.specs.Ends.{EndValue, PairValue}
 use Rattle.ram_mirrors_sync.specs.Blocks.{AreClosed, AreIn, AreMade, EndGoesOn, EndList, EndsGoOn, IsClosed, IsMade, Pairs, SideList, SideValue, end_at, pair_at, side_at}
 use Rattle.nvm_script.specs.Owners.{owner_of, ram_block_of}
@@ -28,7 +28,7 @@ use Rattle.script_callers.specs.Programs.{program_by, programs_of}
 use Rattle.script_callers.specs.RunScripts.{AreRun, CanBeRun}
 use Rattle.script_callers.proofs.Apart.{programs_are_apart}
 use Rattle.script_callers.proofs.Growing.{deeds_may_be_done}
-use Rattle.nvm_shared.specs.declared.terms.Terms.{Terms}
+use Rattle.driver_moves.specs.nvm_shared.declared.terms.Terms.{Terms}
 use Rattle.nvm_callers.specs.Calls.{MayStore}
 use Rattle.nvm_callers.specs.Callers.{AllMade, HaveRun}
 use Rattle.nvm_callers.specs.Dealt.{AllDealt, AllGathered, AreApart, AreBelow, HasPlaces, is_store_into, store_into}

@@ -2,16 +2,16 @@
 use Rattle.std.specs.Prelude.{slice_get, slice_index_or, Some, cond, ◌||◌}
 use Rattle.std.proofs.Common.{◌≡◌, Option, ℕ, zero, suc, ◌<◌, ◌≤◌, true, false, Bool, List, [], ◌∷◌, length, drop, refl, sym, ap, subst, arith, ◌∙◌}
 use Rattle.std.proofs.lemmas.Bool.{le-ltb}
-use Rattle.nvm_core.specs.memif.Told.{DeviceTold}
-use Rattle.nvm_core.specs.memif.Clock.{Clock}
-use Rattle.nvm_core.specs.block_machine.Words.{Entry}
-use Rattle.nvm_core.specs.ram_blocks.Told.{Told}
+use Rattle.driver_moves.specs.memif.Told.{DeviceTold}
+use Rattle.driver_moves.specs.memif.Clock.{Clock}
+use Rattle.driver_moves.specs.block_machine.Words.{Entry}
+use Rattle.driver_moves.specs.ram_blocks.Told.{Told}
 use Rattle.turn_gate.specs.declared.pass.View.{View}
 use Rattle.turn_gate.specs.Pass.{both, knows, longer}
-use Rattle.nvm_shared.specs.declared.terms.Terms.{Terms}
-use Rattle.nvm_shared.specs.Locked.{desk_with}
-use Rattle.nvm_shared.specs.Passes.{IsUserOf, PassValue, SharedState}
-use Rattle.nvm_shared.specs.Driving.{DriverState, Drives, IsDriverOf}
+use Rattle.driver_moves.specs.nvm_shared.declared.terms.Terms.{Terms}
+use Rattle.driver_moves.specs.nvm_shared.Locked.{desk_with}
+use Rattle.driver_moves.specs.nvm_shared.Passes.{IsUserOf, PassValue, SharedState}
+use Rattle.driver_moves.specs.nvm_shared.Driving.{DriverState, Drives, IsDriverOf}
 use Rattle.script_callers.specs.declared.program.Program.{Program}
 use Rattle.nvm_callers.specs.Shares.{Share}
 use Rattle.nvm_callers.specs.Joins.{Collects}

@@ -2,20 +2,20 @@
 use Rattle.std.specs.Prelude.{◌&&◌, ◌-◌, nat_le, is_some}
 use Rattle.std.proofs.Common.{◌≡◌, ◌+◌, ◌⊎◌, ℕ, Bool, true, false, List, Option, Some, None, option_map, IfSome, refl, sym, ap, ◌∙◌, subst, inl, inr, arith}
 use Rattle.std.proofs.lemmas.Bool.Decides.{eqb_tells, leb_tells}
-use Rattle.nvm_core.specs.block_machine.Words.{JobKind, WriteJob, Taken, TookNothing, TookContent, TookRefused, TookStale, Pick, Post, BlockDesc, Configuration}
-use Rattle.nvm_core.specs.block_machine.State.{State, BlockState, Job}
-use Rattle.nvm_core.specs.block_machine.Blocks.{desc_of, block_at, is_synchronized, job_block, kind_of}
-use Rattle.nvm_core.specs.block_machine.Sweeps.{member_job}
-use Rattle.nvm_core.specs.block_machine.Results.{Answer}
-use Rattle.nvm_core.specs.block_machine.Legal.{TakesForWrite, TakesBy, MayPick}
-use Rattle.nvm_core.specs.block_machine.Next.{Next, Nothing, PickJob, BeginSweep, PickMember, PostMember, EndSweep}
-use Rattle.nvm_core.specs.ram_blocks.Told.{Told, Synchronized, told_at, to_refuse_by, to_refuse_of}
-use Rattle.nvm_core.specs.ram_blocks.Tries.{Spends, OthersStay}
-use Rattle.nvm_core.specs.nv_desk.Desk.{DeskState}
-use Rattle.nvm_core.specs.nv_desk_copies.Front.{AreSynchronized}
-use Rattle.nvm_core.specs.nv_desk_copies.Takes.{took_refused, copies_out_by, copies_out_next, IsCopied}
-use Rattle.nvm_core.specs.nv_desk_copies.Posts.{goes_over, IsHandedOver, IsPosted}
-use Rattle.promise_run.specs.RunHalves.{tells_no_refusal}
+use Rattle.driver_moves.specs.block_machine.Words.{JobKind, WriteJob, Taken, TookNothing, TookContent, TookRefused, TookStale, Pick, Post, BlockDesc, Configuration}
+use Rattle.driver_moves.specs.block_machine.State.{State, BlockState, Job}
+use Rattle.driver_moves.specs.block_machine.Blocks.{desc_of, block_at, is_synchronized, job_block, kind_of}
+use Rattle.driver_moves.specs.block_machine.Sweeps.{member_job}
+use Rattle.driver_moves.specs.block_machine.Results.{Answer}
+use Rattle.driver_moves.specs.block_machine.Legal.{TakesForWrite, TakesBy, MayPick}
+use Rattle.driver_moves.specs.block_machine.Next.{Next, Nothing, PickJob, BeginSweep, PickMember, PostMember, EndSweep}
+use Rattle.driver_moves.specs.ram_blocks.Told.{Told, Synchronized, told_at, to_refuse_by, to_refuse_of}
+use Rattle.driver_moves.specs.ram_blocks.Tries.{Spends, OthersStay}
+use Rattle.driver_moves.specs.nv_desk.Desk.{DeskState}
+use Rattle.driver_moves.specs.nv_desk_copies.Front.{AreSynchronized}
+use Rattle.driver_moves.specs.nv_desk_copies.Takes.{took_refused, copies_out_by, copies_out_next, IsCopied}
+use Rattle.driver_moves.specs.nv_desk_copies.Posts.{goes_over, IsHandedOver, IsPosted}
+use Rattle.driver_moves.specs.promise_run.RunHalves.{tells_no_refusal}
 use Rattle.nvm_callers.specs.Added.{RefusesNone}
 
 -- ONE BLOCK

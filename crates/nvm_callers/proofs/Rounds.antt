@@ -3,7 +3,7 @@ use Rattle.std.specs.Prelude.{slice_get, slice_index_or, All, IsSome}
 use Rattle.std.proofs.Common.{◌≡◌, ◌<◌, ℕ, List, length, Option, Some, None, true, false, refl, arith, ◌∙◌}
 use Rattle.std.proofs.lemmas.List.{get_or_default}
 use Rattle.turn_gate.specs.Pass.{knows}
-use Rattle.nvm_shared.specs.Passes.{PassValue, SharedState}
+use Rattle.driver_moves.specs.nvm_shared.Passes.{PassValue, SharedState}
 use Rattle.ram_mirrors_sync.specs.Blocks.{Pairs}
 use Rattle.script_callers.specs.declared.program.Program.{Program}
 use Rattle.nvm_callers.specs.Stored.{Stored}

@@ -2,13 +2,13 @@
 use Rattle.std.proofs.Common.{◌≡◌, inl, inr, ℕ, zero, suc, ◌∙◌, true, false, List, [], ◌∷◌, Contains, sym, ap, subst, arith}
 use mathlib.Core.Option.{some-ne-none, some-injective}
 use Rattle.atomic_table.proofs.Lists.{at_longer}
-use Rattle.nvm_core.specs.block_machine.Words.{Request, Reply, Entry, Ask, Configuration}
-use Rattle.nvm_core.specs.block_machine.StartUp.{at_first}
-use Rattle.nvm_core.specs.block_machine.Legal.{IsAllowed}
+use Rattle.driver_moves.specs.block_machine.Words.{Request, Reply, Entry, Ask, Configuration}
+use Rattle.driver_moves.specs.block_machine.StartUp.{at_first}
+use Rattle.driver_moves.specs.block_machine.Legal.{IsAllowed}
 use Rattle.turn_gate.specs.Pass.{Has}
-use Rattle.nvm_shared.specs.StatusWords.{is_ask}
-use Rattle.nvm_shared.specs.Numbers.{IsEntry, AreAt, AreAll}
-use Rattle.nvm_shared.proofs.Numbering.{asks_by_number}
+use Rattle.driver_moves.specs.nvm_shared.StatusWords.{is_ask}
+use Rattle.driver_moves.specs.nvm_shared.Numbers.{IsEntry, AreAt, AreAll}
+use Rattle.driver_moves.proofs.nvm_shared.Numbering.{asks_by_number}
 use Rattle.script_callers.specs.Deeds.{requests_in}
 use Rattle.nvm_callers.specs.Shares.{Share, IsOfShares, LegalBeginUnasked, SharesAsk, SharesHaveAll, SharesHold, NobodyElseAsks}
 use Rattle.nvm_callers.proofs.Waiting.{inside_length}

@@ -2,9 +2,9 @@
 use Rattle.std.specs.Prelude.{take, Contains}
 use Rattle.std.proofs.Common.{◌≡◌, ℕ, Bool, true, false, List, [], ◌∷◌, ◌++◌, refl, sym, ap, ◌∙◌, subst, append_assoc}
 use Rattle.std.proofs.Math.Seq.{take-append_seam}
-use Rattle.nvm_core.specs.block_machine.Words.{TookNothing, TookContent, TookRefused, TookStale, Entry, Ask, Pick, Wrote, Post, Off, Found, Configuration}
-use Rattle.nvm_core.specs.block_machine.Next.{next_of}
-use Rattle.nvm_core.specs.block_machine.Steps.{after}
+use Rattle.driver_moves.specs.block_machine.Words.{TookNothing, TookContent, TookRefused, TookStale, Entry, Ask, Pick, Wrote, Post, Off, Found, Configuration}
+use Rattle.driver_moves.specs.block_machine.Next.{next_of}
+use Rattle.driver_moves.specs.block_machine.Steps.{after}
 use Rattle.script_walks.specs.Words.{Step}
 use Rattle.script_walks.specs.Looks.{Look, CanBeStored, CopyIsShown, CopiesAreShown}
 use Rattle.script_walks.specs.Turn.{copies_next}

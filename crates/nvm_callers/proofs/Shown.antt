@@ -8,11 +8,11 @@ use mathlib.Core.Option.{some}
 use native.Mathlib.Decide.{dec_le}
 use lib.ListN.{get_elem?}
 use Rattle.atomic_table.proofs.Lists.{at_longer}
-use Rattle.nvm_core.specs.block_machine.Words.{Request, Entry, Ask, Configuration}
-use Rattle.nvm_core.specs.block_laws.Consistent.{Each, Ascend}
+use Rattle.driver_moves.specs.block_machine.Words.{Request, Entry, Ask, Configuration}
+use Rattle.driver_moves.specs.block_laws.Consistent.{Each, Ascend}
 use Rattle.turn_gate.specs.Entries.{Note}
-use Rattle.nvm_shared.specs.Numbers.{AreAt, AreAll}
-use Rattle.nvm_shared.proofs.Numbering.{asks_by_number}
+use Rattle.driver_moves.specs.nvm_shared.Numbers.{AreAt, AreAll}
+use Rattle.driver_moves.proofs.nvm_shared.Numbering.{asks_by_number}
 use Rattle.script_walks.specs.Words.{Step, StepKind, AskStep, Store as StoreStep, Turn, Drain, Restart, Cut, Refuse, Await as AwaitStep}
 use Rattle.script_walks.specs.Callers.{program_of, asks_of}
 use Rattle.script_callers.specs.declared.deed.Deed.{Deed}

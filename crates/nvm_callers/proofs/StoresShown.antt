@@ -8,14 +8,14 @@ use mathlib.Core.Option.{some}
 use lib.ListN.{get_elem?}
 use Rattle.nvm_script.specs.Owners.{owner_of, ram_block_of}
 use Rattle.nvm_script.specs.Rules.{sync_length_of}
-use Rattle.nvm_core.specs.block_machine.Words.{Entry, Configuration}
-use Rattle.nvm_core.specs.block_machine.Legal.{IsLegal}
+use Rattle.driver_moves.specs.block_machine.Words.{Entry, Configuration}
+use Rattle.driver_moves.specs.block_machine.Legal.{IsLegal}
 use Rattle.turn_gate.specs.declared.pass.View.{View}
 use Rattle.turn_gate.specs.Entries.{StartsWith}
 use Rattle.turn_gate.specs.Pass.{IsWithin}
-use Rattle.nvm_shared.specs.declared.terms.Terms.{Terms}
-use Rattle.nvm_shared.specs.StatusWords.{gives}
-use Rattle.nvm_shared.specs.Noted.{StandsIn}
+use Rattle.driver_moves.specs.nvm_shared.declared.terms.Terms.{Terms}
+use Rattle.driver_moves.specs.nvm_shared.StatusWords.{gives}
+use Rattle.driver_moves.specs.nvm_shared.Noted.{StandsIn}
 use Rattle.ram_mirrors.specs.Stores.{store_number, store_of}
 use Rattle.script_walks.specs.Words.{Step, StepKind, AskStep, Store as StoreStep, Turn, Drain, Restart, Cut, Refuse, Await as AwaitStep}
 use Rattle.script_walks.specs.Walk.{store_by, store_content, stores_of}

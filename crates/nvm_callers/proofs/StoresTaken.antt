@@ -4,12 +4,12 @@ use Rattle.std.proofs.Common.{◌≡◌, ◌⊎◌, inl, inr, ℕ, ◌<◌, ◌^
 use Rattle.std.proofs.lemmas.List.{take-append-drop}
 use mathlib.Core.Option.{some, some-ne-none}
 use lib.ListN.{get_elem?}
-use Rattle.nvm_core.specs.memif.Told.{DeviceTold}
-use Rattle.nvm_core.specs.memif.Clock.{Clock}
-use Rattle.nvm_core.specs.block_machine.Words.{TookNothing, TookContent, TookRefused, TookStale, Entry, Ask, Pick, Wrote, Post, Off, Found, Instance, Mark, Configuration}
-use Rattle.nvm_core.specs.block_machine.Next.{next_of}
-use Rattle.nvm_core.specs.block_machine.Steps.{after}
-use Rattle.nvm_core.specs.block_machine.Legal.{IsLegal}
+use Rattle.driver_moves.specs.memif.Told.{DeviceTold}
+use Rattle.driver_moves.specs.memif.Clock.{Clock}
+use Rattle.driver_moves.specs.block_machine.Words.{TookNothing, TookContent, TookRefused, TookStale, Entry, Ask, Pick, Wrote, Post, Off, Found, Instance, Mark, Configuration}
+use Rattle.driver_moves.specs.block_machine.Next.{next_of}
+use Rattle.driver_moves.specs.block_machine.Steps.{after}
+use Rattle.driver_moves.specs.block_machine.Legal.{IsLegal}
 use Rattle.turn_gate.specs.Entries.{StartsWith}
 use Rattle.ram_mirrors.specs.Stores.{AllStored}
 use Rattle.ram_mirrors_sync.specs.Ends.{EndValue, GoesOn, IsTaken}
@@ -19,8 +19,8 @@ use Rattle.script_walks.specs.Turn.{copies_next}
 use Rattle.script_walks.specs.Walk.{store_content}
 use Rattle.script_walks.specs.Looks.{CanBeStored, Look}
 use Rattle.script_callers.specs.RunScripts.{AreRun}
-use Rattle.nvm_shared.specs.declared.terms.Terms.{Terms}
-use Rattle.nvm_shared.specs.Noted.{StandsIn}
+use Rattle.driver_moves.specs.nvm_shared.declared.terms.Terms.{Terms}
+use Rattle.driver_moves.specs.nvm_shared.Noted.{StandsIn}
 use Rattle.nvm_callers.specs.Stored.{Stored}
 use Rattle.nvm_callers.specs.Stores.{Along}
 use Rattle.nvm_callers.specs.Shown.{HasStoredIn}

@@ -3,22 +3,22 @@ use Rattle.std.specs.Prelude.{option_to_list}
 use Rattle.std.specs.Option.{is_some}
 use Rattle.std.proofs.Common.{◌≡◌, ◌==◌, ◌&&◌, ℕ, not, Bool, true, false, List, [], ◌∷◌, ◌++◌, refl, sym, ap, ◌∙◌, subst, inl, inr, Option, Some, None, if◌then◌else◌}
 use Rattle.std.proofs.lemmas.Bool.{cases_Bool}
-use Rattle.nvm_core.specs.block_machine.Words.{Request, Read, Write, Restore, Erase, Invalidate, SetIndex, GetIndex, SetProtection, SetLock, SetRam, PutRam, Status, ReadAll, WriteAll, CancelWriteAll, Reply, Accepted, Refused, StatusIs, IndexIs, ReqResult, JobKind, WriteJob, Taken, TookNothing, TookContent, TookRefused, TookStale, Instance, Mark, Entry, Ask, Pick, Wrote, Post, Off, Found, BlockDesc, Configuration}
-use Rattle.nvm_core.specs.block_machine.State.{State, BlockState, Job, Sweep, jobs_of}
-use Rattle.nvm_core.specs.block_machine.Blocks.{desc_of, block_at, is_synchronized, names_ram, job_block, kind_of}
-use Rattle.nvm_core.specs.block_machine.Sweeps.{member_job, is_picked}
-use Rattle.nvm_core.specs.block_machine.Next.{Next, Nothing, PickJob, BeginSweep, PickMember, PostMember, EndSweep, next_of, next_in, next_by, next_member}
-use Rattle.nvm_core.specs.block_machine.StartUp.{at_first}
-use Rattle.nvm_core.specs.block_machine.Steps.{step, after, job_at, without_job, interrupted, content_after, picked_job, picked, in_hand, with_member, wrote, posted, posted_next}
-use Rattle.nvm_core.specs.block_machine.Legal.{TakesForWrite, TakesBy, MayPick, IsAllowed, IsLegalFrom}
-use Rattle.nvm_core.specs.block_laws.Consistent.{Each}
+use Rattle.driver_moves.specs.block_machine.Words.{Request, Read, Write, Restore, Erase, Invalidate, SetIndex, GetIndex, SetProtection, SetLock, SetRam, PutRam, Status, ReadAll, WriteAll, CancelWriteAll, Reply, Accepted, Refused, StatusIs, IndexIs, ReqResult, JobKind, WriteJob, Taken, TookNothing, TookContent, TookRefused, TookStale, Instance, Mark, Entry, Ask, Pick, Wrote, Post, Off, Found, BlockDesc, Configuration}
+use Rattle.driver_moves.specs.block_machine.State.{State, BlockState, Job, Sweep, jobs_of}
+use Rattle.driver_moves.specs.block_machine.Blocks.{desc_of, block_at, is_synchronized, names_ram, job_block, kind_of}
+use Rattle.driver_moves.specs.block_machine.Sweeps.{member_job, is_picked}
+use Rattle.driver_moves.specs.block_machine.Next.{Next, Nothing, PickJob, BeginSweep, PickMember, PostMember, EndSweep, next_of, next_in, next_by, next_member}
+use Rattle.driver_moves.specs.block_machine.StartUp.{at_first}
+use Rattle.driver_moves.specs.block_machine.Steps.{step, after, job_at, without_job, interrupted, content_after, picked_job, picked, in_hand, with_member, wrote, posted, posted_next}
+use Rattle.driver_moves.specs.block_machine.Legal.{TakesForWrite, TakesBy, MayPick, IsAllowed, IsLegalFrom}
+use Rattle.driver_moves.specs.block_laws.Consistent.{Each}
 use Rattle.script_walks.specs.Words.{Step}
 use Rattle.script_walks.specs.Walk.{store_content, copies_by, TakesStore, TakesStores}
 use Rattle.script_walks.specs.Stores.{CopiesOf, IsStored}
 use Rattle.script_walks.specs.Turn.{copies_next}
 use Rattle.script_walks.specs.Looks.{Look}
-use Rattle.nvm_core.proofs.block_laws.HistoryLaws.{histories_step}
-use Rattle.nvm_core.proofs.block_laws.NextLaws.{next_is_waiting}
+use Rattle.driver_moves.proofs.nvm_moves.HistoryLaws.{histories_step}
+use Rattle.driver_moves.proofs.nvm_moves.NextLaws.{next_is_waiting}
 use Rattle.script_walks.proofs.Jobs.{each_append, each_right, each_kept, hand_stored, waiting_stored}
 use Rattle.nvm_callers.specs.Looked.{TookShown, AllTookShown}
 use Rattle.nvm_callers.specs.TakenCopies.{CopiesAreStores}

@@ -3,42 +3,39 @@ use Rattle.std.specs.Prelude.{option_to_list}
 use Rattle.std.proofs.Common.{◌≡◌, ℕ, Bool, true, false, List, [], ◌∷◌, ◌++◌, Option, Some, None, IfSome, refl, sym, ap, ◌∙◌, subst, inl, inr, arith, append_assoc}
 use Rattle.std.proofs.lemmas.Bool.{cases_Bool}
 use Rattle.std.proofs.lemmas.List.{append-nil}
-use Rattle.nvm_core.specs.nv_base.Count.{WereCounted}
-use Rattle.nvm_core.specs.nv_base.declared.mark.Mark.{Mark}
-use Rattle.nvm_core.specs.memif.Told.{DeviceTold, Fixed, PartTold, Stand, Open, Ended as Closed, ops_of}
-use Rattle.nvm_core.specs.memif.Clock.{Clock}
-use Rattle.nvm_core.specs.memif.declared.answer.DeviceTurn.TheVariants as turn
-use Rattle.nvm_core.specs.memif.declared.answer.JobResult.TheVariants.{JobOk}
-use Rattle.nvm_core.specs.block_machine.Words.{Entry, Ask, Pick, Post, Off, Configuration}
-use Rattle.nvm_core.specs.block_machine.State.{State}
-use Rattle.nvm_core.specs.block_machine.Next.{Next, Nothing, PickJob, BeginSweep, PickMember, PostMember, EndSweep, next_of}
-use Rattle.nvm_core.specs.block_machine.Results.{Answer}
-use Rattle.nvm_core.specs.block_machine.StartUp.{at_first}
-use Rattle.nvm_core.specs.block_machine.Steps.{step, after, after_from}
-use Rattle.nvm_core.specs.ram_blocks.Told.{Told}
-use Rattle.nvm_core.specs.nv_desk.Desk.{DeskState, state_of}
-use Rattle.nvm_core.specs.nv_desk_copies.Front.{AreSynchronized}
-use Rattle.nvm_core.specs.nv_desk_copies.Posts.{IsPosted, IsPostedNext}
-use Rattle.nvm_core.specs.job_progress.Asks.{is_of_jobs}
-use Rattle.nvm_core.specs.nvm_device_laws.Turn.{settled_by, wrote_by}
-use Rattle.nvm_core.specs.nvm_laws.Turns.{AddsBy}
-use Rattle.nvm_core.specs.nvm_laws.declared.turned.Turned.{Turned}
-use Rattle.nvm_core.specs.nvm_laws.declared.turned.Turned.TheVariants as turned
-use Rattle.nvm_core.specs.nvm_laws.declared.turned.Act.TheVariants.{Ended, Device}
-use Rattle.nvm_core.specs.BehindDevice.{TurnsDevice, asked_by}
-use Rattle.nvm_core.specs.OperationStart.{LeavesDevice}
+use Rattle.driver_moves.specs.nv_base.Count.{WereCounted}
+use Rattle.driver_moves.specs.nv_base.declared.mark.Mark.{Mark}
+use Rattle.driver_moves.specs.memif.Told.{DeviceTold, Fixed, PartTold, Stand, Open, Ended as Closed, ops_of}
+use Rattle.driver_moves.specs.memif.Clock.{Clock}
+use Rattle.driver_moves.specs.memif.declared.answer.JobResult.TheVariants.{JobOk}
+use Rattle.driver_moves.specs.block_machine.Words.{Entry, Pick, Post, Off, Configuration}
+use Rattle.driver_moves.specs.block_machine.State.{State}
+use Rattle.driver_moves.specs.block_machine.Next.{Next, Nothing, PickJob, BeginSweep, PickMember, PostMember, EndSweep, next_of}
+use Rattle.driver_moves.specs.block_machine.Results.{Answer}
+use Rattle.driver_moves.specs.block_machine.Steps.{after}
+use Rattle.driver_moves.specs.ram_blocks.Told.{Told}
+use Rattle.driver_moves.specs.nv_desk.Desk.{DeskState, state_of}
+use Rattle.driver_moves.specs.nv_desk_copies.Front.{AreSynchronized}
+use Rattle.driver_moves.specs.nv_desk_copies.Posts.{IsPosted, IsPostedNext}
+use Rattle.driver_moves.specs.job_progress.Asks.{is_of_jobs}
+use Rattle.driver_moves.specs.nvm_device_laws.Turn.{settled_by, wrote_by}
+use Rattle.driver_moves.specs.nvm_laws.Turns.{AddsBy}
+use Rattle.driver_moves.specs.nvm_laws.declared.turned.Turned.{Turned}
+use Rattle.driver_moves.specs.nvm_laws.declared.turned.Turned.TheVariants as turned
+use Rattle.driver_moves.specs.nvm_laws.declared.turned.Act.TheVariants.{Ended, Device}
+use Rattle.driver_moves.specs.nvm_core.BehindDevice.{asked_by}
+use Rattle.driver_moves.specs.nvm_core.OperationStart.{LeavesDevice}
 use Rattle.script_walks.specs.Runs.{is_found}
-use Rattle.nvm_shared.specs.declared.terms.Terms.{Terms}
-use Rattle.nvm_shared.specs.Behind.{AreAsks, with_more}
-use Rattle.nvm_shared.specs.Locked.{desk_with}
-use Rattle.nvm_shared.specs.Driving.{DriverState, BeginsTurn, EndsTurn, TurnsBehind}
-use Rattle.nvm_shared.specs.Unplanned.{IsUnplanned, StaysUnplanned, offs_by}
-use Rattle.nvm_core.proofs.block_laws.HistoryLaws.{histories_step, histories_go_on}
-use Rattle.nvm_core.proofs.job_progress.Powering.{jobs_keep_power}
-use Rattle.nvm_core.proofs.TurnedBehind.{has_turned}
-use Rattle.nvm_shared.proofs.Standing.{asks_leave_power}
-use Rattle.nvm_shared.proofs.Unplanned.{turns_stay_unplanned}
-use Rattle.promise_run.specs.RunHalves.{offs_in, tells_no_refusal}
+use Rattle.driver_moves.specs.nvm_shared.declared.terms.Terms.{Terms}
+use Rattle.driver_moves.specs.nvm_shared.Behind.{AreAsks, with_more}
+use Rattle.driver_moves.specs.nvm_shared.Locked.{desk_with}
+use Rattle.driver_moves.specs.nvm_shared.Driving.{DriverState, BeginsTurn, EndsTurn, TurnsBehind}
+use Rattle.driver_moves.specs.nvm_shared.Unplanned.{IsUnplanned, StaysUnplanned, offs_by}
+use Rattle.driver_moves.proofs.nvm_moves.HistoryLaws.{histories_step}
+use Rattle.driver_moves.proofs.nvm_moves.Powering.{jobs_keep_power}
+use Rattle.driver_moves.proofs.Uncut.{asks_power, fixed_stays}
+use Rattle.driver_moves.proofs.nvm_shared.Unplanned.{turns_stay_unplanned}
+use Rattle.driver_moves.specs.promise_run.RunHalves.{offs_in, tells_no_refusal}
 use Rattle.nvm_callers.specs.Added.{RefusesNone, IsUncut}
 use Rattle.nvm_callers.proofs.Refusing.{pick_refuses_none, post_refuses_none}
 
@@ -46,15 +43,6 @@ use Rattle.nvm_callers.proofs.Refusing.{pick_refuses_none, post_refuses_none}
 pub asks_more : (xs ys : List Entry) → AreAsks xs → AreAsks ys → AreAsks (xs ++ ys)
 asks_more [] ys one two = two
 asks_more (x ∷ xs) ys one two = (one.0, asks_more xs ys one.1 two)
-
-ask_power : (c : Configuration) (s : State) (es : List Entry) → AreAsks es → (after_from c s es).off ≡ s.off
-ask_power c s [] are = refl
-ask_power c s (Ask caller r reply ∷ es) are = ask_power c (step c s (Ask caller r reply)) es are.1 ∙ (asks_leave_power c s caller r reply).1
-ask_power c s (e ∷ es) are = let no_ : false ≡ true = are.0 in absurd (cc no_)
-
--- they leave the power as it is
-pub asks_power : (c : Configuration) (h es : List Entry) → AreAsks es → (after c (h ++ es)).off ≡ (after c h).off
-asks_power c h es are = ap (λ (s : State). s.off) (histories_go_on c at_first h es) ∙ ask_power c (after c h) es are
 
 -- THE DEVICE'S ENTRY
 abbrev IsPlain : Entry → Type 0
@@ -116,13 +104,6 @@ uncut_on desk desk_new d d_new fixed first power uncut = record {
 
 none_counted : (p q : PartTold) → q ≡ p → WereCounted 0 p.planning.unplanned q.planning.unplanned
 none_counted p q same = let count = ap (λ (x : PartTold). x.planning.unplanned) same in inl (omega (arith, count))
-
-pub fixed_stays : (answer : Turned) (old new : DeviceTold) (clock clock_new : Clock) → TurnsDevice answer old clock new clock_new → new.fixed ≡ old.fixed
-fixed_stays turned.Idle old new clock clock_new is = (has_turned turn.Idle old clock new clock_new is).fixed
-fixed_stays turned.Worked old new clock clock_new is = (has_turned turn.Worked old clock new clock_new is).fixed
-fixed_stays turned.Off old new clock clock_new is = (has_turned turn.Off old clock new clock_new is).fixed
-fixed_stays turned.Picked old new clock clock_new is = absurd is
-fixed_stays turned.Posted old new clock clock_new is = absurd is
 
 -- where the device went off the machine's power is, by the Off
 off_told : (c : Configuration) (answer : Turned) (h seen : List Entry) (a b : Stand) (ops : ℕ) (old new : PartTold) → seen ≡ h ++ option_to_list (asked_by answer a b ops)

@@ -4,16 +4,16 @@ use Rattle.std.proofs.lemmas.List.{take-append-drop}
 use mathlib.Core.Option.{some, some-ne-none}
 use lib.ListN.{get_elem?}
 use Rattle.atomic_table.proofs.Lists.{at_last, at_longer}
-use Rattle.nvm_core.specs.nv_base.Result.{code_of}
-use Rattle.nvm_core.specs.block_machine.Words.{ReqResult, Fine, NotOk, Pending, IntegrityFailed, BlockSkipped, Invalidated, Canceled, RedundancyFailed, Restored, Entry, Configuration}
-use Rattle.nvm_core.specs.block_machine.Blocks.{status_of, is_pending}
-use Rattle.nvm_core.specs.block_machine.Legal.{IsLegal}
-use Rattle.nvm_core.specs.block_machine.Steps.{after}
-use Rattle.nvm_core.proofs.block_laws.HistoryLaws.{beginnings_are_legal}
+use Rattle.driver_moves.specs.nv_base.Result.{code_of}
+use Rattle.driver_moves.specs.block_machine.Words.{ReqResult, Fine, NotOk, Pending, IntegrityFailed, BlockSkipped, Invalidated, Canceled, RedundancyFailed, Restored, Entry, Configuration}
+use Rattle.driver_moves.specs.block_machine.Blocks.{status_of, is_pending}
+use Rattle.driver_moves.specs.block_machine.Legal.{IsLegal}
+use Rattle.driver_moves.specs.block_machine.Steps.{after}
+use Rattle.driver_moves.proofs.nvm_moves.HistoryLaws.{beginnings_are_legal}
 use Rattle.turn_gate.specs.Entries.{Note, note, StartsWith, AllAgree, Gave, NotBelow}
-use Rattle.nvm_shared.specs.StatusWords.{gives, off_word}
-use Rattle.nvm_shared.specs.Statuses.{IsLast}
-use Rattle.nvm_shared.proofs.Words.{the_off_word_tells, words_tell_statuses}
+use Rattle.driver_moves.specs.nvm_shared.StatusWords.{gives, off_word}
+use Rattle.driver_moves.specs.nvm_shared.Statuses.{IsLast}
+use Rattle.driver_moves.proofs.nvm_shared.Words.{the_off_word_tells, words_tell_statuses}
 use Rattle.nvm_callers.specs.Waits.{Waited, OffEndsWaits, PollsEndWaits, WaitsLast}
 
 -- PLACES

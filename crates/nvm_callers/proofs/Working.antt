@@ -3,10 +3,10 @@ use Rattle.std.proofs.Common.{◌≡◌, ℕ, List, [], length, take, Option, So
 use Rattle.std.specs.Prelude.{IfSome}
 use Rattle.turn_gate.specs.declared.pass.View.{View}
 use Rattle.turn_gate.specs.Entries.{Note, AllAgree}
-use Rattle.nvm_core.specs.block_machine.Words.{Entry}
-use Rattle.nvm_shared.specs.declared.terms.Terms.{Terms}
-use Rattle.nvm_shared.specs.StatusWords.{gives}
-use Rattle.nvm_shared.specs.Passes.{LearnsMore}
+use Rattle.driver_moves.specs.block_machine.Words.{Entry}
+use Rattle.driver_moves.specs.nvm_shared.declared.terms.Terms.{Terms}
+use Rattle.driver_moves.specs.nvm_shared.StatusWords.{gives}
+use Rattle.driver_moves.specs.nvm_shared.Passes.{LearnsMore}
 use Rattle.ram_mirrors_sync.specs.Blocks.{Pairs}
 use Rattle.script_callers.specs.declared.program.Program.{Program}
 use Rattle.nvm_callers.specs.Deeds.{HasDone}

@@ -1,31 +1,23 @@
 -- What any number of a driver's turns adds to the history, with requests of others between them.
-use Rattle.std.specs.Prelude.{◌≡◌, ℕ, not, true, false, IsTrue, List, ◌++◌, IfSome, Some}
+use Rattle.std.specs.Prelude.{◌≡◌, ℕ, not, IsTrue, List, ◌++◌, IfSome, Some}
 use Rattle.std.specs.List.{list_all}
-use Rattle.nvm_core.specs.nv_base.Count.{WereCounted}
-use Rattle.nvm_core.specs.memif.Told.{DeviceTold}
-use Rattle.nvm_core.specs.memif.Clock.{Clock}
-use Rattle.nvm_core.specs.block_machine.Words.{Entry}
-use Rattle.nvm_core.specs.ram_blocks.Told.{Told, told_at}
-use Rattle.nvm_core.specs.nv_desk.Desk.{DeskState, state_of}
-use Rattle.nvm_core.specs.nv_desk_copies.Front.{AreSynchronized}
+use Rattle.driver_moves.specs.nv_base.Count.{WereCounted}
+use Rattle.driver_moves.specs.memif.Told.{DeviceTold}
+use Rattle.driver_moves.specs.memif.Clock.{Clock}
+use Rattle.driver_moves.specs.block_machine.Words.{Entry}
+use Rattle.driver_moves.specs.ram_blocks.Told.{Told, told_at}
+use Rattle.driver_moves.specs.nv_desk_copies.Front.{AreSynchronized}
 use Rattle.script_walks.specs.Runs.{is_found}
-use Rattle.nvm_shared.specs.declared.terms.Terms.{Terms}
-use Rattle.nvm_shared.specs.Locked.{desk_with}
-use Rattle.nvm_shared.specs.Driving.{DriverState}
-use Rattle.nvm_shared.specs.Unplanned.{IsUnplanned}
-use Rattle.promise_run.specs.RunHalves.{offs_in, tells_no_refusal}
+use Rattle.driver_moves.specs.nvm_shared.declared.terms.Terms.{Terms}
+use Rattle.driver_moves.specs.nvm_shared.Locked.{desk_with}
+use Rattle.driver_moves.specs.nvm_shared.Driving.{DriverState}
+pub use Rattle.driver_moves.specs.Driving.{IsUncut}
+use Rattle.driver_moves.specs.promise_run.RunHalves.{offs_in, tells_no_refusal}
 use Rattle.nvm_callers.specs.Driven.{HasDriven}
 
 -- none of the next copies of a synchronized block is to be refused
 abbrev pub RefusesNone : List Told → Type 0
 RefusesNone copies = (block : ℕ) → IfSome (told_at copies block) (λ s. s.to_refuse ≡ Some 0)
-
--- A device of one part, at which no planned cut came and none is planned; and where it is off the machine's power is, since an Off
--- tells of each cut.
-pub record IsUncut (desk : DeskState) (d : DeviceTold) : Type 0 where
-  pub one : d.fixed.two ≡ false
-  pub unplanned : IsUnplanned d.first
-  pub power : d.first.off ≡ true → (state_of desk).off ≡ true
 
 module _ {D C : Type 0} (told : D → DeviceTold) (clock : D → Clock) (copies : C → List Told) (is_store : C → ℕ → ℕ → List ℕ → Type 0) (looked : C → C → ℕ → ℕ → Type 0) (over : C → C → Type 0) (stands : C → ℕ → ℕ → List Entry → Type 0) (t : Terms) where
   -- The history went on, without a start-up. Where no copy is to be refused none was. Where no cut is planned none that was planned

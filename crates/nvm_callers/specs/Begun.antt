@@ -1,22 +1,22 @@
 -- A stack that is shared for a run of callers.
 use Rattle.std.specs.Prelude.{◌≡◌, ◌≤◌, ◌<◌, ◌^◌, false, List, length}
-use Rattle.nvm_core.specs.memif.Told.{DeviceTold}
-use Rattle.nvm_core.specs.block_machine.Words.{Configuration}
-use Rattle.nvm_core.specs.ram_blocks.declared.plain_block.PlainBlock.{PlainBlock}
-use Rattle.nvm_core.specs.nv_desk.Desk.{state_of}
-use Rattle.nvm_core.specs.nvm_laws.Ties.{IsTied}
-use Rattle.nvm_core.specs.nvm_laws.DueLaws.{NextIsPending}
+use Rattle.driver_moves.specs.memif.Told.{DeviceTold}
+use Rattle.driver_moves.specs.block_machine.Words.{Configuration}
+use Rattle.driver_moves.specs.ram_blocks.declared.plain_block.PlainBlock.{PlainBlock}
+use Rattle.driver_moves.specs.nv_desk.Desk.{state_of}
+use Rattle.driver_moves.specs.nvm_laws.Ties.{IsTied}
+use Rattle.driver_moves.specs.nvm_laws.DueLaws.{NextIsPending}
 use Rattle.turn_gate.specs.Pass.{beginner, knows}
-use Rattle.nvm_shared.specs.Behind.{HandIsPending}
-use Rattle.nvm_shared.specs.Locked.{desk_with}
-use Rattle.nvm_shared.specs.Opening.{IsFirst}
-use Rattle.nvm_shared.specs.Passes.{PassValue, SharedState, IsUserOf}
-use Rattle.nvm_shared.specs.Driving.{DriverState}
+use Rattle.driver_moves.specs.nvm_shared.Behind.{HandIsPending}
+use Rattle.driver_moves.specs.nvm_shared.Locked.{desk_with}
+use Rattle.driver_moves.specs.nvm_shared.Opening.{IsFirst}
+use Rattle.driver_moves.specs.nvm_shared.Passes.{PassValue, SharedState, IsUserOf}
+use Rattle.driver_moves.specs.nvm_shared.Driving.{DriverState}
 use Rattle.script_walks.specs.Words.{Step}
 use Rattle.script_callers.specs.declared.program.Program.{Program}
 use Rattle.script_callers.specs.Programs.{programs_of}
 use Rattle.script_callers.specs.RunScripts.{AreRun}
-use Rattle.promise_run.specs.Run.{cap}
+use Rattle.driver_moves.specs.promise_run.Run.{cap}
 
 -- these programs are those of the callers of a script, whose stores can be counted
 pub record AreProgramsOf (c : Configuration) (steps : List Step) (programs : List Program) : Type 0 where

@@ -3,9 +3,9 @@ use Rattle.std.specs.Prelude.{◌≡◌, ◌≤◌, ℕ, List, [], ◌∷◌, le
 use Rattle.turn_gate.specs.declared.pass.View.{View}
 use Rattle.turn_gate.specs.Entries.{StartsWith}
 use Rattle.turn_gate.specs.Pass.{knows}
-use Rattle.nvm_core.specs.block_machine.Words.{Request, Entry, Configuration}
-use Rattle.nvm_shared.specs.declared.terms.Terms.{Terms}
-use Rattle.nvm_shared.specs.Passes.{PassValue, SharedState, IsUserOf}
+use Rattle.driver_moves.specs.block_machine.Words.{Request, Entry, Configuration}
+use Rattle.driver_moves.specs.nvm_shared.declared.terms.Terms.{Terms}
+use Rattle.driver_moves.specs.nvm_shared.Passes.{PassValue, SharedState, IsUserOf}
 use Rattle.ram_mirrors_sync.specs.Blocks.{Pairs}
 use Rattle.script_callers.specs.declared.deed.Deed.{Deed}
 use Rattle.script_callers.specs.declared.deed.Deed.TheVariants.{Ask}

@@ -1,12 +1,12 @@
 -- What a caller knows of what it did.
 use Rattle.std.specs.Prelude.{◌≡◌, ◌≤◌, ◌<◌, ℕ, ◌+◌, List, [], ◌∷◌, ◌++◌, length, take, drop}
-use Rattle.nvm_core.specs.block_machine.Words.{Request, Reply, Entry, Ask, Configuration}
-use Rattle.nvm_core.specs.block_machine.Legal.{IsLegal}
-use Rattle.nvm_core.specs.block_laws.Consistent.{Each, Ascend}
+use Rattle.driver_moves.specs.block_machine.Words.{Request, Reply, Entry, Ask, Configuration}
+use Rattle.driver_moves.specs.block_machine.Legal.{IsLegal}
+use Rattle.driver_moves.specs.block_laws.Consistent.{Each, Ascend}
 use Rattle.turn_gate.specs.Entries.{Note, StartsWith, AllAgree}
 use Rattle.script_walks.specs.Callers.{WaitedFor, asks_of}
-use Rattle.nvm_shared.specs.StatusWords.{gives}
-use Rattle.nvm_shared.specs.Numbers.{AreAt, AreAll}
+use Rattle.driver_moves.specs.nvm_shared.StatusWords.{gives}
+use Rattle.driver_moves.specs.nvm_shared.Numbers.{AreAt, AreAll}
 use Rattle.script_callers.specs.declared.deed.Deed.{Deed}
 use Rattle.script_callers.specs.declared.deed.Deed.TheVariants.{Ask as AskDeed, Store as StoreDeed, Await}
 use Rattle.script_callers.specs.Deeds.{requests_in}

@@ -1,17 +1,19 @@
 -- What a driver's turns did, one behind another, with requests of others between them.
 use Rattle.std.specs.Prelude.{◌≡◌, ◌≤◌, ◌⊎◌, ℕ, zero, suc, List}
-use Rattle.nvm_core.specs.memif.Told.{DeviceTold, faults_of}
-use Rattle.nvm_core.specs.memif.Clock.{Clock}
-use Rattle.nvm_core.specs.memif.Trials.{Lasts}
-use Rattle.nvm_core.specs.block_machine.Words.{Entry}
-use Rattle.nvm_core.specs.ram_blocks.Told.{Told}
-use Rattle.nvm_core.specs.nvm_laws.Keeps.{StaysKept}
-use Rattle.nvm_core.specs.nvm_laws.declared.turned.Turned.{Turned}
-use Rattle.nvm_core.specs.nvm_laws.declared.turned.Turned.TheVariants as turned
-use Rattle.nvm_shared.specs.declared.terms.Terms.{Terms}
-use Rattle.nvm_shared.specs.Locked.{desk_with}
-use Rattle.nvm_shared.specs.Noted.{PickIsShown}
-use Rattle.nvm_shared.specs.Driving.{DriverState, Drives, SeesRequests, TurnsBehind}
+use Rattle.driver_moves.specs.memif.Told.{DeviceTold, faults_of}
+use Rattle.driver_moves.specs.memif.Clock.{Clock}
+use Rattle.driver_moves.specs.memif.Trials.{Lasts}
+use Rattle.driver_moves.specs.block_machine.Words.{Entry}
+use Rattle.driver_moves.specs.ram_blocks.Told.{Told}
+use Rattle.driver_moves.specs.nvm_laws.Keeps.{StaysKept}
+use Rattle.driver_moves.specs.nvm_laws.declared.turned.Turned.{Turned}
+use Rattle.driver_moves.specs.nvm_laws.declared.turned.Turned.TheVariants as turned
+use Rattle.driver_moves.specs.nvm_shared.declared.terms.Terms.{Terms}
+use Rattle.driver_moves.specs.nvm_shared.Locked.{desk_with}
+use Rattle.driver_moves.specs.nvm_shared.Noted.{PickIsShown}
+use Rattle.driver_moves.specs.nvm_laws.Ties.{IsTied}
+use Rattle.driver_moves.specs.nvm_core.Work.{TakesTurns}
+use Rattle.driver_moves.specs.nvm_shared.Driving.{DriverState, Drives, SeesRequests, TurnsBehind, stack_of}
 
 module _ {D C : Type 0} (told : D → DeviceTold) (clock : D → Clock) (copies : C → List Told) (is_store : C → ℕ → ℕ → List ℕ → Type 0) (looked : C → C → ℕ → ℕ → Type 0) (over : C → C → Type 0) (stands : C → ℕ → ℕ → List Entry → Type 0) (t : Terms) where
   -- from a list that was seen, with the driver's parts, the promise stays kept to a later one
@@ -25,6 +27,8 @@ module _ {D C : Type 0} (told : D → DeviceTold) (clock : D → Clock) (copies 
     pub drives : Drives told clock copies t.tells (desk_with t seen) old
     pub turns : TurnsBehind told clock copies is_store looked answer (desk_with t seen) (desk_with t seen_new) old new
     pub keeps : StaysKeptOver seen seen_new old new
+    pub tied : IsTied (desk_with t seen_new) new.hand (told new.device)
+    pub left : TakesTurns told answer (stack_of (desk_with t seen) old) (stack_of (desk_with t seen_new) new)
     pub counted : faults_of (told old.device) ≤ faults_of (told new.device)
     pub lasts : Lasts (told old.device) (clock old.device) (told new.device) (clock new.device)
     pub stores_stay : (b n : ℕ) (x : List ℕ) → is_store old.copies b n x → is_store new.copies b n x

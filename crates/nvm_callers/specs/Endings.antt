@@ -2,11 +2,11 @@
 use Rattle.std.specs.Prelude.{◌≡◌, ℕ, false, List, length, slice_get, Option, Some, None}
 use Rattle.turn_gate.specs.declared.pass.View.{View}
 use Rattle.turn_gate.specs.Entries.{AllAgree}
-use Rattle.nvm_core.specs.block_machine.Words.{Request, Entry}
-use Rattle.nvm_core.specs.block_machine.Reply.{fits}
-use Rattle.nvm_core.specs.block_machine.Steps.{after}
-use Rattle.nvm_shared.specs.declared.terms.Terms.{Terms}
-use Rattle.nvm_shared.specs.StatusWords.{gives}
+use Rattle.driver_moves.specs.block_machine.Words.{Request, Entry}
+use Rattle.driver_moves.specs.block_machine.Reply.{fits}
+use Rattle.driver_moves.specs.block_machine.Steps.{after}
+use Rattle.driver_moves.specs.nvm_shared.declared.terms.Terms.{Terms}
+use Rattle.driver_moves.specs.nvm_shared.StatusWords.{gives}
 use Rattle.script_callers.specs.declared.deed.Deed.{Deed}
 use Rattle.script_callers.specs.declared.deed.Deed.TheVariants.{Ask, Await}
 use Rattle.nvm_callers.specs.declared.ending.Ending.{Ending}

@@ -1,12 +1,12 @@
 -- What a pass that took in others knows of what they knew.
 use Rattle.std.specs.Prelude.{◌≡◌, ◌⊎◌, ◌<◌, ℕ, List, [], ◌∷◌, length, Contains}
-use Rattle.nvm_core.specs.block_machine.Words.{Entry, Configuration}
+use Rattle.driver_moves.specs.block_machine.Words.{Entry, Configuration}
 use Rattle.turn_gate.specs.Entries.{StartsWith, AllAgree, AllHeard}
 use Rattle.turn_gate.specs.Pass.{Has, both}
 use Rattle.turn_gate.specs.declared.pass.View.{View}
-use Rattle.nvm_shared.specs.declared.terms.Terms.{Terms}
-use Rattle.nvm_shared.specs.StatusWords.{gives}
-use Rattle.nvm_shared.specs.Passes.{IsDriven, LearnsTurn}
+use Rattle.driver_moves.specs.nvm_shared.declared.terms.Terms.{Terms}
+use Rattle.driver_moves.specs.nvm_shared.StatusWords.{gives}
+use Rattle.driver_moves.specs.nvm_shared.Passes.{IsDriven, LearnsTurn}
 use Rattle.nvm_callers.specs.Deeds.{HasDone}
 use Rattle.nvm_callers.specs.Shares.{Share, BeginsUnasked, IsOfShares}
 

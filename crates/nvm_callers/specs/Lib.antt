@@ -1,8 +1,6 @@
 pub mod Driven
 pub mod Kept
 pub mod Added
-pub mod WorkedMoves
-pub mod Moved
 pub mod Looked
 pub mod TakenCopies
 pub mod Waits
@@ -22,3 +20,5 @@ pub mod KeptSteps
 pub mod Begun
 pub mod Dealt
 pub mod Ran
+pub use Rattle.driver_moves.specs.nvm_moves as nvm_moves
+pub use Rattle.driver_moves.specs as driver_moves

@@ -1,15 +1,15 @@
 -- What a driver's looks at the application's stores showed in its turns.
 use Rattle.std.specs.Prelude.{◌≡◌, ◌<◌, ◌≤◌, ℕ, Bool, true, List, [], ◌∷◌, ◌++◌, length, take, Contains}
-use Rattle.nvm_core.specs.memif.Told.{DeviceTold}
-use Rattle.nvm_core.specs.memif.Clock.{Clock}
-use Rattle.nvm_core.specs.block_machine.Words.{TookContent, TookStale, Entry, Pick, Configuration}
-use Rattle.nvm_core.specs.block_machine.Next.{next_of}
-use Rattle.nvm_core.specs.block_machine.Steps.{after}
-use Rattle.nvm_core.specs.ram_blocks.Told.{Told}
+use Rattle.driver_moves.specs.memif.Told.{DeviceTold}
+use Rattle.driver_moves.specs.memif.Clock.{Clock}
+use Rattle.driver_moves.specs.block_machine.Words.{TookContent, TookStale, Entry, Pick, Configuration}
+use Rattle.driver_moves.specs.block_machine.Next.{next_of}
+use Rattle.driver_moves.specs.block_machine.Steps.{after}
+use Rattle.driver_moves.specs.ram_blocks.Told.{Told}
 use Rattle.script_walks.specs.Looks.{Look, AreInOrder}
 use Rattle.script_walks.specs.Turn.{copies_next}
-use Rattle.nvm_shared.specs.declared.terms.Terms.{Terms}
-use Rattle.nvm_shared.specs.Driving.{DriverState}
+use Rattle.driver_moves.specs.nvm_shared.declared.terms.Terms.{Terms}
+use Rattle.driver_moves.specs.nvm_shared.Driving.{DriverState}
 use Rattle.nvm_callers.specs.Driven.{HasDriven}
 
 -- What is known of looks at copies: what lies between two values is between earlier and later ones too, and no look shows an older

@@ -1,16 +1,16 @@
 -- What a caller did, against its program.
 use Rattle.std.specs.Prelude.{◌≡◌, ℕ, false, List, ◌∷◌, ◌++◌, length, take}
-use Rattle.nvm_core.specs.block_machine.Words.{Request, Entry, Configuration}
-use Rattle.nvm_core.specs.block_machine.Legal.{IsLegal}
-use Rattle.nvm_core.specs.block_machine.Reply.{fits}
-use Rattle.nvm_core.specs.block_machine.Steps.{after}
+use Rattle.driver_moves.specs.block_machine.Words.{Request, Entry, Configuration}
+use Rattle.driver_moves.specs.block_machine.Legal.{IsLegal}
+use Rattle.driver_moves.specs.block_machine.Reply.{fits}
+use Rattle.driver_moves.specs.block_machine.Steps.{after}
 use Rattle.turn_gate.specs.Entries.{Note, StartsWith, AllAgree}
 use Rattle.script_walks.specs.Words.{Step}
 use Rattle.script_walks.specs.Callers.{IsInOrder, asks_of, program_of, requests_of}
 use Rattle.script_walks.specs.Looks.{CanBeMade}
 use Rattle.script_walks.specs.Runs.{AskedAll, HadNoRoom}
-use Rattle.nvm_shared.specs.StatusWords.{gives}
-use Rattle.nvm_shared.specs.Numbers.{AreAll}
+use Rattle.driver_moves.specs.nvm_shared.StatusWords.{gives}
+use Rattle.driver_moves.specs.nvm_shared.Numbers.{AreAll}
 use Rattle.script_callers.specs.declared.deed.Deed.{Deed}
 use Rattle.script_callers.specs.declared.deed.Deed.TheVariants.{Ask as AskDeed}
 use Rattle.script_callers.specs.Deeds.{deeds_of, requests_in}

@@ -1,24 +1,25 @@
 -- What a run of callers comes to.
 use Rattle.std.specs.Prelude.{◌≡◌, ◌≢◌, ℕ, not, IsTrue, List, ◌++◌, length, take, Option}
 use Rattle.std.specs.List.{list_all}
-use Rattle.nvm_core.specs.nv_base.Count.{WereCounted}
-use Rattle.nvm_core.specs.memif.Told.{DeviceTold}
-use Rattle.nvm_core.specs.memif.Clock.{Clock}
-use Rattle.nvm_core.specs.block_machine.Words.{Entry}
-use Rattle.nvm_core.specs.block_machine.Legal.{IsLegal}
-use Rattle.nvm_core.specs.ram_blocks.declared.plain_block.PlainBlock.{PlainBlock}
-use Rattle.nvm_core.specs.nv_desk.Desk.{DeskState}
-use Rattle.nvm_core.specs.job_progress.Hand.{HandState}
-use Rattle.nvm_core.specs.nvm_laws.Keeps.{StaysKept}
-use Rattle.nvm_core.specs.Stack.{StackState}
+use Rattle.driver_moves.specs.nv_base.Count.{WereCounted}
+use Rattle.driver_moves.specs.memif.Told.{DeviceTold}
+use Rattle.driver_moves.specs.memif.Clock.{Clock}
+use Rattle.driver_moves.specs.block_machine.Words.{Entry}
+use Rattle.driver_moves.specs.block_machine.Legal.{IsLegal}
+use Rattle.driver_moves.specs.ram_blocks.declared.plain_block.PlainBlock.{PlainBlock}
+use Rattle.driver_moves.specs.nv_desk.Desk.{DeskState}
+use Rattle.driver_moves.specs.job_progress.Hand.{HandState}
+use Rattle.driver_moves.specs.nvm_laws.Keeps.{StaysKept}
+use Rattle.driver_moves.specs.nvm_core.Stack.{StackState}
 use Rattle.script_walks.specs.Words.{Step}
 use Rattle.script_walks.specs.Callers.{program_of, requests_of, asks_of}
 use Rattle.script_walks.specs.Looks.{AreInOrder, Look}
 use Rattle.script_walks.specs.Runs.{AskedAll, has_ended, is_found}
-use Rattle.promise_run.specs.Run.{End, Whole, HistoryFull, Memory, RunsBy}
-use Rattle.promise_run.specs.RunHalves.{offs_in, tells_no_refusal}
+use Rattle.driver_moves.specs.promise_run.Run.{End, Whole, HistoryFull, Memory, RunsBy}
+use Rattle.driver_moves.specs.promise_run.RunHalves.{offs_in, tells_no_refusal}
 use Rattle.nvm_callers.specs.Added.{IsUncut}
-use Rattle.nvm_callers.specs.Moved.{WasMoved}
+use Rattle.driver_moves.specs.nvm_moves.Moved.{HasMoved}
+use Rattle.driver_moves.specs.Driving.{seen_at}
 use Rattle.nvm_callers.specs.declared.ending.Ending.{Ending}
 use Rattle.nvm_callers.specs.declared.ending.Ending.TheVariants as ending
 
@@ -30,7 +31,7 @@ end_of ending.Memory = Memory
 
 -- What was kept over any device, from a stack behind its first start-up on. The history went on, without a start-up; no copy was
 -- refused. The promise stays kept, as far as the device tells what it holds. Where no power cut is planned, none that was came, and
--- each Off is a cut that was counted. Its entries have moves, one by one. Nothing is pending at the end or the power is off, unless
+-- each Off is a cut that was counted. Its entries have moves, one by one, that keep the law. Nothing is pending at the end or the power is off, unless
 -- memory was wanting.
 pub record WasRun {D : Type 0} (told : D → DeviceTold) (clock : D → Clock) (s : StackState D (List PlainBlock)) (e : Ending) (desk : DeskState) (device : D) : Type 0 where
   pub config : desk.config ≡ s.desk.config
@@ -43,7 +44,7 @@ pub record WasRun {D : Type 0} (told : D → DeviceTold) (clock : D → Clock) (
   pub keeps : StaysKept s.desk s.hand (told s.device) (clock s.device) desk hand (told device) (clock device)
   pub cuts : IsUncut s.desk (told s.device)
       → IsUncut desk (told device) × WereCounted (offs_in more) (told s.device).first.planning.unplanned (told device).first.planning.unplanned
-  pub moved : WasMoved s.desk desk (told s.device) (told device) (clock device)
+  pub moved : HasMoved 5 (seen_at s.desk s.hand (told s.device) (clock s.device)) (seen_at desk hand (told device) (clock device))
   pub ends : e ≢ ending.Memory → IsTrue (has_ended desk.config desk.entries)
 
 -- Each caller asked for what its steps ask for, in that order; and nobody else asked.

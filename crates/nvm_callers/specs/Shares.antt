@@ -1,13 +1,13 @@
 -- What the callers of a run did, once their passes are joined.
 use Rattle.std.specs.Prelude.{◌≡◌, ◌≢◌, ◌⊎◌, ◌<◌, ℕ, List, [], length, Contains}
-use Rattle.nvm_core.specs.block_machine.Words.{Request, Reply, Entry, Ask, Configuration}
-use Rattle.nvm_core.specs.block_machine.Legal.{IsLegal}
+use Rattle.driver_moves.specs.block_machine.Words.{Request, Reply, Entry, Ask, Configuration}
+use Rattle.driver_moves.specs.block_machine.Legal.{IsLegal}
 use Rattle.turn_gate.specs.Entries.{Note, StartsWith, AllAgree}
 use Rattle.turn_gate.specs.Pass.{Has}
 use Rattle.script_walks.specs.Callers.{asks_of}
-use Rattle.nvm_shared.specs.StatusWords.{gives}
-use Rattle.nvm_shared.specs.Numbers.{IsEntry, AreAll}
-use Rattle.nvm_shared.specs.Passes.{IsDriven}
+use Rattle.driver_moves.specs.nvm_shared.StatusWords.{gives}
+use Rattle.driver_moves.specs.nvm_shared.Numbers.{IsEntry, AreAll}
+use Rattle.driver_moves.specs.nvm_shared.Passes.{IsDriven}
 use Rattle.script_callers.specs.declared.deed.Deed.{Deed}
 use Rattle.script_callers.specs.Deeds.{requests_in}
 use Rattle.nvm_callers.specs.Deeds.{HasDone, Shows}

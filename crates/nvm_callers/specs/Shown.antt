@@ -1,11 +1,11 @@
 -- What the driver may conclude from what came along with a store.
 use Rattle.std.specs.Prelude.{◌≡◌, ◌<◌, ◌^◌, ℕ, List, ◌∷◌, ◌++◌, length, take, slice_get, Some}
-use Rattle.nvm_core.specs.block_machine.Words.{Entry, Configuration}
-use Rattle.nvm_core.specs.block_machine.Legal.{IsLegal}
-use Rattle.nvm_shared.specs.declared.terms.Terms.{Terms}
-use Rattle.nvm_shared.specs.StatusWords.{gives}
-use Rattle.nvm_shared.specs.Noted.{StandsIn}
-use Rattle.nvm_shared.specs.Numbers.{AreAll}
+use Rattle.driver_moves.specs.block_machine.Words.{Entry, Configuration}
+use Rattle.driver_moves.specs.block_machine.Legal.{IsLegal}
+use Rattle.driver_moves.specs.nvm_shared.declared.terms.Terms.{Terms}
+use Rattle.driver_moves.specs.nvm_shared.StatusWords.{gives}
+use Rattle.driver_moves.specs.nvm_shared.Noted.{StandsIn}
+use Rattle.driver_moves.specs.nvm_shared.Numbers.{AreAll}
 use Rattle.ram_mirrors_sync.specs.Ends.{EndValue, IsTaken}
 use Rattle.ram_mirrors_sync.specs.Blocks.{CameWith}
 use Rattle.ram_mirrors.specs.Stores.{AllStored}

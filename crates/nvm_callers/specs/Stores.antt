@@ -1,8 +1,8 @@
 -- A caller's sides of synchronized blocks.
 use Rattle.std.specs.Prelude.{ℕ, List, [], option_map, Option, Some, None}
 use Rattle.turn_gate.specs.declared.pass.View.{View}
-use Rattle.nvm_core.specs.block_machine.Words.{Entry}
-use Rattle.nvm_shared.specs.declared.terms.Terms.{Terms}
+use Rattle.driver_moves.specs.block_machine.Words.{Entry}
+use Rattle.driver_moves.specs.nvm_shared.declared.terms.Terms.{Terms}
 use Rattle.ram_mirrors_sync.specs.Blocks.{Pairs, SideList, SideValue, side_at}
 use Rattle.nvm_callers.specs.Stored.{Stored}
 

@@ -1,8 +1,8 @@
 -- What a history takes of synchronized RAM.
 use Rattle.std.specs.Prelude.{◌≡◌, ℕ, List, [], ◌∷◌, take, Contains, Some}
-use Rattle.nvm_core.specs.block_machine.Words.{Instance, Mark, Entry, Found, Configuration}
-use Rattle.nvm_core.specs.block_machine.StartUp.{at_first}
-use Rattle.nvm_core.specs.block_machine.Legal.{IsLegal}
+use Rattle.driver_moves.specs.block_machine.Words.{Instance, Mark, Entry, Found, Configuration}
+use Rattle.driver_moves.specs.block_machine.StartUp.{at_first}
+use Rattle.driver_moves.specs.block_machine.Legal.{IsLegal}
 use Rattle.script_walks.specs.Words.{Step}
 use Rattle.script_walks.specs.Walk.{TakesStores, store_content}
 use Rattle.script_walks.specs.Looks.{Look, CanBeStored, CopiesAreShown}

@@ -1,11 +1,11 @@
 -- What a caller learns from a wait.
 use Rattle.std.specs.Prelude.{◌≢◌, ◌≤◌, ◌<◌, ℕ, IsTrue, List, [], ◌∷◌, ◌++◌, length, take}
-use Rattle.nvm_core.specs.nv_base.Result.{code_of}
-use Rattle.nvm_core.specs.block_machine.Words.{Pending, Entry, Configuration}
-use Rattle.nvm_core.specs.block_machine.Legal.{IsLegal}
+use Rattle.driver_moves.specs.nv_base.Result.{code_of}
+use Rattle.driver_moves.specs.block_machine.Words.{Pending, Entry, Configuration}
+use Rattle.driver_moves.specs.block_machine.Legal.{IsLegal}
 use Rattle.turn_gate.specs.Entries.{Note, note, StartsWith, AllAgree, NotBelow}
 use Rattle.script_walks.specs.Callers.{is_over}
-use Rattle.nvm_shared.specs.StatusWords.{gives, off_word}
+use Rattle.driver_moves.specs.nvm_shared.StatusWords.{gives, off_word}
 
 -- A wait on a block is over behind the first `end` entries of each legal history that begins with what was seen and agrees with
 -- what polls told; and each history that does so, legal or not, has those entries.

@@ -1,11 +1,11 @@
 // What a caller does.
 ghost use Rattle.std.specs.Prelude.{◌≡◌, ◌≤◌, ◌++◌, ◌∷◌, [], ℕ, List, Option, true, false, length, take, All, IfOk, OnOk, OnErr, IsErrOf};
 ghost use Rattle.turn_gate.specs.Pass.{knows};
-ghost use Rattle.nvm_core.specs.block_machine.Legal.{HasStore};
-ghost use Rattle.nvm_core.specs.nv_desk.declared.ask.AskFault.TheVariants as fault;
+ghost use Rattle.driver_moves.specs.block_machine.Legal.{HasStore};
+ghost use Rattle.driver_moves.specs.nv_desk.declared.ask.AskFault.TheVariants as fault;
 ghost use Rattle.script_callers.specs.declared.deed.Deed.{Deed as Deeds};
 ghost use Rattle.script_callers.specs.declared.deed.Deed.TheVariants as deed_of;
-ghost use Rattle.nvm_shared.specs.Passes.{IsUserOf};
+ghost use Rattle.driver_moves.specs.nvm_shared.Passes.{IsUserOf};
 ghost use Rattle.nvm_callers.specs.Stored.{Stored};
 ghost use Rattle.nvm_callers.specs.Calls.{Did, IsAsk, IsAwait, KeepsPass, MayMake};
 ghost use Rattle.nvm_callers.specs.Endings.{FindsNoRoom, StopsBy};
@@ -16,9 +16,8 @@ use crate::hold::Hold;
 use crate::round::Round;
 use crate::stores::Stores;
 use crate::wait::await_end;
-use nvm_core::nv_base::Request;
-use nvm_core::nv_desk::AskFault;
-use nvm_shared::{Shared, StackPass};
+use driver_moves::nvm_shared::{Shared, StackPass};
+use driver_moves::{AskFault, Request};
 use script_callers::Deed;
 use std::alloc::{AllocError, Global};
 use std::sync::Wait;

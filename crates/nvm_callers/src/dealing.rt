@@ -5,7 +5,7 @@ ghost use Rattle.script_callers.specs.declared.deed.Deed.{Deed as Deeds};
 ghost use Rattle.nvm_callers.specs.Dealt.{AllDealt, GoesOver, HasPlaces, IsDealt, IsFree};
 
 use crate::SidesIn;
-use nvm_shared::{Known, Naming};
+use driver_moves::nvm_shared::{Known, Naming};
 use ram_mirrors_sync::{Mirrors, Sides};
 use script_callers::{Deed, Program};
 use std::alloc::{AllocError, Global};

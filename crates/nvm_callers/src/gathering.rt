@@ -5,7 +5,7 @@ ghost use Rattle.nvm_callers.specs.Dealt.{AllGathered, AreApart, AreBelow, HasPl
 
 use crate::SidesIn;
 use crate::dealing::go_over;
-use nvm_shared::{Known, Naming};
+use driver_moves::nvm_shared::{Known, Naming};
 use ram_mirrors_sync::Sides;
 
 // Puts those of one caller back among the others. They are of blocks below this one alone.

@@ -1,7 +1,7 @@
 // The callers' passes, taken in by the driver's.
 ghost use Rattle.std.specs.Prelude.{◌≡◌, ◌≤◌, ◌<◌, ◌^◌, ◌+◌, ◌∷◌, [], length, drop, slice_index_or, vec_len, vec_capacity, All, IfSome, IsSome};
 ghost use Rattle.turn_gate.specs.Pass.{knows};
-ghost use Rattle.nvm_shared.specs.Driving.{IsDriverOf};
+ghost use Rattle.driver_moves.specs.nvm_shared.Driving.{IsDriverOf};
 ghost use Rattle.nvm_callers.specs.Joins.{Collects};
 ghost use Rattle.nvm_callers.specs.Placed.{AllPlaced};
 ghost use Rattle.nvm_callers.specs.Callers.{HaveRun, HasWorked, worse};
@@ -9,8 +9,8 @@ ghost use Rattle.nvm_callers.specs.Callers.{HaveRun, HasWorked, worse};
 use crate::ending::Ending;
 use crate::stores::Stores;
 use crate::threads::{Worker, WorkerOf};
-use nvm_core::memif::MemDevice;
-use nvm_shared::{Driver, NotedCopies, Shared, StackPass};
+use driver_moves::MemDevice;
+use driver_moves::nvm_shared::{Driver, NotedCopies, Shared, StackPass};
 use script_callers::Program;
 use std::snapshot::Snapshot;
 

@@ -28,6 +28,7 @@ mod wait;
 pub use beside::{Drive, Work};
 pub use caller::Caller;
 pub use callers::run_callers;
+pub use driver_moves::nvm_moves;
 pub use ending::Ending;
 pub use hold::{Hold, NoHold};
 pub use player::{Ran, play_callers};

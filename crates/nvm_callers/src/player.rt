@@ -1,19 +1,15 @@
 // A run of callers.
 ghost use Rattle.std.specs.Prelude.{◌≡◌, true, IfErr, IfOk};
-ghost use Rattle.nvm_shared.specs.Opening.{IsFirst};
+ghost use Rattle.driver_moves.specs.nvm_shared.Opening.{IsFirst};
 ghost use Rattle.script_callers.specs.RunScripts.{AreRun};
-ghost use Rattle.promise_run.specs.Run.{cap};
+ghost use Rattle.driver_moves.specs.promise_run.Run.{cap};
 ghost use Rattle.nvm_callers.specs.Ran.{KeepsOrder, WasRun};
 
 use crate::Ending;
 use crate::mirrored::run_over;
-use nvm_core::Stack;
-use nvm_core::block_config::Config;
-use nvm_core::memif::MemDevice;
-use nvm_core::nv_desk::Desk;
-use nvm_core::ram_blocks::PlainSync;
+use driver_moves::nvm_shared::share;
+use driver_moves::{Config, Desk, MemDevice, PlainSync, Stack};
 use nvm_script::StepList;
-use nvm_shared::share;
 use script_callers::callers;
 use std::alloc::Global;
 use std::marker::Brand;

@@ -1,7 +1,7 @@
 // The callers' programs, as the work of their threads.
 ghost use Rattle.std.specs.Prelude.{◌≡◌, ◌≤◌, ◌<◌, length};
 ghost use Rattle.turn_gate.specs.Pass.{knows};
-ghost use Rattle.nvm_shared.specs.Passes.{IsUserOf};
+ghost use Rattle.driver_moves.specs.nvm_shared.Passes.{IsUserOf};
 ghost use Rattle.nvm_callers.specs.Callers.{HasBegun, MayRun};
 
 use crate::beside::Work;
@@ -10,7 +10,7 @@ use crate::hold::Hold;
 use crate::round::Round;
 use crate::stores::Stores;
 use crate::threads::Worker;
-use nvm_shared::Shared;
+use driver_moves::nvm_shared::Shared;
 use script_callers::Program;
 use std::alloc::Global;
 use std::sync::Wait;

@@ -1,14 +1,14 @@
 // Passes for callers, cut off the driver's.
 ghost use Rattle.std.specs.Prelude.{◌≡◌, ◌<◌, ◌≤◌, ◌^◌, ◌+◌, ◌-◌, ◌++◌, ◌∷◌, [], length, drop, slice_index_or, vec_len, vec_capacity};
 ghost use Rattle.turn_gate.specs.Pass.{knows, left_part};
-ghost use Rattle.nvm_shared.specs.Passes.{IsUserOf, PassValue};
+ghost use Rattle.driver_moves.specs.nvm_shared.Passes.{IsUserOf, PassValue};
 ghost use Rattle.nvm_callers.specs.Callers.{IsFresh, with_parts};
 ghost use Rattle.nvm_callers.specs.Placed.{AllPlaced};
 ghost use Rattle.nvm_callers.specs.declared.threads.WorkerOf.{WorkerOf as WorkerValue};
 
 use crate::stores::Stores;
 use crate::threads::{Worker, WorkerOf};
-use nvm_shared::{Shared, StackPass};
+use driver_moves::nvm_shared::{Shared, StackPass};
 use script_callers::Program;
 
 /// Adds a worker for each program, whose stores are those at its place among these.

@@ -1,16 +1,15 @@
 // The driver's turns beside the callers, and behind them.
 ghost use Rattle.std.specs.Prelude.{◌≡◌, ◌≤◌, ◌^◌, true, false, length, is_some, Option, IsTrue};
-ghost use Rattle.nvm_core.specs.job_progress.Hand.{HandState};
+ghost use Rattle.driver_moves.specs.job_progress.Hand.{HandState};
 ghost use Rattle.turn_gate.specs.Pass.{knows};
 ghost use Rattle.script_walks.specs.Runs.{has_ended};
-ghost use Rattle.nvm_shared.specs.Driving.{IsDriverOf, NeedsNoMore};
+ghost use Rattle.driver_moves.specs.nvm_shared.Driving.{IsDriverOf, NeedsNoMore};
 ghost use Rattle.nvm_callers.specs.Steering.{HasSteered};
 
 use crate::beside::Drive;
 use crate::round::{MOST_LOOKS, Round};
-use nvm_core::memif::MemDevice;
-use nvm_core::nvm_laws::Turned;
-use nvm_shared::{Driver, NotedCopies, Shared, StackPass};
+use driver_moves::nvm_shared::{Driver, NotedCopies, Shared, StackPass};
+use driver_moves::{MemDevice, Turned};
 use std::sync::Wait;
 use std::thread;
 
@@ -81,7 +80,7 @@ fn steer<W: Wait, D: MemDevice, C: NotedCopies + Drop>(
 impl<'a, D: MemDevice, C: NotedCopies + Drop> Drive<Shared> for Steering<'a, D, C> {
     ghost use Rattle.std.specs.Prelude.{◌≡◌, false};
     ghost use Rattle.turn_gate.specs.Pass.{knows};
-    ghost use Rattle.nvm_shared.specs.Driving.{IsDriverOf};
+    ghost use Rattle.driver_moves.specs.nvm_shared.Driving.{IsDriverOf};
     ghost use Rattle.nvm_callers.specs.Steering.{HasSteered};
 
     ghost ready = { λ s g. IsDriverOf D.told D.clock C.told g s.pass s.driver × (g.terms.tells ≡ false) × C.is_of g.gate };

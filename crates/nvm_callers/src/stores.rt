@@ -1,12 +1,12 @@
 // Where a caller's stores go.
 ghost use Rattle.std.specs.Prelude.{◌≡◌, ℕ, List, [], length, Some, None};
 ghost use Rattle.turn_gate.specs.Pass.{GateValue, copied, knows};
-ghost use Rattle.nvm_shared.specs.Passes.{IsUserOf};
+ghost use Rattle.driver_moves.specs.nvm_shared.Passes.{IsUserOf};
 ghost use Rattle.ram_mirrors_sync.specs.Blocks.{AreSidesOf};
 ghost use Rattle.nvm_callers.specs.Stored.{StoredOne};
 ghost use Rattle.nvm_callers.specs.Stores.{bytes_at, stores_at};
 
-use nvm_shared::{Known, Naming, Shared, StackPass};
+use driver_moves::nvm_shared::{Known, Naming, Shared, StackPass};
 use ram_mirrors_sync::{Mirrors, Sides};
 use std::marker::Model;
 

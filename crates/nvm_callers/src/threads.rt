@@ -4,7 +4,7 @@ ghost use Rattle.nvm_callers.specs.Placed.{AllChanged, AllPlaced};
 
 use crate::beside::{Drive, Work, run_beside};
 use crate::ending::Ending;
-use nvm_shared::{Locked, Shared, SharedOf, StackPass, TellsGate, TellsTerms};
+use driver_moves::nvm_shared::{Locked, Shared, SharedOf, StackPass, TellsGate, TellsTerms};
 use std::snapshot::Snapshot;
 use std::sync::Wait;
 use std::thread::Threads;

@@ -1,12 +1,12 @@
 // The wait for the end of a job.
 ghost use Rattle.std.specs.Prelude.{◌≡◌, ◌≤◌, true, length};
 ghost use Rattle.turn_gate.specs.Pass.{knows};
-ghost use Rattle.nvm_shared.specs.Passes.{IsUserOf};
+ghost use Rattle.driver_moves.specs.nvm_shared.Passes.{IsUserOf};
 ghost use Rattle.nvm_callers.specs.Calls.{HasPolled, IsOver};
 
 use crate::round::{MOST_LOOKS, Round};
-use nvm_core::nv_base::{ReqResult, result_code};
-use nvm_shared::{Shared, StackPass};
+use driver_moves::nvm_shared::{Shared, StackPass};
+use driver_moves::{ReqResult, result_code};
 use std::sync::Wait;
 use std::thread;
 

@@ -83,11 +83,15 @@ module _ {D C : Type 0} (told : D → DeviceTold) (clock : D → Clock) (copies 
       goes : hand ≡ hand_by (told s.device).stand (told now.device).stand s.hand
       goes = takes.goes (told s.device) is_behind ∙ ap (hand_by (told s.device).stand (told now.device).stand) same_hand
 
+      kept_behind : StaysKept x.desk s.hand (told s.device) (clock s.device) y.desk hand (told now.device) (clock now.device)
+      kept_behind =
+          subst (λ (h : Option HandState). StaysKept x.desk s.hand (told s.device) (clock s.device) y.desk h (told now.device) (clock now.device)) (sym goes)
+          (may.turned.keeps x.desk y.desk s.hand stood.stands.tied.up stood.stands.tied.paired may.started (takes.adds (told s.device) is_behind))
+
       keeps : StaysKept (desk_with t v.seen) s.hand (told s.device) (clock s.device) (desk_with t seen) hand (told now.device) (clock now.device)
       keeps =
           subst (λ (z : DeskState). StaysKept (desk_with t v.seen) s.hand (told s.device) (clock s.device) z hand (told now.device) (clock now.device)) desk
-          (subst (λ (h : Option HandState). StaysKept (desk_with t v.seen) s.hand (told s.device) (clock s.device) y.desk h (told now.device) (clock now.device)) (sym goes)
-          (stays_more _ _ _ _ _ _ _ _ _ _ _ _ stood.stands.kept (may.turned.keeps x.desk y.desk s.hand stood.stands.tied.up stood.stands.tied.paired may.started (takes.adds (told s.device) is_behind))))
+          (stays_more _ _ _ _ _ _ _ _ _ _ _ _ stood.stands.kept kept_behind)
 
       pub drives_on : HandIsPending (state_of y.desk) → NextIsPending y.desk.config (state_of y.desk) → Drives told clock copies t.tells (desk_with t seen) (driver_of now.device now.copies hand)
       drives_on pending next = record {
@@ -120,6 +124,9 @@ module _ {D C : Type 0} (told : D → DeviceTold) (clock : D → Clock) (copies 
         hand = goes;
         copies = same_copies;
         keeps = keeps;
+        stands = subst (λ (z : DeskState). StaysKept (desk_with t v.seen) s.hand (told s.device) (clock s.device) z s.hand (told s.device) (clock s.device)) stood.desk stood.stands.kept;
+        kept = subst (λ (z : DeskState). StaysKept z s.hand (told s.device) (clock s.device) (desk_with t seen) hand (told now.device) (clock now.device)) stood.desk
+            (subst (λ (z : DeskState). StaysKept x.desk s.hand (told s.device) (clock s.device) z hand (told now.device) (clock now.device)) desk kept_behind);
         lowers = λ worked started.
             lowers_behind (desk_with t v.seen) stood.asks x.desk y.desk (desk_with t seen) s.hand hand (told s.device) (told now.device) stood.desk desk
             (turned_works answer x.desk y.desk s.hand hand (told s.device) (clock s.device) (told now.device) (clock now.device) turns started stood.stands.tied.paired asked goes

@@ -88,6 +88,11 @@ pub record BeginsTurn {D C : Type 0} (told : D → DeviceTold) (clock : D → Cl
   pub clock_stays : SameClock (clock old.device) (clock new.device)
   pub order : InOrder (told new.device) (clock new.device)
   pub half : IsFirstHalf told copies is_store looked act (stack_of (with_more desk asks) old) (stack_of desk_new new)
+  -- what is kept stays so through these requests, and behind them
+  pub stands : StaysKept desk old.hand (told old.device) (clock old.device) (with_more desk asks) old.hand (told old.device) (clock old.device)
+  pub kept : StaysKept (with_more desk asks) old.hand (told old.device) (clock old.device) desk_new new.hand (told new.device) (clock new.device)
+  -- with the power off it is told so
+  pub off : act ≡ Ended turned.Off → (state_of desk_new).off ≡ true
   -- what is due behind these requests is served
   pub served : (number turns : ℕ) → IsDue number turns (now_of told (stack_of (with_more desk asks) old))
       → IsServed act number turns (now_of told (stack_of (with_more desk asks) old)) (now_of told (stack_of desk_new new))
@@ -122,6 +127,9 @@ pub record EndsTurn {D C : Type 0} (told : D → DeviceTold) (clock : D → Cloc
   pub hand : new.hand ≡ hand_by (told before.device).stand (told new.device).stand before.hand
   pub copies : new.copies ≡ before.copies
   pub keeps : StaysKept desk before.hand (told before.device) (clock before.device) desk_new new.hand (told new.device) (clock new.device)
+  -- through these requests, and behind them
+  pub stands : StaysKept desk before.hand (told before.device) (clock before.device) (with_more desk asks) before.hand (told before.device) (clock before.device)
+  pub kept : StaysKept (with_more desk asks) before.hand (told before.device) (clock before.device) desk_new new.hand (told new.device) (clock new.device)
   -- the work of a drain falls, where the job in hand is at the device
   pub lowers : answer ≡ turned.Worked → IfSome before.hand (λ h. h.started ≡ true) → LowersWork told (stack_of desk before) (stack_of desk_new new)
   -- and what is due in hand behind these requests comes nearer

@@ -1,5 +1,5 @@
 -- A call of the program that calls no command, or one that has a run.
-use Rattle.std.proofs.Common.{◌≡◌, ◌∙◌, ℕ, Bool, true, false, List, Option, Some, None, inr, refl, sym, ap, subst}
+use Rattle.std.proofs.Common.{◌≡◌, ◌∙◌, ℕ, Bool, true, false, List, Option, Some, None, inl, inr, refl, sym, ap, subst}
 use Rattle.nv_streams.specs.Sink.{Written}
 use Rattle.nvm_flash.specs.fls_model.Told.{Told}
 use Rattle.nvm_words.specs.Words.{is_run}
@@ -21,10 +21,10 @@ pub wanting : (k : Option CommandKind) (left : Option (List ℕ)) (reads : ℕ) 
 wanting None left reads written writes told = record { line = refl; unread = refl; untouched = refl; causes = no_cause reads writes left }
 wanting (Some Check) left reads written writes told = record { by_input = refl; untouched = refl; causes = no_cause reads writes left }
 wanting (Some Dump) left reads written writes told = record { by_input = refl; kept = kept-same told; untouched = λ is. refl; causes = no_cause reads writes left }
-wanting (Some Play) left reads written writes told = record { promise = inr (record { line = refl; alone = alone told }); untouched = λ is. refl; causes = no_cause reads writes left }
-wanting (Some Run) left reads written writes told = record { promise = inr (record { line = refl; alone = alone told }); untouched = λ is. refl; causes = no_cause reads writes left }
-wanting (Some (Soak seed count)) left reads written writes told = record { promise = inr (record { line = refl; alone = alone told }); untouched = λ is. refl; causes = no_cause reads writes left }
-wanting (Some Uds) left reads written writes told = record { promise = inr (record { line = refl; alone = alone told }); untouched = λ is. refl; causes = no_cause reads writes left }
+wanting (Some Play) left reads written writes told = record { promise = inr (record { line = refl; flash = inl (alone told, λ is. cc is) }); untouched = λ is. refl; causes = no_cause reads writes left }
+wanting (Some Run) left reads written writes told = record { promise = inr (record { line = refl; flash = inl (alone told, λ is. cc is) }); untouched = λ is. refl; causes = no_cause reads writes left }
+wanting (Some (Soak seed count)) left reads written writes told = record { promise = inr (record { line = refl; flash = inl (alone told, λ is. cc is) }); untouched = λ is. refl; causes = no_cause reads writes left }
+wanting (Some Uds) left reads written writes told = record { promise = inr (record { line = refl; flash = inl (alone told, λ is. cc is) }); untouched = λ is. refl; causes = no_cause reads writes left }
 
 pub wanting_only : (is_served : Option CommandKind → Bool) (k : Option CommandKind) (left : Option (List ℕ)) (reads : ℕ) (written : Written) (writes : ℕ) (told : Told) → KeepsOnly is_served k (ended status.Memory left left reads reads written written writes writes told told)
 wanting_only is_served k left reads written writes told = record { served = λ _. wanting k left reads written writes told; refused = λ _. wanting None left reads written writes told }

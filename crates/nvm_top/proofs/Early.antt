@@ -1,6 +1,6 @@
 -- A run without a start-up.
 use Rattle.std.specs.List.{Contains}
-use Rattle.std.proofs.Common.{◌≡◌, ◌≤◌, ◌⊎◌, ℕ, false, List, [], ◌∷◌, Option, None, refl, ap, inl, inr, arith}
+use Rattle.std.proofs.Common.{◌≡◌, ◌≢◌, ◌≤◌, ◌⊎◌, ℕ, false, List, [], ◌∷◌, Option, None, refl, ap, inl, inr, arith}
 use Rattle.nv_streams.specs.Sink.{Written}
 use Rattle.nvm_flash.specs.nv_base.Geometry.{size_of}
 use Rattle.nvm_flash.specs.block_config.Config.{Configuration}
@@ -132,9 +132,13 @@ early_moves mode.Run c steps entry exit end more ends = record {
   failed = tt;
   counted = inl (omega (arith, more));
   ends = one_fault (record { entry = entry; exit = exit; operations = [] }) end ends;
+  serves = tt;
+  posts = tt;
+  rests = tt;
   work = record { left = 0; few = omega arith; efforts = []; are = tt };
   kept = tt;
   urgent = λ told sound. tt;
+  paid = λ told sound. tt;
 }
 
 pub early_has : (m : Mode) (c : Configuration) (steps : List Step) (Tells : Run → Type 0) (entry exit : Told) (stop : Stop) (end : End) → StopsAtStart c entry exit stop → EndsAtStart (record { entry = entry; exit = exit; operations = [] }) end

@@ -22,7 +22,7 @@ use Rattle.nvm_script.specs.declared.script.Mode.TheVariants as mode
 use Rattle.nvm_flash.specs.promise_run.JobTurns.{job_turns, write_pages}
 use Rattle.nvm_flash.specs.promise_blocks.Work.{Costs, AreWorked}
 use Rattle.nvm_flash.specs.promise_run.Operations.{HadRoom as HadPages, HasWork, costs_of, left_behind}
-use Rattle.script_player.proofs.Working.{worked_by}
+use Rattle.nvm_flash.proofs.promise_run.WorkedMoves.{worked_by}
 use Rattle.nvm_top.specs.Play.{IsRightSize}
 use Rattle.nvm_flash.specs.promise_run.Turns.{Moment, moment_behind, BeginsAt, EndsBy, ArePaidSince, EachMove, EachMoveSince, ServesTurn, StaysAtRest, PostsUrgent, MayGoOn, TakeKept, all_moves, CutsCome}
 use Rattle.nvm_flash.proofs.promise_run.Paid.{since_too}

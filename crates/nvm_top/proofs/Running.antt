@@ -1,5 +1,5 @@
 -- A run of callers keeps the promise, by what they came to on its stack.
-use Rattle.std.specs.Prelude.{not, ◌||◌, nat_lt, IsTrue, slice_get}
+use Rattle.std.specs.Prelude.{not, ◌||◌, IsTrue, slice_get}
 use Rattle.std.specs.List.{list_all}
 use Rattle.std.proofs.Common.{◌≡◌, ◌≢◌, ◌≤◌, ◌*◌, ℕ, Bool, true, false, List, [], ◌∷◌, ◌++◌, length, take, drop, Option, Some, None, Result, refl, sym, ap, ◌∙◌, subst, inl, arith}
 use Rattle.nv_streams.specs.Sink.{Written}
@@ -13,7 +13,7 @@ use Rattle.nvm_flash.specs.block_machine.Legal.{IsLegal}
 use Rattle.nvm_flash.specs.block_machine.Next.{next_of}
 use Rattle.nvm_flash.specs.block_machine.StartUp.{at_first}
 use Rattle.nvm_flash.specs.block_machine.Steps.{after}
-use Rattle.nvm_flash.specs.memif.Told.{Part, First, PartTold, DeviceTold, IfElse, faults_of}
+use Rattle.nvm_flash.specs.memif.Told.{Part, First, PartTold, DeviceTold, IfElse}
 use Rattle.nvm_flash.specs.memif.Clock.{Clock}
 use Rattle.nvm_flash.specs.fls_model.Told.{Told}
 use Rattle.nvm_flash.specs.promise_device.Bridge.{Bridges, reading_of}
@@ -28,8 +28,7 @@ use Rattle.nvm_flash.specs.nvm_device_laws.Turn.{TellsSlots}
 use Rattle.nvm_flash.specs.nvm_laws.Keeps.{StackKeepsAsTold}
 use Rattle.nvm_flash.specs.nvm_core.Stack.{StackState}
 use Rattle.nvm_flash.specs.promise_run.Halves.{beyond_end}
-use Rattle.nvm_flash.specs.promise_run.JobTurns.{write_pages}
-use Rattle.nvm_flash.specs.promise_run.Operations.{costs_of}
+use Rattle.nvm_flash.specs.promise_run.JobTurns.{job_turns}
 use Rattle.nvm_flash.specs.promise_run.Promise.{making_of}
 use Rattle.nvm_flash.specs.promise_run.Run.{Run, Ran, End, Whole, FlashFault, HistoryFull, Memory, RunsBy, cap}
 use Rattle.nvm_flash.specs.promise_run.RunHalves.{KeepsCallers, offs_in, tells_no_refusal}
@@ -40,14 +39,12 @@ use Rattle.nvm_flash.proofs.promise_run.RunHalves.{as_asked, unplanned, uncut_br
 use Rattle.nvm_script.specs.declared.script.Mode.TheVariants as mode
 use Rattle.nvm_callers.specs.Ran.{KeepsOrder, WasRun, end_of}
 use Rattle.nvm_callers.specs.Added.{IsUncut}
-use Rattle.nvm_flash.specs.nvm_core.DueWrites.{pages_in}
 use Rattle.nvm_callers.specs.declared.ending.Ending.{Ending}
 use Rattle.nvm_callers.specs.declared.ending.Ending.TheVariants as ending
 use Rattle.script_player.proofs.InHand.{power_on}
 use Rattle.script_player.specs.PlainKept.{IsKept}
 use Rattle.script_player.specs.PlainTold.{plan_from, told_by}
 use Rattle.script_player.specs.PlainPaying.{payer_by}
-use Rattle.script_player.specs.Working.{IsBegun}
 use Rattle.script_walks.specs.Callers.{KeepsAwait, KeepsAwaitBy, asks_of, program_of, requests_of}
 use Rattle.script_walks.specs.Looks.{CopyIsShown, Look}
 use Rattle.script_walks.specs.Runs.{AskedAll, IsRun, has_ended, is_found}
@@ -59,7 +56,7 @@ use Rattle.nvm_top.specs.Play.{IsBeforeAttach, IsRightSize}
 use Rattle.nvm_top.specs.Promised.{EndsIn, FollowsCallers, FollowsScript, HasRun, KeepsRun, WritesText, call_by, lines_in}
 use Rattle.nvm_top.specs.Running.{stop_of_ending}
 use Rattle.nvm_top.specs.Runs.{status_of_run, lines_written}
-use Rattle.nvm_top.specs.Stack.{IsStarted, run_of}
+use Rattle.nvm_top.specs.Stack.{BeginsPaying, IsStarted, run_of}
 use Rattle.nvm_top.specs.declared.runs.RunText.TheVariants.{History}
 use Rattle.nvm_top.specs.declared.status.Status.{Status}
 use Rattle.nvm_top.specs.declared.status.Status.TheVariants as status
@@ -67,7 +64,7 @@ use Rattle.nvm_top.specs.declared.stop.Stop.{Stop}
 use Rattle.nvm_flash.proofs.FirstStart.{told_bridge}
 use Rattle.nvm_top.proofs.EndsTold.{ends_told, status_at}
 use Rattle.nvm_top.proofs.Promised.{counted_from}
-use Rattle.nvm_top.proofs.RunMoves.{BeginsWork, HasMovesTo, moves_came, none_moved, run_turns}
+use Rattle.nvm_top.proofs.RunMoves.{BeginsRun, HasMovesTo, moves_came, none_moved, run_turns}
 use Rattle.nvm_top.proofs.WholeCalls.{written_late}
 
 -- WHAT CALLERS CAME TO
@@ -156,9 +153,22 @@ less_unplanned c before s started = let less = started.unplanned in omega (arith
 
 -- RUN
 
--- the pages of the records of a write, and those that are kept for urgent ones, are the configuration's, and no try is open
-abbrev HasFigures : StackState Device (List PlainBlock) → Type 0
-HasFigures s = (pages_in (told_of s.device).fixed s.desk.config ≡ write_pages s.desk.config) × ((told_of s.device).fixed.reserve ≡ (making_of s.desk.config).reserve) × BeginsWork s.desk.config (told_of s.device)
+-- nothing is owed for any fault yet, and its figures are the configuration's
+abbrev BeginsSo : StackState Device (List PlainBlock) → Type 0
+BeginsSo s = BeginsPaying (payer_by told_of told_clock s) (told_by told_of s)
+
+begins_run : (c : Configuration) (before : PartTold) (s : StackState Device (List PlainBlock)) → IsStarted c 0 before (told_by told_of s) → BeginsSo s → BeginsRun s.desk s.hand (told_of s.device) (told_clock s.device)
+begins_run c before s started (owes, pages, reserve, sealing, costs, begun) = record {
+  pages = pages;
+  reserve = reserve;
+  costs = costs;
+  most = started.turns ∙ ap job_turns (sym started.configuration);
+  simple = record { one = begun.is.0.one; reads = begun.is.0.reads };
+  left = begun.left;
+  few = begun.few;
+  is = begun.is.1 started.fresh.ready;
+  owes = owes.1;
+}
 
 never_fault : (e : Ending) → end_of e ≡ FlashFault → ⊥
 never_fault ending.All is = cc is
@@ -171,9 +181,9 @@ all_made ending.NoRoom is = absurd (cc is)
 all_made ending.Memory is = absurd (cc is)
 
 came_to : (before : Part → PartTold) (c : Configuration) (steps : List Step) (s : StackState Device (List PlainBlock)) (e : Ending) (desk : DeskState) (d : Device) → IsStarted c 0 (before First) (told_by told_of s)
-    → HasFigures s → IsKept s.ready before s.desk s.hand (told_of s.device) (told_clock s.device) → WasRun told_of told_clock s e desk d → KeepsOrder steps e desk
+    → BeginsSo s → IsKept s.ready before s.desk s.hand (told_of s.device) (told_clock s.device) → WasRun told_of told_clock s e desk d → KeepsOrder steps e desk
     → CameTo before desk.config desk.cap steps (end_of e) desk.entries (told_of d) (told_clock d)
-came_to before c steps s e desk d started (pages, reserve, begins) kept was keeps = record {
+came_to before c steps s e desk d started begins kept was keeps = record {
   started = subst HasStarted (sym grown) tt;
   one_start = subst (λ (h : List Entry). IsTrue (list_all (λ x. not (is_found x)) (drop 1 h))) (sym grown) was.no_start;
   no_refusal = subst (λ (h : List Entry). IsTrue (list_all tells_no_refusal h)) (sym grown) was.no_refusal;
@@ -189,7 +199,8 @@ came_to before c steps s e desk d started (pages, reserve, begins) kept was keep
   ends = λ other. was.ends (λ is. other (ap end_of is));
   no_fault = never_fault e;
   moved =
-      moves_came started.fresh.marks started.fresh.ops s.desk desk (told_of s.device) (told_of d) (told_clock d) started.fresh.entries started.ops pages reserve begins (uncut c (before First) s started) was.config was.moved;
+      moves_came s.desk s.hand (told_of s.device) (told_clock s.device) (begins_run c (before First) s started begins) (uncut c (before First) s started) (before, kept_first before s started.fresh.ready kept) desk was.hand (told_of d) (told_clock d) was.config
+      was.moved started.fresh.marks started.fresh.ops started.fresh.entries started.ops;
   looks = keeps.looks;
   order = keeps.order;
 }
@@ -203,24 +214,14 @@ came_to before c steps s e desk d started (pages, reserve, begins) kept was keep
     cuts : IsUncut desk (told_of d) × WereCounted (offs_in was.more) (told_of s.device).first.planning.unplanned (told_of d).first.planning.unplanned
     cuts = was.cuts (uncut c (before First) s started)
 
--- by what a stack says of itself behind its start-up
-pub begins_work : (s : StackState Device (List PlainBlock)) → s.ready ≡ true → (payer_by told_of told_clock s).work.costs ≡ costs_of s.desk.config → IsBegun (nat_lt 0 (faults_of (told_of s.device))) (payer_by told_of told_clock s).work → BeginsWork s.desk.config (told_of s.device)
-begins_work s ready costs begun = record {
-  costs = costs;
-  simple = record { one = begun.is.0.one; reads = begun.is.0.reads };
-  left = begun.left;
-  few = begun.few;
-  is = begun.is.1 ready;
-}
-
 -- of the configuration that was handed in, and the most entries of a history
 pub callers_came : (before : Part → PartTold) (c : Configuration) (steps : List Step) (s : StackState Device (List PlainBlock)) (e : Ending) (desk : DeskState) (d : Device) → IsStarted c 0 (before First) (told_by told_of s)
-    → HasFigures s → IsKept s.ready before s.desk s.hand (told_of s.device) (told_clock s.device) → WasRun told_of told_clock s e desk d → KeepsOrder steps e desk
+    → BeginsSo s → IsKept s.ready before s.desk s.hand (told_of s.device) (told_clock s.device) → WasRun told_of told_clock s e desk d → KeepsOrder steps e desk
     → CameTo before c cap steps (end_of e) desk.entries (told_of d) (told_clock d)
-callers_came before c steps s e desk d started figures kept was keeps =
+callers_came before c steps s e desk d started begins kept was keeps =
     subst (λ (n : ℕ). CameTo before c n steps (end_of e) desk.entries (told_of d) (told_clock d)) (was.cap ∙ started.most)
     (subst (λ (x : Configuration). CameTo before x desk.cap steps (end_of e) desk.entries (told_of d) (told_clock d)) (was.config ∙ started.configuration)
-    (came_to before c steps s e desk d started figures kept was keeps))
+    (came_to before c steps s e desk d started begins kept was keeps))
 
 -- WITHOUT MEMORY TO BEGIN WITH
 

@@ -5,6 +5,7 @@ pub mod Paid
 mod RefusedRuns
 pub mod RefusalsPaid
 pub mod Counted
+pub mod WorkedMoves
 pub mod Operations
 pub mod OperationLaws
 mod Efforts

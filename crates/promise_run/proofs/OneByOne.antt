@@ -117,7 +117,7 @@ ends_there = inr (inr (inr (inr (inl refl))))
 wrote_there : IsPostedWithin 2 5 0 (wrote_move ∷ posted_move ∷ [])
 wrote_there = inr (inr (inr (inr (inr (omega arith, ends_there)))))
 
-in_time : IsPostedWithin 2 8 0 behind_pick
+pub in_time : IsPostedWithin 2 8 0 behind_pick
 in_time =
     passes 2 8 1 (no_entry 2 ∷ no_entry 3 ∷ wrote_move ∷ posted_move ∷ []) (omega arith)
     (passes 2 7 2 (no_entry 3 ∷ wrote_move ∷ posted_move ∷ []) (omega arith) (passes 2 6 3 (wrote_move ∷ posted_move ∷ []) (omega arith) wrote_there))
@@ -128,7 +128,7 @@ asked = after small (Found [] 0 ∷ asked_one ∷ [])
 abbrev picked : State
 picked = after_from small asked (picks_one ∷ [])
 
-picked_block : (j : Job) → picked.hand ≡ Some j → job_block j ≡ 2
+pub picked_block : (j : Job) → picked.hand ≡ Some j → job_block j ≡ 2
 picked_block j hand = sym (ap job_block (some_same _ j hand))
 
 -- no urgent write is accepted
@@ -151,7 +151,7 @@ none_kept f k (x, at, is) = by x.op is
     by (Erase address n) is = cc is
 
 -- no fault is due, and none was counted
-free : {E : Type 0} → WereCounted 0 0 0 ⊎ E
+pub free : {E : Type 0} → WereCounted 0 0 0 ⊎ E
 free = inl (inl (omega arith))
 
 all_done : (k : ℕ) → HasFailed six_turns.flash k → ⊥

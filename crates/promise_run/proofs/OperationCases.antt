@@ -4,7 +4,7 @@ use Rattle.std.proofs.Common.{◌≡◌, ◌⊎◌, ◌≤◌, ◌+◌, ℕ, zer
 use Rattle.block_machine.specs.State.{State}
 use Rattle.block_machine.specs.Blocks.{indices_of, job_block}
 use Rattle.block_machine.specs.Words.{Found}
-use Rattle.block_machine.specs.Steps.{after, after_from}
+use Rattle.block_machine.specs.Steps.{after_from}
 use Rattle.promise_run.specs.Promise.{making_of}
 use Rattle.promise_blocks.specs.Moves.{Move, entry_list}
 use Rattle.promise_blocks.specs.Work.{Work, Effort, IsWorked, EndsTry, MayBegin, adds_most, begun_adds, loss_adds}

@@ -19,7 +19,7 @@ runs_make_few most r made pieces keeps tells sound =
     let all = keeps.operations in omega (arith, few, same, all)
 
 pub callers_make_few : CallersMakeFew
-callers_make_few r keeps tells sound =
+callers_make_few most r keeps tells sound =
     let few = work_is_bounded (costs_of r.configuration) (HadRoom (making_of r.configuration) r.flash) (IsWornOut (making_of r.configuration) r.flash) r.configuration keeps.first (after r.configuration (take 1 r.history)) keeps.moves keeps.work
     (has_free (making_of r.configuration) r.flash) (λ k n free. record { tells = tells; sound = sound; free = free }) in
     let same = ap (λ (m : Moment). m.ops) keeps.behind in

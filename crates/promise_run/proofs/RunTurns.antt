@@ -3,9 +3,9 @@ use Rattle.std.specs.Prelude.{IfSome}
 use Rattle.std.proofs.Common.{◌≡◌, inl, inr, ℕ, ◌+◌, ◌≤◌, List, [], ◌∷◌, ◌++◌, Option, Some, None, refl, sym, ap, ◌∙◌, subst, arith, IsTrue}
 use Rattle.block_machine.specs.nv_base.Entry.{ops_of}
 use Rattle.block_machine.specs.Words.{Entry, Ask, Pick, Wrote, Post, Off, Found}
-use Rattle.promise_run.specs.Cases.{ahead, always, picks_one, six_beside}
-use Rattle.promise_run.specs.Turns.{Moment, Move, IsMoveMade, AreMovesMade, HasTurns, entry_list, entries_of, is_asked, moment_behind}
-use Rattle.promise_run.proofs.OneByOne.{asked_one, at_ops, behind_pick, no_page, none_fails, none_urgent, six_work, wrote_one}
+use Rattle.promise_run.specs.Cases.{PassesBy, ahead, always, picks_one, six_beside}
+use Rattle.promise_run.specs.Turns.{Moment, Move, IsMoveMade, IsPostedWithin, AreMovesMade, HasTurns, entry_list, entries_of, is_asked, moment_behind}
+use Rattle.promise_run.proofs.OneByOne.{asked_one, at_ops, at_work, behind_pick, free, in_time, no_page, picked_block, none_fails, none_urgent, six_work, wrote_one}
 
 -- SIX TURNS
 made : (n m : ℕ) (o : Option Entry) → n ≤ m → m ≤ n + 1 → IfSome o (λ e. ops_of e ≡ Some m) → IsMoveMade (at_ops n) (record { entry = o; behind = at_ops m })
@@ -33,10 +33,33 @@ beside_kept = record {
   failed = (none_fails 0 0 (omega arith), (none_fails 0 0 (omega arith), (none_fails 0 1 (omega arith), (none_fails 1 2 (omega arith), (none_fails 2 3 (omega arith), (none_fails 3 4 (omega arith), (none_fails 4 4 (omega arith), tt)))))));
   counted = inl (omega arith);
   ends = tt;
+  serves = (
+    λ no_ask no_found. absurd (cc no_ask),
+    (
+      λ no_ask no_found. refl,
+      (λ no_ask no_found. refl, (λ no_ask no_found. refl, (λ no_ask no_found. refl, (λ no_ask no_found. refl, (λ no_ask no_found. refl, tt))))),
+    ),
+  );
+  posts = (
+    λ is. absurd (cc is),
+    (
+      λ is j hand. subst (λ (id : ℕ). IsPostedWithin id 8 0 behind_pick) (sym (picked_block j hand)) in_time,
+      (λ is. absurd (cc is), (λ is. absurd (cc is), (λ is. absurd (cc is), (λ is. absurd (cc is), (λ is. absurd (cc is), tt))))),
+    ),
+  );
+  rests = (λ rest idle no_ask. absurd (cc no_ask), (at_work, (at_work, (at_work, (at_work, (at_work, (at_work, tt)))))));
   work = six_work;
   kept = (no_page, (no_page, (no_page, (no_page, (no_page, (no_page, (no_page, tt)))))));
   urgent = λ told sound. (λ id is. absurd (none_urgent id is), (λ id is. absurd (none_urgent id is), (λ id is. absurd (none_urgent id is), (λ id is. absurd (none_urgent id is), (λ id is. absurd (none_urgent id is), (λ id is. absurd (none_urgent id is), (λ id is. absurd (none_urgent id is), tt)))))));
+  paid = λ told sound. (free, (free, (free, (free, (free, (free, (free, tt)))))));
 }
+
+-- A REQUEST WITHIN A TURN
+pub one_passes : PassesBy 1
+one_passes = (λ no_ask no_found. absurd (cc no_ask), (λ no_ask no_found. refl, tt))
+
+pub two_pass_not : PassesBy 2 → ⊥
+two_pass_not has = cc (has.1.1.0 refl refl)
 
 -- AHEAD OF THE FLASH
 -- no move takes an operation back

@@ -24,7 +24,7 @@ use Rattle.promise_device.specs.FlashRun.{FlashRun, HasFailed}
 use Rattle.promise_run.specs.Beside.{Beside}
 use Rattle.promise_run.specs.Call.{Call}
 use Rattle.promise_run.specs.Promise.{Promise}
-use Rattle.promise_run.specs.Turns.{Moment, Move, EndsCanceled, StaysAtRest, ClosesAtDrains, CountFailed, ArePaidSince}
+use Rattle.promise_run.specs.Turns.{Moment, Move, EndsCanceled, StaysAtRest, ClosesAtDrains, CountFailed, ArePaidSince, BeginWithin}
 use Rattle.block_machine.specs.Steps.{after}
 use Rattle.promise_run.specs.Run.{Run, Played, Ran, cap, HadRoom, LeavesFor, End, Whole, FlashFault, HistoryFull, Memory}
 
@@ -355,6 +355,11 @@ faulty n = record at_rest { exit = record at_rest.exit { faults = n } }
 -- after so many faults, before any operation
 abbrev pub at_faults : ℕ → Moment
 at_faults n = record { faults = n; ops = 0; busy = false }
+
+-- beside callers a write is asked for, and so many turns behind it add nothing: it may have come within the first of them
+abbrev pub PassesBy : ℕ → Type 0
+PassesBy turns = BeginWithin small (after small (Found [] 0 ∷ []) ∷ []) (after small (Found [] 0 ∷ []))
+    (record { entry = Some (Ask 0 (Write 2 (Some one) 0) Accepted); behind = at_faults 0 } ∷ replicate turns (record { entry = None; behind = at_faults 0 }))
 
 -- its first operation failed, and one fault was counted
 abbrev pub failed_once : List FlashAnswer → FlashRun

@@ -23,6 +23,6 @@ RunsMakeFew =
 -- and so it is of callers beside each other
 abbrev pub CallersMakeFew : Type 0
 CallersMakeFew =
-    (r : Run) (keeps : KeepsRunTurns r) → TellsBytes r.flash → StartsSound (making_of r.configuration) r.flash
+    (most : State → Job → ℕ) (r : Run) (keeps : KeepsRunTurns most r) → TellsBytes r.flash → StartsSound (making_of r.configuration) r.flash
     → min (length r.flash.operations) last_count ≤ keeps.first.ops + left_behind (costs_of r.configuration) keeps.first
     + operations_at_most (costs_of r.configuration) (has_free (making_of r.configuration) r.flash) r.configuration keeps.first (after r.configuration (take 1 r.history)) keeps.moves keeps.work.efforts

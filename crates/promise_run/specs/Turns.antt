@@ -87,11 +87,8 @@ ends id None = false
 abbrev pub IsPostedWithin : ℕ → ℕ → ℕ → List Move → Type 0
 IsPostedWithin id turns faults [] = Unit {0}
 IsPostedWithin id turns faults (m ∷ ms) =
-    IsTrue (is_found m.entry)
-    ⊎ ((IsTrue (is_asked m.entry) × IsPostedWithin id turns faults ms)
-    ⊎ (Rose faults m.behind.faults
-    ⊎ (IsTrue (fails m.entry)
-    ⊎ (IsTrue (ends id m.entry)
+    IsTrue (is_found m.entry) ⊎ ((IsTrue (is_asked m.entry) × IsPostedWithin id turns faults ms)
+    ⊎ (Rose faults m.behind.faults ⊎ (IsTrue (fails m.entry) ⊎ (IsTrue (ends id m.entry)
     ⊎ ((1 < turns) × IsPostedWithin id (turns - 1) m.behind.faults ms)))))
 
 -- what each move keeps: a fact on the state before it, the move, and those behind it
@@ -206,12 +203,9 @@ posts_other id e = false
 abbrev pub IsPostedSoon : (still : Bool → ℕ → Type 0) → Bool → ℕ → ℕ → ℕ → List Move → Type 0
 IsPostedSoon still one id turns faults [] = still one turns
 IsPostedSoon still one id turns faults (m ∷ ms) =
-    IsTrue (is_found m.entry)
-    ⊎ ((IsTrue (is_asked m.entry) × IsPostedSoon still one id turns m.behind.faults ms)
+    IsTrue (is_found m.entry) ⊎ ((IsTrue (is_asked m.entry) × IsPostedSoon still one id turns m.behind.faults ms)
     ⊎ ((IsTrue (one && posts_other id m.entry) × IsPostedSoon still false id turns m.behind.faults ms)
-    ⊎ (Rose faults m.behind.faults
-    ⊎ (IsTrue (is_off m.entry)
-    ⊎ (IsTrue (posts id m.entry)
+    ⊎ (Rose faults m.behind.faults ⊎ (IsTrue (is_off m.entry) ⊎ (IsTrue (posts id m.entry)
     ⊎ ((1 < turns) × IsPostedSoon still one id (turns - 1) m.behind.faults ms))))))
 
 -- the block of an immediate write that is accepted while the power is on, and no other immediate job is pending or in hand
@@ -279,13 +273,12 @@ EndsBy last f FlashFault = WereCounted (last.faults + 1) f.entry.faults f.exit.f
 EndsBy last f end = Unit {0}
 
 -- A RUN
--- Each step of `play` that was made has its moves, from a moment behind the first start-up on. They make all operations of
--- the flash, and each that failed is counted in its own move; the flash counted the faults that they tell, and one more where
--- a start-up failed behind them. Each job is posted within its most turns, counted from its Pick, a turn with nothing to do does
--- nothing, and each power cut that is planned comes at its operation; where nothing fails a `drain` leaves nothing open at the
--- device. A page that is kept for urgent writes is programmed with an immediate job in hand alone. Over a flash that tells its bytes,
--- from a sound image on, an urgent write is posted within its pages and four turns, where these pages are free in the bytes of its
--- moment, or a switch of banks is at its seal, and each Post is paid since the last Pick before it, or the flash was worn out.
+-- Each step of `play` that was made has its moves, from a moment behind the first start-up on. They make all operations of the flash, and
+-- each that failed is counted in its own move; the flash counted the faults that they tell, and one more where a start-up failed behind them.
+-- Each job is posted within its most turns, counted from its Pick, a turn with nothing to do does nothing, and each power cut that is planned
+-- comes at its operation; where nothing fails a `drain` leaves nothing open at the device. A page that is kept for urgent writes is programmed
+-- with an immediate job in hand alone. Over a flash that tells its bytes, from a sound image on, an urgent write is posted within its pages and
+-- four turns, where these are free in the bytes of its moment, or a switch is at its seal, and each Post is paid since its Pick, or the flash worn out.
 pub record KeepsTurns (most : State → Job → ℕ) (r : Run) (made : List Step) (pieces : List (List Entry)) : Type 0 where
   pub first : Moment
   pub last : Moment
@@ -317,12 +310,17 @@ abbrev pub AreMovesMade : Moment → List Move → Type 0
 AreMovesMade before [] = Unit {0}
 AreMovesMade before (m ∷ ms) = IsMoveMade before m × AreMovesMade m.behind ms
 
--- The entries of `run` behind its start-up have moves, which make all operations of the flash, and each that failed is counted in its
--- own move; the flash counted the faults that they tell, and each move keeps to the work that was open before it. A page that is kept
--- for urgent writes is programmed with an immediate job in hand alone. Over a flash that tells its bytes, from a sound image on, an
--- urgent write is posted within its pages and five turns, where these pages are free in the bytes of its moment, or a switch of banks
--- is at its seal: with the turn within which it came.
-pub record KeepsRunTurns (r : Run) : Type 0 where
+-- A turn doesn't go by where something was due in each of the states since the turn before it: a request that came within the turn
+-- stands before it, and the turn need not have seen it.
+abbrev pub BeginWithin : Configuration → List State → State → List Move → Type 0
+BeginWithin c since s [] = Unit {0}
+BeginWithin c since s (m ∷ ms) =
+    (is_asked m.entry ≡ false → is_found m.entry ≡ false → IsTrue (not (list_all is_due since) || begins_with_pick_or_post (entry_list m.entry)))
+    × BeginWithin c (after_from c s (entry_list m.entry) ∷ (if is_asked m.entry then since else [])) (after_from c s (entry_list m.entry)) ms
+
+-- The entries of `run` behind its start-up have moves, one list for all callers, and these keep what those of `play` keep, but for two
+-- things: a turn need not have seen a request that came within it (`serves`), and with that turn an urgent write has its pages and five.
+pub record KeepsRunTurns (most : State → Job → ℕ) (r : Run) : Type 0 where
   pub first : Moment
   pub last : Moment
   pub moves : List Move
@@ -334,13 +332,18 @@ pub record KeepsRunTurns (r : Run) : Type 0 where
   pub failed : CountFailed (HasFailed r.flash) first moves
   pub counted : WereCounted last.faults r.flash.entry.faults r.flash.exit.faults
   pub ends : EndsBy last r.flash r.end
+  pub serves : BeginWithin r.configuration (after r.configuration (take 1 r.history) ∷ []) (after r.configuration (take 1 r.history)) moves
+  pub posts : EachMove r.configuration (PostsPicked r.configuration most) (after r.configuration (take 1 r.history)) moves
+  pub rests : StaysAtRest r.configuration first (after r.configuration (take 1 r.history)) moves
   pub work : HasWork (costs_of r.configuration) (HadRoom (making_of r.configuration) r.flash) (IsWornOut (making_of r.configuration) r.flash) r.configuration first
       (after r.configuration (take 1 r.history)) moves
   pub kept : TakeKept r.configuration (IsSuch (reading_of (making_of r.configuration)) r.flash TakesKept) first (after r.configuration (take 1 r.history)) moves
   pub urgent : TellsBytes r.flash → StartsSound (making_of r.configuration) r.flash
       → EachMoveSince r.configuration (PostsUrgent r.configuration 5 (write_pages r.configuration) (MayGoOn (making_of r.configuration) r.flash) (λ id one left. Unit {0})) first.ops
       (after r.configuration (take 1 r.history)) moves
+  pub paid : TellsBytes r.flash → StartsSound (making_of r.configuration) r.flash
+      → ArePaidSince r.configuration (IsWornOut (making_of r.configuration) r.flash) first.faults first (after r.configuration (take 1 r.history)) moves
 
 abbrev pub HasTurns : (State → Job → ℕ) → Run → Course → Type 0
 HasTurns most r (Played made pieces left) = KeepsTurns most r made pieces
-HasTurns most r (Ran steps looks) = KeepsRunTurns r
+HasTurns most r (Ran steps looks) = KeepsRunTurns most r

@@ -15,7 +15,7 @@ ghost use Rattle.script_walks.specs.Words.{AskStep, Restart};
 ghost use Rattle.block_machine.specs.Words.{Status, Fine, Canceled, BlockSkipped, Post};
 ghost use Rattle.promise_run.specs.Run.{FlashFault, HistoryFull};
 ghost use Rattle.promise_run.specs.Turns.{BeginsAt, EndsBy, HasTurns};
-ghost use Rattle.promise_run.specs.Cases.{ahead, six_beside, six_turns, lazy, leaps, at_faults, faulty, PaysFailed, CountsFailed, HadRoomAt, LeftAt, DrainsTo, WorksAt, EndsWith, mended, posts_on_credit, starts_on_credit, untold, BreaksBy, small, one, two, quiet, quiet_beside, wiped, empty_at_11, made_up_mark, off_without_a_cut, cut_within, cut_twice, stale_in_play, invented_store, second_found, other_dataset, worn_but_roomy, worn_but_kept, worn_and_full, kept_write, lost_write, two_callers, written_at, always, turned, not_drained, fails_for_nothing, ends_for_nothing, demo_run, demo_call, untold_write, unseen_stale, later_store, full_for_nothing, not_served, worn_long_ago, cut_comes, cut_missed, last_in_two, erased_with_room, erased_when_full, erased_beside_last, programmed_over};
+ghost use Rattle.promise_run.specs.Cases.{ahead, six_beside, six_turns, lazy, leaps, at_faults, faulty, PassesBy, PaysFailed, CountsFailed, HadRoomAt, LeftAt, DrainsTo, WorksAt, EndsWith, mended, posts_on_credit, starts_on_credit, untold, BreaksBy, small, one, two, quiet, quiet_beside, wiped, empty_at_11, made_up_mark, off_without_a_cut, cut_within, cut_twice, stale_in_play, invented_store, second_found, other_dataset, worn_but_roomy, worn_but_kept, worn_and_full, kept_write, lost_write, two_callers, written_at, always, turned, not_drained, fails_for_nothing, ends_for_nothing, demo_run, demo_call, untold_write, unseen_stale, later_store, full_for_nothing, not_served, worn_long_ago, cut_comes, cut_missed, last_in_two, erased_with_room, erased_when_full, erased_beside_last, programmed_over};
 
 /// A start-up alone keeps it, and so do a write that a cut breaks off with a restart behind it, and the requests of two
 /// callers.
@@ -143,15 +143,18 @@ pub fn runs_that_are_served()
 
 /// A write that its sixth turn posts has its turns. Nine turns that pick a job and make no more of it aren't turns of a job
 /// that takes eight at most, and two turns don't make four operations. The turns of a driver beside callers are told likewise, and
-/// an entry of one tells no more operations than the flash made. Two faults of a job's own pay for its failure, and
+/// an entry of one tells no more operations than the flash made. A turn may pass by a request that came within it, and the next one
+/// may not. Two faults of a job's own pay for its failure, and
 /// two before its Pick don't. Where two were counted before it a third pays for a start-up that fails, and the two don't.
-#[tactic(auto, using(crate::proofs::OneByOne::six_kept, crate::proofs::OneByOne::not_lazy, crate::proofs::OneByOne::no_leap, crate::proofs::RunTurns::beside_kept, crate::proofs::RunTurns::not_ahead))]
+#[tactic(auto, using(crate::proofs::OneByOne::six_kept, crate::proofs::OneByOne::not_lazy, crate::proofs::OneByOne::no_leap, crate::proofs::RunTurns::beside_kept, crate::proofs::RunTurns::not_ahead, crate::proofs::RunTurns::one_passes, crate::proofs::RunTurns::two_pass_not))]
 pub fn turns_one_by_one()
     ensures six { HasTurns (always 8) six_turns six_turns.course }
     ensures lazy { HasTurns (always 8) lazy lazy.course → ⊥ }
     ensures leaps { HasTurns (always 8) leaps leaps.course → ⊥ }
     ensures beside { HasTurns (always 8) six_beside six_beside.course }
     ensures ahead { HasTurns (always 8) ahead ahead.course → ⊥ }
+    ensures came_within { PassesBy 1 }
+    ensures passed_by { PassesBy 2 → ⊥ }
     ensures own { PaysFailed 4 }
     ensures on_credit { PaysFailed 2 → ⊥ }
     ensures own_end { EndsBy (at_faults 2) (faulty 3) FlashFault }

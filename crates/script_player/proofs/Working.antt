@@ -1,49 +1,18 @@
 -- What moves do at the device, one after another.
 use Rattle.std.specs.Prelude.{◌||◌, if◌then◌else◌}
-use Rattle.std.proofs.Common.{◌≡◌, ◌⊎◌, ◌≤◌, ◌+◌, ℕ, Bool, true, false, Some, None, List, [], ◌∷◌, ◌++◌, refl, sym, ◌∙◌, subst, inl, inr, arith}
+use Rattle.std.proofs.Common.{◌≡◌, ◌≤◌, ◌+◌, ℕ, Bool, true, false, Some, None, List, [], ◌∷◌, ◌++◌, refl, sym, ◌∙◌, subst, inl, inr, arith}
 use Rattle.uds_gateway.specs.block_machine.Words.{Instance, Mark, Request, Reply, Ask, Found, Configuration}
 use Rattle.uds_gateway.specs.block_machine.State.{State}
 use Rattle.uds_gateway.specs.block_machine.Steps.{after_from}
 use Rattle.uds_gateway.specs.promise_blocks.Payment.{Worn}
-use Rattle.uds_gateway.specs.promise_blocks.Moves.{Moment, Move, entry_list, entries_of, moment_behind}
+use Rattle.uds_gateway.specs.promise_blocks.Moves.{Moment, Move, entries_of, moment_behind}
 use Rattle.promise_run.specs.Turns.{CountFailed}
-use Rattle.uds_gateway.specs.promise_blocks.Work.{Costs, Work, Effort, EndsTry, IsWorked, AreWorked, work_behind, has_risen}
+use Rattle.uds_gateway.specs.promise_blocks.Work.{Costs, Work, Effort, AreWorked, work_behind, has_risen}
 use Rattle.promise_run.proofs.Counted.{behind_later}
+use Rattle.promise_run.proofs.WorkedMoves.{worked_by}
 use Rattle.uds_gateway.proofs.DeviceWork.{none_some}
 use Rattle.uds_gateway.proofs.WorkLists.{ask_is_worked, many_more, work_more}
 use Rattle.script_player.specs.Working.{AtWork, KnowsNoMore, WorksNot, WorksAlong, DropsWork}
-
--- WHERE LESS IS FREE
--- a move with less room, and where the device is worn out sooner
-one_by : (f : Costs) (room other : ℕ → ℕ → Type 0) (worn more : Worn) (c : Configuration) (before : Moment) (s : State) (w : Work) (m : Move) (e : Effort) → ((p : ℕ) → other before.ops p → room before.ops p)
-    → ((k p : ℕ) (urgent : Bool) → worn k p urgent → more k p urgent) → IsWorked f room worn c before s w m e → IsWorked f other more c before s w m e
-one_by f room other worn more c before s w m e less sooner one = record {
-  begins = one.begins;
-  adds = λ test has. one.adds test (λ n is. less n (has n is));
-  ends = λ n is. ended n (one.ends n is);
-  none = one.none;
-  over = one.over;
-}
-  where
-    why : (n : ℕ) → EndsTry worn c s n before m → EndsTry more c s n before m
-    why n (inl here) = inl here
-    why n (inr (j, hand, is)) = inr (j, hand, sooner m.behind.ops n _ is)
-
-    ended : (n : ℕ) → (e.behind.trying ≡ Some n) ⊎ ((e.behind.trying ≡ None) × EndsTry worn c s n before m) → (e.behind.trying ≡ Some n) ⊎ ((e.behind.trying ≡ None) × EndsTry more c s n before m)
-    ended n (inl on) = inl on
-    ended n (inr (over, is)) = inr (over, why n is)
-
-pub worked_by : (f : Costs) (room other : ℕ → ℕ → Type 0) (worn more : Worn) (failed : ℕ → Type 0) (n : ℕ) → ((k p : ℕ) → k ≤ n → other k p → room k p) → ((k p : ℕ) (urgent : Bool) → worn k p urgent → more k p urgent)
-    → (c : Configuration) (before : Moment) (s : State) (w : Work) (ms : List Move) (es : List Effort) → (moment_behind before ms).ops ≤ n → CountFailed failed before ms → AreWorked f room worn c before s w ms es
-    → AreWorked f other more c before s w ms es
-worked_by f room other worn more failed n less sooner c before s w [] [] within counts are = tt
-worked_by f room other worn more failed n less sooner c before s w [] (e ∷ es) within counts are = absurd are
-worked_by f room other worn more failed n less sooner c before s w (m ∷ ms) [] within counts are = absurd are
-worked_by f room other worn more failed n less sooner c before s w (m ∷ ms) (e ∷ es) within counts (one, rest) =
-    let later = behind_later failed before (m ∷ ms) counts in (
-      one_by f room other worn more c before s w m e (λ p. less before.ops p (omega (arith, later, within))) sooner one,
-      worked_by f room other worn more failed n less sooner c m.behind (after_from c s (entry_list m.entry)) e.behind ms es within counts.1 rest,
-    )
 
 -- MORE MOVES
 module _ (worn : Worn) (p q : AtWork) where

@@ -1,6 +1,6 @@
 use Rattle.std.proofs.Common.{◌≡◌, length}
 use Rattle.turn_gate.specs.Pass.{knows}
-use Rattle.nvm_shared.specs.Driving.{IsDriverOf}
+use Rattle.driver_moves.specs.nvm_shared.Driving.{IsDriverOf}
 use Rattle.nvm_callers.specs.Callers.{GoesOn, MayGoOn}
 use Rattle.nvm_callers.specs.Placed.{AllChanged, AllPlaced}
 use Rattle.nvm_callers.specs.Steering.{HasSteered}

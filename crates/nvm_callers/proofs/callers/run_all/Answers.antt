@@ -3,9 +3,9 @@ use Rattle.std.proofs.Common.{◌≡◌, List, [], length, sym, ap, subst, arith
 use Rattle.std.proofs.lemmas.List.{with_items_is}
 use Rattle.turn_gate.specs.declared.pass.View.{View}
 use Rattle.turn_gate.specs.Pass.{knows}
-use Rattle.nvm_core.specs.block_machine.Words.{Entry}
-use Rattle.nvm_shared.specs.declared.terms.Terms.{Terms}
-use Rattle.nvm_shared.specs.Passes.{PassValue}
+use Rattle.driver_moves.specs.block_machine.Words.{Entry}
+use Rattle.driver_moves.specs.nvm_shared.declared.terms.Terms.{Terms}
+use Rattle.driver_moves.specs.nvm_shared.Passes.{PassValue}
 use Rattle.nvm_callers.specs.Driven.{HasDriven}
 use Rattle.nvm_callers.specs.Joins.{Collects}
 use Rattle.nvm_callers.specs.Callers.{GoesOn, HasWorked}

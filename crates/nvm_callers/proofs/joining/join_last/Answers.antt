@@ -2,8 +2,8 @@ use Rattle.std.specs.Prelude.{slice_index_or, Some, IfSome, vec_len}
 use Rattle.std.proofs.Common.{◌≡◌, ◌+◌, ◌-◌, ℕ, suc, List, ◌∷◌, drop, length, Option, sym, ap, subst, arith, ◌∙◌}
 use Rattle.turn_gate.specs.declared.pass.View.{View}
 use Rattle.turn_gate.specs.Pass.{both, knows}
-use Rattle.nvm_core.specs.block_machine.Words.{Entry}
-use Rattle.nvm_shared.specs.declared.terms.Terms.{Terms}
+use Rattle.driver_moves.specs.block_machine.Words.{Entry}
+use Rattle.driver_moves.specs.nvm_shared.declared.terms.Terms.{Terms}
 use Rattle.script_callers.specs.declared.program.Program.{Program}
 use Rattle.nvm_callers.specs.Callers.{HasWorked, HaveRun, worse}
 use Rattle.nvm_callers.specs.declared.ending.Ending.{Ending}

@@ -1,6 +1,6 @@
 use Rattle.std.specs.Prelude.{IfOk}
 use Rattle.std.proofs.Common.{List, subst}
-use Rattle.nvm_core.specs.block_machine.Words.{Configuration}
+use Rattle.driver_moves.specs.block_machine.Words.{Configuration}
 use Rattle.script_walks.specs.Words.{Step}
 use Rattle.nvm_callers.specs.Begun.{AreProgramsOf}
 use Rattle.nvm_callers.specs.Ran.{KeepsOrder}

@@ -1,5 +1,5 @@
 use Rattle.turn_gate.specs.Pass.{knows}
-use Rattle.nvm_shared.specs.Driving.{IsDriverOf}
+use Rattle.driver_moves.specs.nvm_shared.Driving.{IsDriverOf}
 use Rattle.nvm_callers.specs.Steering.{HasSteered}
 use Rattle.nvm_callers.proofs.steering.see.Given as goal
 

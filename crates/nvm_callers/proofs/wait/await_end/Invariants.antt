@@ -1,5 +1,5 @@
 use Rattle.turn_gate.specs.Pass.{knows}
-use Rattle.nvm_shared.specs.Passes.{IsUserOf}
+use Rattle.driver_moves.specs.nvm_shared.Passes.{IsUserOf}
 use Rattle.nvm_callers.specs.Calls.{HasPolled}
 use Rattle.nvm_callers.proofs.wait.await_end.Given as goal
 

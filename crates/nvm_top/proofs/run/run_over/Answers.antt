@@ -7,7 +7,7 @@ use Rattle.nvm_top.specs.Runs.{lines_written}
 use Rattle.nvm_flash.specs.Made.{one_part}
 use Rattle.nvm_top.specs.declared.runs.RunText.TheVariants.{History}
 use Rattle.nvm_top.proofs.Early.{early_in}
-use Rattle.nvm_top.proofs.Running.{begins_work, callers_came, callers_late, none_came, unwritten_run, written_run}
+use Rattle.nvm_top.proofs.Running.{callers_came, callers_late, none_came, unwritten_run, written_run}
 use Rattle.nvm_top.proofs.run.run_over.Goals as goal
 
 pub returns-in-Ok-play_callers-clause-promise : goal.returns-in-Ok-play_callers-clause-promise
@@ -18,7 +18,7 @@ returns-in-Ok-play_callers-clause-promise g c input =
     let inner = g.F.Flash.told c.args.flash in
     inl (written_run c.args.config c.args.steps.now r.ending c.stop_of_ending-run.result r.desk.entries c.history-history.result.now.entries inner (g.F.Flash.told c.back-flash.result.flash) g.O.Origin.entry r.device c.write_text-status.result _ _ input
     (c.back-flash.ensures c.args.config (one_flash inner) _ c.requires.origin)
-    (callers_came (one_part (part_at g.O.Origin.entry)) c.args.config c.args.steps.now s r.ending r.desk r.device c.in-Ok.ensures.started (c.in-Ok.ensures.kept.1.1, c.in-Ok.ensures.kept.1.2, begins_work s c.in-Ok.ensures.started.fresh.ready c.in-Ok.ensures.kept.1.4 c.in-Ok.ensures.kept.1.5) c.in-Ok.ensures.kept.0 ran.ran ran.order)
+    (callers_came (one_part (part_at g.O.Origin.entry)) c.args.config c.args.steps.now s r.ending r.desk r.device c.in-Ok.ensures.started c.in-Ok.ensures.kept.1 c.in-Ok.ensures.kept.0 ran.ran ran.order)
     c.history_values-in-Ok-play_callers.ensures c.in-Ok.ensures.size c.stop_of_ending-run.ensures c.history-history.ensures.entries c.write_text-status.ensures.text)
 
 pub returns-in-Ok-play_callers-clause-late : goal.returns-in-Ok-play_callers-clause-late

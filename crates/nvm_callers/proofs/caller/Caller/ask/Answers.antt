@@ -1,6 +1,6 @@
 use Rattle.std.proofs.Common.{[], ◌∷◌, ◌++◌, subst}
 use Rattle.turn_gate.specs.Pass.{knows}
-use Rattle.nvm_core.specs.block_machine.Words.{Request}
+use Rattle.driver_moves.specs.block_machine.Words.{Request}
 use Rattle.script_callers.specs.declared.deed.Deed.TheVariants.{Ask}
 use Rattle.nvm_callers.specs.Calls.{Did}
 use Rattle.nvm_callers.proofs.Making.{did_ask, did_see}

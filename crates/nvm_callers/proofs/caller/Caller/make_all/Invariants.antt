@@ -1,6 +1,6 @@
 use Rattle.std.proofs.Common.{◌≡◌, ◌≤◌, ℕ, List, Option, take}
 use Rattle.turn_gate.specs.Pass.{knows}
-use Rattle.nvm_shared.specs.Passes.{IsUserOf}
+use Rattle.driver_moves.specs.nvm_shared.Passes.{IsUserOf}
 use Rattle.nvm_callers.specs.Stored.{Stored}
 use Rattle.nvm_callers.specs.Calls.{Did, KeepsPass}
 use Rattle.nvm_callers.proofs.caller.Caller.make_all.Given as goal

@@ -99,6 +99,10 @@ returns g c =
       order = c.status-status.ensures.order;
       half = subst (λ (y : DeskState). IsFirstHalf told copies is looked c.first_half-act.result (stack_with y inside.hand inside.device inside.copies) (stack_with (desk_with t w.seen) new.hand new.device new.copies)) b.desk
           (subst (λ (y : DeskState). IsFirstHalf told copies is looked c.first_half-act.result (stack_with x.desk inside.hand inside.device inside.copies) (stack_with y new.hand new.device new.copies)) desk first);
+      stands = subst (λ (y : DeskState). StaysKept (desk_with t v.seen) inside.hand d clock y inside.hand d clock) b.desk b.stands.kept;
+      kept = subst (λ (y : DeskState). StaysKept y inside.hand d clock (desk_with t w.seen) new.hand (told new.device) clock_new) b.desk
+          (subst (λ (y : DeskState). StaysKept x.desk inside.hand d clock y new.hand (told new.device) clock_new) desk half.keeps);
+      off = λ now. subst (λ (y : DeskState). (state_of y).off ≡ true) desk (half.off now);
       served = begins_served (desk_with t v.seen) b.asks x.desk new.self.desk (desk_with t w.seen) inside.hand new.hand d (told new.device) c.first_half-act.result
           b.desk desk
           (λ number turns due. first_halves_serve (told new.device) clock_new c.first_half-act.result x.desk new.self.desk _ _ inside.hand new.hand d number turns (λ picked. c.status-status.ensures.order)

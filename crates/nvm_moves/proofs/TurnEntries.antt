@@ -1,6 +1,7 @@
 -- The entry of a driver's turn, if it adds one.
 use Rattle.std.specs.Prelude.{IfSome}
-use Rattle.std.proofs.Common.{◌≡◌, ◌⊎◌, inl, inr, ℕ, true, false, List, Option, Some, None, refl, sym, ap, ◌∙◌}
+use Rattle.std.proofs.lemmas.List.{append-nil}
+use Rattle.std.proofs.Common.{◌≡◌, ◌⊎◌, inl, inr, ℕ, true, false, List, [], Option, Some, None, refl, sym, ap, ◌∙◌}
 use Rattle.nvm_core.specs.nv_base.Entry.{ops_of}
 use Rattle.nvm_core.specs.memif.Told.{DeviceTold, Stand, Open, Ended as Closed}
 use Rattle.nvm_core.specs.memif.Told as device
@@ -20,12 +21,12 @@ use Rattle.nvm_core.specs.nvm_laws.Turns.{AddsBy}
 use Rattle.nvm_core.specs.nvm_laws.declared.turned.Turned.{Turned}
 use Rattle.nvm_core.specs.nvm_laws.declared.turned.Turned.TheVariants as turned
 use Rattle.nvm_core.specs.nvm_laws.declared.turned.Act.TheVariants.{Ended}
+use Rattle.nvm_core.specs.promise_blocks.Work.{is_posted}
 use Rattle.nvm_core.specs.BehindDevice.{asked_by}
 use Rattle.nvm_core.proofs.block_laws.HistoryLaws.{histories_go_on}
 use Rattle.nvm_core.proofs.job_progress.Powering.{jobs_keep_power}
-use Rattle.nvm_shared.specs.Behind.{with_more}
+use Rattle.nvm_core.specs.nvm_laws.DueLaws.{with_entries as with_more}
 use Rattle.promise_run.specs.Turns.{entry_list, is_asked, is_found, is_off, urgent_block}
-use Rattle.nvm_callers.proofs.DueAsked.{none_more}
 
 -- an entry of a job, or an Off, with the operations so far
 pub record IsOfTurn (ops : ℕ) (e : Entry) : Type 0 where
@@ -48,6 +49,9 @@ no_start (Found marks ops) (inl is) = cc is
 no_start (Found marks ops) (inr is) = cc is
 no_start e kind = refl
 
+pub isnt_asked : (ops : ℕ) (e : Entry) → IsOfTurn ops e → is_asked (Some e) ≡ false
+isnt_asked ops e of = no_ask e of.kind
+
 pub isnt_found : (ops : ℕ) (e : Option Entry) → IfSome e (IsOfTurn ops) → is_found e ≡ false
 isnt_found ops None of = refl
 isnt_found ops (Some e) of = no_start e of.kind
@@ -60,10 +64,10 @@ never_asks c s (Post block r given refused ops) id none is = let P : ⊥ = cc is
 never_asks c s (Off ops) id none is = let P : ⊥ = cc is in P
 never_asks c s (Found marks ops) id none is = let P : ⊥ = cc is in P
 
--- no urgent write is accepted in a turn
-pub never_urgent : (c : Configuration) (s : State) (ops : ℕ) (e : Option Entry) (id : ℕ) → IfSome e (IsOfTurn ops) → urgent_block c s e ≡ Some id → ⊥
-never_urgent c s ops None id of is = let P : ⊥ = cc is in P
-never_urgent c s ops (Some e) id of is = never_asks c s e id (no_ask e of.kind) is
+-- an urgent write is accepted by a request alone
+pub asks_urgent : (c : Configuration) (s : State) (e : Option Entry) (id : ℕ) → is_asked e ≡ false → urgent_block c s e ≡ Some id → ⊥
+asks_urgent c s None id none is = let P : ⊥ = cc is in P
+asks_urgent c s (Some e) id none is = never_asks c s e id none is
 
 -- THE STATE BEHIND IT
 pub state_behind : (ops : ℕ) (old new : DeskState) (e : Option Entry) → AddsOne ops old new e → state_of new ≡ after_from old.config (state_of old) (entry_list e)
@@ -77,6 +81,9 @@ on_by c s e (inr off) on = absurd (let P : true ≡ false = sym off ∙ on in cc
 pub on_behind : (ops : ℕ) (old new : DeskState) (e : Option Entry) → AddsOne ops old new e → is_off e ≡ false → (state_of new).off ≡ (state_of old).off
 on_behind ops old new None one on = ap (λ (s : State). s.off) (state_behind ops old new None one)
 on_behind ops old new (Some e) one on = ap (λ (s : State). s.off) (state_behind ops old new (Some e) one) ∙ on_by old.config (state_of old) e one.of.kind on
+
+pub none_more : (desk : DeskState) → desk ≡ with_more desk []
+none_more desk = ap (λ (h : List Entry). record desk { entries = h }) (sym (append-nil desk.entries))
 
 -- THE FIRST HALF
 none_added : (ops : ℕ) (old new : DeskState) → new ≡ old → AddsOne ops old new None
@@ -132,3 +139,16 @@ asked_of turned.Posted old new ops = settled_of old new ops
 
 pub device_adds_one : (answer : Turned) (a b : Stand) (ops : ℕ) (old new : DeskState) → AddsBy (asked_by answer a b ops) old new → AddsOne ops old new (asked_by answer a b ops)
 device_adds_one answer a b ops old new adds = by_one ops (asked_by answer a b ops) old new (asked_of answer a b ops) adds
+
+-- none is a Post
+wrote_posts : (number : ℕ) (mark : Option Mark) (ops : ℕ) → is_posted (wrote_by number mark ops) ≡ false
+wrote_posts number None ops = refl
+wrote_posts number (Some mark) ops = refl
+
+settled_posts : (old new : Stand) (ops : ℕ) → is_posted (settled_by old new ops) ≡ false
+settled_posts (Open j) (Closed JobOk given) ops = wrote_posts j.number j.mark ops
+settled_posts old new ops = refl
+
+pub asked_posts : (answer : Turned) (old new : Stand) (ops : ℕ) → is_posted (asked_by answer old new ops) ≡ false
+asked_posts turned.Off old new ops = refl
+asked_posts answer old new ops = settled_posts old new ops

@@ -1,10 +1,9 @@
 -- What is due, in the device's own turn.
 use Rattle.std.specs.Prelude.{IfSome}
 use Rattle.std.specs.Option.{option_map_or}
-use Rattle.std.proofs.Common.{◌≡◌, ◌⊎◌, inl, inr, ℕ, ◌+◌, ◌<◌, ◌≤◌, min, Bool, true, false, List, length, Option, Some, None, refl, sym, ap, ◌∙◌, subst, arith, length-append}
+use Rattle.std.proofs.Common.{◌≡◌, inl, inr, ℕ, ◌+◌, ◌≤◌, Bool, true, false, List, length, Option, Some, None, refl, sym, ap, ◌∙◌, subst, arith, length-append}
 use Rattle.std.proofs.lemmas.Bool.{cases_Bool}
-use Rattle.std.proofs.lemmas.Bool.Decides.{leb_tells}
-use Rattle.nvm_core.specs.nv_base.Count.{Rose, last_count}
+use Rattle.nvm_core.specs.nv_base.Count.{Rose}
 use Rattle.nvm_core.specs.memif.Told.{DeviceTold, Fixed, Part, Stand, Open, Ended as Closed, IfElse, is_urgent}
 use Rattle.nvm_core.specs.memif.Clock.{Clock}
 use Rattle.nvm_core.specs.memif.Calls.{Nearer, Works, urgent_first}
@@ -27,37 +26,8 @@ use Rattle.nvm_core.proofs.memif.Turning.{works_fixed}
 use Rattle.nvm_core.proofs.nvm_laws.DueBlocks.{same_pages}
 use Rattle.nvm_core.proofs.nvm_laws.Traits.{urgent_in_hand}
 use Rattle.promise_run.specs.Turns.{entry_list}
-use Rattle.nvm_callers.proofs.DueAsked.{IsStandard}
-use Rattle.nvm_callers.proofs.TurnEntries.{AddsOne, state_behind}
-
--- COUNTS
-pub rose_or : (a b : ℕ) → Rose a b ⊎ ¬ Rose a b
-rose_or a b = elim (leb_tells b a) [
-  | inl past ↦ elim (leb_tells last_count a) [
-    | inl full ↦ elim (leb_tells a b) [
-      | inl same ↦ inl (inr (full.1, same.1))
-      | inr less ↦ inr (λ rose. fell a b rose less.1)
-    ]
-    | inr few ↦ inr (λ rose. neither a b rose past.1 few.1)
-  ]
-  | inr more ↦ inl (inl more.1)
-]
-  where
-    fell : (a b : ℕ) → Rose a b → b < a → ⊥
-    fell a b (inl up) less = omega (arith, up, less)
-    fell a b (inr full) less = omega (arith, full.1, less)
-
-    neither : (a b : ℕ) → Rose a b → b ≤ a → a < last_count → ⊥
-    neither a b (inl up) past few = omega (arith, up, past)
-    neither a b (inr full) past few = omega (arith, full.0, few)
-
--- one count of a sum that doesn't fall
-pub rose_in : (a b s t : ℕ) → s ≤ t → Rose a b → Rose (min (a + s) last_count) (min (b + t) last_count)
-rose_in a b s t more (inl up) = elim (leb_tells last_count (a + s)) [
-  | inl full ↦ let end = full.1 in inr (omega (arith, end), omega (arith, end, up, more))
-  | inr few ↦ let less = few.1 in inl (omega (arith, less, up, more))
-]
-rose_in a b s t more (inr full) = inr (omega (arith, full.0), omega (arith, full.0, full.1, more))
+use Rattle.nvm_moves.proofs.DueAsked.{IsStandard}
+use Rattle.nvm_moves.proofs.TurnEntries.{AddsOne, state_behind}
 
 -- THE STATE BEHIND A WROTE
 record LeavesNext (c : Configuration) (s t : State) : Type 0 where

@@ -47,6 +47,22 @@ asked_stays : (c : Configuration) (s : State) (r : Request) (reply : Reply) → 
 asked_stays c s r Accepted = accepted_stays c s r (job_kind r)
 asked_stays c s r reply = same_stays s
 
+-- it leaves the power too
+changed_power : (c : Configuration) (s : State) (r : Request) → (changed c s r).off ≡ s.off
+changed_power c s (SetIndex block index) = refl
+changed_power c s r = refl
+
+accepted_power : (c : Configuration) (s : State) (r : Request) (kind : Option JobKind) → (accepted_by c s r kind).off ≡ s.off
+accepted_power c s r (Some kind) = refl
+accepted_power c s r None = changed_power c s r
+
+asked_power : (c : Configuration) (s : State) (r : Request) (reply : Reply) → (asked c s r reply).off ≡ s.off
+asked_power c s r Accepted = accepted_power c s r (job_kind r)
+asked_power c s r reply = refl
+
+pub ask_leaves_power : (c : Configuration) (s : State) (caller : ℕ) (r : Request) (reply : Reply) → ((step c s (Ask caller r reply)).started ≡ s.started) × ((step c s (Ask caller r reply)).off ≡ s.off)
+ask_leaves_power c s caller r reply = ((asked_stays c s r reply).started, asked_power c s r reply)
+
 picked_stays : (c : Configuration) (s : State) (t : Taken) (n : Next) → Stays s (picked c s t n)
 picked_stays c s t (PickJob j) = record { blocks = refl; started = refl }
 picked_stays c s t (BeginSweep sw) = record { blocks = refl; started = refl }

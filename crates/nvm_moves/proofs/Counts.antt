@@ -1,0 +1,32 @@
+-- Whether a count rose.
+use Rattle.std.proofs.Common.{◌⊎◌, inl, inr, ℕ, ◌+◌, ◌<◌, ◌≤◌, min, arith}
+use Rattle.std.proofs.lemmas.Bool.Decides.{leb_tells}
+use Rattle.nvm_core.specs.nv_base.Count.{Rose, last_count}
+
+pub rose_or : (a b : ℕ) → Rose a b ⊎ ¬ Rose a b
+rose_or a b = elim (leb_tells b a) [
+  | inl past ↦ elim (leb_tells last_count a) [
+    | inl full ↦ elim (leb_tells a b) [
+      | inl same ↦ inl (inr (full.1, same.1))
+      | inr less ↦ inr (λ rose. fell a b rose less.1)
+    ]
+    | inr few ↦ inr (λ rose. neither a b rose past.1 few.1)
+  ]
+  | inr more ↦ inl (inl more.1)
+]
+  where
+    fell : (a b : ℕ) → Rose a b → b < a → ⊥
+    fell a b (inl up) less = omega (arith, up, less)
+    fell a b (inr full) less = omega (arith, full.1, less)
+
+    neither : (a b : ℕ) → Rose a b → b ≤ a → a < last_count → ⊥
+    neither a b (inl up) past few = omega (arith, up, past)
+    neither a b (inr full) past few = omega (arith, full.0, few)
+
+-- one count of a sum that doesn't fall
+pub rose_in : (a b s t : ℕ) → s ≤ t → Rose a b → Rose (min (a + s) last_count) (min (b + t) last_count)
+rose_in a b s t more (inl up) = elim (leb_tells last_count (a + s)) [
+  | inl full ↦ let end = full.1 in inr (omega (arith, end), omega (arith, end, up, more))
+  | inr few ↦ let less = few.1 in inl (omega (arith, less, up, more))
+]
+rose_in a b s t more (inr full) = inr (omega (arith, full.0), omega (arith, full.0, full.1, more))

@@ -1,0 +1,53 @@
+-- What a turn does at the device, by what its halves tell.
+use Rattle.std.specs.Prelude.{IfSome, ◌||◌}
+use Rattle.std.proofs.Common.{◌≡◌, ℕ, Bool, true, false, Option, sym, ap, ◌∙◌, subst, inl, inr, arith}
+use Rattle.std.proofs.lemmas.Bool.{cases_Bool}
+use Rattle.nvm_core.specs.memif.Told.{DeviceTold, PartTold, is_off}
+use Rattle.nvm_core.specs.memif.Clock.{Clock}
+use Rattle.nvm_core.specs.memif.Calls.{InOrder, RoomIsLeft}
+use Rattle.nvm_core.specs.block_machine.Words.{Configuration}
+use Rattle.nvm_core.specs.block_machine.State.{State}
+use Rattle.nvm_core.specs.nv_desk.Desk.{DeskState, state_of}
+use Rattle.nvm_core.specs.job_progress.Hand.{HandState}
+use Rattle.nvm_core.specs.job_progress.JobInHand.{IsPaired}
+use Rattle.nvm_core.specs.nvm_laws.AtDevice.{GoesOn}
+use Rattle.nvm_core.specs.nvm_laws.declared.turned.Turned.{Turned}
+use Rattle.nvm_core.specs.promise_blocks.Work.{IsWorked}
+use Rattle.nvm_core.specs.BehindDevice.{TurnsDevice, asked_by}
+use Rattle.nvm_core.specs.DeviceWork.{IsSimple, costs_in, moment_in, work_in}
+use Rattle.nvm_core.specs.OperationStart.{LeavesDevice}
+use Rattle.nvm_core.specs.Paying.{worn_so_far}
+use Rattle.nvm_core.proofs.DeviceWork.{works_behind}
+use Rattle.nvm_core.proofs.Paying.{device_lasts}
+use Rattle.nvm_core.proofs.TurnWork.{half_begins, hand_is_open}
+use Rattle.promise_run.specs.Turns.{Move}
+use Rattle.nvm_moves.specs.Seen.{IsOn}
+use Rattle.nvm_moves.specs.Worked.{HadPages}
+
+-- THE POWER
+is_on : (first second : Bool) → first ≡ false → second ≡ false → (first || second) ≡ false
+is_on true second first_on second_on = cc first_on
+is_on false second first_on second_on = second_on
+
+-- a device of one part is on where its machine is
+pub on_by : (desk : DeskState) (d : DeviceTold) (clock : Clock) → IsOn desk d → InOrder d clock → (state_of desk).off ≡ false → is_off d ≡ false
+on_by desk d clock at order on = is_on d.first.off d.second.off first (ap (λ (p : PartTold). p.off) (order.second at.one))
+  where
+    first : d.first.off ≡ false
+    first = elim (cases_Bool d.first.off) [
+      | inl off ↦ absurd (let P : true ≡ false = sym (at.power off) ∙ on in cc P)
+      | inr is ↦ is
+    ]
+
+-- THE DEVICE'S TURN
+-- from where the turn began to behind it
+pub device_works : (answer : Turned) (c : Configuration) (s : State) (hand hand_b : Option HandState) (d b n : DeviceTold) (clock_b clock_n : Clock) (m : Move) → LeavesDevice d b → GoesOn hand d hand_b b → IfSome hand_b (λ h. h.started ≡ true) → IsPaired c s hand_b b
+    → RoomIsLeft b clock_b → TurnsDevice answer b clock_b n clock_n → IsSimple d.fixed → is_off d ≡ false → m.entry ≡ asked_by answer b.stand n.stand n.ops → m.behind ≡ moment_in n
+    → (begins : Option ℕ) × IsWorked (costs_in d.fixed) (HadPages clock_n) (worn_so_far n clock_n) c (moment_in d) s (work_in d) m (record { begins = begins; behind = work_in n })
+device_works answer c s hand hand_b d b n clock_b clock_n m leaves goes started paired room turns simple on entry behind =
+    let same : b.ops ≡ d.ops = ap (λ (x : DeviceTold). x.ops) leaves in
+    let lasts = device_lasts answer b clock_b n clock_n turns in
+    let begun = half_begins c s (HadPages clock_n d.ops) hand hand_b d b simple on clock_b room (λ pages is. (is.0, lasts.past.spare b.ops is.0 (omega arith) (subst (λ (k : ℕ). clock_n.spare k is.0) (sym same) is.1), is.2)) goes started paired in (
+      begun.begins,
+      works_behind c s (HadPages clock_n) (worn_so_far n clock_n) d b n clock_b clock_n answer turns begun leaves on simple m behind entry (hand_is_open c s hand_b b paired started) (λ k urgent is. (omega arith, is)),
+    )

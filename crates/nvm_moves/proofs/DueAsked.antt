@@ -1,0 +1,205 @@
+-- What is due, while requests come beside one device.
+use Rattle.std.specs.Prelude.{IfSome, IsTrue, not, option_to_list}
+use Rattle.std.specs.List.{list_all}
+use Rattle.std.proofs.Common.{◌≡◌, inl, inr, ℕ, zero, suc, ◌+◌, ◌≤◌, arith, Bool, true, false, List, [], ◌∷◌, ◌++◌, length, Option, Some, None, refl, sym, ap, ◌∙◌, subst, append_assoc}
+use Rattle.std.proofs.lemmas.Bool.{and_parts}
+use Rattle.nvm_core.specs.memif.Told.{DeviceTold}
+use Rattle.nvm_core.specs.block_machine.Words.{Request, Write, Reply, Accepted, Entry, Ask, Configuration}
+use Rattle.nvm_core.specs.block_machine.State.{State, Job}
+use Rattle.nvm_core.specs.block_machine.Blocks.{is_pending, job_block, rank_of, status_of}
+use Rattle.nvm_core.specs.block_machine.Reply.{reply_of}
+use Rattle.nvm_core.specs.block_machine.Next.{next_in}
+use Rattle.nvm_core.specs.block_machine.Steps.{step}
+use Rattle.nvm_core.specs.block_laws.Consistent.{Each}
+use Rattle.nvm_core.specs.nv_desk.Desk.{DeskState, state_of}
+use Rattle.nvm_core.specs.job_progress.Hand.{HandState}
+use Rattle.nvm_core.specs.nvm_laws.Due.{IsDue, post_first}
+use Rattle.nvm_core.specs.nvm_laws.DueLaws.{AreReplied, NextIsPending, with_entries}
+use Rattle.nvm_core.specs.JobNumbers.{IsOfBlock}
+use Rattle.nvm_core.specs.DueWrites.{AreFirst, IsDueFor, free_turns, pages_in}
+use Rattle.nvm_core.proofs.block_laws.HistoryLaws.{entries_are_counted, histories_step}
+use Rattle.nvm_core.proofs.block_laws.NextLaws.{next_is_waiting}
+use Rattle.nvm_core.proofs.job_progress.Asking.{asked_hand}
+use Rattle.nvm_core.proofs.nvm_laws.DueAsking.{accepted_are_due, many_held, many_next}
+use Rattle.nvm_core.proofs.DueWrites.{more_due}
+use Rattle.nvm_core.proofs.JobNumbers.{accepted_of_block, jobs_below, stays_of_block}
+use Rattle.script_walks.proofs.Jobs.{each_right}
+use Rattle.promise_run.specs.Turns.{Moment, Move, urgent_block}
+use Rattle.promise_run.proofs.UrgentAsks.{not_true, urgent_is}
+use Rattle.nvm_moves.specs.Served.{AreServed, IsAskedDue, IsDueWithin}
+use Rattle.nvm_moves.proofs.Served.{served_as}
+use Rattle.nvm_moves.proofs.AskedBlocks.{accepted_pending, ask_leaves_power, is_sized, pending_on}
+use Rattle.nvm_moves.proofs.TurnEntries.{none_more}
+
+-- A DESK WITH MORE
+one_more : (desk : DeskState) (e : Entry) (es : List Entry) → with_entries (with_entries desk (e ∷ [])) es ≡ with_entries desk (e ∷ es)
+one_more desk e es = ap (λ (h : List Entry). record desk { entries = h }) (append_assoc desk.entries (e ∷ []) es)
+
+state_more : (desk : DeskState) (e : Entry) → state_of (with_entries desk (e ∷ [])) ≡ step desk.config (state_of desk) e
+state_more desk e = histories_step desk.config desk.entries e
+
+-- ONE REQUEST
+-- the block of the next job is the one that its entry accepted
+of_next : (number id : ℕ) (c : Configuration) (s : State) (j : Job) → IsOfBlock number id s → next_in c s.waiting ≡ Some j → j.number ≡ number → job_block j ≡ id
+of_next number id c s j of next is =
+    let (before, behind, at) = next_is_waiting c s.waiting j next in
+    (each_right (λ (x : Job). x.number ≡ number → job_block x ≡ id) before (j ∷ behind) (subst (λ xs. Each (λ (x : Job). x.number ≡ number → job_block x ≡ id) xs) at of.jobs.waiting)).0 is
+
+-- the block of what is due is PENDING, where that of what is next is, and that of what is in hand
+due_pending : (number turns id : ℕ) (desk : DeskState) (hand : Option HandState) (d : DeviceTold) → NextIsPending desk.config (state_of desk) → IfSome (state_of desk).hand (λ j. is_pending (status_of (state_of desk) (job_block j)) ≡ true)
+    → IsOfBlock number id (state_of desk) → IsDue number turns (record { desk = desk; hand = hand; device = d }) → is_pending (status_of (state_of desk) id) ≡ true
+due_pending number turns id desk hand d next held of (inl due) =
+    let own : is_pending (status_of (state_of desk) (job_block due.job)) ≡ true = subst (λ (o : Option Job). IfSome o (λ j. is_pending (status_of (state_of desk) (job_block j)) ≡ true)) due.next next in
+    subst (λ (k : ℕ). is_pending (status_of (state_of desk) k) ≡ true) (of_next number id desk.config (state_of desk) due.job of due.next due.is.accepted) own
+due_pending number turns id desk hand d next held of (inr due) =
+    let own : is_pending (status_of (state_of desk) (job_block due.job)) ≡ true = subst (λ (o : Option Job). IfSome o (λ j. is_pending (status_of (state_of desk) (job_block j)) ≡ true)) due.held held in
+    let block : job_block due.job ≡ id = (subst (λ (o : Option Job). IfSome o (λ j. j.number ≡ number → job_block j ≡ id)) due.held of.jobs.hand) due.is.accepted in
+    subst (λ (k : ℕ). is_pending (status_of (state_of desk) k) ≡ true) block own
+
+pub more_asked : (id a b : ℕ) (desk : DeskState) (hand : Option HandState) (d : DeviceTold) → a ≤ b → IsAskedDue id a desk hand d → IsAskedDue id b desk hand d
+more_asked id a b desk hand d less was = record { number = was.number; due = more_due was.number a b _ less was.due; block = was.block; on = was.on; pending = was.pending }
+
+module _ (hand : Option HandState) (d : DeviceTold) where
+  due_on : (desk : DeskState) (caller : ℕ) (r : Request) (reply : Reply) (number id turns : ℕ) → reply ≡ reply_of desk.config desk.cap (state_of desk) r → IsOfBlock number id (state_of desk) → is_pending (status_of (state_of desk) id) ≡ true
+      → IsDue number turns (record { desk = desk; hand = hand; device = d }) → IsDue number turns (record { desk = with_entries desk (Ask caller r reply ∷ []); hand = hand; device = d })
+  due_on desk caller r reply number id turns is of pending (inl due) =
+      let same = of_next number id desk.config (state_of desk) due.job of due.next due.is.accepted in
+      inl (many_next hand d number turns desk (Ask caller r reply ∷ []) (is, tt) due (subst (λ (k : ℕ). is_pending (status_of (state_of desk) k) ≡ true) (sym same) pending))
+  due_on desk caller r reply number id turns is of pending (inr due) = inr (many_held hand d number turns desk (Ask caller r reply ∷ []) (is, tt) due)
+
+  -- it stays due
+  asked_on : (desk : DeskState) (caller : ℕ) (r : Request) (reply : Reply) (id turns : ℕ) → reply ≡ reply_of desk.config desk.cap (state_of desk) r → IsAskedDue id turns desk hand d
+      → IsAskedDue id turns (with_entries desk (Ask caller r reply ∷ [])) hand d
+  asked_on desk caller r reply id turns is was =
+      let c = desk.config in
+      let e = Ask caller r reply in
+      let behind = state_more desk e in record {
+        number = was.number;
+        due = due_on desk caller r reply was.number id turns is was.block was.pending was.due;
+        block = subst (IsOfBlock was.number id) (sym behind) (stays_of_block c (state_of desk) (Some e) was.number id was.block);
+        on = ap (λ (s : State). s.off) behind ∙ (ask_leaves_power c (state_of desk) caller r reply).1 ∙ was.on;
+        pending = ap (λ (s : State). is_pending (status_of s id)) behind ∙ pending_on c desk.cap (state_of desk) caller r reply id is was.pending;
+      }
+
+  -- within a turn too
+  within_on : (desk : DeskState) (caller : ℕ) (r : Request) (reply : Reply) (one : Bool) (id turns : ℕ) → reply ≡ reply_of desk.config desk.cap (state_of desk) r → IsDueWithin hand d desk one id turns
+      → IsDueWithin hand d (with_entries desk (Ask caller r reply ∷ [])) one id turns
+  within_on desk caller r reply one id turns is (inl (number, due, of, on)) =
+      let e = Ask caller r reply in
+      let behind = state_more desk e in inl (
+        number,
+        many_held hand d number turns desk (e ∷ []) (is, tt) due,
+        subst (IsOfBlock number id) (sym behind) (stays_of_block desk.config (state_of desk) (Some e) number id of),
+        ap (λ (s : State). s.off) behind ∙ (ask_leaves_power desk.config (state_of desk) caller r reply).1 ∙ on,
+      )
+  within_on desk caller r reply one id turns is (inr (less, first, sooner, due)) = inr (less, first, sooner, asked_on desk caller r reply id less is due)
+
+-- AN URGENT WRITE
+-- the job in hand is a standard one
+abbrev pub IsStandard : Configuration → State → Type 0
+IsStandard c s = IfSome s.hand (λ j. (rank_of c j).immediate ≡ false)
+
+standard_in : (c : Configuration) (o : Option Job) (jobs : List Job) → IsTrue (list_all (λ j. not (rank_of c j).immediate) (option_to_list o ++ jobs)) → IfSome o (λ j. (rank_of c j).immediate ≡ false)
+standard_in c None jobs all = tt
+standard_in c (Some j) jobs all = not_true (rank_of c j).immediate (and_parts (not (rank_of c j).immediate) (list_all (λ x. not (rank_of c x).immediate) jobs) all).0
+
+-- what is known of the device in such a state: what may go on is ready
+abbrev pub IsRoomy : (free : ℕ → Type 0) → Configuration → State → DeviceTold → Type 0
+IsRoomy free c s d = s.off ≡ false → IsStandard c s → (n : ℕ) → free n → n ≤ d.ready
+
+module _ (hand : Option HandState) (d : DeviceTold) (first : AreFirst d.fixed) (free : ℕ → Type 0) where
+  -- once it is accepted it is due
+  asked_due : (desk : DeskState) (caller : ℕ) (r : Request) (reply : Reply) (id : ℕ) → IsTrue (state_of desk).started → IsRoomy free desk.config (state_of desk) d → urgent_block desk.config (state_of desk) (Some (Ask caller r reply)) ≡ Some id
+      → free (pages_in d.fixed desk.config (state_of desk) id) → IsAskedDue id (pages_in d.fixed desk.config (state_of desk) id + 4 + post_first hand) (with_entries desk (Ask caller r reply ∷ [])) hand d
+  asked_due desk caller r reply id started roomy urgent room =
+      let c = desk.config in
+      let s = state_of desk in
+      let ask = urgent_is c s (Ask caller r reply) id urgent in
+      let write = Write id ask.content ask.store in
+      let e = Ask ask.caller write Accepted in
+      let count = entries_are_counted c desk.entries in
+      let behind = state_more desk e in
+      let due = accepted_are_due desk (with_entries desk (e ∷ [])) hand d ask.caller write refl (record {
+        immediate = ask.immediate;
+        alone = ask.alone;
+        of_first = λ index. first _;
+        ready = roomy ask.on (standard_in c s.hand s.waiting ask.alone) (pages_in d.fixed c s id) room;
+      }) in
+      subst (λ (x : Entry). IsAskedDue id (pages_in d.fixed c s id + 4 + post_first hand) (with_entries desk (x ∷ [])) hand d) (sym ask.entry) (record {
+        number = length desk.entries;
+        due = due;
+        block = subst (λ (n : ℕ). IsOfBlock n id (state_of (with_entries desk (e ∷ [])))) count
+            (subst (IsOfBlock s.count id) (sym behind) (accepted_of_block c s ask.caller id ask.content ask.store (jobs_below c desk.entries)));
+        on = ap (λ (x : State). x.off) behind ∙ (ask_leaves_power c s ask.caller write Accepted).1 ∙ ask.on;
+        pending = ap (λ (x : State). is_pending (status_of x id)) behind ∙ accepted_pending c desk.cap s ask.caller id ask.content ask.store (is_sized c desk.entries) started ask.immediate;
+      })
+
+-- ANY NUMBER OF REQUESTS
+-- each leaves the moment
+abbrev pub asked_moves : Moment → List Entry → List Move
+asked_moves now [] = []
+asked_moves now (e ∷ es) = record { entry = Some e; behind = now } ∷ asked_moves now es
+
+module _ (hand : Option HandState) (d : DeviceTold) (first : AreFirst d.fixed) (more : ℕ) (free : ℕ → ℕ → ℕ → Type 0) (since : ℕ) (now : Moment)
+    -- what is due at each desk: it stays so, and so is what is accepted
+    (P : DeskState → Bool → ℕ → ℕ → Type 0)
+    (keeps : (desk : DeskState) (caller : ℕ) (r : Request) (reply : Reply) (one : Bool) (id turns : ℕ) → reply ≡ reply_of desk.config desk.cap (state_of desk) r → P desk one id turns → P (with_entries desk (Ask caller r reply ∷ [])) one id turns)
+    (takes : (desk : DeskState) (id turns : ℕ) → IsAskedDue id (turns + 4 + post_first hand) desk hand d → P desk true id (turns + more)) where
+  asks_served : (desk : DeskState) (es : List Entry) → AreReplied desk.config desk.cap (state_of desk) es → IsTrue (state_of desk).started → IsRoomy (free since now.ops) desk.config (state_of desk) d
+      → AreServed more desk.config (pages_in d.fixed desk.config) free (P desk) (P (with_entries desk es)) since now (state_of desk) (asked_moves now es)
+  asks_served desk [] replied started roomy =
+      subst (λ (x : DeskState). AreServed more desk.config (pages_in d.fixed desk.config) free (P desk) (P x) since now (state_of desk) []) (none_more desk) (record { dues = λ one id turns due. due; urgent = tt })
+  asks_served desk (Ask caller r reply ∷ es) replied started roomy =
+      let c = desk.config in
+      let s = state_of desk in
+      let e = Ask caller r reply in
+      let next = with_entries desk (e ∷ []) in
+      let behind = state_more desk e in
+      let power = ask_leaves_power c s caller r reply in
+      let rest : AreServed more c (pages_in d.fixed c) free (P next) (P (with_entries desk (e ∷ es))) since now (step c s e) (asked_moves now es) =
+      subst (λ (x : DeskState). AreServed more c (pages_in d.fixed c) free (P next) (P x) since now (step c s e) (asked_moves now es)) (one_more desk e es)
+      (subst (λ (x : State). AreServed more c (pages_in d.fixed c) free (P next) (P (with_entries next es)) since now x (asked_moves now es)) behind
+      (asks_served next es (subst (λ (x : State). AreReplied c desk.cap x es) (sym behind) replied.1) (ap (λ (x : State). x.started) behind ∙ power.0 ∙ started)
+      (subst (λ (x : State). IsRoomy (free since now.ops) c x d) (sym behind)
+      (λ on standard. roomy (sym power.1 ∙ on) (subst (λ (o : Option Job). IfSome o (λ j. (rank_of c j).immediate ≡ false)) (asked_hand c s r reply) standard))))) in
+      record {
+        dues = λ one id turns due. inr (inl (refl, rest.dues one id turns (keeps desk caller r reply one id turns replied.0 due)));
+        urgent = (
+          λ id urgent room. rest.dues true id (pages_in d.fixed c s id + more)
+              (takes next id (pages_in d.fixed c s id) (asked_due hand d first (free since now.ops) desk caller r reply id started roomy urgent room)),
+          rest.urgent,
+        );
+      }
+  asks_served desk (e ∷ es) replied started roomy = absurd replied
+
+-- BETWEEN TURNS, AND WITHIN ONE
+module _ (hand : Option HandState) (d : DeviceTold) (first : AreFirst d.fixed) (more : ℕ) (free : ℕ → ℕ → ℕ → Type 0) (since : ℕ) (now : Moment) (desk : DeskState) (es : List Entry) (replied : AreReplied desk.config desk.cap (state_of desk) es)
+    (started : IsTrue (state_of desk).started) (roomy : IsRoomy (free since now.ops) desk.config (state_of desk) d) where
+  abbrev Served_by : (DeskState → Bool → ℕ → ℕ → Type 0) → Type 0
+  Served_by P = AreServed more desk.config (pages_in d.fixed desk.config) free (P desk) (P (with_entries desk es)) since now (state_of desk) (asked_moves now es)
+
+  abbrev Asked_at : DeskState → Bool → ℕ → ℕ → Type 0
+  Asked_at x one id turns = IsAskedDue id (turns + free_turns one hand) x hand d
+
+  abbrev Due_at : DeskState → Bool → ℕ → ℕ → Type 0
+  Due_at x one id turns = IsDueFor id one turns (record { desk = x; hand = hand; device = d })
+
+  pub between_served : 4 ≤ more → NextIsPending desk.config (state_of desk) → IfSome (state_of desk).hand (λ j. is_pending (status_of (state_of desk) (job_block j)) ≡ true) → Served_by Due_at
+  between_served least next held =
+      served_as more desk.config (pages_in d.fixed desk.config) free (Asked_at desk) (Due_at desk) (Asked_at (with_entries desk es)) (Due_at (with_entries desk es)) since now (state_of desk) (asked_moves now es)
+      (λ one id turns was. record { number = was.number; due = was.due; block = was.block; on = was.on; pending = due_pending was.number (turns + free_turns one hand) id desk hand d next held was.block was.due })
+      (λ one id turns was. record { number = was.number; due = was.due; block = was.block; on = was.on })
+      (asks_served hand d first more free since now Asked_at (λ x caller r reply one id turns is due. asked_on hand d x caller r reply id (turns + free_turns one hand) is due)
+      (λ x id turns due. more_asked id (turns + 4 + post_first hand) (turns + more + post_first hand) x hand d (omega (arith, least)) due) desk es replied started roomy)
+
+  -- this turn, and four
+  at_least : (n : ℕ) → 5 ≤ n → (less : ℕ) × (n ≡ less + 1) × (4 ≤ less)
+  at_least zero least = absurd (omega (arith, least))
+  at_least (suc n) least = (n, omega arith, omega (arith, least))
+
+  takes_within : post_first hand ≡ 0 → (x : DeskState) (id turns : ℕ) → (less : ℕ) × (more ≡ less + 1) × (4 ≤ less) → IsAskedDue id (turns + 4 + post_first hand) x hand d → IsDueWithin hand d x true id (turns + more)
+  takes_within none x id turns (less, is, few) due = inr (turns + less, refl, omega (arith, is), more_asked id (turns + 4 + post_first hand) (turns + less) x hand d (omega (arith, none, few)) due)
+
+  pub within_served : 5 ≤ more → post_first hand ≡ 0 → Served_by (IsDueWithin hand d)
+  within_served least none =
+      asks_served hand d first more free since now (IsDueWithin hand d) (within_on hand d) (λ x id turns due. takes_within none x id turns (at_least more least) due) desk es replied started roomy

@@ -1,0 +1,121 @@
+-- A job is posted within its turns, by the law along moves.
+use Rattle.std.specs.Prelude.{IfSome, nat_le, nat_lt, ◌||◌, is_none, option_map}
+use Rattle.std.proofs.Common.{◌≡◌, inl, inr, ◌≤◌, ◌-◌, ℕ, Bool, true, false, List, [], ◌∷◌, ◌++◌, Option, Some, None, refl, sym, ap, ◌∙◌, subst, arith}
+use Rattle.std.proofs.lemmas.Bool.{cases_Bool, eq-eqb, leb-true, ltb-true}
+use Rattle.nvm_core.specs.nv_base.Count.{Rose, last_count}
+use Rattle.nvm_core.specs.nv_base.Entry.{ops_of}
+use Rattle.nvm_core.specs.memif.Clock.{Clock}
+use Rattle.nvm_core.specs.block_machine.Words.{Instance, Mark, Taken, Request, Reply, Entry, Ask, Pick, Wrote, Post, Off, Found, Configuration}
+use Rattle.nvm_core.specs.block_machine.State.{State, Job}
+use Rattle.nvm_core.specs.block_machine.Blocks.{job_block}
+use Rattle.nvm_core.specs.block_machine.Next.{Next, PickJob, BeginSweep, PickMember, next_of}
+use Rattle.nvm_core.specs.block_machine.Steps.{after_from, picked, wrote}
+use Rattle.nvm_core.specs.promise_blocks.Work.{has_risen}
+use Rattle.nvm_core.proofs.job_progress.Asking.{asked_hand}
+use Rattle.promise_run.specs.Turns.{Moment, Move, EachMove, IsMoveMade, IsPostedWithin, PostsPicked, ends, entry_list, fails, is_asked, is_found, is_picked}
+use Rattle.nvm_moves.specs.Along.{Along, Cursor, Frame, left_behind, next_by}
+use Rattle.nvm_moves.specs.Moved.{FitsHand, IsLawful, PostsAt}
+use Rattle.nvm_moves.proofs.AskedBlocks.{ask_leaves_power}
+
+-- COUNTS
+risen_rose : (before behind : ℕ) → before ≤ behind → has_risen before behind ≡ true → Rose before behind
+risen_rose before behind more risen = elim (cases_Bool (nat_lt before behind)) [
+  | inl less ↦ inl (ltb-true before behind less)
+  | inr none ↦ inr (leb-true last_count before (full none), more)
+]
+  where
+    full : (nat_lt before behind) ≡ false → nat_le last_count before ≡ true
+    full none = subst (λ (t : Bool). (t || nat_le last_count before) ≡ true) none risen
+
+-- a request doesn't change the moment
+asked_still : (before : Moment) (m : Move) (caller : ℕ) (r : Request) (reply : Reply) → m.entry ≡ Some (Ask caller r reply) → IsMoveMade before m → m.behind ≡ before
+asked_still before m caller r reply is (inl asks) = asks.1
+asked_still before m caller r reply is (inr turns) = let none : None ≡ Some m.behind.ops = subst (λ (o : Option Entry). IfSome o (λ e. ops_of e ≡ Some m.behind.ops)) is turns.told in absurd (cc none)
+
+never_less : (before : Moment) (m : Move) → IsMoveMade before m → before.faults ≤ m.behind.faults
+never_less before m (inl asks) = let same = ap (λ (n : Moment). n.faults) asks.1 in omega (arith, same)
+never_less before m (inr turns) = turns.faults
+
+-- THE HAND AND THE POWER
+wrote_on : (s : State) (i : Instance) (mark : Mark) (hand : Option Job) → (wrote s i mark hand).off ≡ s.off
+wrote_on s i mark None = refl
+wrote_on s i mark (Some j) = refl
+
+picked_on : (c : Configuration) (s : State) (t : Taken) (next : Next) → (picked c s t next).off ≡ s.off
+picked_on c s t (PickJob j) = refl
+picked_on c s t (BeginSweep sw) = refl
+picked_on c s t (PickMember sw id) = refl
+picked_on c s t next = refl
+
+module _ (f : Frame) (clock : Clock) (k : Cursor) (m : Move) (one : IsLawful f.config clock k m) where
+  abbrev next : State
+  next = after_from f.config k.state (entry_list m.entry)
+
+  -- A JOB IN HAND
+  module _ (ms : List Move) (j : Job) (id n : ℕ) (held : k.state.hand ≡ Some j) (own : job_block j ≡ id) (on : k.state.off ≡ false) (left : k.left ≡ Some n)
+      (later : (i : Job) (n' : ℕ) → next.hand ≡ Some i → job_block i ≡ id → next.off ≡ false → left_behind f k m ≡ Some n' → IsPostedWithin id n' m.behind.faults ms) where
+    abbrev Goal : Type 0
+    Goal = IsPostedWithin id n k.now.faults (m ∷ ms)
+
+    -- a turn that leaves it
+    goes : is_asked m.entry ≡ false → is_found m.entry ≡ false → is_picked m.entry ≡ false → (i : Job) → next.hand ≡ Some i → job_block i ≡ id → next.off ≡ false → Goal
+    goes asked found picked i hand block up = elim (cases_Bool (has_risen k.now.faults m.behind.faults)) [
+      | inl risen ↦ inr (inr (inl (risen_rose k.now.faults m.behind.faults (never_less k.now m one.made) risen)))
+      | inr calm ↦
+          let some : is_none next.hand ≡ false = ap is_none hand in
+          let few = (subst (λ (o : Option ℕ). PostsAt f.config (record k { left = o }) m) left one.posts) asked found picked calm up some in
+          let drops : (has_risen k.now.faults m.behind.faults || (next.off || is_none next.hand)) ≡ false = rw (calm, up, some) refl in
+          let then_ : left_behind f k m ≡ Some (n - 1) = rw (asked, found, picked, drops) (ap (option_map (λ (x : ℕ). x - 1)) left) in inr (inr (inr (inr (inr (few, later i (n - 1) hand block up then_)))))
+    ]
+
+    by : (e : Option Entry) → m.entry ≡ e → Goal
+    by None is =
+        goes (ap is_asked is) (ap is_found is) (ap is_picked is) j (ap (λ (o : Option Entry). (after_from f.config k.state (entry_list o)).hand) is ∙ held) own (ap (λ (o : Option Entry). (after_from f.config k.state (entry_list o)).off) is ∙ on)
+    by (Some (Ask caller r reply)) is =
+        let asked : is_asked m.entry ≡ true = ap is_asked is in
+        let same : m.behind ≡ k.now = asked_still k.now m caller r reply is one.made in
+        let rest = later j n (ap (λ (o : Option Entry). (after_from f.config k.state (entry_list o)).hand) is ∙ asked_hand f.config k.state r reply ∙ held) own
+        (ap (λ (o : Option Entry). (after_from f.config k.state (entry_list o)).off) is ∙ (ask_leaves_power f.config k.state caller r reply).1 ∙ on) (rw asked left) in
+        inr (inl (asked, subst (λ (faults : ℕ). IsPostedWithin id n faults ms) (ap (λ (x : Moment). x.faults) same) rest))
+    by (Some (Pick block kind t ops)) is = inr (inr (inr (inr (inl (ap (ends id) is)))))
+    by (Some (Wrote i mark ops)) is =
+        goes (ap is_asked is) (ap is_found is) (ap is_picked is) (record j { reserved = j.reserved - 1; written = j.written ++ i.index ∷ [] })
+        (ap (λ (o : Option Entry). (after_from f.config k.state (entry_list o)).hand) is ∙ ap (λ (o : Option Job). (wrote k.state i mark o).hand) held) own
+        (ap (λ (o : Option Entry). (after_from f.config k.state (entry_list o)).off) is ∙ wrote_on k.state i mark k.state.hand ∙ on)
+    by (Some (Post block r given refused ops)) is =
+        let fits : IfSome k.state.hand (λ x. job_block x ≡ block) = subst (λ (o : Option Entry). FitsHand k.state o) is one.fits in
+        let same : job_block j ≡ block = subst (λ (o : Option Job). IfSome o (λ x. job_block x ≡ block)) held fits in inr (inr (inr (inr (inl (ap (ends id) is ∙ eq-eqb block id (sym same ∙ own))))))
+    by (Some (Off ops)) is = inr (inr (inr (inl (ap fails is))))
+    by (Some (Found marks ops)) is = inl (ap is_found is)
+
+  -- A PICK
+  picks : is_picked m.entry ≡ true → (e : Option Entry) → m.entry ≡ e → (is_asked m.entry ≡ false) × (is_found m.entry ≡ false) × (next.off ≡ false)
+  picks picked (Some (Pick block kind t ops)) is =
+      let on : k.state.off ≡ false = subst (λ (o : Option Entry). FitsHand k.state o) is one.fits in
+      (ap is_asked is, ap is_found is, ap (λ (o : Option Entry). (after_from f.config k.state (entry_list o)).off) is ∙ picked_on f.config k.state t (next_of f.config k.state) ∙ on)
+  picks picked None is = absurd (none (sym picked ∙ ap is_picked is))
+    where
+      none : true ≡ false → ⊥
+      none e = cc
+  picks picked (Some (Ask caller r reply)) is = absurd (let no_ : true ≡ false = sym picked ∙ ap is_picked is in cc no_)
+  picks picked (Some (Wrote i mark ops)) is = absurd (let no_ : true ≡ false = sym picked ∙ ap is_picked is in cc no_)
+  picks picked (Some (Post block r given refused ops)) is = absurd (let no_ : true ≡ false = sym picked ∙ ap is_picked is in cc no_)
+  picks picked (Some (Off ops)) is = absurd (let no_ : true ≡ false = sym picked ∙ ap is_picked is in cc no_)
+  picks picked (Some (Found marks ops)) is = absurd (let no_ : true ≡ false = sym picked ∙ ap is_picked is in cc no_)
+
+  picked_left : (j : Job) → is_picked m.entry ≡ true → next.hand ≡ Some j → left_behind f k m ≡ Some (f.most next j)
+  picked_left j picked held = let (asked, found, on) = picks picked m.entry refl in rw (asked, found, picked) (ap (option_map (f.most next)) held)
+
+module _ (f : Frame) (clock : Clock) where
+  posted_within : (k : Cursor) (ms : List Move) (j : Job) (id n : ℕ) → k.state.hand ≡ Some j → job_block j ≡ id → k.state.off ≡ false → k.left ≡ Some n → Along f (IsLawful f.config clock) k ms → IsPostedWithin id n k.now.faults ms
+  posted_within k [] j id n held own on left along = tt
+  posted_within k (m ∷ ms) j id n held own on left (one, rest) =
+      by f clock k m one ms j id n held own on left (λ i n' hand block up more. posted_within (next_by f k m) ms i id n' hand block up more rest) m.entry refl
+
+  -- each job that is picked
+  pub posts_picked : (k : Cursor) (ms : List Move) → Along f (IsLawful f.config clock) k ms → EachMove f.config (PostsPicked f.config f.most) k.state ms
+  posts_picked k [] along = tt
+  posts_picked k (m ∷ ms) (one, rest) = (
+    λ picked j held. posted_within (next_by f k m) ms j (job_block j) _ held refl (picks f clock k m one picked m.entry refl).2 (picked_left f clock k m one j picked held) rest,
+    posts_picked (next_by f k m) ms rest,
+  )

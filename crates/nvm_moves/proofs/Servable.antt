@@ -1,0 +1,35 @@
+-- What may go on at a device is ready there.
+use Rattle.std.proofs.Common.{◌≡◌, inl, inr, ℕ, Bool, true, false, Option, refl, sym, ◌∙◌, arith}
+use Rattle.nvm_core.specs.memif.Told.{DeviceTold}
+use Rattle.nvm_core.specs.memif.Clock.{Clock, Seals}
+use Rattle.nvm_core.specs.memif.Calls.{FreesReady, InOrder, pages_urgent}
+use Rattle.nvm_core.specs.memif.Trials.{Lasts}
+use Rattle.nvm_core.specs.nv_desk.Desk.{DeskState, state_of}
+use Rattle.nvm_core.specs.job_progress.Hand.{HandState}
+use Rattle.nvm_core.specs.job_progress.JobInHand.{IsPaired}
+use Rattle.nvm_core.specs.nvm_laws.Traits.{IsSealedSince}
+use Rattle.nvm_moves.specs.Seen.{IsOn}
+use Rattle.nvm_moves.specs.Served.{MayGoOn}
+use Rattle.nvm_moves.proofs.DueAsked.{IsRoomy}
+use Rattle.nvm_moves.proofs.DeviceServed.{not_urgent}
+use Rattle.nvm_moves.proofs.TurnServed.{first_off}
+
+-- where no power cut stands at the device
+pub still_on : (t u : Bool) → u ≡ false → (t ≡ true → u ≡ true) → t ≡ false
+still_on true u on goes = absurd (let P : true ≡ false = sym (goes refl) ∙ on in cc P)
+still_on false u on goes = refl
+
+pub roomy : (since : ℕ) (desk : DeskState) (hand : Option HandState) (d last : DeviceTold) (clock end : Clock) → IsOn desk d → IsSealedSince since d clock → InOrder d clock → FreesReady d clock → IsPaired desk.config (state_of desk) hand d → d.started ≡ true
+    → Lasts d clock last end → IsRoomy (λ n. MayGoOn end d.fixed.reserve since d.ops n) desk.config (state_of desk) d
+roomy since desk hand d last clock end is_on sealed order frees paired up lasts on standard n room =
+    let calm = not_urgent desk.config (state_of desk) hand d paired standard in
+    let first = still_on d.first.off (state_of desk).off on is_on.power in
+    elim room [
+      | inl (free, spare, few) ↦
+          let has = frees up first free (lasts.past.spare d.ops free (omega arith) spare) in
+          let none : pages_urgent d.fixed d.stand ≡ 0 = rw calm refl in omega (arith, has, none, few)
+      | inr (seal, few) ↦
+          let off = first_off d clock order is_on.one ∙ first in
+          let at = seal.is_last in
+          let kept = (sealed off seal.last seal.later at seal.counted (lasts.past.was Seals seal.last (omega (arith, at)) seal.such)).ready calm in omega (arith, kept, few)
+    ]

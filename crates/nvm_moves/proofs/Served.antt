@@ -1,0 +1,50 @@
+-- Urgent writes that are posted soon, over moves behind moves, and by a later clock.
+use Rattle.std.proofs.Common.{◌≤◌, ℕ, Bool, if◌then◌else◌, List, [], ◌∷◌, ◌++◌, inl, inr, arith}
+use Rattle.nvm_core.specs.memif.Told.{DeviceTold}
+use Rattle.nvm_core.specs.memif.Clock.{Clock, Seals}
+use Rattle.nvm_core.specs.memif.Trials.{Lasts}
+use Rattle.nvm_core.specs.block_machine.Words.{Configuration}
+use Rattle.nvm_core.specs.block_machine.State.{State}
+use Rattle.nvm_core.specs.block_machine.Steps.{after_from}
+use Rattle.promise_run.specs.Turns.{Moment, Move, entry_list, entries_of, moment_behind, is_found, found_behind, CountFailed, EachMoveSince, PostsUrgent}
+use Rattle.promise_run.proofs.UrgentPosts.{soon_by, soon_more, urgent_by, urgent_more}
+use Rattle.nvm_moves.specs.Served.{AreServed, MayGoOn}
+
+module _ (more : ℕ) (c : Configuration) (pages : State → ℕ → ℕ) where
+  urgent_as : (free : ℕ → ℕ → ℕ → Type 0) (Q R : Bool → ℕ → ℕ → Type 0) → ((one : Bool) (id turns : ℕ) → Q one id turns → R one id turns) → (since : ℕ) (s : State) (ms : List Move)
+      → EachMoveSince c (PostsUrgent c more pages free (λ id o n. Q o id n)) since s ms → EachMoveSince c (PostsUrgent c more pages free (λ id o n. R o id n)) since s ms
+  urgent_as free Q R goes since s [] all = tt
+  urgent_as free Q R goes since s (m ∷ ms) (one, rest) = (
+    λ id is has. soon_by (λ o n. Q o id n) (λ o n. R o id n) _ id _ m.behind.faults ms (λ o n. goes o id n) (one id is has),
+    urgent_as free Q R goes (if is_found m.entry then m.behind.ops else since) (after_from c s (entry_list m.entry)) ms rest,
+  )
+
+  -- from less, to more
+  pub served_as : (free : ℕ → ℕ → ℕ → Type 0) (P P' Q R : Bool → ℕ → ℕ → Type 0) (since : ℕ) (before : Moment) (s : State) (ms : List Move) → ((one : Bool) (id turns : ℕ) → P' one id turns → P one id turns)
+      → ((one : Bool) (id turns : ℕ) → Q one id turns → R one id turns) → AreServed more c pages free P Q since before s ms → AreServed more c pages free P' R since before s ms
+  served_as free P P' Q R since before s ms from goes served = record {
+    dues = λ one id turns due. soon_by (λ o n. Q o id n) (λ o n. R o id n) one id turns before.faults ms (λ o n. goes o id n) (served.dues one id turns (from one id turns due));
+    urgent = urgent_as free Q R goes since s ms served.urgent;
+  }
+
+  pub served_more : (free : ℕ → ℕ → ℕ → Type 0) (P Q R : Bool → ℕ → ℕ → Type 0) (since : ℕ) (before : Moment) (s : State) (a b : List Move) → AreServed more c pages free P Q since before s a
+      → AreServed more c pages free Q R (found_behind since a) (moment_behind before a) (after_from c s (entries_of a)) b → AreServed more c pages free P R since before s (a ++ b)
+  served_more free P Q R since before s a b one two = record {
+    dues = λ o id n due. soon_more (λ x k. Q x id k) (λ x k. R x id k) o id n before a b (one.dues o id n due) (λ x k. two.dues x id k);
+    urgent = urgent_more c more pages free (λ id o n. Q o id n) (λ id o n. R o id n) since before s a b one.urgent (λ id o n. two.dues o id n) two.urgent;
+  }
+
+  -- what may go on by a later clock may by an earlier one
+  pub served_on : (d d_new : DeviceTold) (clock clock_new : Clock) → Lasts d clock d_new clock_new → (reserve : ℕ) (failed : ℕ → Type 0) (P Q : Bool → ℕ → ℕ → Type 0) (since : ℕ) (before : Moment) (s : State) (ms : List Move)
+      → (moment_behind before ms).ops ≤ d.ops → CountFailed failed before ms → AreServed more c pages (MayGoOn clock reserve) P Q since before s ms → AreServed more c pages (MayGoOn clock_new reserve) P Q since before s ms
+  served_on d d_new clock clock_new lasts reserve failed P Q since before s ms within counts served = record {
+    dues = served.dues;
+    urgent = urgent_by c more pages failed (MayGoOn clock reserve) (MayGoOn clock_new reserve) (λ id o n. Q o id n) (λ id o n. Q o id n) d.ops earlier (λ id o n due. due) since before s ms within counts served.urgent;
+  }
+    where
+      earlier : (from k wanted : ℕ) → k ≤ d.ops → MayGoOn clock_new reserve from k wanted → MayGoOn clock reserve from k wanted
+      earlier from k wanted few (inl (free, spare, fits)) = inl (free, lasts.past.spare k free few spare, fits)
+      earlier from k wanted few (inr (seal, fits)) = inr (
+        record { counted = seal.counted; last = seal.last; is_last = seal.is_last; later = seal.later; such = lasts.past.was Seals seal.last (let last = seal.is_last in omega (arith, last, few)) seal.such },
+        fits,
+      )

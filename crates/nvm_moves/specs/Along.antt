@@ -1,0 +1,55 @@
+-- A law along the moves of one history.
+use Rattle.std.specs.Prelude.{◌≡◌, ◌⊎◌, ◌-◌, ◌||◌, ℕ, if◌then◌else◌, is_none, option_map, List, [], ◌∷◌, Option, None}
+use Rattle.nvm_core.specs.block_machine.Words.{Configuration}
+use Rattle.nvm_core.specs.block_machine.State.{State, Job}
+use Rattle.nvm_core.specs.block_machine.Steps.{after_from}
+use Rattle.nvm_core.specs.promise_blocks.Work.{has_risen}
+use Rattle.promise_run.specs.Turns.{Moment, Move, entry_list, is_asked, is_found, is_picked}
+
+-- What is known where a move comes: the moment, the state, the states since the last turn, behind it and behind each request, the operations
+-- at the last start-up, the faults before the turn of the last Pick, and where nothing came between the turns in which its job is posted.
+pub record Cursor : Type 0 where
+  pub now : Moment
+  pub state : State
+  pub since : List State
+  pub found : ℕ
+  pub picked : ℕ
+  pub left : Option ℕ
+
+-- one of these states
+abbrev pub Among : State → List State → Type 0
+Among s [] = ⊥
+Among s (t ∷ ts) = (t ≡ s) ⊎ Among s ts
+
+-- what never changes: the configuration, and the most turns of a job, in a state in which it is in hand
+pub record Frame : Type 0 where
+  pub config : Configuration
+  pub most : State → Job → ℕ
+
+-- A request is no turn; a Pick has its most; a start-up, a fault, an Off and the Post of the job drop it.
+abbrev pub left_behind : Frame → Cursor → Move → Option ℕ
+left_behind f k m =
+    if is_asked m.entry then k.left else
+    (if is_found m.entry then None else
+    (if is_picked m.entry then option_map (f.most (after_from f.config k.state (entry_list m.entry))) (after_from f.config k.state (entry_list m.entry)).hand else
+    (if has_risen k.now.faults m.behind.faults || ((after_from f.config k.state (entry_list m.entry)).off || is_none (after_from f.config k.state (entry_list m.entry)).hand) then None else
+    option_map (λ n. n - 1) k.left)))
+
+abbrev pub next_by : Frame → Cursor → Move → Cursor
+next_by f k m = record {
+  now = m.behind;
+  state = after_from f.config k.state (entry_list m.entry);
+  since = after_from f.config k.state (entry_list m.entry) ∷ (if is_asked m.entry then k.since else []);
+  found = if is_found m.entry then m.behind.ops else k.found;
+  picked = if is_picked m.entry then k.now.faults else k.picked;
+  left = left_behind f k m;
+}
+
+abbrev pub cursor_behind : Frame → Cursor → List Move → Cursor
+cursor_behind f k [] = k
+cursor_behind f k (m ∷ ms) = cursor_behind f (next_by f k m) ms
+
+-- each move keeps it, where it comes
+abbrev pub Along : Frame → (Cursor → Move → Type 0) → Cursor → List Move → Type 0
+Along f law k [] = Unit {0}
+Along f law k (m ∷ ms) = law k m × Along f law (next_by f k m) ms

@@ -1,0 +1,66 @@
+-- A stack at a moment, all told.
+use Rattle.std.specs.Prelude.{◌≡◌, ℕ, true, false, not, Option}
+use Rattle.std.specs.Option.{option_map_or}
+use Rattle.nvm_core.specs.memif.Told.{DeviceTold, Part, PartTold, Fixed, faults_of, nothing_open}
+use Rattle.nvm_core.specs.memif.Clock.{Clock}
+use Rattle.nvm_core.specs.block_machine.Words.{Configuration}
+use Rattle.nvm_core.specs.block_machine.State.{State}
+use Rattle.nvm_core.specs.nv_desk.Desk.{DeskState, state_of}
+use Rattle.nvm_core.specs.job_progress.Hand.{HandState}
+use Rattle.nvm_core.specs.job_progress.JobInHand.{program_for}
+use Rattle.nvm_core.specs.nvm_figures.Left.{most_turns}
+use Rattle.nvm_core.specs.Work.{left_with}
+use Rattle.nvm_core.specs.DeviceWork.{work_in}
+use Rattle.nvm_core.specs.promise_blocks.Work.{Work}
+use Rattle.promise_run.specs.Turns.{Moment}
+use Rattle.nvm_moves.specs.Along.{Frame}
+
+-- where a turn began that is under way, at the device
+pub record Begun : Type 0 where
+  pub state : State
+  pub hand : Option HandState
+  pub device : DeviceTold
+
+pub record Seen : Type 1 where
+  pub begun : Option Begun
+  pub desk : DeskState
+  pub hand : Option HandState
+  pub device : DeviceTold
+  pub clock : Clock
+  -- what is kept, by what was told before the first start-up
+  pub kept : (Part → PartTold) → Type 0
+  -- what is known of power cuts where urgent writes are served
+  pub uncut : Type 0
+
+-- a device of one part, that is off only where its machine is
+pub record IsOn (desk : DeskState) (d : DeviceTold) : Type 0 where
+  pub one : d.fixed.two ≡ false
+  pub power : d.first.off ≡ true → (state_of desk).off ≡ true
+
+-- The first half of a turn that goes to the device opens something at it, and its move comes only behind its second half: until then what is
+-- open is what was when the turn began.
+abbrev pub device_begun : Option Begun → DeviceTold → DeviceTold
+device_begun o d = option_map_or (λ b. b.device) o d
+
+abbrev pub hand_begun : Option Begun → Option HandState → Option HandState
+hand_begun o h = option_map_or (λ b. b.hand) o h
+
+abbrev pub moment_by : Option Begun → DeviceTold → Moment
+moment_by o d = record { faults = faults_of d; ops = d.ops; busy = not (nothing_open (device_begun o d)) }
+
+abbrev pub moment_seen : Seen → Moment
+moment_seen s = moment_by s.begun s.device
+
+-- the turns that are left of the job in hand, where no fault comes
+abbrev pub left_seen : Seen → ℕ
+left_seen s = left_with (hand_begun s.begun s.hand) (device_begun s.begun s.device)
+
+-- what the device is at
+abbrev pub work_seen : Seen → Work
+work_seen s = work_in (device_begun s.begun s.device)
+
+abbrev pub frame_in : Configuration → Fixed → Frame
+frame_in c f = record { config = c; most = λ t j. most_turns f (program_for c t j) }
+
+abbrev pub frame_of : Seen → Frame
+frame_of s = frame_in s.desk.config s.device.fixed
