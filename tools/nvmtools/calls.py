@@ -10,7 +10,7 @@ from collections import namedtuple
 
 TOP = os.path.dirname(os.path.dirname(os.path.dirname(os.path.abspath(__file__))))
 # where ./nvm couldn't start the program, it says why itself
-NOT_STARTED = (75, 125, 126, 127)
+NOT_STARTED = (125, 126, 127)
 
 
 class Stop(Exception):

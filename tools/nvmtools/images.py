@@ -33,7 +33,7 @@ class Image:
         return not any(self.pages(bank, page))
 
     def is_blank(self, bank, page, count=1):
-        return set(self.pages(bank, page, count)) <= {0xff}
+        return not self.pages(bank, page, count).strip(b"\xff")
 
     def read_bank(self, bank):
         head = self.pages(bank, 0)
