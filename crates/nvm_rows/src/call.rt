@@ -20,6 +20,14 @@ pub struct Called {
     pub reads: u64,
 }
 
+impl Called {
+    /// Whether another call wrote the same, and left the same bytes of its flash.
+    pub fn left_same(&self, other: &Called) -> bool {
+        self.output.as_slice() == other.output.as_slice()
+            && self.flash.as_slice() == other.flash.as_slice()
+    }
+}
+
 /// Calls the command of these words on an input and over a flash of these bytes.
 pub fn call<R: AllocGlobal + Threads + Wait + Sync>(
     rt: &R,
@@ -63,8 +71,6 @@ fn flash_of(
     faults: &Faults,
 ) -> Result<Counted<FaultScript<MemFlash>>, AllocError> {
     let flash = mem_flash(alloc, bytes, 0)?;
-    let flash = FaultScript::make(alloc, flash, &faults.operations, &faults.reads).map_err(
-        AllocError::from,
-    )?;
+    let flash = FaultScript::make(alloc, flash, &faults.operations, &faults.reads)?;
     Ok(Counted::make(flash))
 }

@@ -27,10 +27,15 @@ pub fn show_by_caller<R: Print + AllocGlobal>(rt: &R, text: &[u8]) -> anyhow::Re
 fn show_group<R: Print + AllocGlobal>(rt: &R, text: &str, group: Group) -> anyhow::Result<()> {
     for line in text.split('\n') {
         if !line.is_empty() && group_of(line) == group {
-            let words = without_operations(line);
-            println!(rt; "> {words}")?;
+            show_words(rt, line)?;
         }
     }
+    Ok(())
+}
+
+fn show_words<R: Print + AllocGlobal>(rt: &R, line: &str) -> anyhow::Result<()> {
+    let words = without_operations(line);
+    println!(rt; "> {words}")?;
     Ok(())
 }
 

@@ -1,5 +1,6 @@
 // A worked case, as its lines give it.
 use crate::faults::Faults;
+use crate::lines::add_line;
 use anyhow::{Context, bail};
 use script_soak::Draws;
 use std::alloc::{AllocError, Global};
@@ -106,12 +107,6 @@ impl Case {
     }
 }
 
-fn add_line(text: &mut Vec<u8>, line: &str) -> Result<(), AllocError> {
-    text.extend_from_slice(line.as_bytes())?;
-    text.push(b'\n')?;
-    Ok(())
-}
-
 fn add_words(alloc: Global, words: &mut Vec<String>, rest: &str) -> Result<(), AllocError> {
     for word in rest.split(' ') {
         words.push(String::from_str(alloc, word)?)?;
@@ -123,13 +118,15 @@ fn set_bytes(alloc: Global, flash: &mut [u8], rest: &str) -> anyhow::Result<()> 
     let (address, text) = rest.split_once(' ').context("an address and bytes")?;
     let address = usize::from_str_radix(address, 16).context("an address")?;
     let bytes = hex::decode(alloc, text).ok().context("bytes in hex")?;
+    put(flash, address, &bytes).context("no byte of the flash")
+}
+
+// Puts bytes into a flash from an address on, as far as it goes; None where it ends before them.
+fn put(flash: &mut [u8], address: usize, bytes: &[u8]) -> Option<()> {
     for (i, byte) in bytes.iter().enumerate() {
-        match flash.get_mut(address.saturating_add(i)) {
-            Some(place) => *place = *byte,
-            None => bail!("no byte of the flash"),
-        }
+        *flash.get_mut(address.saturating_add(i))? = *byte;
     }
-    Ok(())
+    Some(())
 }
 
 fn number(text: &str) -> anyhow::Result<u64> {

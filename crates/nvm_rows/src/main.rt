@@ -32,7 +32,7 @@ use case::Case;
 use everywhere::try_everywhere;
 use judged::show_judged;
 use plain::show_plain;
-use show::{show_flash, show_text};
+use show::{same_or_not, show_flash, show_text};
 use stack::show_stack;
 use std::io::{BufRead, BufReader};
 use std::sync::Wait;
@@ -91,13 +91,8 @@ fn show_again<R: Print + AllocGlobal + Threads + Wait + Sync>(
     called: &Called,
 ) -> anyhow::Result<()> {
     let again = call(rt, &case.words, &case.input, &case.flash, &case.faults)?;
-    let is_same = again.output.as_slice() == called.output.as_slice()
-        && again.flash.as_slice() == called.flash.as_slice();
-    if is_same && again.status == called.status {
-        println!(rt; "again the same")?;
-    } else {
-        println!(rt; "again something else")?;
-    }
+    let what = same_or_not(again.status == called.status && again.left_same(called));
+    println!(rt; "again {what}")?;
     Ok(())
 }
 
@@ -105,20 +100,28 @@ fn run_all<R: Print + AllocGlobal + Input + Threads + Wait + Sync>(rt: &R) -> an
     let alloc = rt.alloc();
     let mut case: Option<Case> = None;
     for (i, line) in BufReader::new(alloc, rt.reader())?.lines(alloc).enumerate() {
-        let line = line?;
-        let line = line.as_str();
-        if let Some(name) = line.strip_prefix("case ") {
-            if let Some(case) = case.replace(Case::named(alloc, name)?) {
-                run(rt, &case)?;
-            }
-        } else if !line.is_empty() && !line.starts_with('#') {
-            let case = case.as_mut().context("a case begins with its name")?;
-            case.add(alloc, line)
-                .context(format_args!("the line behind {i}"))?;
-        }
+        take_line(rt, &mut case, line?.as_str()).context(format_args!("the line behind {i}"))?;
     }
-    if let Some(case) = case {
-        run(rt, &case)?;
+    if let Some(case) = &case {
+        run(rt, case)?;
+    }
+    Ok(())
+}
+
+// Adds a line to the case that it belongs to. Where another case begins with it, the one before is run.
+fn take_line<R: Print + AllocGlobal + Threads + Wait + Sync>(
+    rt: &R,
+    case: &mut Option<Case>,
+    line: &str,
+) -> anyhow::Result<()> {
+    if let Some(name) = line.strip_prefix("case ") {
+        if let Some(case) = case {
+            run(rt, case)?;
+        }
+        *case = Some(Case::named(rt.alloc(), name)?);
+    } else if !line.is_empty() && !line.starts_with('#') {
+        let case = case.as_mut().context("a case begins with its name")?;
+        case.add(rt.alloc(), line)?;
     }
     Ok(())
 }

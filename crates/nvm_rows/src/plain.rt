@@ -1,7 +1,7 @@
 // A script over a device in memory.
 use crate::call::Called;
 use crate::case::Case;
-use crate::lines::without_operations;
+use crate::lines::{is_newline, without_operations};
 use crate::memory::play_in_memory;
 use std::alloc::{AllocError, AllocGlobal, Global};
 
@@ -23,11 +23,16 @@ pub fn show_plain<R: Print + AllocGlobal>(
             continue;
         }
         let (other, more) = next_line(printed);
-        let words = without_operations(line);
-        let mark = if words == other { "=" } else { "~" };
-        println!(rt; "{mark} {words}")?;
+        show_beside(rt, without_operations(line), other)?;
         printed = more;
     }
+    Ok(())
+}
+
+// An entry in memory, beside the words of the one that the call printed.
+fn show_beside<R: Print + AllocGlobal>(rt: &R, words: &str, other: &str) -> anyhow::Result<()> {
+    let mark = if words == other { "=" } else { "~" };
+    println!(rt; "{mark} {words}")?;
     Ok(())
 }
 
@@ -46,7 +51,7 @@ fn steps_in_memory(alloc: Global, input: &[u8], turns: &[u64]) -> Result<Vec<u8>
     let mut text = Vec::new(alloc);
     let mut turns = turns;
     let mut is_cut = false;
-    for line in input.split_inclusive(|byte| *byte == b'\n') {
+    for line in input.split_inclusive(is_newline) {
         if line.starts_with(b"cut ") {
             is_cut = true;
             continue;

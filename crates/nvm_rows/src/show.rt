@@ -1,9 +1,18 @@
 // How what a case wrote and left is printed.
+use crate::lines::is_newline;
 use std::alloc::AllocGlobal;
+
+/// How it is said whether something came out the same.
+pub fn same_or_not(is_same: bool) -> &'static str {
+    if is_same {
+        return "the same";
+    }
+    "something else"
+}
 
 /// The lines of a text, each behind `> `; a last one without its newline behind `>. `.
 pub fn show_text<R: Print + AllocGlobal>(rt: &R, text: &[u8]) -> anyhow::Result<()> {
-    for line in text.split_inclusive(|byte| *byte == b'\n') {
+    for line in text.split_inclusive(is_newline) {
         show_line(rt, line)?;
     }
     Ok(())

@@ -1,4 +1,5 @@
 // Where in an input a power cut can be planned.
+use crate::lines::{add_line, is_newline};
 use std::alloc::{AllocError, Global};
 
 /// A place behind a line, from 1, where a plan of a power cut can stand, and where the steps end that it reaches: at the
@@ -14,7 +15,7 @@ pub struct Spot {
 pub fn spots(alloc: Global, input: &[u8]) -> Result<Vec<Spot>, AllocError> {
     let mut spots: Vec<Spot> = Vec::new(alloc);
     let mut start: usize = 0;
-    for (i, line) in input.split_inclusive(|byte| *byte == b'\n').enumerate() {
+    for (i, line) in input.split_inclusive(is_newline).enumerate() {
         let at = start.saturating_add(line.len());
         if i == 0 || ends_a_plan(line) {
             if let Some(last) = spots.last_mut() {
@@ -58,9 +59,8 @@ pub fn with_plan(
 pub fn with_line(alloc: Global, input: &[u8], line: &str) -> Result<Vec<u8>, AllocError> {
     let mut text = input.to_vec(alloc)?;
     if !text.ends_with(b"\n") {
-        text.push(b'\n').map_err(AllocError::from)?;
+        text.push(b'\n')?;
     }
-    text.extend_from_slice(line.as_bytes())?;
-    text.push(b'\n').map_err(AllocError::from)?;
+    add_line(&mut text, line)?;
     Ok(text)
 }

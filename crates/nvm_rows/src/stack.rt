@@ -4,6 +4,7 @@ ghost use Rattle.nvm_top.specs.nvm_flash.Made.{IsOrigin};
 
 use crate::call::Called;
 use crate::case::Case;
+use crate::show::same_or_not;
 use anyhow::{Context, bail};
 use fls_model::{MemFlash, mem_flash};
 use nv_base::{Bytes, Request};
@@ -36,11 +37,8 @@ pub fn show_stack<R: Print + AllocGlobal>(
     let (text, flash) = made.context("a step isn't made on a stack")?;
     let is_same = text.as_slice() == called.output.as_slice()
         && flash.bytes() == called.flash.as_slice();
-    if is_same {
-        println!(rt; "on a stack the same")?;
-    } else {
-        println!(rt; "on a stack something else")?;
-    }
+    let what = same_or_not(is_same);
+    println!(rt; "on a stack {what}")?;
     Ok(())
 }
 
