@@ -1,0 +1,10 @@
+pub mod Heads
+pub mod SoundHeads
+pub mod Standing
+pub mod Torn
+pub mod Pieces
+pub mod Bodies
+pub mod Reach
+pub mod Done
+pub mod Soundness
+pub mod Holds
