@@ -129,7 +129,8 @@ fn put(flash: &mut [u8], address: usize, bytes: &[u8]) -> Option<()> {
     Some(())
 }
 
-fn number(text: &str) -> anyhow::Result<u64> {
+/// The number that a text is.
+pub fn number(text: &str) -> anyhow::Result<u64> {
     text.parse::<u64>().context("a number")
 }
 

@@ -11,19 +11,19 @@ pub fn same_or_not(is_same: bool) -> &'static str {
 }
 
 /// The lines of a text, each behind `> `; a last one without its newline behind `>. `.
-pub fn show_text<R: Print + AllocGlobal>(rt: &R, text: &[u8]) -> anyhow::Result<()> {
+pub fn show_text<R: Print>(rt: &R, text: &[u8]) -> anyhow::Result<()> {
     for line in text.split_inclusive(is_newline) {
         show_line(rt, line)?;
     }
     Ok(())
 }
 
-fn show_line<R: Print + AllocGlobal>(rt: &R, line: &[u8]) -> anyhow::Result<()> {
+fn show_line<R: Print>(rt: &R, line: &[u8]) -> anyhow::Result<()> {
     let (mark, line) = match line.strip_suffix(b"\n") {
         Some(line) => (">", line),
         None => (">.", line),
     };
-    let line = String::from_utf8_lossy(rt.alloc(), line)?;
+    let line = str::from_utf8(line)?;
     println!(rt; "{mark} {line}")?;
     Ok(())
 }

@@ -3,7 +3,7 @@ ghost use Rattle.std.specs.Prelude.{◌≡◌, true};
 ghost use Rattle.nvm_top.specs.nvm_flash.Made.{IsOrigin};
 
 use crate::call::Called;
-use crate::case::Case;
+use crate::case::{Case, number};
 use crate::show::same_or_not;
 use anyhow::{Context, bail};
 use fls_model::{MemFlash, mem_flash};
@@ -44,8 +44,8 @@ pub fn show_stack<R: Print + AllocGlobal>(
 
 // The steps of these words.
 fn drawn(alloc: Global, config: &Config, seed: &str, count: &str) -> anyhow::Result<StepList> {
-    let seed = seed.parse::<u32>().context("a seed")?;
-    let count = count.parse::<u32>().context("a count")?;
+    let seed = u32::try_from(number(seed)?).context("a seed")?;
+    let count = u32::try_from(number(count)?).context("a count")?;
     if count == u32::MAX {
         bail!("too many rounds");
     }
