@@ -3,15 +3,11 @@
 #include "nvm_c.h"
 #include <string.h>
 
-/* The history has at most 100,000 entries. From here on a new one is begun, at the first moment at which nothing is to be done. */
-enum { LONG_HISTORY = 60000 };
-enum { TURN_IDLE = 0, TURN_POSTED = 3, TURN_OFF = 4 };
-enum { NO_RESULT = 0xFF };
+enum { TURN_POSTED = 3, TURN_OFF = 4 };
 
 typedef struct {
     void *destination;  /* where what a job gives goes */
-    uint8_t is_pending, to_ram, changed, locked, is_protection_set, protection, index;
-    uint8_t saved;      /* the status from before a new history, or NO_RESULT */
+    uint8_t is_pending, to_ram, changed;
 } block_state;
 
 static nvm_handle unit;
@@ -24,20 +20,18 @@ static const NvM_BlockType *block_of(NvM_BlockIdType id) {
 }
 
 static void forget_jobs(void) {
-    for (unsigned id = 0; id < NVM_MOST_BLOCKS + 2; id++) states[id] = (block_state){ .saved = NO_RESULT };
-}
-
-static uint8_t open_over(nvm_memory flash) {
-    nvm_memory back = {0};
-    return nvm_open(&unit, (const uint8_t *)config.text, strlen(config.text), flash, config.cuts, &back);
+    for (unsigned id = 0; id < NVM_MOST_BLOCKS + 2; id++) states[id] = (block_state){0};
 }
 
 void NvM_Init(const NvM_ConfigType *of) {
+    nvm_memory back = {0};
     if (fault == NVM_SIM_UP) return;
     config = *of;
     forget_jobs();
     is_off = 0;
-    fault = config.count > NVM_MOST_BLOCKS ? NVM_SIM_BAD_CONFIG : open_over((nvm_memory){ config.flash, config.size });
+    fault = NVM_SIM_BAD_CONFIG;
+    if (config.count > NVM_MOST_BLOCKS) return;
+    fault = nvm_open(&unit, (const uint8_t *)config.text, strlen(config.text), (nvm_memory){ config.flash, config.size }, config.cuts, &back);
 }
 
 void NvM_SimClose(void) {
@@ -69,7 +63,6 @@ static Std_ReturnType ask_job(uint8_t service, NvM_BlockIdType id, const void *c
     states[id].is_pending = 1;
     states[id].destination = destination;
     states[id].to_ram = to_ram;
-    states[id].saved = NO_RESULT;
     return E_OK;
 }
 
@@ -89,17 +82,12 @@ static int gives(NvM_RequestResultType result) {
     return result == NVM_REQ_OK || result == NVM_REQ_REDUNDANCY_FAILED || result == NVM_REQ_RESTORED_FROM_ROM;
 }
 
-static void ask_all(uint8_t service) {
-    if (ask_job(service, 0, NULL, 0, NULL, service == NVM_READ_ALL) != E_OK) return;
-    for (unsigned id = 0; id < config.count + 2u; id++) states[id].saved = NO_RESULT;
-}
-
-void NvM_ReadAll(void) { ask_all(NVM_READ_ALL); }
+void NvM_ReadAll(void) { ask_job(NVM_READ_ALL, 0, NULL, 0, NULL, 1); }
 
 void NvM_WriteAll(void) {
     for (unsigned id = 2; id < config.count + 2u; id++)
         if (states[id].changed) put_ram((NvM_BlockIdType)id);
-    ask_all(NVM_WRITE_ALL);
+    ask_job(NVM_WRITE_ALL, 0, NULL, 0, NULL, 0);
 }
 
 void NvM_CancelWriteAll(void) { ask(NVM_CANCEL_WRITE_ALL, 0, 0, NULL, 0, NULL); }
@@ -124,22 +112,17 @@ Std_ReturnType NvM_EraseNvBlock(NvM_BlockIdType id) { return ask_job(NVM_ERASE_N
 Std_ReturnType NvM_InvalidateNvBlock(NvM_BlockIdType id) { return ask_job(NVM_INVALIDATE_NV_BLOCK, id, NULL, 0, NULL, 0); }
 
 Std_ReturnType NvM_SetDataIndex(NvM_BlockIdType id, uint8_t index) {
-    if (ask(NVM_SET_DATA_INDEX, id, index, NULL, 0, NULL) != E_OK) return E_NOT_OK;
-    states[id].index = index;
-    return E_OK;
+    return ask(NVM_SET_DATA_INDEX, id, index, NULL, 0, NULL);
 }
 
 Std_ReturnType NvM_GetDataIndex(NvM_BlockIdType id, uint8_t *index) { return ask(NVM_GET_DATA_INDEX, id, 0, NULL, 0, index); }
 
 Std_ReturnType NvM_SetBlockProtection(NvM_BlockIdType id, uint8_t on) {
-    if (ask(NVM_SET_BLOCK_PROTECTION, id, on, NULL, 0, NULL) != E_OK) return E_NOT_OK;
-    states[id].is_protection_set = 1;
-    states[id].protection = on;
-    return E_OK;
+    return ask(NVM_SET_BLOCK_PROTECTION, id, on, NULL, 0, NULL);
 }
 
 void NvM_SetBlockLockStatus(NvM_BlockIdType id, uint8_t on) {
-    if (ask(NVM_SET_BLOCK_LOCK_STATUS, id, on, NULL, 0, NULL) == E_OK) states[id].locked = on;
+    ask(NVM_SET_BLOCK_LOCK_STATUS, id, on, NULL, 0, NULL);
 }
 
 Std_ReturnType NvM_SetRamBlockStatus(NvM_BlockIdType id, uint8_t changed) {
@@ -151,7 +134,7 @@ Std_ReturnType NvM_SetRamBlockStatus(NvM_BlockIdType id, uint8_t changed) {
 
 Std_ReturnType NvM_GetErrorStatus(NvM_BlockIdType id, NvM_RequestResultType *result) {
     if (fault != NVM_SIM_UP || id >= config.count + 2u) return E_NOT_OK;
-    *result = states[id].saved != NO_RESULT ? states[id].saved : nvm_status(&unit, id);
+    *result = nvm_status(&unit, id);
     return E_OK;
 }
 
@@ -184,31 +167,12 @@ static void end_jobs(void) {
     }
 }
 
-/* A new history over the same flash: the unit is closed and opened, and has its settings again. What begins anew there stays as it was
-   for the callers: the statuses are kept, and locks, protections and indices are asked for again. */
-static void renew(void) {
-    nvm_memory back = {0};
-    for (unsigned id = 0; id < config.count + 2u; id++)
-        if (states[id].saved == NO_RESULT) states[id].saved = nvm_status(&unit, (NvM_BlockIdType)id);
-    nvm_close(&unit, &back);
-    fault = open_over(back);
-    if (fault != NVM_SIM_UP) return;
-    for (unsigned id = 2; id < config.count + 2u; id++) {
-        NvM_BlockIdType block = (NvM_BlockIdType)id;
-        if (states[id].index) ask(NVM_SET_DATA_INDEX, block, states[id].index, NULL, 0, NULL);
-        if (states[id].is_protection_set) ask(NVM_SET_BLOCK_PROTECTION, block, states[id].protection, NULL, 0, NULL);
-        if (states[id].changed && put_ram(block) == E_OK) ask(NVM_SET_RAM_BLOCK_STATUS, block, 1, NULL, 0, NULL);
-        if (states[id].locked) ask(NVM_SET_BLOCK_LOCK_STATUS, block, 1, NULL, 0, NULL);
-    }
-}
-
 void NvM_MainFunction(void) {
     uint8_t turned;
     if (fault != NVM_SIM_UP) return;
     turned = nvm_turn(&unit);
     is_off = turned == TURN_OFF;
     if (turned == TURN_POSTED) end_jobs();
-    if (turned == TURN_IDLE && nvm_entries(&unit) > LONG_HISTORY) renew();
 }
 
 Std_ReturnType NvM_SimCut(uint32_t nth, uint32_t keep) {

@@ -4,5 +4,6 @@ pub mod Desk
 pub mod Driver
 pub mod Members
 pub mod Picks
+pub mod Recorder
 pub mod Rooms
 pub mod Sound

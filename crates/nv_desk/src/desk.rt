@@ -1,12 +1,14 @@
 // The desk.
-ghost use Rattle.std.specs.Prelude.{◌≡◌, IfOk};
+ghost use Rattle.std.specs.Prelude.{◌≡◌, ◌≤◌, ◌-◌, true, length, slice_get, option_copied, IfOk};
 ghost use Rattle.nv_desk.specs.Desk.{first_desk};
+ghost use Rattle.nv_desk.specs.Recorder.{keeps};
 
 use crate::longest::longest_content;
 use crate::memory::take_memory;
+use crate::recorder::Recorder;
 use crate::rooms::Rooms;
 use block_machine::block_config::Config;
-use block_machine::nv_base::History;
+use block_machine::nv_base::{Entry, History};
 use nv_desk_state::{Kept, sweep_share};
 use std::alloc::{AllocError, Global};
 use std::marker::Model;
@@ -16,7 +18,7 @@ use std::marker::Model;
 #[derive(Drop)]
 pub struct Desk {
     pub(crate) config: Config,
-    pub(crate) history: History,
+    pub(crate) history: Recorder,
     pub(crate) kept: Kept,
     pub(crate) rooms: Rooms,
     pub(crate) prepared: u32,
@@ -42,7 +44,7 @@ impl Desk {
     {
         let kept = Kept::make(alloc, &config)?;
         let mut rooms = Rooms::new(alloc, longest_content(&config));
-        let mut history = History::make(alloc, cap);
+        let mut history = Recorder::make(alloc, cap);
         take_memory(alloc, &mut history, &mut rooms, 1)?;
         let read_share = sweep_share(&config, false);
         let write_share = sweep_share(&config, true);
@@ -57,11 +59,34 @@ impl Desk {
         })
     }
 
-    /// The history so far.
+    /// How many entries there are.
+    pub fn len(&self) -> u32
+        ensures count { result ≡ length self.now.entries }
+        ensures within { length self.now.entries ≤ self.now.cap }
+    {
+        self.history.len()
+    }
+
+    /// The last entry, if there is one.
+    pub fn last(&self) -> Option<&Entry>
+        ensures { option_copied result ≡ slice_get self.now.entries (length self.now.entries - 1) }
+    {
+        self.history.last()
+    }
+
+    /// Whether it keeps all entries: one of fewer than 2^32 - 1 does.
+    pub fn keeps_entries(&self) -> bool
+        ensures { result ≡ keeps self.now.cap }
+    {
+        self.history.keeps_entries()
+    }
+
+    /// The history so far, of a desk that keeps all entries.
     pub fn history(&self) -> &History
+        requires kept { keeps self.now.cap ≡ true }
         ensures entries { result.now.entries ≡ self.now.entries }
         ensures cap { result.now.cap ≡ self.now.cap }
     {
-        &self.history
+        self.history.history()
     }
 }

@@ -10,8 +10,9 @@ ghost use Rattle.nv_desk.specs.Rooms.{CanPost, with_entry};
 
 use crate::Desk;
 use crate::memory::add;
+use crate::recorder::Recorder;
 use crate::rooms::Rooms;
-use block_machine::nv_base::{Bytes, Entry, History, Instance, JobKind, Mark, ReqResult};
+use block_machine::nv_base::{Bytes, Entry, Instance, JobKind, Mark, ReqResult};
 use job_pending::PendingJobs;
 
 impl Desk {
@@ -59,7 +60,7 @@ impl Desk {
 
 /// Adds a Post, with what it gives as bytes of its own.
 pub fn add_post(
-    history: &mut History,
+    history: &mut Recorder,
     rooms: &mut Rooms,
     block: u16,
     answer: ReqResult,

@@ -2,15 +2,16 @@
 ghost use Rattle.std.specs.Prelude.{◌≡◌, ◌≤◌, ◌<◌, ◌^◌, ◌+◌, ◌*◌, OnOk};
 ghost use Rattle.nv_desk.specs.Rooms.{HasPlace, with_entry};
 
+use crate::recorder::Recorder;
 use crate::rooms::Rooms;
-use block_machine::nv_base::{Entry, History};
+use block_machine::nv_base::Entry;
 use std::alloc::{AllocError, Global};
 
 /// Takes the memory of one entry now, of so many that are reserved, and of two contents with each of those. What was taken
 /// stays also where not all was found.
 pub fn take_memory(
     alloc: Global,
-    history: &mut History,
+    history: &mut Recorder,
     rooms: &mut Rooms,
     reserved: u32,
 ) -> Result<(), AllocError>
@@ -28,7 +29,7 @@ pub fn take_memory(
 }
 
 /// Adds an entry that memory was taken for.
-pub fn add(history: &mut History, entry: Entry)
+pub fn add(history: &mut Recorder, entry: Entry)
     requires { HasPlace history.old }
     ensures { history.new ≡ with_entry history.old entry }
 {

@@ -10,8 +10,9 @@ ghost use Rattle.nv_desk.specs.Rooms.{HasPlace, with_entry};
 
 use crate::Desk;
 use crate::memory::add;
+use crate::recorder::Recorder;
 use crate::rooms::Rooms;
-use block_machine::nv_base::{Bytes, Entry, History, JobKind, Taken};
+use block_machine::nv_base::{Bytes, Entry, JobKind, Taken};
 use job_pending::{Job, Take};
 
 impl Desk {
@@ -38,7 +39,7 @@ impl Desk {
 }
 
 /// Adds a Pick.
-pub fn add_pick(history: &mut History, block: u16, job: JobKind, taken: Taken, ops: u64)
+pub fn add_pick(history: &mut Recorder, block: u16, job: JobKind, taken: Taken, ops: u64)
     requires { HasPlace history.old }
     ensures { history.new ≡ with_entry history.old (Entry.Pick block job taken ops) }
 {

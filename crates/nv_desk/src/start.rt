@@ -1,9 +1,11 @@
 // Start-ups.
-ghost use Rattle.std.specs.Prelude.{◌≡◌, ◌≤◌, ◌+◌, ◌++◌, ◌∷◌, ◌↔◌, [], length, IsTrue, IfOk, OnOk, OnErr};
+ghost use Rattle.std.specs.Prelude.{◌≡◌, ◌≤◌, ◌+◌, ◌++◌, ◌∷◌, ◌↔◌, [], length, IsTrue, true, IfOk, OnOk, OnErr};
 ghost use Rattle.nv_desk.specs.Desk.{first_desk, state_of};
+ghost use Rattle.nv_desk.specs.Recorder.{keeps};
 
 use crate::Desk;
 use crate::memory::take_memory;
+use crate::recorder::Recorder;
 use block_machine::nv_base::{Entry, History, Marks};
 use std::alloc::{AllocError, Global};
 use std::mem;
@@ -26,21 +28,21 @@ impl Desk {
         Ok(())
     }
 
-    /// Hands the history out, and begins an empty one, as before the first start-up, with the memory of that start-up's entry and
+    /// Hands the history out, with the entries where they are kept, and begins an empty one, as before the first start-up, with the memory of that start-up's entry and
     /// of an Off behind it. What was pending is gone. At Err nothing changed.
     #[tactic(auto, using(crate::proofs::Entries::memory_kept))]
     pub fn hand_out(&mut self, alloc: Global) -> Result<History, AllocError>
         requires started { IsTrue (state_of self.old).started }
-        ensures history { IfOk result (λ h. h.entries ≡ self.old.entries) }
+        ensures history { IfOk result (λ h. keeps self.old.cap ≡ true → h.entries ≡ self.old.entries) }
         ensures ok { OnOk result (self.new ≡ first_desk self.old.config self.old.cap) }
         ensures fits { OnOk result (2 ≤ self.old.cap) }
         ensures err { OnErr result (self.new ≡ self.old) }
     {
-        let mut history = History::make(alloc, self.history.cap());
+        let mut history = Recorder::make(alloc, self.history.cap());
         take_memory(alloc, &mut history, &mut self.rooms, 1)?;
         self.kept.forget();
         self.prepared = 0;
-        Ok(mem::replace(&mut self.history, history))
+        Ok(mem::replace(&mut self.history, history).into_history())
     }
 
     /// A start-up found these marks: what was pending is gone. It takes no memory, since that was taken with no entry since.

@@ -1,5 +1,5 @@
 // The front.
-ghost use Rattle.std.specs.Prelude.{◌≡◌, ℕ, [], length, get_or, slice_set, IfOk, Some, None, option_copied};
+ghost use Rattle.std.specs.Prelude.{◌≡◌, ◌-◌, ℕ, [], length, get_or, slice_set, IfOk, Some, None, option_copied};
 ghost use Rattle.block_machine.specs.State.{Job as MachineJob};
 ghost use Rattle.block_machine.specs.Blocks.{job_block, names_ram};
 ghost use Rattle.block_machine.specs.Next.{next_of};
@@ -89,7 +89,7 @@ impl Front {
         ensures stays { CopiesStay C.told C.is_store C.over copies.old copies.new }
         ensures synchronized { AreSynchronized self.old.desk.config (C.told copies.new) }
     {
-        let number = self.desk.history().len();
+        let number = self.desk.len();
         let read = post(
             &mut self.desk,
             &mut self.staging,
@@ -131,11 +131,11 @@ impl Front {
         self.unread.take(block)
     }
 
-    /// What the Post with a number gave, if it gave something.
-    pub fn given(&self, number: u32) -> Option<&[u8]>
-        ensures { option_copied result ≡ given_at self.now.desk.entries number }
+    /// What the last entry gave, where that is a Post that gave something.
+    pub fn last_given(&self) -> Option<&[u8]>
+        ensures { option_copied result ≡ given_at self.now.desk.entries (length self.now.desk.entries - 1) }
     {
-        match self.desk.history().entry(number) {
+        match self.desk.last() {
             Some(
                 Entry::Post {
                     given: Some(bytes),

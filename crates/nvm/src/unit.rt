@@ -1,11 +1,13 @@
 // A unit over a flash.
 ghost use Rattle.std.specs.Prelude.{◌≡◌, true, IfErr, OnErr, OnOk};
+ghost use Rattle.nvm_flash.specs.nv_desk.Recorder.{endless};
 ghost use Rattle.nvm_flash.specs.Made.{ComesBack, IsOrigin};
 
 use nvm_flash::block_config::Config;
 use nvm_flash::fee_core::Origin;
 use nvm_flash::fls_model::Flash;
 use nvm_flash::memif::MemDevice;
+use nvm_flash::nv_desk::ENDLESS;
 use nvm_flash::nvm_core::Stack;
 use nvm_flash::ram_blocks::PlainSync;
 use nvm_flash::{FlashStack, MakeFault, give_back, make_stack, start_stack};
@@ -20,9 +22,10 @@ pub trait Unit {
     /// What one run makes of it: the unit before it and behind it.
     ghost ran: { Self → Self → Type 0 };
 
-    /// Runs over a stack that is up: its first start-up stands.
+    /// Runs over a stack that is up: its first start-up stands. It has room for as many entries as can be counted, and keeps the last one.
     fn run<D: MemDevice>(&mut self, alloc: Global, stack: &mut UnitStack<D>)
-        requires { stack.old.ready ≡ true }
+        requires ready { stack.old.ready ≡ true }
+        requires most { stack.old.desk.cap ≡ endless }
         ensures { ran self.old self.new };
 }
 
@@ -55,7 +58,7 @@ fn run_over<F: Flash, U: Unit, O: Origin>(
     ensures stopped { IfErr result (λ e. ComesBack config e.0 (F.told flash) (F.told e.1)) }
     ensures untouched { OnErr result (unit.new ≡ unit.old) }
 {
-    match make_stack::<F, O>(alloc, config, flash, cuts) {
+    match make_stack::<F, O>(alloc, config, flash, cuts, ENDLESS) {
         Ok(made) => match start_stack(made) {
             Ok(started) => Ok(switch_off(alloc, started, unit)),
             Err(stopped) => Err(stopped),
@@ -70,7 +73,8 @@ fn switch_off<F: Flash, U: Unit, O: Origin>(
     stack: FlashStack<F, O>,
     unit: &mut U,
 ) -> F
-    requires { stack.ready ≡ true }
+    requires ready { stack.ready ≡ true }
+    requires most { stack.desk.cap ≡ endless }
     ensures { U.ran unit.old unit.new }
 {
     let mut stack = stack;

@@ -24,6 +24,7 @@ use Rattle.nvm.specs.nvm_flash.promise_run.Promise.{making_of}
 use Rattle.nvm.specs.nvm_flash.promise_run.Halves.{beyond_end}
 use Rattle.nvm.specs.nvm_flash.job_progress.Hand.{HandState}
 use Rattle.nvm.specs.nv_desk.Desk.{DeskState}
+use Rattle.nvm.specs.nv_desk.Recorder.{endless}
 use Rattle.nvm.proofs.nvm_flash.FirstStart.{begins_up, told_bridge}
 use Rattle.nvm.proofs.nvm_flash.nvm_device_laws.DownCalls.{over_with}
 use Rattle.nvm.proofs.nvm_flash.promise_device.Readings.{sound_starts_compute}
@@ -39,12 +40,12 @@ use Rattle.script_player.specs.Told.{StackTold}
 use Rattle.nvm_c.specs.Unit.{UnitState, CameBack, Closes, IsUnit, run_of, unit_told}
 
 -- THE FIRST START-UP
-pub is_unit : (making : Making) (entry : Told) (m s : UnitState) → IsMadeStack m.desk.config making entry m → BeginsKept (told_of m.device) (told_clock m.device) → InOrder (told_of m.device) (told_clock m.device)
+pub is_unit : (making : Making) (entry : Told) (m s : UnitState) → IsMadeStack m.desk.config m.desk.cap making entry m → m.desk.cap ≡ endless → BeginsKept (told_of m.device) (told_clock m.device) → InOrder (told_of m.device) (told_clock m.device)
     → StartsUp told_of m s → StartsKeep found.Ready m.desk (told_of m.device) (told_clock m.device) s.desk (told_of s.device) (told_clock s.device)
     → (inner : Told) (cuts : ℕ) → IsLegalConfig m.desk.config → IsOrigin m.desk.config inner cuts making entry → IsUnit making entry true s
-is_unit making entry m s made begins order starts keeps inner cuts legal origin = record {
+is_unit making entry m s made most begins order starts keeps inner cuts legal origin = record {
   made_for = origin.made_for ∙ ap (λ x. making_of x.desk.config) (sym starts.only);
-  most = ap (λ x. x.desk.cap) starts.only ∙ ap (λ x. x.desk.cap) made.only;
+  most = ap (λ x. x.desk.cap) starts.only ∙ most;
   is_up = ap (λ x. x.ready) starts.only;
   kept =
       subst (λ (b : Bool). IsKept b (one_part (part_at entry)) s.desk s.hand (told_of s.device) (told_clock s.device)) (sym (ap (λ x. x.ready) starts.only))
@@ -77,15 +78,15 @@ closes inner cuts making entry exit up s bytes unit origin at_exit back = record
   operations = back.operations;
   early = λ course end cutter told.
       begins_well (told_clock s.device) (run_of s inner exit back.operations course end) (part_at entry) (told_of s.device)
-      (subst (λ (n : ℕ). KeepsEarly s.desk.config n s.desk.entries (told_clock s.device)) unit.most (early_of s.ready (one_part (part_at entry)) s.desk s.hand s.device unit.kept (back.bridges.tells told)))
+      (early_of s.ready (one_part (part_at entry)) s.desk s.hand s.device unit.kept (back.bridges.tells told))
       (by_course course cutter) told;
   promise = λ told sound course end cutter order refusals off.
       halves_make_the_promise (told_clock s.device) (run_of s inner exit back.operations course end) (one_part (part_at entry)) (told_of s.device)
       (record {
         alone = refl;
         order = order;
-        over = subst (λ (n : ℕ). KeepsOver s.desk.config n s.desk.entries (one_part (part_at entry)) (told_of s.device) (told_clock s.device)) unit.most (over_of s.ready (one_part (part_at entry)) s.desk s.hand s.device unit.kept
-            (back.bridges.slots told (sound_starts_compute (making_of s.desk.config) (record { entry = inner; exit = exit; operations = back.operations }) sound)));
+        over = over_of s.ready (one_part (part_at entry)) s.desk s.hand s.device unit.kept
+            (back.bridges.slots told (sound_starts_compute (making_of s.desk.config) (record { entry = inner; exit = exit; operations = back.operations }) sound));
         refusals = refusals;
         off = (off.0, off.1, subst (λ (k : ℕ). WereCounted off.0 k (told_of s.device).first.planning.unplanned) at_entry (subst (λ (k : ℕ). WereCounted off.0 inner.cuts k) one_part_cuts off.2));
         came = ap (λ (b : Bool). cuts_of b (told_of s.device)) cutter;

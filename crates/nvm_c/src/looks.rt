@@ -23,7 +23,7 @@ pub extern "C" fn nvm_status(alloc: Global, handle: &mut Handle, block: u16) -> 
     }
 }
 
-/// How many entries the history has, of 100,000 at most.
+/// How many entries the history has. They are counted, and not kept.
 #[unsafe(no_mangle)]
 pub extern "C" fn nvm_entries(alloc: Global, handle: &mut Handle) -> u32
     requires open { IsSome handle.old.kept }

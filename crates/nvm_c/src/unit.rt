@@ -5,7 +5,7 @@ ghost use Rattle.nvm.specs.block_machine.Legal.{HasStore};
 ghost use Rattle.nvm.specs.block_machine.Reply.{reply_of};
 ghost use Rattle.nvm.specs.nv_desk.Desk.{state_of};
 ghost use Rattle.script_player.specs.Calls.{Arms, Asks, Restarts, Turns};
-ghost use Rattle.nvm_c.specs.Unit.{CameBack, IsUnit, given_last, unit_told};
+ghost use Rattle.nvm_c.specs.Unit.{CameBack, IsUnit, Stands, given_last, unit_told};
 
 use lent_flash::{Lent, LentFlash};
 use nvm::nvm_flash::fee_core::{Fee, Origin};
@@ -124,10 +124,19 @@ impl<O: Origin> LentUnit<O> {
         self.stack.len()
     }
 
+    /// Does nothing. Between any two calls what happened so far keeps the promise, whatever the flash holds then: so a unit need
+    /// not be closed.
+    pub fn stands(&self)
+        ensures { Stands O.entry self.now }
+    {
+        let _up = self.up;
+    }
+
     /// Takes it apart, and gives the memory back.
     pub fn close(self) -> Lent
         ensures { CameBack O.entry self result.bytes }
     {
+        self.stands();
         let LentUnit { stack, .. } = self;
         give_back(stack.into_stack().into_device()).into_lent()
     }

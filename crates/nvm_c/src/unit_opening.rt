@@ -5,11 +5,13 @@ ghost use Rattle.nvm.specs.block_config.Rules.{IsLegalConfig};
 ghost use Rattle.nvm.specs.nvm_flash.Made.{ComesBack, IsMadeStack, IsOrigin};
 ghost use Rattle.nvm.specs.nvm_core.StartUps.{StartsUp};
 ghost use Rattle.nvm.specs.nvm_flash.fee_told.Device.{told_of};
+ghost use Rattle.nvm.specs.nv_desk.Recorder.{endless};
 ghost use Rattle.nvm_c.specs.Unit.{Opens};
 
 use crate::unit::{LentStack, LentUnit};
 use lent_flash::LentFlash;
 use nvm::nvm_flash::fee_core::Origin;
+use nvm::nvm_flash::nv_desk::ENDLESS;
 use nvm::nvm_flash::{make_stack, start_stack};
 use nvm::{Config, MakeFault, MemDevice};
 use std::alloc::Global;
@@ -26,7 +28,7 @@ pub fn open<O: Origin>(
     ensures stopped { IfErr result (λ e. ComesBack config e.0 flash e.1) }
 {
     let _geometry = config.geometry();
-    match make_stack::<LentFlash, O>(alloc, config, flash, cuts) {
+    match make_stack::<LentFlash, O>(alloc, config, flash, cuts, ENDLESS) {
         Ok(stack) => begin(stack),
         Err(stopped) => Err(stopped),
     }
@@ -34,7 +36,8 @@ pub fn open<O: Origin>(
 
 // The first start-up of a stack that was made.
 fn begin<O: Origin>(stack: LentStack<O>) -> Result<LentUnit<O>, (MakeFault, LentFlash)>
-    requires made { IsMadeStack stack.desk.config O.making O.entry stack }
+    requires made { IsMadeStack stack.desk.config stack.desk.cap O.making O.entry stack }
+    requires most { stack.desk.cap ≡ endless }
     requires legal { IsLegalConfig stack.desk.config }
     requires origin { (inner : Told) × (cuts : ℕ) × IsOrigin stack.desk.config inner cuts O.making O.entry }
     ensures started { IfOk result (λ s. StartsUp told_of stack s) }

@@ -22,7 +22,6 @@ use Rattle.driver_moves.specs.nvm_shared.Locked.{desk_with}
 use Rattle.driver_moves.specs.nvm_shared.Opening.{IsFirst, IsShared, terms_at}
 use Rattle.driver_moves.specs.nvm_shared.Passes.{PassValue, SharedState, IsDriven}
 use Rattle.driver_moves.specs.nvm_shared.Driving.{DriverState, IsDriverOf, driver_of, stack_of}
-use Rattle.driver_moves.specs.promise_run.Run.{cap}
 use Rattle.script_walks.specs.Words.{Step}
 use Rattle.script_walks.specs.Callers.{program_of}
 use Rattle.script_callers.specs.declared.deed.Deed.{Deed}
@@ -45,14 +44,13 @@ module _ {D : Type 0} (told : D → DeviceTold) (clock : D → Clock) (copies : 
   desk_first : desk_with shared.terms (knows p).seen ≡ s.desk
   desk_first = ap (λ (t : Terms). desk_with t (knows p).seen) is.terms ∙ ap (desk_with (terms_at s.desk false)) seen_first
 
-  pub begun : (c : Configuration) → IsFirst s.desk.entries → s.desk.cap ≡ cap → c ≡ s.desk.config → length c.blocks ≤ 512 → IsBegun told c shared p r
-  begun c first most own few = record {
+  pub begun : (c : Configuration) → IsFirst s.desk.entries → c ≡ s.desk.config → length c.blocks ≤ 512 → IsBegun told c shared p r
+  begun c first own few = record {
     own = is.own;
     knows_it = subst (λ (l : List Entry). knows p ≡ beginner l shared.terms) (sym seen_first) is.knows_it;
     first = subst IsFirst (sym seen_first) first;
     config = ap (λ (t : Terms). t.config) is.terms ∙ sym own;
     few = few;
-    most = ap (λ (t : Terms). t.cap) is.terms ∙ most;
     untold = ap (λ (t : Terms). t.tells) is.terms;
     tied = subst (λ (y : DeskState). IsTied y r.hand (told r.device)) (sym desk_first) (subst (λ (x : DriverState D (List PlainBlock)). IsTied s.desk x.hand (told x.device)) (sym is.driver) is.tied);
     pending = subst (λ (y : DeskState). HandIsPending (state_of y)) (sym desk_first) is.pending;

@@ -37,7 +37,6 @@ use Rattle.nvm_callers.proofs.Finishing.{keeps_order_of, refuse_none, was_run}
 use Rattle.nvm_callers.proofs.Keeping.{driving_keeps}
 use Rattle.nvm_callers.proofs.Owned.{sides_in, still_bytes, were_stored}
 use Rattle.nvm_callers.proofs.StoresTaken.{WereStored, stores_are_taken}
-use Rattle.driver_moves.specs.promise_run.Run.{cap}
 use Rattle.script_callers.specs.Programs.{programs_of}
 
 -- what mirrors showed stays in order
@@ -96,17 +95,17 @@ module _ {D : Type 0} (told : D → DeviceTold) (clock : D → Clock) (t : Terms
     (firsts nows : List SidesValue) (dealt : AllDealt programs sides (map sides_in firsts) left) (back : AllGathered (map sides_in nows) left all) where
   -- and in order
   pub keeps_order_on : (seen h : List Entry) → IsFirst seen → (old new : DriverState D S) → Drove told clock t seen h old new → EndsGoOn ends new.copies.ends → AreClosed new.copies.ends all
-      → (e : Ending) (v : View Entry Terms) (desk : DeskState) → t.cap ≡ cap
+      → (e : Ending) (v : View Entry Terms) (desk : DeskState)
       → HaveRun (λ (s : SidesValue). bytes_at s.sides) (λ (s : SidesValue). stores_at s.sides) (λ (s : SidesValue). s.mirrors) t programs firsts nows e v → IsClosedBy v desk.entries
       → IsTrue (has_ended t.config h) → desk ≡ desk_with t h → KeepsOrder steps e desk
-  keeps_order_on seen h (marks, ops, one) old new driven on shut e v desk most ran closed ended is_desk =
+  keeps_order_on seen h (marks, ops, one) old new driven on shut e v desk ran closed ended is_desk =
       let entries = ap (λ (d : DeskState). d.entries) is_desk in
       let own = subst (λ (l : List Entry). Drove told clock t l h old new) one driven in
       let ran_own = subst (λ (ps : List Program). HaveRun (λ (s : SidesValue). bytes_at s.sides) (λ (s : SidesValue). stores_at s.sides) (λ (s : SidesValue). s.mirrors) t ps firsts nows e v) are.are ran in
       let dealt_own = subst (λ (ps : List Program). AllDealt ps sides (map sides_in firsts) left) are.are dealt in
       let closed_own = subst (λ (l : List Entry). IsClosedBy v l) entries closed in
       keeps_order_of told clock (λ (s : S). map told_by s.ends) (λ (s : S). IsStore s.ends) (λ (x y : S). HasLooked x.ends y.ends) (λ (x y : S). IsOver x y) stands_in t
-      (λ (s : SidesValue). bytes_at s.sides) (λ (s : SidesValue). stores_at s.sides) (λ (s : SidesValue). s.mirrors) shown_in_order steps are.run marks ops h old new own firsts nows e v desk most ran_own closed_own ended
+      (λ (s : SidesValue). bytes_at s.sides) (λ (s : SidesValue). stores_at s.sides) (λ (s : SidesValue). s.mirrors) shown_in_order steps are.run marks ops h old new own firsts nows e v desk ran_own closed_own ended
       (λ looks legal.
       let were = were_stored t steps are.run mirrors ends sides left all made firsts nows e v h dealt_own ran_own closed_own (unasked marks ops looks.more h looks.grows) new.copies.ends on back (still_bytes t (programs_of t.config steps) mirrors ends sides left made firsts nows e v dealt_own ran_own) shut in
       taken_of marks ops h old new looks legal were) is_desk

@@ -25,7 +25,7 @@ use Rattle.nvm_callers.specs.Driven.{HasDriven}
 use Rattle.nvm_callers.specs.Added.{RefusesNone}
 use Rattle.nvm_callers.specs.Looked.{HasLooked, LooksAreOrdered}
 use Rattle.nvm_callers.specs.Shares.{BeginsUnasked}
-use Rattle.driver_moves.specs.promise_run.Run.{RunsBy, cap}
+use Rattle.driver_moves.specs.promise_run.Run.{RunsBy}
 use Rattle.nvm_callers.specs.Stored.{Stored}
 use Rattle.nvm_callers.specs.Callers.{HaveRun}
 use Rattle.nvm_callers.specs.KeptSteps.{EndSo, IsClosedBy}
@@ -87,15 +87,15 @@ module _ {D C : Type 0} (told : D → DeviceTold) (clock : D → Clock) (copies 
       shown = taken.shown;
     }
 
-    runs_by : (e : Ending) → IsRun t.config steps looks.looks h → EndSo t.config cap steps h e → IsTrue (has_ended t.config h) → RunsBy t.config steps looks.looks (end_of e) h
+    runs_by : (e : Ending) → IsRun t.config steps looks.looks h → EndSo t.config t.cap steps h e → IsTrue (has_ended t.config h) → RunsBy t.config t.cap steps looks.looks (end_of e) h
     runs_by ending.All is ends ended = record { order = is; all = ends; ends = ended }
     runs_by ending.NoRoom is ends ended = record { order = is; caller = ends.0; full = ends.1; others = ends.2; ends = ended }
     runs_by ending.Memory is ends ended = is
 
     module _ {S : Type 0} (bytes : S → ℕ → Option ℕ) (stored : S → ℕ → List Stored) (mirrors : S → Pairs) where
-      pub keeps_order : (firsts nows : List S) (e : Ending) (v : View Entry Terms) (desk : DeskState) → t.cap ≡ cap → HaveRun bytes stored mirrors t (programs_of t.config steps) firsts nows e v → IsClosedBy v h
+      pub keeps_order : (firsts nows : List S) (e : Ending) (v : View Entry Terms) (desk : DeskState) → HaveRun bytes stored mirrors t (programs_of t.config steps) firsts nows e v → IsClosedBy v h
           → IsTrue (has_ended t.config h) → (IsLegal t.config t.cap h → StoresAreTaken t.config steps looks.looks h) → desk ≡ desk_with t h → KeepsOrder steps e desk
-      keeps_order firsts nows e v desk most ran closed ended taken is_desk =
+      keeps_order firsts nows e v desk ran closed ended taken is_desk =
           let asked = callers_ask bytes stored mirrors t steps firsts nows e v h run ran closed unasked in
           let keeps : KeepsOrder steps e (desk_with t h) = record {
             asks = asked.asks;
@@ -104,21 +104,21 @@ module _ {D C : Type 0} (told : D → DeviceTold) (clock : D → Clock) (copies 
             in_order = looks.in_order;
             order = λ legal.
                 let kept = callers_keep_steps bytes stored mirrors t steps firsts nows e v h run ran closed legal in
-                runs_by e (is_run kept.order (taken legal)) (subst (λ (n : ℕ). EndSo t.config n steps h e) most kept.ends) ended;
+                runs_by e (is_run kept.order (taken legal)) kept.ends ended;
           } in
           subst (λ (y : DeskState). KeepsOrder steps e y) (sym is_desk) keeps
 
   -- behind one start-up
   module _ {S : Type 0} (bytes : S → ℕ → Option ℕ) (stored : S → ℕ → List Stored) (mirrors : S → Pairs) where
     pub keeps_order_of : LooksAreOrdered looked over → (steps : List Step) → AreRun t.config steps → (marks : List (Instance × Mark)) (ops : ℕ) (h : List Entry) (old new : DriverState D C)
-        → HasDriven told clock copies is_store looked over stands t (Found marks ops ∷ []) h old new → (firsts nows : List S) (e : Ending) (v : View Entry Terms) (desk : DeskState) → t.cap ≡ cap
+        → HasDriven told clock copies is_store looked over stands t (Found marks ops ∷ []) h old new → (firsts nows : List S) (e : Ending) (v : View Entry Terms) (desk : DeskState)
         → HaveRun bytes stored mirrors t (programs_of t.config steps) firsts nows e v → IsClosedBy v h → IsTrue (has_ended t.config h)
         → ((looks : HasLooked told clock copies is_store looked over stands t (Found marks ops ∷ []) h old new) → IsLegal t.config t.cap h → StoresAreTaken t.config steps looks.looks h)
         → desk ≡ desk_with t h → KeepsOrder steps e desk
-    keeps_order_of ordered steps run marks ops h old new driven firsts nows e v desk most ran closed ended taken is_desk =
+    keeps_order_of ordered steps run marks ops h old new driven firsts nows e v desk ran closed ended taken is_desk =
         let first = Found marks ops ∷ [] in
         let looks = driving_looks told clock copies is_store looked over stands t ordered first h old new driven in
         let added = driving_adds told clock copies is_store looked over stands t first h old new driven in
         let same : added.more ≡ looks.more = ap (drop 1) (sym added.grows ∙ looks.grows) in
-        keeps_order steps run marks ops h old new looks (subst (λ (l : List Entry). IsTrue (list_all (λ x. not (is_found x)) l)) same added.no_start) bytes stored mirrors firsts nows e v desk most ran closed ended
+        keeps_order steps run marks ops h old new looks (subst (λ (l : List Entry). IsTrue (list_all (λ x. not (is_found x)) l)) same added.no_start) bytes stored mirrors firsts nows e v desk ran closed ended
         (taken looks) is_desk

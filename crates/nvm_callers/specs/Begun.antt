@@ -16,7 +16,6 @@ use Rattle.script_walks.specs.Words.{Step}
 use Rattle.script_callers.specs.declared.program.Program.{Program}
 use Rattle.script_callers.specs.Programs.{programs_of}
 use Rattle.script_callers.specs.RunScripts.{AreRun}
-use Rattle.driver_moves.specs.promise_run.Run.{cap}
 
 -- these programs are those of the callers of a script, whose stores can be counted
 pub record AreProgramsOf (c : Configuration) (steps : List Step) (programs : List Program) : Type 0 where
@@ -32,7 +31,6 @@ pub record IsBegun {D : Type 0} (told : D → DeviceTold) (c : Configuration) (s
   pub first : IsFirst (knows p).seen
   pub config : shared.terms.config ≡ c
   pub few : length c.blocks ≤ 512
-  pub most : shared.terms.cap ≡ cap
   pub untold : shared.terms.tells ≡ false
   pub tied : IsTied (desk_with shared.terms (knows p).seen) r.hand (told r.device)
   pub pending : HandIsPending (state_of (desk_with shared.terms (knows p).seen))

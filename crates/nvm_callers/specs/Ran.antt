@@ -59,4 +59,4 @@ pub record KeepsOrder (steps : List Step) (e : Ending) (desk : DeskState) : Type
   pub all : e ≡ ending.All → (caller : ℕ) → AskedAll desk.config steps desk.entries caller
   pub looks : List Look
   pub in_order : AreInOrder looks
-  pub order : IsLegal desk.config desk.cap desk.entries → RunsBy desk.config steps looks (end_of e) desk.entries
+  pub order : IsLegal desk.config desk.cap desk.entries → RunsBy desk.config desk.cap steps looks (end_of e) desk.entries

@@ -2,7 +2,6 @@
 ghost use Rattle.std.specs.Prelude.{◌≡◌, true, IfErr, IfOk};
 ghost use Rattle.driver_moves.specs.nvm_shared.Opening.{IsFirst};
 ghost use Rattle.script_callers.specs.RunScripts.{AreRun};
-ghost use Rattle.driver_moves.specs.promise_run.Run.{cap};
 ghost use Rattle.nvm_callers.specs.Ran.{KeepsOrder, WasRun};
 
 use crate::Ending;
@@ -35,7 +34,6 @@ pub fn play_callers<R: Threads + Wait + Sync, D: MemDevice>(
 ) -> Result<Ran<D>, D>
     requires ready { stack.ready ≡ true }
     requires first { IsFirst stack.desk.entries }
-    requires cap { stack.desk.cap ≡ cap }
     requires own { config.now ≡ stack.desk.config }
     requires steps { AreRun config.now steps.now }
     ensures memory { IfErr result (λ device. device ≡ stack.device) }

@@ -90,7 +90,7 @@ pub(crate) fn pick<D: MemDevice, C: SyncCalls>(
     front.pick(next, device.ops(), copies);
     *hand = hand_of(&front.desk);
     let _blocks = front.desk.config().blocks();
-    let _count = front.desk.history().len();
+    let _count = front.desk.len();
 }
 
 // The hand of the job that was picked, if one was.

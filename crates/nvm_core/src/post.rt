@@ -49,7 +49,7 @@ pub(crate) fn post<D: MemDevice, C: SyncCalls>(
     let (answer, source) = end_of(hand);
     front.post(answer, source, device.take_data(), device.ops(), copies);
     *hand = None;
-    let _count = front.desk.history().len();
+    let _count = front.desk.len();
 }
 
 // What a finished job ended with.
@@ -89,5 +89,5 @@ pub(crate) fn skip<D: MemDevice, C: SyncCalls>(
 {
     let _status = device.status();
     front.post_skipped(next, device.ops(), copies);
-    let _count = front.desk.history().len();
+    let _count = front.desk.len();
 }

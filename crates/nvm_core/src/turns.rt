@@ -45,7 +45,7 @@ impl<D: MemDevice, C: SyncCalls + Drop> Stack<D, C> {
                 let _status = self.device.status();
                 let turned = device_turn(&mut self.front.desk, &mut self.hand, &mut self.device);
                 let _blocks = self.front.desk.config().blocks();
-                let _count = self.front.desk.history().len();
+                let _count = self.front.desk.len();
                 turned
             }
         }

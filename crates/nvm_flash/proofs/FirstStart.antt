@@ -51,7 +51,7 @@ fresh_down d c inner cuts making entry most begins order origin legal made parts
     same Second = refl
 
 -- behind it all is kept
-pub begins_up : (c : Configuration) (making : Making) (entry : Told) (m s : StackState Device (List PlainBlock)) → IsMadeStack m.desk.config making entry m → BeginsKept (told_of m.device) (told_clock m.device) → InOrder (told_of m.device) (told_clock m.device)
+pub begins_up : (c : Configuration) (making : Making) (entry : Told) (m s : StackState Device (List PlainBlock)) → IsMadeStack m.desk.config m.desk.cap making entry m → BeginsKept (told_of m.device) (told_clock m.device) → InOrder (told_of m.device) (told_clock m.device)
     → StartsUp told_of m s → StartsKeep found.Ready m.desk (told_of m.device) (told_clock m.device) s.desk (told_of s.device) (told_clock s.device)
     → (inner : Told) (cuts : ℕ) → m.desk.config ≡ c → IsLegalConfig c → IsOrigin c inner cuts making entry → StackKeepsAsTold (one_part (part_at entry)) s.desk None (told_of s.device) (told_clock s.device)
 begins_up c making entry m s made begins order starts keeps inner cuts same legal origin =

@@ -18,7 +18,6 @@ use Rattle.fee_core.specs.promise_device.FlashRun.{FlashRun, IsChain}
 use Rattle.fee_core.specs.promise_device.Image.{attached}
 use Rattle.fee_core.specs.fee_told.Device.{Device, flash_device, told_of, clock_of}
 use Rattle.fee_core.specs.fee_laws.Made.{IsMadeOf, part_at}
-use Rattle.promise_run.specs.Run.{cap}
 use Rattle.nvm_core.specs.Stack.{StackState, first_stack}
 use Rattle.nvm_core.specs.StartUps.{Starts, FailsToStart}
 use Rattle.nvm_core.specs.nvm_laws.declared.turned.FoundAnswer.{FoundAnswer}
@@ -137,29 +136,30 @@ failed_back c inner cuts making entry exit d e origin made fails back =
     rose = rose_with (told_of d).first.faults (told_of e).first.faults (told_of d).first.flash_faults (told_of e).first.flash_faults (in_first fails.faults) up.faults.tied (ap (λ p. p.faults) part) grown
 
 -- a stack that was made of such a device
-pub made_stack : {C : Type 0} (c : Configuration) (making : Making) (entry : Told) (s : StackState Device C) (d : Device) (copies : C)
-    → s ≡ first_stack c cap d copies → IsMadeOf making entry d → AreOfFirst d → (told_of d).fixed ≡ fixed_by c → IsMadeWith c making entry copies s
-made_stack {C} c making entry s d copies same made parts fixed = record {
+pub made_stack : {C : Type 0} (c : Configuration) (most : ℕ) (making : Making) (entry : Told) (s : StackState Device C) (d : Device) (copies : C)
+    → s ≡ first_stack c most d copies → IsMadeOf making entry d → AreOfFirst d → (told_of d).fixed ≡ fixed_by c → 2 ≤ most → IsMadeWith c most making entry copies s
+made_stack {C} c most making entry s d copies same made parts fixed room = record {
   device = subst (λ (x : Device). IsMadeOf making entry x) own made;
   parts = subst AreOfFirst own parts;
   fixed = subst (λ (x : Device). (told_of x).fixed ≡ fixed_by c) own fixed;
-  only = subst (λ (x : Device). s ≡ first_stack c cap x copies) own same;
+  only = subst (λ (x : Device). s ≡ first_stack c most x copies) own same;
+  room = room;
 }
   where
     own : d ≡ s.device
     own = sym (ap (λ t. t.device) same)
 
 -- its copies are those that it was made with
-pub own_copies : {C : Type 0} (c : Configuration) (making : Making) (entry : Told) (copies : C) (s : StackState Device C) → IsMadeWith c making entry copies s → IsMadeWith c making entry s.copies s
-own_copies {C} c making entry copies s made = subst (λ (x : C). IsMadeWith c making entry x s) (sym (ap (λ t. t.copies) made.only)) made
+pub own_copies : {C : Type 0} (c : Configuration) (most : ℕ) (making : Making) (entry : Told) (copies : C) (s : StackState Device C) → IsMadeWith c most making entry copies s → IsMadeWith c most making entry s.copies s
+own_copies {C} c most making entry copies s made = subst (λ (x : C). IsMadeWith c most making entry x s) (sym (ap (λ t. t.copies) made.only)) made
 
 -- the first start-up has room and memory
-pub fails_alone : {C : Type 0} (c : Configuration) (making : Making) (entry : Told) (copies : C) (old new : StackState Device C) (a : FoundAnswer) → IsMadeWith c making entry copies old → (a ≡ found.Failed) ⊎ ((a ≡ found.NoRoom) ⊎ (a ≡ found.Memory))
+pub fails_alone : {C : Type 0} (c : Configuration) (most : ℕ) (making : Making) (entry : Told) (copies : C) (old new : StackState Device C) (a : FoundAnswer) → IsMadeWith c most making entry copies old → (a ≡ found.Failed) ⊎ ((a ≡ found.NoRoom) ⊎ (a ≡ found.Memory))
     → Starts told_of a old new → FailsToStart told_of old new
-fails_alone c making entry copies old new found.Failed made is starts = starts
-fails_alone c making entry copies old new found.NoRoom made is starts =
-    absurd (let full = starts.1 in let most = ap (λ s. s.desk.cap) made.only in let none = ap (λ s. length s.desk.entries) made.only in omega (arith, full, most, none))
-fails_alone c making entry copies old new found.Memory made is starts = let no_ : true ≡ false = sym (ap (λ s. s.has_room) made.only) ∙ starts.1 in absurd (cc no_)
-fails_alone c making entry copies old new found.Ready made (inl is) starts = absurd (cc is)
-fails_alone c making entry copies old new found.Ready made (inr (inl is)) starts = absurd (cc is)
-fails_alone c making entry copies old new found.Ready made (inr (inr is)) starts = absurd (cc is)
+fails_alone c most making entry copies old new found.Failed made is starts = starts
+fails_alone c most making entry copies old new found.NoRoom made is starts =
+    absurd (let full = starts.1 in let same = ap (λ s. s.desk.cap) made.only in let none = ap (λ s. length s.desk.entries) made.only in let room = made.room in omega (arith, full, same, none, room))
+fails_alone c most making entry copies old new found.Memory made is starts = let no_ : true ≡ false = sym (ap (λ s. s.has_room) made.only) ∙ starts.1 in absurd (cc no_)
+fails_alone c most making entry copies old new found.Ready made (inl is) starts = absurd (cc is)
+fails_alone c most making entry copies old new found.Ready made (inr (inl is)) starts = absurd (cc is)
+fails_alone c most making entry copies old new found.Ready made (inr (inr is)) starts = absurd (cc is)

@@ -16,7 +16,7 @@ use Rattle.fee_core.specs.fee_told.Device.{Device, told_of}
 use Rattle.fee_core.specs.fee_laws.Made.{IsMadeOf}
 use Rattle.nvm_core.specs.ram_blocks.declared.plain_block.PlainBlock.{PlainBlock}
 use Rattle.nvm_core.specs.ram_blocks.Plain.{plain_blocks_of}
-use Rattle.promise_run.specs.Run.{cap, LeavesAlone, LeavesFlash}
+use Rattle.promise_run.specs.Run.{LeavesAlone, LeavesFlash}
 use Rattle.promise_run.specs.Promise.{making_of}
 use Rattle.nvm_core.specs.Stack.{StackState, first_stack}
 use Rattle.nvm_flash.specs.Turns.{fixed_by}
@@ -73,16 +73,18 @@ one_part p Second = no_part
 abbrev pub AreOfFirst : Device → Type 0
 AreOfFirst d = (n : ℕ) → (figures_at (told_of d).fixed n).part ≡ First
 
--- it is made with these copies of the application's RAM, and has made no start-up
-pub record IsMadeWith {C : Type 0} (c : Configuration) (making : Making) (entry : Told) (copies : C) (s : StackState Device C) : Type 0 where
+-- it is made for a history of at most so many entries, a start-up's and an Off's at least, with these copies of the application's RAM,
+-- and has made no start-up
+pub record IsMadeWith {C : Type 0} (c : Configuration) (most : ℕ) (making : Making) (entry : Told) (copies : C) (s : StackState Device C) : Type 0 where
   pub device : IsMadeOf making entry s.device
   pub parts : AreOfFirst s.device
   pub fixed : (told_of s.device).fixed ≡ fixed_by c
-  pub only : s ≡ first_stack c cap s.device copies
+  pub only : s ≡ first_stack c most s.device copies
+  pub room : 2 ≤ most
 
 -- with the copies that a player has at first
-abbrev pub IsMadeStack : Configuration → Making → Told → StackState Device (List PlainBlock) → Type 0
-IsMadeStack c making entry s = IsMadeWith c making entry (plain_blocks_of c) s
+abbrev pub IsMadeStack : Configuration → ℕ → Making → Told → StackState Device (List PlainBlock) → Type 0
+IsMadeStack c most making entry s = IsMadeWith c most making entry (plain_blocks_of c) s
 
 -- why the flash isn't attached
 abbrev pub fault_of : AttachFault → MakeFault

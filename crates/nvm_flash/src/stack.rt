@@ -1,5 +1,5 @@
 // The stack.
-ghost use Rattle.std.specs.Prelude.{ℕ, IfErr, IfOk};
+ghost use Rattle.std.specs.Prelude.{◌≤◌, ℕ, IfErr, IfOk};
 ghost use Rattle.fee_core.specs.fee_told.Device.{told_of};
 ghost use Rattle.fee_core.specs.Tells.{told_clock};
 ghost use Rattle.fee_core.specs.fls_model.Told.{Told};
@@ -16,45 +16,50 @@ use nvm_core::Stack;
 use nvm_core::block_config::Config;
 use nvm_core::nvm_laws::FoundAnswer;
 use nvm_core::ram_blocks::{PlainSync, SyncCalls};
-use promise_run::CAP;
 use std::alloc::Global;
 
 /// A stack over a flash whose power may be cut.
 pub type FlashStack<F, O> = Stack<Fee<Cutter<F>, O>, PlainSync>;
 
-/// The stack of a configuration over a flash, before its first start-up, with the copies that a player has at first.
+/// The stack of a configuration over a flash, before its first start-up, with a history of at most `cap` entries, and with the copies
+/// that a player has at first.
 pub fn make_stack<F: Flash, O: Origin>(
     alloc: Global,
     config: Config,
     flash: F,
     cuts: u32,
+    cap: u32,
 ) -> Result<FlashStack<F, O>, (MakeFault, F)>
-    requires { IsOrigin config (F.told flash) cuts O.making O.entry }
-    ensures made { IfOk result (λ s. IsMadeStack config O.making O.entry s) }
+    requires origin { IsOrigin config (F.told flash) cuts O.making O.entry }
+    requires room { 2 ≤ cap }
+    ensures made { IfOk result (λ s. IsMadeStack config cap O.making O.entry s) }
     ensures stopped { IfErr result (λ e. ComesBack config e.0 (F.told flash) (F.told e.1)) }
 {
     let Ok(copies) = PlainSync::make(alloc, &config) else {
         return Err((MakeFault::Memory, flash));
     };
     let _blocks = config.blocks();
-    make_stack_with::<F, O, PlainSync>(alloc, config, flash, copies, cuts)
+    make_stack_with::<F, O, PlainSync>(alloc, config, flash, copies, cuts, cap)
 }
 
-/// The stack of a configuration over a flash, before its first start-up, with these copies of the application's RAM.
+/// The stack of a configuration over a flash, before its first start-up, with a history of at most `cap` entries, and with these copies
+/// of the application's RAM.
 pub fn make_stack_with<F: Flash, O: Origin, C: SyncCalls + Drop>(
     alloc: Global,
     config: Config,
     flash: F,
     copies: C,
     cuts: u32,
+    cap: u32,
 ) -> Result<Stack<Fee<Cutter<F>, O>, C>, (MakeFault, F)>
     requires origin { IsOrigin config (F.told flash) cuts O.making O.entry }
     requires synchronized { AreSynchronized config (C.told copies) }
-    ensures made { IfOk result (λ s. IsMadeWith config O.making O.entry copies s) }
+    requires room { 2 ≤ cap }
+    ensures made { IfOk result (λ s. IsMadeWith config cap O.making O.entry copies s) }
     ensures stopped { IfErr result (λ e. ComesBack config e.0 (F.told flash) (F.told e.1)) }
 {
     match make_device(alloc, &config, flash, cuts) {
-        Ok(device) => match Stack::make(alloc, config, device, copies, CAP) {
+        Ok(device) => match Stack::make(alloc, config, device, copies, cap) {
             Ok(stack) => Ok(stack),
             Err(failed) => Err((MakeFault::Memory, give_back(failed.value))),
         },
@@ -66,7 +71,7 @@ pub fn make_stack_with<F: Flash, O: Origin, C: SyncCalls + Drop>(
 pub fn start_stack<F: Flash, O: Origin>(
     stack: FlashStack<F, O>,
 ) -> Result<FlashStack<F, O>, (MakeFault, F)>
-    requires { IsMadeStack stack.desk.config O.making O.entry stack }
+    requires { IsMadeStack stack.desk.config stack.desk.cap O.making O.entry stack }
     ensures started { IfOk result (λ s. StartsUp told_of stack s) }
     ensures keeps { IfOk result (λ s. StartsKeep FoundAnswer.Ready stack.desk (told_of stack.device) (told_clock stack.device) s.desk (told_of s.device) (told_clock s.device)) }
     ensures stopped { IfErr result (λ e. (inner : Told) (cuts : ℕ) → IsOrigin stack.desk.config inner cuts O.making O.entry → ComesBack stack.desk.config e.0 inner (F.told e.1)) }
@@ -78,7 +83,7 @@ pub fn start_stack<F: Flash, O: Origin>(
 pub fn start_stack_with<F: Flash, O: Origin, C: SyncCalls + Drop>(
     stack: Stack<Fee<Cutter<F>, O>, C>,
 ) -> Result<Stack<Fee<Cutter<F>, O>, C>, (MakeFault, F)>
-    requires { IsMadeWith stack.desk.config O.making O.entry stack.copies stack }
+    requires { IsMadeWith stack.desk.config stack.desk.cap O.making O.entry stack.copies stack }
     ensures started { IfOk result (λ s. StartsUp told_of stack s) }
     ensures keeps { IfOk result (λ s. StartsKeep FoundAnswer.Ready stack.desk (told_of stack.device) (told_clock stack.device) s.desk (told_of s.device) (told_clock s.device)) }
     ensures stopped { IfErr result (λ e. (inner : Told) (cuts : ℕ) → IsOrigin stack.desk.config inner cuts O.making O.entry → ComesBack stack.desk.config e.0 inner (F.told e.1)) }

@@ -31,6 +31,9 @@ pub fn play_in_memory(alloc: Global, input: &[u8]) -> anyhow::Result<Vec<u8>> {
     if make_steps(alloc, steps, blocks, &mut stack).is_err() {
         bail!("a step isn't made in memory");
     }
+    if !stack.stack().keeps_entries() {
+        bail!("the entries aren't kept");
+    }
     Ok(text_of(alloc, stack.stack().history())?)
 }
 

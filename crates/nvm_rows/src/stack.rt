@@ -14,6 +14,7 @@ use nvm_top::nvm_flash::fee_core::Origin;
 use nvm_top::nvm_flash::memif::MemDevice;
 use nvm_top::nvm_flash::nvm_core::Stack;
 use nvm_top::nvm_flash::nvm_laws::{FoundAnswer, Turned};
+use nvm_top::nvm_flash::promise_run::CAP;
 use nvm_top::nvm_flash::ram_blocks::PlainSync;
 use nvm_top::nvm_flash::{give_back, make_stack};
 use script_soak::soak_steps;
@@ -71,11 +72,14 @@ fn make_on<O: Origin>(
 ) -> Option<(Bytes, MemFlash)>
     requires { IsOrigin config flash.told 0 O.making O.entry }
 {
-    let mut stack = make_stack::<MemFlash, O>(alloc, config, flash, 0).ok()?;
+    let mut stack = make_stack::<MemFlash, O>(alloc, config, flash, 0, CAP).ok()?;
     let is_made = match stack.start() {
         FoundAnswer::Ready => make_all(alloc, steps, &mut stack),
         _ => false,
     };
+    if !stack.keeps_entries() {
+        return None;
+    }
     let text = summary_text(alloc, stack.history()).ok();
     let flash = give_back(stack.into_device());
     let text = text.filter(|_| is_made)?;

@@ -1,5 +1,5 @@
 // The value under the lock.
-ghost use Rattle.std.specs.Prelude.{◌≡◌, ◌++◌, ◌∷◌, ◌≤◌, ◌↔◌, [], List, length, true, false, Bool, IfOk, OnErr, IsErrOf, None, IsTrue};
+ghost use Rattle.std.specs.Prelude.{◌≡◌, ◌++◌, ◌∷◌, ◌≤◌, ◌↔◌, [], List, length, true, false, Bool, IfOk, OnErr, IsErrOf, None, Some, IsTrue, option_copied};
 ghost use Rattle.nvm_core.specs.nv_base.declared.entry.Entry.TheVariants as Entry;
 ghost use Rattle.nvm_core.specs.nv_desk.declared.ask.AskFault.TheVariants as AskFault;
 ghost use Rattle.nvm_core.specs.memif.Told.{DeviceTold};
@@ -78,7 +78,7 @@ impl Kept for Locked {
     ghost root = { terms_of };
 
     fn count(&self) -> u32 {
-        self.front.desk.history().len()
+        self.front.desk.len()
     }
 }
 
@@ -121,7 +121,7 @@ impl Locked {
     {
         let _desc = self.front.desk.desc_in_hand();
         let _blocks = self.front.desk.config().blocks();
-        self.front.desk.history().len()
+        self.front.desk.len()
     }
 
     /// The word, with its status, that the entry behind so many others changes, if there is one and it changes one.
@@ -129,7 +129,7 @@ impl Locked {
         ensures none { length self.now.desk.entries ≡ count → result ≡ None }
         ensures some { (h : List MachineEntry) (e : MachineEntry) → self.now.desk.entries ≡ h ++ e ∷ [] → length h ≡ count → result ≡ told_by e }
     {
-        match self.front.desk.history().entry(count) {
+        match self.entry_behind(count) {
             Some(entry) => told_by(entry),
             None => None,
         }
@@ -140,9 +140,21 @@ impl Locked {
         ensures none { length self.now.desk.entries ≡ count → result ≡ None }
         ensures some { (h : List MachineEntry) (e : MachineEntry) → self.now.desk.entries ≡ h ++ e ∷ [] → length h ≡ count → result ≡ picked_by e }
     {
-        match self.front.desk.history().entry(count) {
+        match self.entry_behind(count) {
             Some(entry) => picked_by(entry),
             None => None,
+        }
+    }
+
+    // The last entry, where it is the one behind so many others.
+    fn entry_behind(&self, count: u32) -> Option<&Entry>
+        ensures none { length self.now.desk.entries ≡ count → option_copied result ≡ None }
+        ensures some { (h : List MachineEntry) (e : MachineEntry) → self.now.desk.entries ≡ h ++ e ∷ [] → length h ≡ count → option_copied result ≡ Some e }
+    {
+        if count < self.front.desk.len() {
+            self.front.desk.last()
+        } else {
+            None
         }
     }
 

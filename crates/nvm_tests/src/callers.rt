@@ -119,6 +119,9 @@ fn run<R: Threads + Wait + Sync, D: MemDevice + Drop, H: Hold + Sync>(
         hold,
     );
     let front = shared.close(pass);
+    if !front.desk.keeps_entries() {
+        return Err(AllocError);
+    }
     let (asks, posts) = count(front.desk.history());
     Ok((ending, asks, posts))
 }

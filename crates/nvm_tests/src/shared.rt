@@ -124,7 +124,7 @@ fn entries_at_end(shared: Shared, mut pass: StackPass, one: StackPass, two: Stac
 {
     shared.join(&mut pass, one);
     shared.join(&mut pass, two);
-    shared.close(pass).desk.history().len()
+    shared.close(pass).desk.len()
 }
 
 // Whether a shared stack serves two callers, with one history at the end: a start-up, three requests, two writes of three entries

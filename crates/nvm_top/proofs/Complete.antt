@@ -24,7 +24,7 @@ by_steps r s (x ∷ xs) one is = subst (λ (b : Option Beside). FaultWasCounted 
 by_course : (r : Run) (course : Course) (h : List Entry) → r.beside ≡ None → r.end ≡ FlashFault → Follows r course h → Rose r.flash.entry.faults r.flash.exit.faults
 by_course r (Played made pieces left) h one is follows =
     by_steps r (after r.configuration h) left one (subst (λ (e : End). LeavesFor r (after r.configuration h) e left) is follows.2)
-by_course r (Ran steps looks) h one is follows = absurd (subst (λ (e : End). RunsBy r.configuration steps looks e h) is follows)
+by_course r (Ran steps looks) h one is follows = absurd (subst (λ (e : End). RunsBy r.configuration r.most steps looks e h) is follows)
 
 by_order : (r : Run) (h : List Entry) → r.beside ≡ None → r.end ≡ FlashFault → HasOrder r h → Rose r.flash.entry.faults r.flash.exit.faults
 by_order r [] one is order = subst (λ (e : End). EndsAtStart r.flash e) is (subst (λ (b : Option Beside). EndsBefore r.flash b r.end) one order.0)

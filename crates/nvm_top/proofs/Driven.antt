@@ -25,6 +25,7 @@ use Rattle.nvm_flash.specs.fee_laws.Made.{part_at}
 use Rattle.nvm_flash.specs.ram_blocks.declared.plain_block.PlainBlock.{PlainBlock}
 use Rattle.nvm_flash.specs.ram_blocks.Plain.{plain_blocks_of}
 use Rattle.nvm_flash.specs.nv_desk.Desk.{DeskState, state_of}
+use Rattle.nvm_flash.specs.nv_desk.Recorder.{keeps}
 use Rattle.nvm_flash.specs.nvm_laws.Ties.{IsTied}
 use Rattle.nvm_flash.specs.job_progress.Hand.{HandState}
 use Rattle.nvm_flash.specs.promise_blocks.OverDevice.{KeepsOver, KeepsEarly}
@@ -67,6 +68,11 @@ use Rattle.nvm_top.specs.Stack.{IsKeptFrom, IsStarted, StopsAtStart, Vouches, ru
 use Rattle.nvm_flash.specs.fls_model.Attach.{IsFilled}
 use Rattle.nvm_top.specs.Play.{IsRightSize, IsWrongSize}
 use Rattle.nvm_top.specs.declared.stop.Stop.{Stop}
+
+-- THE HISTORY
+-- that of a program is kept
+pub keeps_history : (most : ℕ) → most ≡ cap → keeps most ≡ true
+keeps_history most is = rw is refl
 
 -- WITHOUT A START-UP
 
@@ -116,7 +122,7 @@ size_now need x None same is = tt
 size_now need None (Some b) same is = cc same
 size_now need (Some a) (Some b) same is = subst (λ (l : List ℕ). (l ≡ []) ⊎ (length l ≡ need)) (some_now a.now b.now same) is
 
-pub right_size : (c : Configuration) (inner : Told) (cuts : ℕ) (making : Making) (entry : Told) (m : StackState Device (List PlainBlock)) → IsOrigin c inner cuts making entry → IsMadeStack c making entry m → IsRightSize (size_of c.geometry) inner.bytes
+pub right_size : (c : Configuration) (inner : Told) (cuts : ℕ) (making : Making) (entry : Told) (m : StackState Device (List PlainBlock)) → IsOrigin c inner cuts making entry → IsMadeStack c cap making entry m → IsRightSize (size_of c.geometry) inner.bytes
 right_size c inner cuts making entry m origin made =
     let bytes : bytes_now m.device.entry ≡ bytes_now inner = ap bytes_now (made.device.told_entry ∙ origin.over) ∙ now_told inner.bytes _ in
     let whole : IsRightSize (size_of m.device.making.geometry) m.device.entry.bytes = filled_size m.device.making.geometry m.device.entry.bytes m.device.flash.bytes made.device.made.attaches.bytes in
@@ -124,7 +130,7 @@ right_size c inner cuts making entry m origin made =
 
 -- WHAT IS TOLD BEHIND IT
 
-pub started : (c : Configuration) (inner : Told) (cuts : ℕ) (making : Making) (entry : Told) (m s : StackState Device (List PlainBlock)) → IsLegalConfig c → IsOrigin c inner cuts making entry → IsMadeStack c making entry m → StartsUp told_of m s → IsStarted c cuts (part_at entry) (told_by told_of s)
+pub started : (c : Configuration) (inner : Told) (cuts : ℕ) (making : Making) (entry : Told) (m s : StackState Device (List PlainBlock)) → IsLegalConfig c → IsOrigin c inner cuts making entry → IsMadeStack c cap making entry m → StartsUp told_of m s → IsStarted c cuts (part_at entry) (told_by told_of s)
 started c inner cuts making entry m s legal origin made starts = record {
   configuration = config;
   most = ap (λ x. x.desk.cap) starts.only ∙ ap (λ x. x.desk.cap) made.only;
@@ -168,7 +174,7 @@ none_owed before m s t same starts =
     subst (λ (h : Option HandState). IfSome h (λ x. TriesSince (told_clock t.device).worn (has_urgent t.desk) (faults_of (told_of t.device)) (counted_of (told_of t.device)) x.program)) (sym none) tt
 
 -- the pages of its records are those of the configuration
-pages_up : (c : Configuration) (making : Making) (entry : Told) (m s t : StackState Device (List PlainBlock)) → t ≡ s → StartsUp told_of m s → IsMadeStack c making entry m → (payer_by told_of told_clock t).pages ≡ write_pages (told_by told_of t).configuration
+pages_up : (c : Configuration) (making : Making) (entry : Told) (m s t : StackState Device (List PlainBlock)) → t ≡ s → StartsUp told_of m s → IsMadeStack c cap making entry m → (payer_by told_of told_clock t).pages ≡ write_pages (told_by told_of t).configuration
 pages_up c making entry m s t same starts made =
     let fixed : (told_of t.device).fixed ≡ fixed_by c = ap (λ x. (told_of x.device).fixed) same ∙ starts.finds.up.restarted.fixed ∙ made.fixed in
     let config : t.desk.config ≡ c = ap (λ x. x.desk.config) same ∙ ap (λ x. x.desk.config) starts.only ∙ ap (λ x. x.desk.config) made.only in
@@ -177,14 +183,14 @@ pages_up c making entry m s t same starts made =
     ∙ (λ i x id. write_pages_are_figures t.desk.config x id i)
 
 -- and those that are kept
-reserve_up : (c : Configuration) (making : Making) (entry : Told) (m s t : StackState Device (List PlainBlock)) → t ≡ s → StartsUp told_of m s → IsMadeStack c making entry m → (payer_by told_of told_clock t).reserve ≡ (making_of (told_by told_of t).configuration).reserve
+reserve_up : (c : Configuration) (making : Making) (entry : Told) (m s t : StackState Device (List PlainBlock)) → t ≡ s → StartsUp told_of m s → IsMadeStack c cap making entry m → (payer_by told_of told_clock t).reserve ≡ (making_of (told_by told_of t).configuration).reserve
 reserve_up c making entry m s t same starts made =
     let fixed : (told_of t.device).fixed ≡ fixed_by c = ap (λ x. (told_of x.device).fixed) same ∙ starts.finds.up.restarted.fixed ∙ made.fixed in
     let config : t.desk.config ≡ c = ap (λ x. x.desk.config) same ∙ ap (λ x. x.desk.config) starts.only ∙ ap (λ x. x.desk.config) made.only in
     ap (λ (f : Fixed). f.reserve) fixed ∙ ap (λ (x : Configuration). (making_of x).reserve) (sym config)
 
 -- what it makes of its work is the configuration's, and no try is open
-work_up : (c : Configuration) (making : Making) (entry : Told) (m s t : StackState Device (List PlainBlock)) → IsLegalConfig c → InOrder (told_of t.device) (told_clock t.device) → IsTied t.desk t.hand (told_of t.device) → t ≡ s → StartsUp told_of m s → IsMadeStack c making entry m
+work_up : (c : Configuration) (making : Making) (entry : Told) (m s t : StackState Device (List PlainBlock)) → IsLegalConfig c → InOrder (told_of t.device) (told_clock t.device) → IsTied t.desk t.hand (told_of t.device) → t ≡ s → StartsUp told_of m s → IsMadeStack c cap making entry m
     → ((payer_by told_of told_clock t).work.costs ≡ costs_of (told_by told_of t).configuration) × IsBegun (nat_lt 0 (told_by told_of t).faults) (payer_by told_of told_clock t).work
 work_up c making entry m s t legal order tied same starts made =
     let fixed : (told_of t.device).fixed ≡ fixed_by c = ap (λ x. (told_of x.device).fixed) same ∙ starts.finds.up.restarted.fixed ∙ made.fixed in
@@ -200,7 +206,7 @@ work_up c making entry m s t legal order tied same starts made =
           (simple, λ ready. absurd (let never : false ≡ true = ready in cc never)),
     )
 
-pub kept_up : (c : Configuration) (making : Making) (entry : Told) (before : Part → PartTold) (m s t : StackState Device (List PlainBlock)) → IsLegalConfig c → InOrder (told_of t.device) (told_clock t.device) → IsTied t.desk t.hand (told_of t.device) → t ≡ s → StartsUp told_of m s → IsMadeStack c making entry m → StackKeepsAsTold before s.desk None (told_of s.device) (told_clock s.device)
+pub kept_up : (c : Configuration) (making : Making) (entry : Told) (before : Part → PartTold) (m s t : StackState Device (List PlainBlock)) → IsLegalConfig c → InOrder (told_of t.device) (told_clock t.device) → IsTied t.desk t.hand (told_of t.device) → t ≡ s → StartsUp told_of m s → IsMadeStack c cap making entry m → StackKeepsAsTold before s.desk None (told_of s.device) (told_clock s.device)
     → IsKeptFrom (IsKept t.ready before t.desk t.hand (told_of t.device) (told_clock t.device)) (payer_by told_of told_clock t) (told_by told_of t)
 kept_up c making entry before m s t legal order tied same starts made keeps =
     let kept = is_kept before m s t same starts keeps in (kept, (((before, kept), (omega arith, none_owed before m s t same starts)), pages_up c making entry m s t same starts made, reserve_up c making entry m s t same starts made, λ ready. none_sealed (told_of t.device) (told_clock t.device), (work_up c making entry m s t legal order tied same starts made).0, (work_up c making entry m s t legal order tied same starts made).1))

@@ -146,6 +146,7 @@ pub early_has : (m : Mode) (c : Configuration) (steps : List Step) (Tells : Run 
 early_has m c steps Tells entry exit stop end stops ends tells = record {
   run = run_of c [] entry exit [] [] (nothing m steps) end;
   configuration = refl;
+  most = refl;
   course = nothing_is m steps;
   at_entry = refl;
   at_exit = refl;

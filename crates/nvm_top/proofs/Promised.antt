@@ -51,10 +51,10 @@ use Rattle.nvm_top.proofs.Complete.{walked_complete}
 use Rattle.nvm_top.proofs.EndsTold.{status_at, ends_told}
 
 -- a fact on the state behind a whole history, by the configuration and the cap of the first moment
-behind_all : (P : Configuration → ℕ → State → Type 0) (c : Configuration) (h : List Entry) (old t : StackTold) → old.configuration ≡ c → old.cap ≡ cap → t.entries ≡ h → P old.configuration old.cap (after old.configuration t.entries) → P c cap (after c h)
-behind_all P c h old t same most entries is =
-    subst (λ (es : List Entry). P c cap (after c es)) entries
-    (subst (λ (n : ℕ). P c n (after c t.entries)) most
+behind_all : (P : Configuration → ℕ → State → Type 0) (c : Configuration) (most : ℕ) (h : List Entry) (old t : StackTold) → old.configuration ≡ c → old.cap ≡ most → t.entries ≡ h → P old.configuration old.cap (after old.configuration t.entries) → P c most (after c h)
+behind_all P c most h old t same of entries is =
+    subst (λ (es : List Entry). P c most (after c es)) entries
+    (subst (λ (n : ℕ). P c n (after c t.entries)) of
     (subst (λ (d : Configuration). P d old.cap (after d t.entries)) same is))
 
 -- a fault of the first flash is one of a flash
@@ -63,15 +63,15 @@ counted_first f None rose = rose
 counted_first f (Some b) rose = inl rose
 
 -- why the steps behind are left
-left_for : (why : StepFault) (left : List Step) (r : Run) (before : PartTold) (last : Moment) (old t : StackTold) → old.configuration ≡ r.configuration → old.cap ≡ cap → t.entries ≡ r.history → before.faults ≤ last.faults
+left_for : (why : StepFault) (left : List Step) (r : Run) (before : PartTold) (last : Moment) (old t : StackTold) → old.configuration ≡ r.configuration → old.cap ≡ r.most → t.entries ≡ r.history → before.faults ≤ last.faults
     → (Rose before.faults t.faults → Rose r.flash.entry.faults r.flash.exit.faults) → WereLeft why left last old t → LeavesFor r (after r.configuration r.history) (ends.end_of why) left
 left_for fault.Flash (x ∷ xs) r before last old t same most entries less faults is = (
   is.0,
   counted_first r.flash r.beside (faults (Rose-after before.faults last.faults t.faults less is.1)),
-  behind_all (λ c n s. ¬ HasNoRoom c n s x.kind) r.configuration r.history old t same most entries is.2,
+  behind_all (λ c n s. ¬ HasNoRoom c n s x.kind) r.configuration r.most r.history old t same most entries is.2,
 )
 left_for fault.HistoryFull (x ∷ xs) r before last old t same most entries less faults is =
-    behind_all (λ c n s. HasNoRoom c n s x.kind) r.configuration r.history old t same most entries is
+    behind_all (λ c n s. HasNoRoom c n s x.kind) r.configuration r.most r.history old t same most entries is
 left_for fault.Memory xs r before last old t same most entries less faults is = tt
 left_for fault.Flash [] r before last old t same most entries less faults is = absurd is
 left_for fault.HistoryFull [] r before last old t same most entries less faults is = absurd is
@@ -116,6 +116,7 @@ pub has_run : (Kept : Type 0) (p q : Payer) (c : Configuration) (cuts : ℕ) (al
 has_run Kept p q c cuts all made left end before old t entry exit Tells started walked same keeps owes v parts leaves own tells size = record {
   run = run_of t.configuration t.entries entry exit v.operations t.causes.came (Played made walked.pieces left) end;
   configuration = of;
+  most = refl;
   course = parts;
   at_entry = refl;
   at_exit = refl;

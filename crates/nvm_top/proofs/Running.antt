@@ -85,14 +85,14 @@ pub record CameTo (before : Part → PartTold) (c : Configuration) (most : ℕ) 
   pub no_fault : end ≢ FlashFault
   pub moved : HasMovesTo c h now clock
   pub looks : List Look
-  pub order : IsLegal c most h → RunsBy c steps looks end h
+  pub order : IsLegal c most h → RunsBy c most steps looks end h
 
 -- at any end it is a run
-any_run : (c : Configuration) (steps : List Step) (looks : List Look) (h : List Entry) (end : End) → RunsBy c steps looks end h → IsRun c steps looks h
-any_run c steps looks h Whole is = is.order
-any_run c steps looks h HistoryFull is = is.order
-any_run c steps looks h Memory is = is
-any_run c steps looks h FlashFault is = absurd is
+any_run : (c : Configuration) (most : ℕ) (steps : List Step) (looks : List Look) (h : List Entry) (end : End) → RunsBy c most steps looks end h → IsRun c steps looks h
+any_run c most steps looks h Whole is = is.order
+any_run c most steps looks h HistoryFull is = is.order
+any_run c most steps looks h Memory is = is
+any_run c most steps looks h FlashFault is = absurd is
 
 -- so it may also end for want of memory
 wanting : (before : Part → PartTold) (c : Configuration) (most : ℕ) (steps : List Step) (end : End) (h : List Entry) (now : DeviceTold) (clock : Clock) → CameTo before c most steps end h now clock → CameTo before c most steps Memory h now clock
@@ -111,7 +111,7 @@ wanting before c most steps end h now clock w = record {
   no_fault = λ fault. cc fault;
   moved = w.moved;
   looks = w.looks;
-  order = λ legal. any_run c steps w.looks h end (w.order legal);
+  order = λ legal. any_run c most steps w.looks h end (w.order legal);
 }
 
 -- FROM THE START ON
@@ -343,6 +343,7 @@ ran_has : (c : Configuration) (steps : List Step) (end : End) (h : List Entry) (
 ran_has c steps end h Tells inner exit entry d back w values size tells = record {
   run = run_of c h inner exit back.operations [] (Ran steps w.looks) end;
   configuration = refl;
+  most = refl;
   course = refl;
   at_entry = refl;
   at_exit = refl;

@@ -78,7 +78,7 @@ left_only c most s (Err serve.NoRoom) [] rest leaves = refl
 left_only c most s (Err serve.NoRoom) (request ∷ left) rest leaves = refl
 left_only c most s (Err serve.Memory) left rest leaves = refl
 
-leaves_for : (r : Run) (s : State) (end : Result (Unit {0}) ServeStop) (left : List (List ℕ)) (rest : List Entry) (leaves : LeavesRequests r.configuration cap s end left rest) → LeavesFor r s (end_served end) (left_steps r.configuration cap s end left rest leaves)
+leaves_for : (r : Run) (s : State) (end : Result (Unit {0}) ServeStop) (left : List (List ℕ)) (rest : List Entry) (leaves : LeavesRequests r.configuration r.most s end left rest) → LeavesFor r s (end_served end) (left_steps r.configuration r.most s end left rest leaves)
 unfolding left_steps
 leaves_for r s (Ok done) left rest leaves = refl
 leaves_for r s (Err serve.Off) [] rest leaves = refl

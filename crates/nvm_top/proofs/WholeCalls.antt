@@ -86,7 +86,7 @@ has_promise : (m : Mode) (left : Option (List ℕ)) (x : Status) (c : Configurat
     → HasRun m c steps (EndsIn History (call_by m left x entry exit w w')) entry exit → HasPromise (call_by m left x entry exit w w')
 has_promise m left x c steps entry exit w w' has run = (
   run.run,
-  record { input = input_of m left c steps run.run run.configuration run.course has; entry = run.at_entry; exit = run.at_exit; beside = run.beside; ends = run.ends },
+  record { input = input_of m left c steps run.run run.configuration run.course has; most = run.most; entry = run.at_entry; exit = run.at_exit; beside = run.beside; ends = run.ends },
   course_in m steps run.run.course run.course,
   short_input m left c steps has,
   run.keeps,

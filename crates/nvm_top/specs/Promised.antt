@@ -16,7 +16,7 @@ use Rattle.script_walks.specs.Runs.{AskedAll, has_ended, is_found}
 use Rattle.script_walks.specs.Texts.{AreValues}
 use Rattle.nvm_flash.specs.block_machine.Words.{Entry}
 use Rattle.nvm_flash.specs.promise_blocks.OverDevice.{HasStarted}
-use Rattle.nvm_flash.specs.promise_run.Run.{Run, Course, Played, Ran, End, Whole, FlashFault, Memory, HasOrder, LeavesAlone, CutsExplain}
+use Rattle.nvm_flash.specs.promise_run.Run.{Run, Course, Played, Ran, End, Whole, FlashFault, Memory, cap, HasOrder, LeavesAlone, CutsExplain}
 use Rattle.nvm_flash.specs.Made.{IsOnlyFaulty}
 use Rattle.nvm_flash.specs.promise_run.Refusals.{RefusesAsAsked}
 use Rattle.nvm_flash.specs.block_machine.Steps.{after}
@@ -121,6 +121,7 @@ pub record HasNoRun (IsEnd : Status → List (List ℕ) → Type 0) (written wri
 pub record HasRun (m : Mode) (c : Configuration) (steps : List Step) (Tells : Run → Type 0) (entry exit : Told) : Type 0 where
   pub run : Run
   pub configuration : run.configuration ≡ c
+  pub most : run.most ≡ cap
   pub course : IsCourseOf m steps run.course
   pub at_entry : run.flash.entry ≡ entry
   pub at_exit : run.flash.exit ≡ exit

@@ -31,7 +31,7 @@ use Rattle.nvm_top.specs.Stop.{status_of}
 -- a run over one flash that followed this course and came to this end
 abbrev pub run_of : Configuration → List Entry → Told → Told → List Change → List ℕ → Course → End → Run
 run_of c h entry exit operations cuts course end =
-    record { configuration = c; course = course; end = end; history = h; flash = record { entry = entry; exit = exit; operations = operations }; cuts = cuts; beside = None }
+    record { configuration = c; most = cap; course = course; end = end; history = h; flash = record { entry = entry; exit = exit; operations = operations }; cuts = cuts; beside = None }
 
 -- behind its first start-up, with so many power cuts that can be planned
 pub record IsStarted (c : Configuration) (cuts : ℕ) (before : PartTold) (t : StackTold) : Type 0 where

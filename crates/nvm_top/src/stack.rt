@@ -21,6 +21,7 @@ use nvm_flash::fls_devices::Cutter;
 use nvm_flash::fls_model::Flash;
 use nvm_flash::memif::MemDevice;
 use nvm_flash::nv_base::Geometry;
+use nvm_flash::promise_run::CAP;
 use nvm_flash::{FlashStack, MakeFault, give_back, make_stack, start_stack};
 use std::alloc::Global;
 use std::marker::PhantomData;
@@ -60,7 +61,7 @@ impl<F: Flash, O: Origin> Flashes for OneFlash<F, O> {
     ) -> Result<FlashStack<F, O>, (Stop, OneFlash<F, O>)> {
         let OneFlash { flash, origin } = self;
         let geometry = config.geometry();
-        match make_stack(alloc, config, flash, cuts) {
+        match make_stack(alloc, config, flash, cuts, CAP) {
             Ok(stack) => match begin(stack) {
                 Ok(stack) => {
                     let device = stack.device();
@@ -85,7 +86,7 @@ impl<F: Flash, O: Origin> Flashes for OneFlash<F, O> {
 
 // The first start-up of a stack that was made.
 fn begin<F: Flash, O: Origin>(stack: FlashStack<F, O>) -> Result<FlashStack<F, O>, (MakeFault, F)>
-    requires { IsMadeStack stack.desk.config O.making O.entry stack }
+    requires { IsMadeStack stack.desk.config stack.desk.cap O.making O.entry stack }
     ensures started { IfOk result (λ s. StartsUp told_of stack s) }
     ensures kept { IfOk result (λ s. (c : Configuration) (inner : Told) (cuts : ℕ) → stack.desk.config ≡ c → IsLegalConfig c → IsOrigin c inner cuts O.making O.entry
         → StackKeepsAsTold (one_part (part_at O.entry)) s.desk None (told_of s.device) (told_clock s.device)) }

@@ -79,19 +79,19 @@ rests_by false true is on = cc
 rests_by false false is on = cc
 
 -- THE END
-by_end : (c : Configuration) (steps : List Step) (looks : List Look) (h : List Entry) (end : End) → end ≢ Memory → RunsBy c steps looks end h → IsTrue (has_ended c h)
-by_end c steps looks h Whole other is = is.ends
-by_end c steps looks h HistoryFull other is = is.ends
-by_end c steps looks h Memory other is = absurd (other refl)
-by_end c steps looks h FlashFault other is = absurd is
+by_end : (c : Configuration) (most : ℕ) (steps : List Step) (looks : List Look) (h : List Entry) (end : End) → end ≢ Memory → RunsBy c most steps looks end h → IsTrue (has_ended c h)
+by_end c most steps looks h Whole other is = is.ends
+by_end c most steps looks h HistoryFull other is = is.ends
+by_end c most steps looks h Memory other is = absurd (other refl)
+by_end c most steps looks h FlashFault other is = absurd is
 
 ended : (r : Run) (steps : List Step) (looks : List Look) (h : List Entry) → r.course ≡ Ran steps looks → r.end ≢ Memory → HasOrder r h → IsTrue (has_ended r.configuration h)
 ended r steps looks [] is other order = refl
-ended r steps looks (e ∷ es) is other order = by_end r.configuration steps looks (e ∷ es) r.end other (subst (λ (x : Course). Follows r x (e ∷ es)) is order)
+ended r steps looks (e ∷ es) is other order = by_end r.configuration r.most steps looks (e ∷ es) r.end other (subst (λ (x : Course). Follows r x (e ∷ es)) is order)
 
 no_fault : (r : Run) (steps : List Step) (looks : List Look) (h : List Entry) → r.course ≡ Ran steps looks → r.beside ≡ None → IsCalm r → HasOrder r h → r.end ≢ FlashFault
 no_fault r steps looks [] is one calm order = λ fault. calm.no_fault (subst (λ (x : End). EndsAtStart r.flash x) fault (subst (λ (b : Option Beside). EndsBefore r.flash b r.end) one order.0))
-no_fault r steps looks (e ∷ es) is one calm order = λ fault. subst (λ (x : End). RunsBy r.configuration steps looks x (e ∷ es)) fault (subst (λ (x : Course). Follows r x (e ∷ es)) is order)
+no_fault r steps looks (e ∷ es) is one calm order = λ fault. subst (λ (x : End). RunsBy r.configuration r.most steps looks x (e ∷ es)) fault (subst (λ (x : Course). Follows r x (e ∷ es)) is order)
 
 pub callers_are_served : CallersAreServed
 callers_are_served r steps looks is one order calm = record {

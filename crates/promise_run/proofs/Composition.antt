@@ -19,7 +19,7 @@ use Rattle.promise_device.specs.Bridge.{IsWornOut, reading_of, cuts_of}
 use Rattle.promise_device.specs.Wear.{OperationsAreDue}
 use Rattle.promise_device.proofs.FlashRun.{seen_more}
 use Rattle.promise_device.proofs.Readings.{sound_flashes_compute, sound_starts_compute, worn_banks_compute}
-use Rattle.promise_run.specs.Run.{Run, alone, cap, has_cutter}
+use Rattle.promise_run.specs.Run.{Run, alone, has_cutter}
 use Rattle.promise_run.specs.Promise.{CutsCount, Keeps, MayBeKept, Promise, StartUpsFind, making_of}
 use Rattle.promise_run.proofs.Founds.{last_soon}
 use Rattle.promise_run.proofs.Paid.{excused_too}
@@ -116,7 +116,7 @@ cuts_count : (r : Run) (before : Part → PartTold) (now : DeviceTold) (clock : 
 cuts_count r before now clock block device tells sound cuts k ops image small cut last =
     let c = r.configuration in
     let within : k < length r.flash.operations = one_of k r.flash.operations cut.0 cut.1 in
-    let soon : ops ≤ k = last_soon c cap k r.history ops block.over.legal last in
+    let soon : ops ≤ k = last_soon c r.most k r.history ops block.over.legal last in
     if_told (bytes_after r.flash ops) (λ first. clock.may_find (After ops) (held_in (making_of c) first)) _
     (λ first finds. block.over.counts k ops (held_in (making_of c) first) (held_in (making_of c) image) small
     (was_asked (length r.flash.operations) now.ops k small within device.ops) (cuts k image small cut) last finds)

@@ -91,7 +91,7 @@ unplanned ops (Found marks now ∷ es) = unplanned (ops_behind ops (Found marks 
 
 -- THE ORDER
 
-in_order : (r : Run) (steps : List Step) (looks : List Look) (h : List Entry) → r.course ≡ Ran steps looks → HasStarted h → RunsBy r.configuration steps looks r.end h → HasOrder r h
+in_order : (r : Run) (steps : List Step) (looks : List Look) (h : List Entry) → r.course ≡ Ran steps looks → HasStarted h → RunsBy r.configuration r.most steps looks r.end h → HasOrder r h
 in_order r steps looks [] is started runs = absurd started
 in_order r steps looks (e ∷ es) is started runs = subst (λ (x : Course). Follows r x (e ∷ es)) (sym is) runs
 

@@ -59,4 +59,5 @@ calls_tell_histories call r s printed a b =
     let text = same_text call.written.bytes call.written_after.bytes printed.before (concat (text_of r)) (concat (text_of s)) printed.written
     (whole call r r.end printed.no_fault printed.no_want a.run.ends).bytes (whole call s s.end printed.no_fault printed.no_want b.run.ends).bytes in
     (texts_tell_legal_histories s.configuration cap r.history s.history (last_line r.end r.history) (last_line s.end s.history)
-    (subst (λ (c : Configuration). IsLegal c cap r.history) same a.legal) b.legal a.values b.values (last_begins r.end r.history) (last_begins s.end s.history) (sym (joined r) ∙ text ∙ joined s)).0
+    (subst (λ (c : Configuration). IsLegal c cap r.history) same (subst (λ (n : ℕ). IsLegal r.configuration n r.history) a.run.most a.legal))
+    (subst (λ (n : ℕ). IsLegal s.configuration n s.history) b.run.most b.legal) a.values b.values (last_begins r.end r.history) (last_begins s.end s.history) (sym (joined r) ∙ text ∙ joined s)).0

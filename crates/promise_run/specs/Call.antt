@@ -10,7 +10,7 @@ use Rattle.nvm_script.specs.Lines.{end_line}
 use Rattle.nvm_script.specs.Printed.{history_lines}
 use Rattle.nvm_script.specs.Script.{IsScript, first_line, later_lines}
 use Rattle.block_machine.specs.Words.{Entry}
-use Rattle.promise_run.specs.Run.{Run, Course, Played, Ran, End, Whole, FlashFault, HistoryFull, Memory}
+use Rattle.promise_run.specs.Run.{Run, cap, Course, Played, Ran, End, Whole, FlashFault, HistoryFull, Memory}
 
 -- A call of `play` or `run` from the attach of its flash on: its input, its exit status, and what its flash and its output
 -- tell before and behind it.
@@ -66,9 +66,11 @@ EndsWith entries text call end =
 abbrev pub Ends : Call → Run → End → Type 0
 Ends call r end = EndsWith r.history (text_of r) call end
 
--- the run is this call's: its configuration, its steps, its one flash, its status and its output
+-- the run is this call's: its configuration, its steps, the most entries of a program's history, its one flash, its status and its
+-- output
 pub record IsRunOf (call : Call) (r : Run) : Type 0 where
   pub input : IfSome call.input (IsInputOf call.mode r)
+  pub most : r.most ≡ cap
   pub entry : r.flash.entry ≡ call.entry
   pub exit : r.flash.exit ≡ call.exit
   pub beside : r.beside ≡ None

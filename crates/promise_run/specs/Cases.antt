@@ -71,6 +71,7 @@ unchanged before after = record { entry = tells before None; exit = tells after 
 abbrev pub plays : List (StepKind × List Entry) → FlashRun → Run
 plays steps flash = record {
   configuration = small;
+  most = cap;
   course = Played (map (λ x. record { line = 0; caller = 0; kind = x.0 }) steps) (map (λ x. x.1) steps) [];
   end = Whole;
   history = Found [] 0 ∷ flat_map (λ x. x.1) steps;
@@ -421,9 +422,13 @@ step_of kind = record { line = 0; caller = 0; kind = kind }
 abbrev pub HadRoomAt : ℕ → StepKind → Type 0
 HadRoomAt n kind = HadRoom small cap (at_count n) (step_of kind) [] [] []
 
--- behind so many entries a start-up was left, at this end
+-- behind so many entries a start-up was left, at this end, in a run of at most so many
+abbrev pub LeftOf : ℕ → ℕ → End → Type 0
+LeftOf most n end = LeavesFor (record quiet { most = most; flash = faulty 1 }) (at_count n) end (step_of Restart ∷ [])
+
+-- in one of a program
 abbrev pub LeftAt : ℕ → End → Type 0
-LeftAt n end = LeavesFor (record quiet { flash = faulty 1 }) (at_count n) end (step_of Restart ∷ [])
+LeftAt = LeftOf cap
 
 -- AT REST
 -- before any operation, with nothing open at the device, or something

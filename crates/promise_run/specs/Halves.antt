@@ -7,7 +7,7 @@ use Rattle.promise_blocks.specs.OverDevice.{KeepsOver, KeepsEarly, is_of}
 use Rattle.promise_device.specs.FlashRun.{TellsBytes}
 use Rattle.promise_device.specs.Bridge.{Bridges, reading_of, cuts_of}
 use Rattle.promise_device.specs.Wear.{OperationsAreDue}
-use Rattle.promise_run.specs.Run.{Run, cap, HasOrder, has_cutter, CutsExplain}
+use Rattle.promise_run.specs.Run.{Run, HasOrder, has_cutter, CutsExplain}
 use Rattle.promise_run.specs.Refusals.{RefusesAsAsked}
 use Rattle.promise_run.specs.Promise.{Promise, BeginsWell, making_of}
 
@@ -15,7 +15,7 @@ use Rattle.promise_run.specs.Promise.{Promise, BeginsWell, making_of}
 pub record BlockHalf (r : Run) (before : Part → PartTold) (now : DeviceTold) (clock : Clock) : Type 0 where
   pub alone : r.beside ≡ None
   pub order : HasOrder r r.history
-  pub over : KeepsOver r.configuration cap r.history before now clock
+  pub over : KeepsOver r.configuration r.most r.history before now clock
   pub refusals : (id : ℕ) → RefusesAsAsked r.configuration r.course r.history id
   pub off : CutsExplain r.course r.history r.cuts (before First).planning.unplanned now.first.planning.unplanned
   -- the planned cuts that came are those that it tells
@@ -34,7 +34,7 @@ beyond_end clock = record clock { off_in = λ k. (last_count ≤ k) ⊎ clock.of
 -- until the first operation, over a flash that tells its bytes
 abbrev pub EarlyMakesIt : Clock → Type 0
 EarlyMakesIt clock =
-    (r : Run) (before : PartTold) (now : DeviceTold) → KeepsEarly r.configuration cap r.history clock → DeviceHalf r before now (beyond_end clock) → TellsBytes r.flash → BeginsWell r
+    (r : Run) (before : PartTold) (now : DeviceTold) → KeepsEarly r.configuration r.most r.history clock → DeviceHalf r before now (beyond_end clock) → TellsBytes r.flash → BeginsWell r
 
 -- both halves make the promise, where the device's erases are due
 abbrev pub HalvesMakeIt : Clock → Type 0

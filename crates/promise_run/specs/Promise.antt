@@ -21,7 +21,7 @@ use Rattle.promise_device.specs.Reading.{BeginsSound}
 use Rattle.promise_device.specs.Bridge.{IsWornOut, IsWornBy}
 use Rattle.promise_device.specs.Wear.{OperationsAreDue}
 use Rattle.promise_run.specs.Beside.{Beside, AreCutImages, IsMerged, is_beside, ops_of}
-use Rattle.promise_run.specs.Run.{Run, cap, HasOrder, of_flashes, has_cutter, CutsExplain}
+use Rattle.promise_run.specs.Run.{Run, HasOrder, of_flashes, has_cutter, CutsExplain}
 use Rattle.promise_run.specs.Refusals.{RefusesAsAsked}
 
 -- the device is made for this configuration, over the banks that a configuration has
@@ -63,7 +63,7 @@ StartUpsFind r (Some b) =
 -- Until the first operation, whatever the image: each start-up lists what stands in the bytes, and the history is the block machine's.
 pub record BeginsWell (r : Run) : Type 0 where
   pub found : (marks : List (Instance × Mark)) → Contains r.history (Found marks 0) → IfSome (bytes_after r.flash 0) (λ image. Lists r.configuration marks (found_by r.configuration image))
-  pub legal : IsLegal r.configuration cap (up_to 0 r.history)
+  pub legal : IsLegal r.configuration r.most (up_to 0 r.history)
 
 -- each image that a power cut may leave keeps to the history up to then
 abbrev pub CutsKeep : Run → Option Beside → Type 0
@@ -133,7 +133,7 @@ pub record Promise (r : Run) : Type 0 where
   pub found : TellsBytes r.flash → StartsSound (making_of r.configuration) r.flash → StartUpsFind r r.beside
   pub at_exit : TellsBytes r.flash → StartsSound (making_of r.configuration) r.flash → ExitKeeps r r.beside
   -- every reply, choice and result is the block machine's over the one history;
-  pub block_machine : IsLegal r.configuration cap r.history
+  pub block_machine : IsLegal r.configuration r.most r.history
   -- a failure result comes only from counted faults, refused copies or what the flash holds written.
   pub faults : FailuresArePaid r r.beside
   -- Each operation of the flash is due: a bank is erased, its sectors in order, only where the active one has no room for a record

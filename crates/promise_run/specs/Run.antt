@@ -17,7 +17,7 @@ use Rattle.promise_device.specs.Image.{attached}
 use Rattle.promise_device.specs.FlashRun.{FlashRun}
 use Rattle.promise_run.specs.Beside.{Beside}
 
--- the most entries of a history
+-- the most entries of a program's history
 abbrev pub cap : ℕ
 cap = 100000
 
@@ -37,6 +37,8 @@ pub data End : Type 0 where
 
 pub record Run : Type 0 where
   pub configuration : Configuration
+  -- the most entries of its history
+  pub most : ℕ
   pub course : Course
   pub end : End
   pub history : List Entry
@@ -113,26 +115,26 @@ HadRoom c most s x p xs ps = ¬ HasNoRoom c most s x.kind
 -- why these steps were left: a start-up that failed had room too
 abbrev pub LeavesFor : Run → State → End → List Step → Type 0
 LeavesFor r s Whole left = left ≡ []
-LeavesFor r s FlashFault (x ∷ left) = (x.kind ≡ Restart) × FaultWasCounted r.flash r.beside × ¬ HasNoRoom r.configuration cap s x.kind
-LeavesFor r s HistoryFull (x ∷ left) = HasNoRoom r.configuration cap s x.kind
+LeavesFor r s FlashFault (x ∷ left) = (x.kind ≡ Restart) × FaultWasCounted r.flash r.beside × ¬ HasNoRoom r.configuration r.most s x.kind
+LeavesFor r s HistoryFull (x ∷ left) = HasNoRoom r.configuration r.most s x.kind
 LeavesFor r s Memory left = Unit {0}
 LeavesFor r s end left = ⊥
 
 -- `RUN`
 -- at its end all requests were made and served, or a full history ended callers one by one; else some of each caller's were made,
 -- from its first on
-abbrev pub RunsBy : Configuration → List Step → List Look → End → List Entry → Type 0
-RunsBy c steps looks Whole h = IsWholeRun c steps looks h
-RunsBy c steps looks HistoryFull h = IsFullRun cap c steps looks h
-RunsBy c steps looks Memory h = IsRun c steps looks h
-RunsBy c steps looks FlashFault h = ⊥
+abbrev pub RunsBy : Configuration → ℕ → List Step → List Look → End → List Entry → Type 0
+RunsBy c most steps looks Whole h = IsWholeRun c steps looks h
+RunsBy c most steps looks HistoryFull h = IsFullRun most c steps looks h
+RunsBy c most steps looks Memory h = IsRun c steps looks h
+RunsBy c most steps looks FlashFault h = ⊥
 
 -- THE ORDER
 abbrev pub Follows : Run → Course → List Entry → Type 0
 Follows r (Played made pieces left) h =
-    IsWalkOf r.configuration made pieces h × EachPiece r.configuration (HadRoom r.configuration cap) (after r.configuration (take 1 h)) made pieces
+    IsWalkOf r.configuration made pieces h × EachPiece r.configuration (HadRoom r.configuration r.most) (after r.configuration (take 1 h)) made pieces
     × LeavesFor r (after r.configuration h) r.end left
-Follows r (Ran steps looks) h = RunsBy r.configuration steps looks r.end h
+Follows r (Ran steps looks) h = RunsBy r.configuration r.most steps looks r.end h
 
 -- without a start-up no step was made, and no look
 abbrev pub MadeNothing : Course → Type 0

@@ -12,7 +12,7 @@ use Rattle.promise_device.specs.FlashRun.{FlashRun}
 use Rattle.promise_device.specs.Reading.{Reading}
 use Rattle.promise_device.specs.Bridge.{Bridges, reading_of}
 use Rattle.promise_device.specs.Wear.{OperationsAreDue}
-use Rattle.promise_run.specs.Run.{Run, Ran, RunsBy, cap}
+use Rattle.promise_run.specs.Run.{Run, Ran, RunsBy}
 use Rattle.promise_run.specs.Promise.{Promise, making_of}
 use Rattle.promise_run.specs.Halves.{BlockHalf, beyond_end}
 
@@ -36,8 +36,8 @@ pub record KeepsCallers (r : Run) (steps : List Step) (looks : List Look) (befor
   pub alone : r.beside ≡ None
   pub uncut : r.cuts ≡ []
   pub started : HasStarted r.history
-  pub order : RunsBy r.configuration steps looks r.end r.history
-  pub over : KeepsOver r.configuration cap r.history before now clock
+  pub order : RunsBy r.configuration r.most steps looks r.end r.history
+  pub over : KeepsOver r.configuration r.most r.history before now clock
   pub no_refusal : IsTrue (list_all tells_no_refusal r.history)
   pub offs : WereCounted (offs_in r.history) (before First).planning.unplanned now.first.planning.unplanned
   -- each block is of its one part

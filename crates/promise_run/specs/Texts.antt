@@ -3,7 +3,7 @@ use Rattle.std.specs.Prelude.{◌≡◌, ◌≢◌, ℕ, List, Some}
 use Rattle.block_machine.specs.Legal.{IsLegal}
 use Rattle.script_walks.specs.Texts.{AreValues}
 use Rattle.promise_run.specs.Call.{Call, IsRunOf}
-use Rattle.promise_run.specs.Run.{Run, cap}
+use Rattle.promise_run.specs.Run.{Run}
 
 -- its input and its output are told, and it ended with its whole text: at 0, 7 or 11
 pub record IsPrinted (call : Call) : Type 0 where
@@ -17,7 +17,7 @@ pub record IsPrinted (call : Call) : Type 0 where
 -- a run of the call whose history is legal, with numbers and bytes as small as those of a program
 pub record IsLegalRunOf (call : Call) (r : Run) : Type 0 where
   pub run : IsRunOf call r
-  pub legal : IsLegal r.configuration cap r.history
+  pub legal : IsLegal r.configuration r.most r.history
   pub values : AreValues r.history
 
 -- two such runs of one call have one history

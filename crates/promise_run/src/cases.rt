@@ -15,7 +15,7 @@ ghost use Rattle.script_walks.specs.Words.{AskStep, Restart};
 ghost use Rattle.block_machine.specs.Words.{Status, Fine, Canceled, BlockSkipped, Post};
 ghost use Rattle.promise_run.specs.Run.{FlashFault, HistoryFull};
 ghost use Rattle.promise_run.specs.Turns.{BeginsAt, EndsBy, HasTurns};
-ghost use Rattle.promise_run.specs.Cases.{ahead, six_beside, six_turns, lazy, leaps, at_faults, faulty, PassesBy, PaysFailed, CountsFailed, HadRoomAt, LeftAt, DrainsTo, WorksAt, EndsWith, mended, posts_on_credit, starts_on_credit, untold, BreaksBy, small, one, two, quiet, quiet_beside, wiped, empty_at_11, made_up_mark, off_without_a_cut, cut_within, cut_twice, stale_in_play, invented_store, second_found, other_dataset, worn_but_roomy, worn_but_kept, worn_and_full, kept_write, lost_write, two_callers, written_at, always, turned, not_drained, fails_for_nothing, ends_for_nothing, demo_run, demo_call, untold_write, unseen_stale, later_store, full_for_nothing, not_served, worn_long_ago, cut_comes, cut_missed, last_in_two, erased_with_room, erased_when_full, erased_beside_last, programmed_over};
+ghost use Rattle.promise_run.specs.Cases.{ahead, six_beside, six_turns, lazy, leaps, at_faults, faulty, PassesBy, PaysFailed, CountsFailed, HadRoomAt, LeftAt, LeftOf, DrainsTo, WorksAt, EndsWith, mended, posts_on_credit, starts_on_credit, untold, BreaksBy, small, one, two, quiet, quiet_beside, wiped, empty_at_11, made_up_mark, off_without_a_cut, cut_within, cut_twice, stale_in_play, invented_store, second_found, other_dataset, worn_but_roomy, worn_but_kept, worn_and_full, kept_write, lost_write, two_callers, written_at, always, turned, not_drained, fails_for_nothing, ends_for_nothing, demo_run, demo_call, untold_write, unseen_stale, later_store, full_for_nothing, not_served, worn_long_ago, cut_comes, cut_missed, last_in_two, erased_with_room, erased_when_full, erased_beside_last, programmed_over};
 
 /// A start-up alone keeps it, and so do a write that a cut breaks off with a restart behind it, and the requests of two
 /// callers.
@@ -48,7 +48,7 @@ pub fn wrong_orders_break_it()
 {}
 
 /// One entry below the cap neither a request nor a start-up was made, and a start-up that is left there is left for a full
-/// history, and for no fault. One sooner both have room, and none is left for a full history.
+/// history, and for no fault. One sooner both have room, and none is left for a full history. So it is at another cap.
 pub fn full_histories_end()
     ensures ends_full { LeftAt 99999 HistoryFull }
     ensures ends_by_a_fault { LeftAt 99998 FlashFault }
@@ -58,6 +58,8 @@ pub fn full_histories_end()
     ensures ends_too_soon { LeftAt 99998 HistoryFull → ⊥ }
     ensures asks_full { HadRoomAt 99999 (AskStep (Status 2)) → ⊥ }
     ensures starts_full { HadRoomAt 99999 Restart → ⊥ }
+    ensures ends_full_at_most { LeftOf 4294967295 4294967294 HistoryFull }
+    ensures goes_on { LeftOf 4294967295 99999 HistoryFull → ⊥ }
 {}
 
 /// A start-up that lists what was never written breaks it by what start-ups find, and an image that holds a mark in another
@@ -118,8 +120,8 @@ pub fn a_list_that_ends_early_breaks_it()
     ensures { BreaksBy untold_write (OperationsAre untold_write untold_write.beside) }
 {}
 
-/// A call is told by its run where configuration, steps, flash, status and output are the run's, each line is one put, and the
-/// run has no second flash.
+/// A call is told by its run where configuration, steps, cap, flash, status and output are the run's, each line is one put, and
+/// the run has no second flash.
 pub fn runs_of_calls()
     ensures own { IsRunOf (demo_call 0 (text_of demo_run)) demo_run }
     ensures other_status { IsRunOf (demo_call 7 (text_of demo_run)) demo_run → ⊥ }
@@ -127,6 +129,7 @@ pub fn runs_of_calls()
     ensures two_lines_in_one { IsRunOf (demo_call 0 (concat (text_of demo_run) ∷ [])) demo_run → ⊥ }
     ensures one_line_in_two { IsRunOf (demo_call 0 last_in_two) demo_run → ⊥ }
     ensures other_configuration { IsRunOf (demo_call 0 (text_of quiet)) quiet → ⊥ }
+    ensures other_most { IsRunOf (demo_call 0 (text_of demo_run)) (record demo_run { most = 4294967295 }) → ⊥ }
     ensures two_flashes { IsRunOf (demo_call 0 (text_of demo_run)) (record demo_run { beside = (quiet_beside one one).beside }) → ⊥ }
 {}
 

@@ -100,7 +100,7 @@ impl<D: MemDevice> PlayedStack for PlainStack<D> {
     }
 
     fn len(&self) -> u32 {
-        self.stack.history().len()
+        self.stack.len()
     }
 
     fn faults(&self) -> u64 {

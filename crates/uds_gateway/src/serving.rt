@@ -164,8 +164,7 @@ fn last_posted<D: MemDevice, C: SyncCalls + Drop>(
     ensures err { OnErr result ((h : List Line) (block : ℕ) (posted : Posted) (given : Option (List ℕ)) (refused ops : ℕ)
         → stack.now.desk.entries ≡ h ++ Post block posted given refused ops ∷ [] → vec_capacity room < length (unwrap_or given []) + 3) }
 {
-    let history = stack.history();
-    match history.entry(history.len().saturating_sub(1)) {
+    match stack.last() {
         Some(Entry::Post { result, given, .. }) => match given {
             Some(given) => posted_answer(room, request, *result, Some(given.as_slice())),
             None => posted_answer(room, request, *result, None),

@@ -12,7 +12,6 @@ use Rattle.script_walks.specs.Walk.{joined}
 use Rattle.promise_device.specs.Bridge.{IsWornOut}
 use Rattle.promise_run.specs.Completeness.{EachEntry, PostsWell}
 use Rattle.promise_run.specs.Promise.{making_of}
-use Rattle.promise_run.specs.Run.{cap}
 use Rattle.uds_gateway.specs.block_machine.StartUp.{at_first}
 use Rattle.uds_gateway.specs.declared.code.NegativeCode.TheVariants.{ServiceNotSupported, IncorrectLength, ConditionsNotCorrect, OutOfRange, ProgrammingFailure}
 use Rattle.uds_gateway.specs.declared.code.NegativeCode.{NegativeCode}
@@ -152,6 +151,6 @@ each_has_causes c most worn s (request ∷ requests) (piece ∷ pieces) rest non
 pub answers_have_causes : AnswersHaveCauses
 answers_have_causes r marks ops requests pieces rest is legal well served =
     let worn = IsWornOut (making_of r.configuration) r.flash in
-    let all = subst (λ (h : List Entry). IsLegalFrom r.configuration cap at_first h) is legal in
+    let all = subst (λ (h : List Entry). IsLegalFrom r.configuration r.most at_first h) is legal in
     let each = subst (λ (h : List Entry). EachEntry r.configuration (PostsWell r.configuration worn) at_first h) is well in
-    each_has_causes r.configuration cap worn (after r.configuration (Found marks ops ∷ [])) requests pieces rest (record { hand = refl; waiting = refl; sweep = refl }) all.1 each.1 served
+    each_has_causes r.configuration r.most worn (after r.configuration (Found marks ops ∷ [])) requests pieces rest (record { hand = refl; waiting = refl; sweep = refl }) all.1 each.1 served

@@ -10,7 +10,7 @@ use Rattle.script_walks.specs.Walk.{joined}
 use Rattle.promise_device.specs.Bridge.{IsWornOut}
 use Rattle.promise_run.specs.Completeness.{PostWell}
 use Rattle.promise_run.specs.Promise.{making_of}
-use Rattle.promise_run.specs.Run.{Run, cap}
+use Rattle.promise_run.specs.Run.{Run}
 use Rattle.uds_gateway.specs.declared.code.NegativeCode.TheVariants.{ConditionsNotCorrect, ProgrammingFailure}
 use Rattle.uds_gateway.specs.Services.{asked_by}
 use Rattle.uds_gateway.specs.Answers.{negative, uds}
@@ -45,5 +45,5 @@ EachHasCauses c worn s requests pieces = Unit {0}
 abbrev pub AnswersHaveCauses : Type 0
 AnswersHaveCauses =
     (r : Run) (marks : List (Instance × Mark)) (ops : ℕ) (requests : List (List ℕ)) (pieces : List (List Entry)) (rest : List Entry)
-    → r.history ≡ Found marks ops ∷ joined pieces ++ rest → IsLegal r.configuration cap r.history → PostWell r → AreServed r.configuration requests pieces
+    → r.history ≡ Found marks ops ∷ joined pieces ++ rest → IsLegal r.configuration r.most r.history → PostWell r → AreServed r.configuration requests pieces
     → EachHasCauses r.configuration (IsWornOut (making_of r.configuration) r.flash) (after r.configuration (Found marks ops ∷ [])) requests pieces

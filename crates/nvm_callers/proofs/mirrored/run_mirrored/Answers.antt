@@ -61,5 +61,5 @@ returns-clause-order g c = λ steps are.
     c.in-Ok.ensures.dealt c.gather.ensures.gathered (knows c.args.pass).seen (knows c.run_callers-pass.result.0).seen c.requires.begun.first c.with_copies-driver.result.0 last c.run_callers-pass.ensures.driven
     (subst (λ (es : EndList Along). EndsGoOn es last.copies.ends) (ap (λ x. x.ends) c.of.ensures) over.ends)
     (subst (λ (es : EndList Along). AreClosed es c.gather.new.sides) (c.into_ends-ends.ensures.ends ∙ ap (λ x. x.ends) c.into_parts-device-2.ensures.copies) c.close.ensures)
-    c.run_callers-pass.result.2 (knows c.run_callers-pass.result.0) c.close-desk.result.desk c.requires.begun.most c.run_callers-pass.ensures.ran
+    c.run_callers-pass.result.2 (knows c.run_callers-pass.result.0) c.close-desk.result.desk c.run_callers-pass.ensures.ran
     (record { all = c.close-desk.ensures.all; agree = c.close-desk.ensures.agree; heard = c.close-desk.ensures.heard }) c.run_callers-pass.ensures.ends c.close-desk.ensures.desk

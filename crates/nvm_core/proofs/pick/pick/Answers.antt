@@ -36,7 +36,7 @@ returns g c =
       stays = c.pick.ensures.stays;
       keeps = λ held. rw hand (picks_keep told clock desk new held block is.kind is.taken is.adds is.allowed);
       lowers = λ held old. entries_lower_work told clock old desk new (Pick block is.kind is.taken (ops_of told)) held c.hand_of.result c.status-status.ensures.order is.adds
-          (within new _ _ c.history.ensures.entries c.history.ensures.cap c.len-count.ensures.within)
+          (within new _ _ refl refl c.len-count.ensures.within)
           (hands_are_small new.config (state_of new) c.hand_of.result told legal tied.paired);
       left = rw hand (within_most told clock c.status-status.ensures.order may.closed new.config (state_of new) (state_of new).hand);
       hand = hand;

@@ -46,7 +46,7 @@ returns g c =
       keeps = rw held.is (posts_keep told clock desk new held.held is.job _ _ _ _ is.hand is end
           (hand_posted desk new held.held told c.ops.result _ _ _ _ _ c.ops.ensures is driving end c.take_data.ensures posted));
       lowers = entries_lower_work told clock told desk new e c.args.hand.now None c.status-status.ensures.order posted.adds
-          (within new _ _ c.history.ensures.entries c.history.ensures.cap c.len-count.ensures.within) tt;
+          (within new _ _ refl refl c.len-count.ensures.within) tt;
       left = rw held.is (post_left held.held.program told);
       hand = refl;
     }

@@ -43,6 +43,6 @@ returns g c =
       keeps = rw hand (skipped_keep told clock desk new _ _ none.0
           (skip_timed (next_of desk.config (state_of desk)) c.ops.result (ops_of told) desk new _ _ c.ops.ensures posted));
       lowers = rw hand (entries_lower_work told clock told desk new e None None c.status-status.ensures.order is.adds
-          (within new _ _ c.history.ensures.entries c.history.ensures.cap c.len-count.ensures.within) tt);
+          (within new _ _ refl refl c.len-count.ensures.within) tt);
       left = rw hand (omega arith);
     }

@@ -10,5 +10,5 @@ make_stack_with-requires-clause-synchronized g c = are_synchronized c.args.confi
 
 pub returns-clause-made : goal.returns-clause-made
 returns-clause-made g c =
-    IfOk-weaker c.make_stack_with.result (IsMadeWith c.args.config g.O.Origin.making g.O.Origin.entry c.in-Ok.copies) (IsMadeStack c.args.config g.O.Origin.making g.O.Origin.entry)
-    (λ s made. subst (λ (copies : List PlainBlock). IsMadeWith c.args.config g.O.Origin.making g.O.Origin.entry copies s) c.in-Ok.ensures made) c.make_stack_with.ensures.made
+    IfOk-weaker c.make_stack_with.result (IsMadeWith c.args.config c.args.cap g.O.Origin.making g.O.Origin.entry c.in-Ok.copies) (IsMadeStack c.args.config c.args.cap g.O.Origin.making g.O.Origin.entry)
+    (λ s made. subst (λ (copies : List PlainBlock). IsMadeWith c.args.config c.args.cap g.O.Origin.making g.O.Origin.entry copies s) c.in-Ok.ensures made) c.make_stack_with.ensures.made

@@ -8,4 +8,4 @@ returns-in-Err-make-clause-stopped g c =
 
 pub returns-in-Ok-make-clause-made : goal.returns-in-Ok-make-clause-made
 returns-in-Ok-make-clause-made g c =
-    made_stack c.args.config g.O.Origin.making g.O.Origin.entry c.in-Ok-make.stack c.in-Ok.device c.args.copies c.in-Ok-make.ensures.made c.in-Ok.ensures.made c.in-Ok.ensures.parts c.in-Ok.ensures.fixed
+    made_stack c.args.config c.args.cap g.O.Origin.making g.O.Origin.entry c.in-Ok-make.stack c.in-Ok.device c.args.copies c.in-Ok-make.ensures.made c.in-Ok.ensures.made c.in-Ok.ensures.parts c.in-Ok.ensures.fixed c.requires.room

@@ -6,7 +6,7 @@ use Rattle.nvm_flash.proofs.stack.start_stack_with.Goals as goal
 
 pub returns-in-Failed : goal.returns-in-Failed
 returns-in-Failed g c =
-    let starts = fails_alone c.args.stack.desk.config g.O.Origin.making g.O.Origin.entry c.args.stack.copies c.args.stack c.start.new.self c.start.result c.requires c.in-Failed.is c.start.ensures.starts in
+    let starts = fails_alone c.args.stack.desk.config c.args.stack.desk.cap g.O.Origin.making g.O.Origin.entry c.args.stack.copies c.args.stack c.start.new.self c.start.result c.requires c.in-Failed.is c.start.ensures.starts in
     record {
       started = tt;
       keeps = tt;

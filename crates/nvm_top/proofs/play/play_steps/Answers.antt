@@ -12,12 +12,16 @@ use Rattle.nvm_top.specs.Flashes.{one_flash}
 use Rattle.nvm_top.specs.Promised.{entries_in}
 use Rattle.nvm_top.specs.Runs.{lines_written}
 use Rattle.nvm_flash.specs.Made.{one_part}
-use Rattle.nvm_top.proofs.Driven.{vouched}
+use Rattle.nvm_top.proofs.Driven.{keeps_history, vouched}
 use Rattle.nvm_script.specs.declared.script.Mode.TheVariants as mode
 use Rattle.nvm_top.proofs.Early.{early_in}
 use Rattle.nvm_top.proofs.Promised.{ran_in}
 use Rattle.nvm_top.proofs.WholeCalls.{ran_late, stopped_late}
 use Rattle.nvm_top.proofs.play.play_steps.Goals as goal
+
+pub history-history-requires : goal.history-history-requires
+history-history-requires g c =
+    let made = c.in-Ok.ensures.made in keeps_history _ (ap (λ x. x.desk.cap) c.stack.ensures ∙ (made.most ∙ made.started.most))
 
 pub returns-in-Ok-clause-promise : goal.returns-in-Ok-clause-promise
 returns-in-Ok-clause-promise g c input =

@@ -1,4 +1,4 @@
-use Rattle.std.proofs.Common.{inl, subst}
+use Rattle.std.proofs.Common.{inl, ◌∙◌, subst}
 use Rattle.nvm_flash.specs.fee_laws.Made.{part_at}
 use Rattle.nvm_script.specs.declared.script.Mode.TheVariants as mode
 use Rattle.script_walks.specs.Texts.{AreValues}
@@ -7,8 +7,15 @@ use Rattle.nvm_top.specs.Runs.{lines_written}
 use Rattle.nvm_flash.specs.Made.{one_part}
 use Rattle.nvm_top.specs.declared.runs.RunText.TheVariants.{History}
 use Rattle.nvm_top.proofs.Early.{early_in}
+use Rattle.nvm_top.proofs.Driven.{keeps_history}
 use Rattle.nvm_top.proofs.Running.{callers_came, callers_late, none_came, unwritten_run, written_run}
 use Rattle.nvm_top.proofs.run.run_over.Goals as goal
+
+pub history-requires : goal.history-requires
+history-requires g c = keeps_history _ c.in-Ok.ensures.started.most
+
+pub history-history-requires : goal.history-history-requires
+history-history-requires g c = keeps_history _ (c.in-Ok-play_callers.ensures.ran.cap ∙ c.in-Ok.ensures.started.most)
 
 pub returns-in-Ok-play_callers-clause-promise : goal.returns-in-Ok-play_callers-clause-promise
 returns-in-Ok-play_callers-clause-promise g c input =

@@ -11,10 +11,14 @@ use Rattle.script_player.specs.PlainTold.{told_by}
 use Rattle.nvm_top.specs.Flashes.{one_flash}
 use Rattle.nvm_flash.specs.Made.{one_part}
 use Rattle.nvm_top.specs.Uds.{HasPieces, WritesLines, lines_of_history, line_served, status_served}
-use Rattle.nvm_top.proofs.Driven.{vouched}
+use Rattle.nvm_top.proofs.Driven.{keeps_history, vouched}
 use Rattle.nvm_top.proofs.WholeCalls.{stopped_late}
 use Rattle.nvm_top.proofs.Serving.{served_late, served_pieces, serving_has, serving_none}
 use Rattle.nvm_top.proofs.uds.serve_over.Goals as goal
+
+pub history-history-requires : goal.history-history-requires
+history-history-requires g c =
+    let made = c.in-Ok.ensures.served in keeps_history _ (ap (λ x. x.desk.cap) c.stack.ensures ∙ (made.most ∙ made.started.most))
 
 pub write_served-status-requires-clause-pieces : goal.write_served-status-requires-clause-pieces
 write_served-status-requires-clause-pieces g c =

@@ -21,7 +21,7 @@ returns-in-Some-clause-unread g c j hand =
     let front = c.args.self.now in
     let d = front.desk in
     let given = (answer_of d.config (state_of d) j c.args.answer c.args.source c.args.content.now).1 in
-    c.note.ensures ∙ ap (λ (n : ℕ). slice_set front.unread c.in-Some.block (Some n)) (c.len-number.ensures.count ∙ ap length c.history.ensures.entries)
+    c.note.ensures ∙ ap (λ (n : ℕ). slice_set front.unread c.in-Some.block (Some n)) c.len-number.ensures.count
     ∙ some_noted (reads_own j given) (job_block j) c.in-Some.block (length d.entries) front.unread (sym c.in-Some.is ∙ c.post-read.ensures.reads j hand)
 
 pub returns-in_default-clause-unread : goal.returns-in_default-clause-unread
