@@ -20,8 +20,8 @@ class Image:
 
     def __init__(self, unit, data):
         self.unit, self.data, self.lengths = unit, data, unit.lengths()
-        self.banks = [self.read_bank(bank) for bank in (0, 1)]
-        standing = [bank for bank in (0, 1) if self.banks[bank]]
+        self.banks = [self.read_bank(bank) for bank in range(unit.banks)]
+        standing = [bank for bank in range(unit.banks) if self.banks[bank]]
         self.active = max(standing, key=lambda bank: (self.banks[bank].generation, -bank), default=None)
         self.found = self.read_found()
 
@@ -89,7 +89,7 @@ class Image:
     def is_sound(self):
         """Whether no torn erase can make a bank stand: 'Torn erases, and sound images'."""
         return not any(self.is_gate(bank, 1) and not self.banks[bank] and may_become_head(self.pages(bank, 0))
-                       for bank in (0, 1))
+                       for bank in range(self.unit.banks))
 
 
 def may_become_head(page):
@@ -114,8 +114,8 @@ def read_image(path, unit):
 
 def other_page_size(unit, data):
     """The size of a page with which the first bank that has a head stands."""
-    for bank in (0, 1):
-        start = bank * len(data) // 2
+    for bank in range(unit.banks):
+        start = bank * len(data) // unit.banks
         head = data[start:start + HEAD_END]
         if head[0] == HEAD_LETTER and all(head[6 + i] == 0xff - head[i] for i in range(6)):
             for size in (16, 32, 64, 128, 256):

@@ -16,7 +16,7 @@ from nvmtools.contents import read_content
 DEMO = ('{"id":1,"page":16,"sector":256,"sectors":8,"standard":8,"immediate":4,"blocks":[{"length":4,"priority":10,'
         '"ram":"permanent","readall":true,"writeall":true,"reads":1,"writes":1},{"length":20,"priority":0,"defaults":"a5*20",'
         '"reads":1,"writes":1}]}')
-KEYS = ("id", "page", "sector", "sectors", "standard", "immediate", "blocks")
+KEYS = ("id", "page", "sector", "sectors", "standard", "immediate", "blocks", "banks")
 FLAGS = ("readall", "writeall", "once", "protected", "resistant")
 TRIES = ("reads", "writes", "repeats")
 BLOCK_KEYS = ("kind", "length", "priority", "ram", "defaults", "nv", "rom", *FLAGS, *TRIES)
@@ -38,7 +38,8 @@ class Unit:
         self.path, self.line, self.source, self.script = path, line, source, script
         self.page, self.sector, self.sectors = source["page"], source["sector"], source["sectors"]
         self.size = self.sector * self.sectors
-        self.bank_pages = self.size // 2 // self.page
+        self.banks = source.get("banks", 2)
+        self.bank_pages = self.size // self.banks // self.page
         self.blocks = {1: MANAGERS_OWN, **{FIRST_ID + i: block for i, block in enumerate(source["blocks"])}}
 
     def instances(self, block):
@@ -306,7 +307,7 @@ def key_of(where, rule):
     if not isinstance(where, dict):
         return None
     single = {3: "id", 4: "page", 5: "sector", 6: "sectors", 8: "standard", 9: "immediate", 10: "blocks", 12: "kind",
-              13: "length", 14: "priority",
+              13: "length", 14: "priority", 29: "banks",
               15: "ram", 16: "defaults", 17: "nv", 18: "rom", 21: "once"}
     if rule in single:
         return single[rule]
@@ -322,7 +323,8 @@ def too_small(source):
     """Rule 24 in numbers."""
     unit = Unit("", "", source, [])
     total, most, urgent, need = unit.room()
-    sectors = 2 * -(-need * unit.page // unit.sector)
+    sectors = unit.banks * -(-need * unit.page // unit.sector)
+    sectors += sectors % 2 * unit.banks
     way = (f"{sectors} sectors would do" if sectors <= MOST_SECTORS and sectors * unit.sector <= MOST_BYTES else
            "no flash has so many sectors: take smaller pages, or shorten blocks")
     return (f"a bank has {unit.bank_pages} pages and needs {need}: {total} for all instances, twice {most} for the greatest "

@@ -18,6 +18,7 @@ abbrev pub demo_config : Configuration
 demo_config = record {
   id = 1;
   geometry = record { page = 16; sector = 256; sectors = 8 };
+  banks = 2;
   standard = 8;
   immediate = 4;
   blocks = manager_block 1 ∷ demo_block_2 ∷ demo_block_3 ∷ [];

@@ -1,4 +1,4 @@
--- The rules of a configuration's text that aren't about one block: 2 to 10.
+-- The rules of a configuration's text that aren't about one block: 2 to 10, and 29.
 use Rattle.std.specs.Prelude.{ℕ, ◌*◌, ◌%◌, ◌==◌, ◌&&◌, ◌||◌, nat_le, Bool, if◌then◌else◌, List, [], ◌∷◌, length, codes, Option, Some, None, option_and_then, Result, Ok, Err, ⊤}
 use Rattle.std.specs.Option.{ok_or}
 use Rattle.std.specs.Str.{bytes_eq}
@@ -8,7 +8,7 @@ use Rattle.nv_base.specs.declared.geometry.Geometry.{Geometry}
 use Rattle.block_config.specs.declared.fault.ConfigFault.{ConfigFault}
 use Rattle.block_config.specs.declared.fault.ConfigFault.TheVariants.{Broken}
 use Rattle.block_config.specs.declared.head.Head.{Head}
-use Rattle.block_config.specs.Field.{has_keys, number_in, needed}
+use Rattle.block_config.specs.Field.{has_keys, number_in, needed, optional}
 
 -- a value, or the fault of a rule that isn't about one block
 abbrev pub rule : {A : Type 0} → ℕ → Option A → Result A ConfigFault
@@ -24,9 +24,9 @@ abbrev pub ◌>>=◌ : {A B : Type 0} → Result A ConfigFault → (A → Result
 Ok a >>= f = f a
 Err e >>= f = Err e
 
--- 2: the value is an object whose keys are all among the seven
+-- 2: the value is an object whose keys are all among the eight
 abbrev pub is_head_key : List ℕ → Bool
-is_head_key k = bytes_eq k (codes "id") || bytes_eq k (codes "page") || bytes_eq k (codes "sector") || bytes_eq k (codes "sectors") || bytes_eq k (codes "standard") || bytes_eq k (codes "immediate") || bytes_eq k (codes "blocks")
+is_head_key k = bytes_eq k (codes "id") || bytes_eq k (codes "page") || bytes_eq k (codes "sector") || bytes_eq k (codes "sectors") || bytes_eq k (codes "standard") || bytes_eq k (codes "immediate") || bytes_eq k (codes "blocks") || bytes_eq k (codes "banks")
 
 -- 4: a page has 16, 32, 64, 128 or 256 bytes
 abbrev pub page_of : ℕ → Option ℕ
@@ -79,3 +79,10 @@ some_of ds = if nat_le 1 (length ds) && nat_le (length ds) 511 then Some ds else
 
 abbrev pub blocks_at : Data → Option (List Data)
 blocks_at d = option_and_then (λ ds. some_of (list_of ds)) (needed (codes "blocks") as_array d)
+
+-- 29: so many banks share the sectors, 2 to 8, and two where none is named
+abbrev pub shared_by : Geometry → ℕ → Option ℕ
+shared_by g n = if g.sectors % n == 0 then Some n else None
+
+abbrev pub banks_at : Geometry → Data → Option ℕ
+banks_at g d = option_and_then (shared_by g) (optional (codes "banks") 2 (number_in 2 8) d)

@@ -5,13 +5,14 @@ use Rattle.std.specs.Str.{bytes_eq, is_utf8}
 use Rattle.serde_json.specs.Data.{Data}
 use Rattle.serde_json.specs.Read.{read as json_value}
 use Rattle.block_config.specs.Banks.{bank_pages_of}
+use Rattle.block_config.specs.declared.block.BlockDesc.{BlockDesc}
 use Rattle.block_config.specs.declared.fault.ConfigFault.{ConfigFault}
 use Rattle.block_config.specs.declared.fault.ConfigFault.TheVariants.{Broken}
 use Rattle.block_config.specs.declared.head.Head.{Head}
 use Rattle.block_config.specs.Block.{manager_block}
 use Rattle.block_config.specs.Config.{Configuration}
 use Rattle.block_config.specs.DemoConfig.{demo_config}
-use Rattle.block_config.specs.Head.{◌>>=◌, rule, holds, head_of, blocks_at}
+use Rattle.block_config.specs.Head.{◌>>=◌, rule, holds, head_of, blocks_at, banks_at}
 use Rattle.block_config.specs.Item.{keeps, block_of}
 use Rattle.block_config.specs.Rules.{need_pages_of}
 use Rattle.block_config.specs.Sizes.{measures_of}
@@ -38,24 +39,30 @@ abbrev pub unless_fault : Option ConfigFault → Result ⊤ ConfigFault
 unless_fault None = Ok tt
 unless_fault (Some fault) = Err fault
 
--- block 1, and the blocks that the items describe
-abbrev pub configuration : Head → List Data → Configuration
-configuration h ds = record { id = h.id; geometry = h.geometry; standard = h.standard; immediate = h.immediate; blocks = manager_block h.id ∷ map block_of ds }
+-- of a head, so many banks and these blocks
+abbrev pub configuration : Head → ℕ → List BlockDesc → Configuration
+configuration h banks blocks = record { id = h.id; geometry = h.geometry; banks = banks; standard = h.standard; immediate = h.immediate; blocks = blocks }
 
--- 23: there are at most 4,096 instances; 24: the pages that are needed have room in a bank
-abbrev pub sized : Configuration → Result Configuration ConfigFault
-sized c = do
-  _ ← holds 23 (nat_le (measures_of c.geometry.page c.blocks).instances 4096)
-  _ ← holds 24 (nat_le (need_pages_of c) (bank_pages_of c.geometry))
+-- 24: the pages that are needed have room in a bank
+abbrev pub roomy : Configuration → Result Configuration ConfigFault
+roomy c = do
+  _ ← holds 24 (nat_le (need_pages_of c) (bank_pages_of c))
   Ok c
 
--- 2 to 24
+-- 23: there are at most 4,096 instances; 29, and 24 where that holds
+abbrev pub sized : Head → Option ℕ → List BlockDesc → Result Configuration ConfigFault
+sized h shared blocks = do
+  _ ← holds 23 (nat_le (measures_of h.geometry.page blocks).instances 4096)
+  banks ← rule 29 shared
+  roomy (configuration h banks blocks)
+
+-- 2 to 24, and 29; block 1 stands before those that the items describe
 abbrev pub config_of : Data → Result Configuration ConfigFault
 config_of d = do
   head ← head_of d
   items ← rule 10 (blocks_at d)
   _ ← unless_fault (first_fault item_rules items)
-  sized (configuration head items)
+  sized head (banks_at head.geometry d) (manager_block head.id ∷ map block_of items)
 
 -- 1: the line is UTF-8 and a JSON text of nesting at most 127. Where a key stands twice, the last value counts.
 abbrev pub value_of : List ℕ → Option Data

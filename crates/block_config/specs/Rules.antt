@@ -1,7 +1,7 @@
 -- The rules of a configuration, by their numbers, as facts on its numbers and blocks. The rules on the text that it is
--- read from stand in Reading (1, 23 and 24), Head (2 to 10) and Item (11 to 22).
+-- read from stand in Reading (1, 23, 24 and 29), Head (2 to 10) and Item (11 to 22).
 use Rattle.std.specs.Prelude.{◌≡◌, ℕ, ◌+◌, ◌*◌, ◌≤◌, Bool, false, List, [], ◌∷◌, length, Option, Some, None, All}
-use Rattle.nv_base.specs.Geometry.{IsLegal}
+use Rattle.nv_base.specs.Geometry.{IsLegal, HasBanks}
 use Rattle.block_config.specs.Banks.{bank_pages_of}
 use Rattle.block_config.specs.declared.block.BlockDesc.{BlockDesc}
 use Rattle.block_config.specs.declared.block.BlockKind.{BlockKind}
@@ -99,4 +99,6 @@ pub record IsLegalConfig (c : Configuration) : Type 0 where
   -- 23: at most 4,096 instances
   pub instances : (measures_of c.geometry.page c.blocks).instances ≤ 4096
   -- 24: the pages that are needed have room in a bank
-  pub room : need_pages_of c ≤ bank_pages_of c.geometry
+  pub room : need_pages_of c ≤ bank_pages_of c
+  -- 29
+  pub shared : HasBanks c.geometry c.banks

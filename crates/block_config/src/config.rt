@@ -1,6 +1,6 @@
 // The configuration.
 ghost use Rattle.std.specs.Prelude.{◌≡◌, ◌≤◌, ◌<◌, ◌⊎◌, ◌↔◌, length, IsNone, IfOk, IfSome, option_copied};
-ghost use Rattle.nv_base.specs.Geometry.{IsLegal};
+ghost use Rattle.nv_base.specs.Geometry.{IsLegal, HasBanks};
 ghost use Rattle.block_config.specs.Banks.{bank_pages_of};
 ghost use Rattle.block_config.specs.Block.{manager_block};
 ghost use Rattle.block_config.specs.Config.{block_of};
@@ -12,7 +12,7 @@ ghost use Rattle.block_config.specs.Lengths.{lengths_of};
 use crate::head::{Head, broken};
 use crate::lengths::add_block;
 use crate::sizes::{Measures, measures_of};
-use crate::{BANKS, BlockDesc, ConfigFault};
+use crate::{BlockDesc, ConfigFault};
 use nv_base::{Geometry, Lengths};
 use std::alloc::{AllocError, Global};
 use std::marker::Model;
@@ -23,6 +23,7 @@ use std::marker::Model;
 pub struct Config {
     id: u16,
     geometry: Geometry,
+    banks: u32,
     standard: u16,
     immediate: u16,
     blocks: Vec<BlockDesc>,
@@ -46,17 +47,19 @@ impl Config {
     pub(crate) fn make(
         id: u16,
         geometry: Geometry,
+        banks: u32,
         standard: u16,
         immediate: u16,
         blocks: Vec<BlockDesc>,
     ) -> Config
-        requires { IsLegalConfig (record { id = id; geometry = geometry; standard = standard; immediate = immediate; blocks = blocks.items }) }
-        ensures { result ≡ record { id = id; geometry = geometry; standard = standard; immediate = immediate; blocks = blocks.items } }
+        requires { IsLegalConfig (record { id = id; geometry = geometry; banks = banks; standard = standard; immediate = immediate; blocks = blocks.items }) }
+        ensures { result ≡ record { id = id; geometry = geometry; banks = banks; standard = standard; immediate = immediate; blocks = blocks.items } }
     {
         let measures = measures_of(&blocks, geometry.page);
         Config {
             id,
             geometry,
+            banks,
             standard,
             immediate,
             blocks,
@@ -65,26 +68,35 @@ impl Config {
     }
 
     /// The configuration of a head and blocks that keep their rules, where all of them have room.
-    pub(crate) fn sized(head: Head, blocks: Vec<BlockDesc>) -> Result<Config, ConfigFault>
+    pub(crate) fn sized(
+        head: Head,
+        shared: Option<u32>,
+        blocks: Vec<BlockDesc>,
+    ) -> Result<Config, ConfigFault>
         requires geometry { IsLegal head.geometry }
+        requires shared { IfSome shared (HasBanks head.geometry) }
         requires standard { IsQueueSize head.standard }
         requires immediate { IsQueueSize head.immediate }
         requires low { 2 ≤ length blocks.items }
         requires high { length blocks.items ≤ 512 }
         requires legal { AreBlocks head.id blocks.items }
-        ensures { result ≡ sized (record { id = head.id; geometry = head.geometry; standard = head.standard; immediate = head.immediate; blocks = blocks.items }) }
+        ensures { result ≡ sized head shared blocks.items }
     {
         let geometry = head.geometry;
         let measures = measures_of(&blocks, geometry.page);
         if measures.instances > 4096 {
             return Err(broken(23));
         }
-        if measures.need() > u64::from(bank_pages(geometry)) {
+        let Some(banks) = shared else {
+            return Err(broken(29));
+        };
+        if measures.need() > u64::from(geometry.bank_pages(banks)) {
             return Err(broken(24));
         }
         Ok(Config {
             id: head.id,
             geometry,
+            banks,
             standard: head.standard,
             immediate: head.immediate,
             blocks,
@@ -98,6 +110,14 @@ impl Config {
         ensures legal { IsLegalConfig self.now }
     {
         self.geometry
+    }
+
+    /// How many banks share its sectors.
+    pub fn banks(&self) -> u32
+        ensures value { result ≡ self.now.banks }
+        ensures legal { IsLegalConfig self.now }
+    {
+        self.banks
     }
 
     /// The configuration id, which block 1 holds.
@@ -150,7 +170,7 @@ impl Config {
     /// Pages that a bank needs.
     pub fn need_pages(&self) -> u32
         ensures value { result ≡ need_pages_of self.now }
-        ensures room { result ≤ bank_pages_of self.now.geometry }
+        ensures room { result ≤ bank_pages_of self.now }
     {
         self.measures.need() as u32
     }
@@ -164,9 +184,9 @@ impl Config {
 
     /// Pages of one bank.
     pub fn bank_pages(&self) -> u32
-        ensures { result ≡ bank_pages_of self.now.geometry }
+        ensures { result ≡ bank_pages_of self.now }
     {
-        bank_pages(self.geometry)
+        self.geometry.bank_pages(self.banks)
     }
 
     /// The device numbers of all instances with their lengths in bytes, ascending.
@@ -181,11 +201,4 @@ impl Config {
         }
         Ok(lengths)
     }
-}
-
-fn bank_pages(geometry: Geometry) -> u32
-    requires { IsLegal geometry }
-    ensures { result ≡ bank_pages_of geometry }
-{
-    geometry.bank_pages(BANKS)
 }

@@ -21,7 +21,7 @@ pub fn demo(alloc: Global) -> Result<Config, AllocError>
         sector: 256,
         sectors: 8,
     };
-    Ok(Config::make(1, geometry, 8, 4, blocks))
+    Ok(Config::make(1, geometry, 2, 8, 4, blocks))
 }
 
 fn demo_block_2(alloc: Global) -> BlockDesc

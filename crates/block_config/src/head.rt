@@ -4,13 +4,13 @@ ghost use Rattle.std.specs.List.{list_all};
 ghost use Rattle.std.specs.BTreeMap.{keys};
 ghost use Rattle.serde_json.specs.View.{view};
 ghost use Rattle.serde_json.specs.Find.{as_object};
-ghost use Rattle.nv_base.specs.Geometry.{IsLegal};
+ghost use Rattle.nv_base.specs.Geometry.{IsLegal, HasBanks};
 ghost use Rattle.block_config.specs.Rules.{IsQueueSize};
 ghost use Rattle.block_config.specs.Field.{has_keys};
-ghost use Rattle.block_config.specs.Head.{is_head_key, page_at, sector_at, sectors_at, geometry_of, head_of, blocks_at};
+ghost use Rattle.block_config.specs.Head.{is_head_key, page_at, sector_at, sectors_at, geometry_of, head_of, blocks_at, banks_at};
 
 use crate::ConfigFault;
-use crate::field::number_at;
+use crate::field::{number_at, number_in};
 use nv_base::Geometry;
 use serde_json::{Map, Value};
 
@@ -52,6 +52,22 @@ pub fn blocks_at(value: &Value) -> Option<&[Value]>
     let items = value.get("blocks")?.as_array()?;
     if 1 <= items.len() && items.len() <= 511 {
         Some(items)
+    } else {
+        None
+    }
+}
+
+/// How many banks share the sectors: 2 to 8 that divide them, and two where the value names no number.
+pub fn banks_at(value: &Value, geometry: Geometry) -> Option<u32>
+    ensures value { result ≡ banks_at geometry (view value.now) }
+    ensures shared { IfSome result (HasBanks geometry) }
+{
+    let banks = match value.get("banks") {
+        None => 2,
+        Some(member) => number_in(member, 2, 8)?,
+    };
+    if geometry.sectors % banks == 0 {
+        Some(banks)
     } else {
         None
     }
@@ -149,4 +165,5 @@ fn is_head_key(key: &str) -> bool
         || key == "standard"
         || key == "immediate"
         || key == "blocks"
+        || key == "banks"
 }

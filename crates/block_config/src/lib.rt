@@ -6,7 +6,6 @@
 //! requests and jobs do with a block is left to the crates above.
 #![tactic(auto)]
 
-mod banks;
 mod block;
 mod config;
 mod content;
@@ -22,7 +21,6 @@ mod reading;
 mod rom_list;
 mod sizes;
 
-pub use banks::BANKS;
 pub use block::{BlockDesc, BlockKind, RamKind};
 pub use config::Config;
 pub use content::{content_len, read_content};

@@ -4,7 +4,7 @@ ghost use Rattle.std.specs.Str.{bytes_eq};
 ghost use Rattle.serde_json.specs.View.{view};
 ghost use Rattle.block_config.specs.Reading.{config_of, meaning_of};
 
-use crate::head::{blocks_at, broken, head_of};
+use crate::head::{banks_at, blocks_at, broken, head_of};
 use crate::items::{blocks_of, first_fault};
 use crate::{Config, ConfigFault, demo};
 use serde_json::Value;
@@ -46,5 +46,5 @@ fn config_of(alloc: Global, value: &Value) -> Result<Config, ConfigFault>
         return Err(fault);
     }
     let blocks = blocks_of(alloc, head.id, items)?;
-    Config::sized(head, blocks)
+    Config::sized(head, banks_at(value, head.geometry), blocks)
 }

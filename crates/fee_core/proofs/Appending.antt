@@ -2,6 +2,7 @@
 use Rattle.std.specs.Prelude.{IfSome, IsSome, take}
 use Rattle.std.proofs.Common.{◌≡◌, ◌++◌, ◌∷◌, [], ℕ, Bool, true, false, List, Option, Some, None, refl, sym, ap, ◌∙◌, subst}
 use Rattle.fls_model.specs.declared.flash.FlashAnswer.{FlashAnswer}
+use Rattle.fls_model.specs.declared.flash.FlashAnswer.TheVariants.{Off}
 use Rattle.fls_model.specs.Op.{Op}
 use Rattle.fls_model.specs.Step.{IsStep, OffOrAsked, IsAsked}
 use Rattle.fls_model.specs.Told.{Told, Change}
@@ -20,6 +21,8 @@ use Rattle.fee_laws.specs.Turn.{Drives}
 use Rattle.fee_laws.specs.Appends.{IsAppending, work_body, after_page}
 use Rattle.fee_laws.specs.Follows.{Follows}
 use Rattle.fee_laws.specs.Wears.{Wears}
+use Rattle.fee_laws.specs.Restarts.{Restarts}
+use Rattle.fee_laws.proofs.Restarts.{pages_restart}
 use Rattle.fee_laws.proofs.FollowTurned.{pages_follow}
 use Rattle.fee_laws.proofs.WornSteps.{pages_wear}
 use Rattle.fee_core.specs.Operations.{IsProgrammed}
@@ -43,6 +46,7 @@ pub record IsPaged (m : Making) (entry : Told) (w : Whole) (answer : FlashAnswer
   pub same : (faults : ℕ) → faults ≡ (after_page answer f w.parts).faults → record w.parts { fls = f; banks = b; operations = operations; faults = faults } ≡ after_page answer f w.parts
   pub follows : Follows (after_page answer f w.parts)
   pub wears : Wears m entry (after_page answer f w.parts).operations
+  pub restarts : (answer ≡ Off → f.flash.off ≡ true) → Restarts m (after_page answer f w.parts)
 
 module _ {m : Making} {entry : Told} {w v : Whole} (at : Stands m entry w v) {j : FeeJob} (job : v.parts.job ≡ Some j) (work : IsSome (work_in v.parts.banks.log.tail)) {answer : FlashAnswer} {f : FlsState} {b : BanksState} {operations : List Change}
     (driver : IsDriverState f) (is : IsProgrammed w.parts.fls w.parts.banks w.parts.operations (take j.length w.parts.content) answer f b operations) where
@@ -88,4 +92,5 @@ module _ {m : Making} {entry : Told} {w v : Whole} (at : Stands m entry w v) {j 
         same = λ faults count. (λ i. record s { fls = f; banks = is.after i; operations = listed i; faults = count i });
         follows = pages_follow m entry s w.numbers w.reserve w.ops answer f appending at.up.sound.follows;
         wears = pages_wear m entry s w.numbers w.reserve w.ops answer f appending at.up.sound.follows at.up.sound.wears;
+        restarts = λ off. pages_restart m entry s w.numbers w.reserve w.ops at.on answer f off at.up.sound.restarts;
       }

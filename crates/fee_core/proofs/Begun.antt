@@ -1,7 +1,8 @@
 -- What a turn begins in memory for the open job: its record, or a switch; and the job's end where none can.
-use Rattle.std.specs.Prelude.{◌&&◌, is_some, if◌then◌else◌, IfSome, IsSome, unwrap_or}
+use Rattle.std.specs.Prelude.{◌&&◌, ◌==◌, IsTrue, is_some, if◌then◌else◌, IfSome, IsSome, unwrap_or}
 use Rattle.std.proofs.Common.{◌≡◌, ◌⊎◌, ◌≤◌, ◌+◌, ℕ, Bool, true, false, List, Option, Some, None, refl, sym, ap, ◌∙◌, subst, arith}
 use Rattle.std.proofs.lemmas.Bool.{leb-true}
+use Rattle.nv_base.specs.Lengths.{place_of}
 use Rattle.nv_base.specs.Pages.{record_pages_of}
 use Rattle.nv_base.specs.declared.instance.DeviceNumber.{DeviceNumber}
 use Rattle.nv_base.specs.declared.job.DeviceOp.{DeviceOp}
@@ -18,7 +19,7 @@ use Rattle.fee_log.specs.declared.tail.Tail.TheVariants.{Open, Writes, Owes, Clo
 use Rattle.fee_log.specs.Log.{LogState, IsFor, work_in, free_in, head_next, tail_begun}
 use Rattle.fee_course.specs.declared.course.Course.{Course}
 use Rattle.fee_course.specs.declared.course.Course.TheVariants.{Erase, Copy, Head, Gate}
-use Rattle.fee_switch.specs.Banks.{BanksState, TakesRecord, append_begun, begun_again, is_worn_out}
+use Rattle.fee_switch.specs.Banks.{BanksState, TakesRecord, append_begun, appended_at, begun_again, is_worn_out}
 use Rattle.fee_switch_laws.specs.Space.{free_pages, has_room}
 use Rattle.promise_device.specs.Making.{Making}
 use Rattle.fee_laws.specs.declared.job.FeeJob.{FeeJob}
@@ -30,6 +31,8 @@ use Rattle.fee_laws.specs.Switches.{IsBehind}
 use Rattle.fee_laws.specs.Begins.{Begun, MayBegin, MaySwitch}
 use Rattle.fee_laws.specs.Follows.{Follows}
 use Rattle.fee_laws.specs.Worn.{IsWornNow}
+use Rattle.fee_laws.specs.Restarts.{is_before}
+use Rattle.fee_laws.proofs.Restarts.{restarts_stay}
 use Rattle.fee_laws.proofs.BegunSound.{records_begin}
 use Rattle.fee_laws.proofs.FollowCalled.{begun_follows, room_is_known, switching_follows}
 use Rattle.fee_laws.proofs.Heads.{has_kind, not_read}
@@ -117,10 +120,25 @@ pub record CanAppend (b : BanksState) (h : RecHead) : Type 0 where
   pub configured : IsFor b.log.numbers h
   pub room : record_pages_of h.length b.geometry.page ≤ free_in b.log
 
+-- an append that begins brings no switch nearer
+appended_before : (i : Option ℕ) (c : Option Course) → IsTrue (is_before (appended_at i c)) → IsTrue (is_before c)
+appended_before None c come = come
+appended_before (Some i) None come = come
+appended_before (Some i) (Some (Erase n)) come = come
+appended_before (Some i) (Some (Copy None)) come = come
+appended_before (Some i) (Some (Copy (Some w))) come = by (w.index == i) come
+  where
+    by : (b : Bool) → IsTrue (is_before (Some (if b then Copy (Some (record w { sets = false })) else Copy (Some w)))) → IsTrue (is_before (Some (Copy (Some w))))
+    by true come' = come'
+    by false come' = come'
+appended_before (Some i) (Some Head) come = come
+appended_before (Some i) (Some (Gate failed)) come = come
+
 -- it was begun with these banks
 pub record IsBegun (m : Making) (entry : Told) (w : Whole) (b : BanksState) : Type 0 where
   pub begun : Begun m entry w.parts (record w.parts { banks = b }) w.numbers w.reserve w.ops
   pub follows : Follows (record w.parts { banks = b })
+  pub before : IsTrue (is_before b.course) → IsTrue (is_before w.parts.banks.course)
 
 module _ {m : Making} {entry : Told} {w v : Whole} (at : Stands m entry w v) {j : FeeJob} (waits : Waits v j) where
   abbrev s : Parts
@@ -158,7 +176,7 @@ module _ {m : Making} {entry : Told} {w v : Whole} (at : Stands m entry w v) {j 
       pub record_begun : (b : BanksState) → b ≡ append_begun s.banks h → IsBegun m entry w b
       record_begun b is =
           subst (IsBegun m entry w) (sym (is ∙ ap (append_begun s.banks) head_is))
-          (record { begun = records_begin m entry s w.numbers w.reserve w.ops j at.on may_begin; follows = begun_follows m entry s w.numbers w.reserve w.ops j at.on may_begin at.up.sound.follows })
+          (record { begun = records_begin m entry s w.numbers w.reserve w.ops j at.on may_begin; follows = begun_follows m entry s w.numbers w.reserve w.ops j at.on may_begin at.up.sound.follows; before = appended_before (place_of s.banks.log.numbers (head_of s.banks.log kind j).number.0) s.banks.course })
 
   -- its record has no room: a switch
   module _ (shut : v.parts.banks.course ≡ None) (full : fits_in v.reserve v.parts.banks j ≡ false) where
@@ -174,7 +192,7 @@ module _ {m : Making} {entry : Told} {w v : Whole} (at : Stands m entry w v) {j 
         let k = has_kind j.op waits.writes in
         let may : MaySwitch m s j = record { job = waits_here.job; kind = k.0; writes = k.1; idle = waits_here.idle; shut = shut_here; configured = configured k.0 k.1; full = full_here; fresh = fresh'; worn = worn } in
         subst (IsBegun m entry w) (sym same)
-        (record { begun = switches_begin m entry s w.numbers w.reserve w.ops j at.on may; follows = switching_follows m entry s w.numbers w.reserve w.ops j at.on may at.up.sound.follows })
+        (record { begun = switches_begin m entry s w.numbers w.reserve w.ops j at.on may; follows = switching_follows m entry s w.numbers w.reserve w.ops j at.on may at.up.sound.follows; before = λ e. ap is_before shut_here })
 
     -- behind which the job waits
     pub waits_behind : (b : BanksState) → b ≡ begun_again s.banks (Erase 0) → IfSome s.job (IsBehind b)
@@ -189,12 +207,12 @@ module _ {m : Making} {entry : Told} {w v : Whole} (at : Stands m entry w v) {j 
         let worn' = subst (λ (x : Whole). IsSome x.parts.worn ⊎ (is_worn_out x.parts.banks.active ≡ true)) (sym at.shown) worn in
         let knows = room_is_known m entry s w.numbers w.reserve w.ops at.on waits_here.idle shut_here at.up.sound.follows in
         let now : IsWornNow m entry s j = record { job = waits_here.job; writes = waits.writes; idle = waits_here.idle; shut = shut_here; full = full_here; worn = worn'; bytes = knows } in
-        turned_from at (ap (λ (n : ℕ). record (ended_as JobFailed s) { worn = Some n }) is) refl at.up.on (wears_out m entry s w.numbers w.reserve w.ops j at.on now) at.up.sound.follows at.up.sound.wears
+        turned_from at (ap (λ (n : ℕ). record (ended_as JobFailed s) { worn = Some n }) is) refl at.up.on (wears_out m entry s w.numbers w.reserve w.ops j at.on now) at.up.sound.follows at.up.sound.wears at.up.sound.restarts
 
 module _ {m : Making} {entry : Told} {w v : Whole} (at : Stands m entry w v) {b : BanksState} (is : IsBegun m entry w b) where
   pub begun_up : IsUp m entry (record w { parts = record w.parts { banks = b } })
   begun_up = record {
-    sound = record { parts = subst (λ (x : Bool). IsSound m entry (record w.parts { banks = b }) w.numbers w.reserve w.ops x) (sym at.up.on) is.begun.sound; follows = is.follows; wears = at.up.sound.wears };
+    sound = record { parts = subst (λ (x : Bool). IsSound m entry (record w.parts { banks = b }) w.numbers w.reserve w.ops x) (sym at.up.on) is.begun.sound; follows = is.follows; wears = at.up.sound.wears; restarts = restarts_stay m entry w.parts w.numbers w.reserve w.ops at.on w.parts.fls.flash.off b.course w.parts.faults (omega arith) is.before at.up.sound.restarts };
     started = at.up.started;
     on = at.up.on;
   }

@@ -14,6 +14,7 @@ use Rattle.fee_laws.specs.declared.job.FeeJob.{FeeJob}
 use Rattle.fee_laws.specs.Inside.{Parts, stand_of}
 use Rattle.fee_laws.specs.Parts.{canceled, without_work}
 use Rattle.fee_laws.specs.Follows.{Follows}
+use Rattle.fee_laws.specs.Restarts.{Restarts}
 use Rattle.fee_laws.proofs.Canceled.{jobs_cancel}
 use Rattle.fee_laws.proofs.FollowCalled.{given_up_follows}
 use Rattle.fee_core.specs.Whole.{Whole, Sound, told_in, clock_in}
@@ -38,12 +39,15 @@ module _ {m : Making} {entry : Told} {w v : Whole} (shown : w ≡ v) (sound : So
   follows : Follows (canceled (without_work s.banks) s)
   follows = cond_both (is_some (work_in s.banks.log.tail)) (record s.banks { log = given_up s.banks.log }) s.banks (λ (x : BanksState). Follows (canceled x s)) (λ e. given_up_follows s log safe.follows) (λ e. safe.follows)
 
+  restarts : Restarts m (canceled (without_work s.banks) s)
+  restarts = cond_both (is_some (work_in s.banks.log.tail)) (record s.banks { log = given_up s.banks.log }) s.banks (λ (x : BanksState). Restarts m (canceled x s)) (λ e. safe.restarts) (λ e. safe.restarts)
+
   pub ends : Sound m entry (record w { parts = canceled b s }) × Cancels (told_in m entry v) (clock_in m entry v) (told_at m entry (canceled b s)) (clock_at m entry (canceled b s))
   ends =
       let open_job = open_at s.job some in
       let calm' = subst (λ (x : Whole). is_urgent (told_in m entry x).stand ≡ false) (sym shown) calm in
       let ended = jobs_cancel m entry s w.numbers w.reserve w.ops w.off open_job.0 safe.parts (record { banks = state; job = open_job.1; calm = calm_at s.content s.job s.last s.given open_job.0 open_job.1 calm' }) in
       subst (λ (x : BanksState). Sound m entry (record w { parts = canceled x s }) × Cancels (told_in m entry v) (clock_in m entry v) (told_at m entry (canceled x s)) (clock_at m entry (canceled x s))) (sym is) (
-        record { parts = ended.0; follows = follows; wears = safe.wears },
+        record { parts = ended.0; follows = follows; wears = safe.wears; restarts = restarts },
         subst (λ (x : Whole). Cancels (told_in m entry x) (clock_in m entry x) (told_at m entry (canceled (without_work s.banks) s)) (clock_at m entry (canceled (without_work s.banks) s))) shown ended.1,
       )

@@ -1,7 +1,7 @@
 -- The read of the content that a switch copies next, from what its call answers.
 use Rattle.std.specs.Prelude.{IfSome, length}
 use Rattle.std.specs.List.{All}
-use Rattle.std.proofs.Common.{◌≡◌, ◌<◌, ℕ, true, false, Option, Some, None, refl, sym, ap, ◌∙◌, subst}
+use Rattle.std.proofs.Common.{◌≡◌, ◌<◌, ℕ, true, false, Option, Some, None, refl, sym, ap, ◌∙◌, subst, arith}
 use Rattle.nv_base.specs.Count.{next_count}
 use Rattle.nv_base.specs.Geometry.{size_of_bank}
 use Rattle.nv_base.specs.declared.instance.DeviceNumber.{DeviceNumber}
@@ -24,6 +24,8 @@ use Rattle.fee_laws.specs.Turn.{Turned}
 use Rattle.fee_laws.specs.Switches.{IsBehind, IsStepping, failed_with}
 use Rattle.fee_laws.specs.Follows.{Follows}
 use Rattle.fee_laws.specs.Wears.{Wears}
+use Rattle.fee_laws.specs.Restarts.{may_come, Restarts}
+use Rattle.fee_laws.proofs.Restarts.{none_advanced, count_few, restarts_stay, failed_restart}
 use Rattle.fee_laws.proofs.FollowCalled.{failed_follow}
 use Rattle.fee_laws.proofs.FollowTurned.{copies_follow}
 use Rattle.fee_laws.proofs.WornSteps.{failed_wears}
@@ -137,3 +139,15 @@ module _ {m : Making} {entry : Told} {w : Whole} {answer : FlashAnswer} {f : Fls
   -- and it made no operation
   pub failed_copy_wears : Wears m entry s.operations → Wears m entry (failed_with s.job (record s { fls = f; banks = b; faults = next_count s.faults })).operations
   failed_copy_wears wears = failed_wears m entry s.job (record s { fls = f; banks = b; faults = next_count s.faults }) wears
+
+  -- nor did a switch come nearer, or a fault was counted
+  pub copied_restarts : answer ≡ Done → Restarts m s → Restarts m (record s { fls = f; banks = b })
+  copied_restarts done few =
+      let off = f.flash.off in
+      subst (λ (x : BanksState). Restarts m (record s { fls = f; banks = x })) (after Done done)
+      (restarts_stay m entry s w.numbers w.reserve w.ops is.steps.on off (after_answer made.made (Copy None) Done).course s.faults (omega arith) (λ e. absurd (none_advanced made.made (Copy None) e)) few)
+
+  pub failed_copy_restarts : Restarts m s → Restarts m (failed_with s.job (record s { fls = f; banks = b; faults = next_count s.faults }))
+  failed_copy_restarts few =
+      let t = record s { fls = f; banks = b; faults = next_count s.faults } in
+      failed_restart m s.job t (count_few m s.operations s.started (may_come s) (may_come t) s.starts s.faults few)

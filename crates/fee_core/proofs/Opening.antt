@@ -47,7 +47,7 @@ module _ {m : Making} {entry : Told} {w v : Whole} (shown : w ≡ v) (sound : So
       let u = opened j room s in
       let mark = mark_at j.op j.length room content front whole in
       record {
-        sound = record { parts = is.0; follows = same_follow s u (same_beside m entry s w.numbers w.reserve w.ops w.off safe.parts started' shut' j room) safe.follows; wears = safe.wears };
+        sound = record { parts = is.0; follows = same_follow s u (same_beside m entry s w.numbers w.reserve w.ops w.off safe.parts started' shut' j room) safe.follows; wears = safe.wears; restarts = safe.restarts };
         opens = subst (λ (x : Whole). Opens (record { number = j.number.0; mark = mark_of j.op content; urgent = j.urgent }) (told_in m entry x) (told_at m entry u)) shown
             (subst (λ (x : Option Mark). Opens (record { number = j.number.0; mark = x; urgent = j.urgent }) (told_at m entry s) (told_at m entry u)) mark is.1);
         stays = subst (λ (x : Whole). ClockStays (clock_in m entry x) (told_at m entry u) (clock_at m entry u)) shown is.2;

@@ -18,6 +18,6 @@ plans {m} {entry} {w} {v} shown sound nth keep is =
     let t = with_plan nth keep w.parts in
     let own : Arms 0 nth keep (told_in m entry w) (clock_in m entry w) (told_at m entry t) (clock_at m entry t) = (refl, plan.1) in
     subst (λ (x : FlsState). Sound m entry (record w { parts = record w.parts { fls = x } }) × Arms 0 nth keep (told_in m entry v) (clock_in m entry v) (told_at m entry (record w.parts { fls = x })) (clock_at m entry (record w.parts { fls = x }))) (sym is) (
-      record { parts = plan.0; follows = safe.follows; wears = safe.wears },
+      record { parts = plan.0; follows = safe.follows; wears = safe.wears; restarts = safe.restarts },
       subst (λ (x : Whole). Arms 0 nth keep (told_in m entry x) (clock_in m entry x) (told_at m entry t) (clock_at m entry t)) shown own,
     )

@@ -1,6 +1,6 @@
 -- The read of the open job's number, from what its calls answer.
-use Rattle.std.specs.Prelude.{Contains, IsSome, length, take}
-use Rattle.std.proofs.Common.{◌≡◌, ◌≤◌, ◌+◌, ℕ, false, List, Some, None, refl, sym, ap, ◌∙◌, subst}
+use Rattle.std.specs.Prelude.{◌&&◌, not, Contains, IsSome, length, take}
+use Rattle.std.proofs.Common.{◌≡◌, ◌≤◌, ◌+◌, ℕ, false, List, Some, None, refl, sym, ap, ◌∙◌, subst, arith}
 use Rattle.nv_base.specs.Count.{next_count}
 use Rattle.nv_base.specs.Geometry.{address_of_page}
 use Rattle.nv_base.specs.Pages.{record_pages_of}
@@ -30,6 +30,8 @@ use Rattle.fee_laws.proofs.FollowCalled.{reads_follow}
 use Rattle.fee_laws.proofs.Read.{contents_are_read, reads_fail}
 use Rattle.fee_laws.proofs.SwitchEnded.{is_listed}
 use Rattle.fee_core.specs.Whole.{Whole, TurnedTo}
+use Rattle.fee_laws.specs.Restarts.{is_before, may_come}
+use Rattle.fee_laws.proofs.Restarts.{restarts_stay, count_few}
 use Rattle.fee_core.proofs.Standing.{Stands, turned_from}
 
 -- THE CONTENT
@@ -76,6 +78,7 @@ module _ {m : Making} {entry : Told} {w v : Whole} (at : Stands m entry w v) {j 
     content_read asked e =
         let done = subst (λ (a : FlashAnswer). IsAsked s j q writes content a f) e asked in
         turned_from at refl refl at.up.on (contents_are_read m entry s w.numbers w.reserve w.ops j q writes content f reading done) (reads_follow m entry s w.numbers w.reserve w.ops j q writes content Done f reading done at.up.sound.follows) at.up.sound.wears
+        (restarts_stay m entry s w.numbers w.reserve w.ops at.on f.flash.off s.banks.course s.faults (omega arith) (λ e. e) at.up.sound.restarts)
 
     pub read_fails : IsAsked s j q writes content answer f → (answer ≡ Done → ⊥) → (faults : ℕ) → faults ≡ next_count s.faults → TurnedTo m entry turn.Worked v (record w { parts = ended_as JobFailed (record s { fls = f; content = content; faults = faults }) })
     read_fails asked never faults counted =
@@ -83,3 +86,4 @@ module _ {m : Making} {entry : Told} {w v : Whole} (at : Stands m entry w v) {j 
         let failed = subst (λ (a : FlashAnswer). IsAsked s j q writes content a f) (read_failed _ s.fls.flash (take j.length s.content) answer (take j.length content) f.flash off never asked.read) asked in
         turned_from at (ap (λ (n : ℕ). ended_as JobFailed (record s { fls = f; content = content; faults = n })) counted) refl at.up.on
         (reads_fail m entry s w.numbers w.reserve w.ops j q writes content f reading failed) (reads_follow m entry s w.numbers w.reserve w.ops j q writes content Failed f reading failed at.up.sound.follows) at.up.sound.wears
+        (count_few m s.operations s.started (may_come s) ((s.started && not f.flash.off) && is_before s.banks.course) s.starts s.faults at.up.sound.restarts)

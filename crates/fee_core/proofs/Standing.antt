@@ -26,6 +26,7 @@ use Rattle.fee_laws.specs.Turn.{IsOn, Turned}
 use Rattle.fee_laws.specs.Parts.{opened}
 use Rattle.fee_laws.specs.Follows.{Follows}
 use Rattle.fee_laws.specs.Wears.{Wears}
+use Rattle.fee_laws.specs.Restarts.{Restarts}
 use Rattle.fee_laws.specs.FollowLaws.{IsSameBeside}
 use Rattle.fee_laws.proofs.CallsBehind.{no_work}
 use Rattle.fee_laws.proofs.Resting.{off_turns}
@@ -48,12 +49,12 @@ module _ {m : Making} {entry : Told} {w v : Whole} where
 
   -- it turned to these parts, with the counts that the code has
   module _ (at : Stands m entry w v) {answer : DeviceTurn} {t u : Parts} {count ops : ℕ} {off is_off : Bool} where
-    pub turned_from : u ≡ t → ops ≡ count → is_off ≡ off → Turned m entry answer w.parts t w.numbers w.reserve count off → Follows t → Wears m entry t.operations
+    pub turned_from : u ≡ t → ops ≡ count → is_off ≡ off → Turned m entry answer w.parts t w.numbers w.reserve count off → Follows t → Wears m entry t.operations → Restarts m t
         → TurnedTo m entry answer v (record { parts = u; numbers = w.numbers; reserve = w.reserve; ops = ops; off = is_off })
-    turned_from same counted power turned follows wears =
+    turned_from same counted power turned follows wears restarts =
         let end : record w { parts = u; ops = ops; off = is_off } ≡ record w { parts = t; ops = count; off = off } = (λ k. record w { parts = same k; ops = counted k; off = power k }) in
         subst (λ (x : Whole). TurnedTo m entry answer x (record w { parts = u; ops = ops; off = is_off })) at.shown
-        (subst (λ (x : Whole). TurnedTo m entry answer w x) (sym end) (record { turns = turned.turns; sound = record { parts = turned.sound; follows = follows; wears = wears }; takes = turned.takes }))
+        (subst (λ (x : Whole). TurnedTo m entry answer w x) (sym end) (record { turns = turned.turns; sound = record { parts = turned.sound; follows = follows; wears = wears; restarts = restarts }; takes = turned.takes }))
 
 -- and to what is the same
 pub turned_same : {m : Making} {entry : Told} {answer : DeviceTurn} {v x y : Whole} → y ≡ x → TurnedTo m entry answer v x → TurnedTo m entry answer v y

@@ -1,7 +1,7 @@
 -- A start-up, from what its calls answer.
 use Rattle.std.specs.Prelude.{IfSome}
-use Rattle.std.proofs.Common.{◌≡◌, ◌+◌, ℕ, Bool, true, false, List, Option, Some, None, Result, Ok, Err, refl, sym, ap, ◌∙◌, subst}
-use Rattle.nv_base.specs.Count.{Rose, next_count}
+use Rattle.std.proofs.Common.{◌≡◌, ◌≤◌, ◌+◌, ℕ, Bool, true, false, List, Option, Some, None, Result, Ok, Err, refl, sym, ap, ◌∙◌, subst, arith}
+use Rattle.nv_base.specs.Count.{Rose, last_count, next_count}
 use Rattle.memif.specs.declared.answer.JobResult.TheVariants.{JobOk}
 use Rattle.memif.specs.declared.answer.StartFault.{StartFault}
 use Rattle.memif.specs.declared.answer.StartFault.TheVariants.{Fault}
@@ -25,6 +25,8 @@ use Rattle.fee_switch.specs.Start.{IsLoadedAs}
 use Rattle.fee_switch_laws.specs.Shown.{layout_in}
 use Rattle.fee_laws.specs.Follows.{Follows}
 use Rattle.fee_laws.specs.Wears.{Wears}
+use Rattle.fee_laws.specs.Restarts.{may_come, Restarts}
+use Rattle.fee_laws.proofs.Restarts.{start_few}
 use Rattle.fee_laws.specs.FollowLaws.{ClosesActive}
 use Rattle.fee_laws.specs.CallLaws.{AreOf, AreReady}
 use Rattle.fee_laws.proofs.FollowCalled.{starts_follow, unstarted_follows}
@@ -104,8 +106,8 @@ module _ {m : Making} {entry : Told} {w v : Whole} (shown : w ≡ v) (sound : So
   abbrev pub Starts : Result (Unit {0}) StartFault → Parts → Type 0
   Starts answer t = Sound m entry (record w { parts = t; off = false }) × StartsUp answer (told_in m entry v) (clock_in m entry v) (told_at m entry t) (clock_at m entry t)
 
-  starts : (answer : Result (Unit {0}) StartFault) (t : Parts) → IsSound m entry t w.numbers w.reserve w.ops false × StartsUp answer (told_at m entry s) (clock_at m entry s) (told_at m entry t) (clock_at m entry t) → Follows t → Wears m entry t.operations → Starts answer t
-  starts answer t is follows wears = (record { parts = is.0; follows = follows; wears = wears }, subst (λ (x : Whole). StartsUp answer (told_in m entry x) (clock_in m entry x) (told_at m entry t) (clock_at m entry t)) shown is.1)
+  starts : (answer : Result (Unit {0}) StartFault) (t : Parts) → IsSound m entry t w.numbers w.reserve w.ops false × StartsUp answer (told_at m entry s) (clock_at m entry s) (told_at m entry t) (clock_at m entry t) → Follows t → Wears m entry t.operations → Restarts m t → Starts answer t
+  starts answer t is follows wears restarts = (record { parts = is.0; follows = follows; wears = wears; restarts = restarts }, subst (λ (x : Whole). StartsUp answer (told_in m entry x) (clock_in m entry x) (told_at m entry t) (clock_at m entry t)) shown is.1)
 
   -- they are as the bytes show them
   ready_follows : f.flash ≡ p.flash → IfSome p.flash.bytes (λ x. FindsActive x.now b) → IfSome p.flash.bytes (λ x. LoadsActive x.now b) → Follows (resting s f b (s.starts + 1) true s.faults)
@@ -125,7 +127,8 @@ module _ {m : Making} {entry : Told} {w v : Whole} (shown : w ≡ v) (sound : So
       subst (λ (k : ℕ). Starts (Ok tt) (resting s f b k true s.faults)) (sym more)
       (starts (Ok tt) (resting s f b (s.starts + 1) true s.faults)
       (subst (λ (x : FlsState). (let t = resting s x b (s.starts + 1) true s.faults in IsSound m entry t w.numbers w.reserve w.ops false × StartsUp (Ok tt) (told_at m entry s) (clock_at m entry s) (told_at m entry t) (clock_at m entry t))) driver ready)
-      (ready_follows flash finds loads) safe.wears)
+      (ready_follows flash finds loads) safe.wears
+      (start_few m s.operations s.started (may_come s) true (may_come (resting s f b (s.starts + 1) true s.faults)) s.starts s.faults s.faults (omega arith) safe.restarts))
 
   pub failed_ends : f.flash ≡ record p.flash { faults = f.flash.faults } → Rose p.flash.faults f.flash.faults → {faults : ℕ} → faults ≡ next_count s.faults → {n : ℕ} → n ≡ s.starts + 1
       → Starts (Err Fault) (resting s f b n false faults)
@@ -138,4 +141,5 @@ module _ {m : Making} {entry : Told} {w v : Whole} (shown : w ≡ v) (sound : So
       (subst (λ (k : ℕ). Starts (Err Fault) (resting s f b (s.starts + 1) false k)) (sym counted)
       (starts (Err Fault) t
       (subst (λ (x : FlsState). (let t = resting s x b (s.starts + 1) false (next_count s.faults) in IsSound m entry t w.numbers w.reserve w.ops false × StartsUp (Err Fault) (told_at m entry s) (clock_at m entry s) (told_at m entry t) (clock_at m entry t))) driver failed)
-      (unstarted_follows t refl) safe.wears))
+      (unstarted_follows t refl) safe.wears
+      (start_few m s.operations s.started (may_come s) false (may_come t) s.starts s.faults (next_count s.faults) (let few : s.faults ≤ last_count = parts.device.faults in omega (arith, few)) safe.restarts)))

@@ -33,6 +33,8 @@ use Rattle.fee_laws.specs.Turn.{IsOn, IsCounted, Turned, operated}
 use Rattle.fee_laws.specs.Switches.{IsBehind, IsStepping, IsWithin, step_op, failed_with}
 use Rattle.fee_laws.specs.Follows.{Follows}
 use Rattle.fee_laws.specs.Wears.{Wears}
+use Rattle.fee_laws.specs.Restarts.{Restarts}
+use Rattle.fee_laws.proofs.Restarts.{steps_restart, failed_restart}
 use Rattle.fee_laws.proofs.FollowCalled.{failed_follow}
 use Rattle.fee_laws.proofs.FollowTurned.{steps_follow}
 use Rattle.fee_laws.proofs.SwitchMark.{marks_are_cut, marks_fail, marks_go_on}
@@ -188,3 +190,10 @@ module _ {m : Making} {entry : Told} {w : Whole} {answer : FlashAnswer} {f : Fls
 
   pub failed_wears_on : Follows s → Wears m entry s.operations → Wears m entry (failed_with s.job (next Failed)).operations
   failed_wears_on follows wears = failed_wears m entry s.job (next Failed) (wears_on follows wears)
+
+  -- and few switches began again
+  pub restarts_on : (a : FlashAnswer) → answer ≡ a → (a ≡ Off → f.flash.off ≡ true) → Restarts m s → Restarts m (next a)
+  restarts_on a e off few = subst (Restarts m) (same a e) (steps_restart m entry s w.numbers w.reserve w.ops is.course is.made.made a f (steps a e) off few)
+
+  pub failed_restarts : answer ≡ Failed → Restarts m s → Restarts m (failed_with s.job (next Failed))
+  failed_restarts e few = failed_restart m s.job (next Failed) (restarts_on Failed e (λ off. cc off) few)

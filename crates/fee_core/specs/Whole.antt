@@ -15,6 +15,7 @@ use Rattle.fee_told.specs.Turns.{TakesTurn}
 use Rattle.fee_laws.specs.Inside.{Parts, device_of, IsSound}
 use Rattle.fee_laws.specs.Follows.{Follows}
 use Rattle.fee_laws.specs.Wears.{Wears}
+use Rattle.fee_laws.specs.Restarts.{Restarts}
 
 -- its parts, and beside them what it keeps of its making and of what is told of these
 pub record Whole : Type 0 where
@@ -25,11 +26,12 @@ pub record Whole : Type 0 where
   pub ops : ℕ
   pub off : Bool
 
--- its parts are sound, its banks follow the bytes of its flash, and each of its operations was due
+-- its parts are sound, its banks follow the bytes of its flash, each of its operations was due, and few switches began again
 pub record Sound (m : Making) (entry : Told) (w : Whole) : Type 0 where
   pub parts : IsSound m entry w.parts w.numbers w.reserve w.ops w.off
   pub follows : Follows w.parts
   pub wears : Wears m entry w.parts.operations
+  pub restarts : Restarts m w.parts
 
 abbrev pub told_in : Making → Told → Whole → DeviceTold
 told_in m entry w = told_of (device_of m entry w.parts)

@@ -90,6 +90,7 @@ impl<F: Flash, O: Origin> Fee<F, O> {
     ghost use Rattle.promise_device.specs.Bridge.{Bridges, reading_of};
     ghost use Rattle.promise_device.specs.Room.{TellsWorkOver};
     ghost use Rattle.promise_device.specs.Wear.{OperationsAreDue};
+    ghost use Rattle.promise_device.specs.SwitchErases.{RestartsAreFew};
     ghost use Rattle.fee_switch_laws.specs.Space.{HasSpace};
     ghost use Rattle.fee_laws.specs.Made.{IsMadeOf, part_at};
     ghost use Rattle.fee_laws.specs.SwitchTold.{TellsSwitchOver};
@@ -132,9 +133,10 @@ impl<F: Flash, O: Origin> Fee<F, O> {
 
     /// Gives the flash back. What the device told of it is so, from its making on. With no switch open, what is ready for urgent
     /// writes and the turns that are left are those of the active bank in its bytes; with one open, from a sound image on, these
-    /// turns are those of the switch, as far as it has come there. From a sound image on each of its operations was due: a bank is
-    /// erased only where another one is active that has no room for the most that a record asks for, and hasn't the last generation;
-    /// and a page is programmed where it is blank, or once more where its program failed.
+    /// turns are those of the switch, as far as it has come there. From a sound image on each of its operations was due: the next
+    /// bank is erased only where the active one has no room for the most that a record asks for, and hasn't the last generation; and a
+    /// page is programmed where it is blank, or once more where its program failed. A switch that had begun begins again less often
+    /// than the device was started up or counted a fault.
     pub fn into_flash(self) -> F
         ensures told { F.told result ≡ self.flash }
         ensures geometry { (F.told result).geometry ≡ O.making.geometry }
@@ -145,6 +147,7 @@ impl<F: Flash, O: Origin> Fee<F, O> {
         ensures room { TellsWorkOver O.making self.operations (F.told result) (told_of self) }
         ensures switch { TellsSwitchOver O.making O.entry self.operations (F.told result) (told_of self) }
         ensures wear { OperationsAreDue O.making (record { entry = O.entry; exit = F.told result; operations = self.operations }) }
+        ensures restarts { RestartsAreFew O.making self.operations (told_of self) }
         ensures bridge { Bridges (reading_of O.making) false (record { entry = O.entry; exit = F.told result; operations = self.operations }) (part_at O.entry) (told_of self) (clock_of self) }
     {
         let Fee { parts } = self;

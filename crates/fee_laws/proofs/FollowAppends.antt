@@ -10,6 +10,7 @@ use Rattle.fls_model.specs.Op.{Op, MayLeave}
 use Rattle.fls_model.specs.Step.{Leaves, programs}
 use Rattle.fls_model.specs.Told.{Change}
 use Rattle.fee_format.specs.declared.rec_head.RecHead.{RecHead}
+use Rattle.fee_format.specs.declared.rec_head.RecordKind.{RecordKind}
 use Rattle.fee_image.specs.Image.{Layout, layout_of, image_page}
 use Rattle.fee_image.specs.BankLaws.{program_of}
 use Rattle.fee_log.specs.Index.{clear_flags}
@@ -20,7 +21,7 @@ use Rattle.fee_log.specs.Log.{LogState, IsLogState, IsTail, pages_in, work_in}
 use Rattle.fee_log.specs.Step.{IsPageOf, due_page, due_bytes, op_of, after_step}
 use Rattle.fee_log.proofs.Steps.{answers_hold}
 use Rattle.fee_switch.specs.declared.active.ActiveBank.{ActiveBank}
-use Rattle.fee_switch.specs.Banks.{BanksState, IsBanksState, IsLogOf}
+use Rattle.fee_switch.specs.Banks.{BanksState, IsBanksState, IsLogOf, TakesRecord}
 use Rattle.fee_course.specs.declared.course.Course.{Course}
 use Rattle.fee_course.specs.Course.{IsShort}
 use Rattle.promise_device.specs.Bridge.{is_program}
@@ -30,7 +31,7 @@ use Rattle.fee_laws.specs.Follows.{anything, may_be_closed_beside, IsClosedFor, 
 use Rattle.fee_image.proofs.Frames.{SameOthers, others_stay, page_stays}
 use Rattle.fee_laws.proofs.FollowStates.{any_content, any_marks}
 use Rattle.fee_laws.proofs.FollowSteps.{work_after, done_open}
-use Rattle.fee_laws.proofs.FollowOperations.{bank_of_program}
+use Rattle.promise_device.proofs.Places.{bank_of_program}
 use Rattle.fee_laws.proofs.FollowPlaces.{step_placed}
 use Rattle.fee_laws.proofs.FollowBanks.{failed_beside, failed_still, some_page, SameFronts, legal, fronts_of, banks_stay, next_stays, with_log, next_with_log}
 
@@ -126,18 +127,25 @@ module _ (s : BanksState) (is : IsBanksState s) (state : IsLogState s.log) (cont
           | inr differs ↦ fronts_of s is old new j (others s.geometry s.banks s.log is.log state work body old new page leaves j differs)
         ]
 
-    next_by : (c : Option Course) → bank_of_op s.geometry s.banks x.op ≡ s.log.bank → IfSome c (IsShort (sectors_of_bank s.geometry s.banks)) → IfSome c (λ y. FollowsNext s y xs old) → IfSome c (λ y. FollowsNext s y (xs ++ x ∷ []) new)
-    next_by None of short next = tt
-    next_by (Some c) of short next =
-        next_stays s is old new c xs (x ∷ []) s.log.bank short (λ e. other (sym e)) (of, tt) (others s.geometry s.banks s.log is.log state work body old new page leaves s.target other) next
+    -- the switch takes the record in work
+    kind_of : (o : Option RecHead) (c : Course) → IsSome o → IfSome o (λ h. TakesRecord h.kind (Some c)) → (kind : RecordKind) × TakesRecord kind (Some c)
+    kind_of None c some takes = cc some
+    kind_of (Some h) c some takes = (h.kind, takes)
+
+    next_by : (c : Option Course) → bank_of_op s.geometry s.banks x.op ≡ s.log.bank → IfSome c (λ y. IfSome (work_in s.log.tail) (λ h. TakesRecord h.kind (Some y))) → IfSome c (IsShort (sectors_of_bank s.geometry s.banks))
+        → IfSome c (λ y. FollowsNext s y xs old) → IfSome c (λ y. FollowsNext s y (xs ++ x ∷ []) new)
+    next_by None of takes short next = tt
+    next_by (Some c) of takes short next =
+        let kind = kind_of (work_in s.log.tail) c work takes in
+        next_stays s is old new c kind.0 xs (x ∷ []) s.log.bank kind.1 short (λ e. other (sym e)) (of, tt) next
 
     clears : (answer : FlashAnswer) → s.log.flags ≡ clear_flags s.log.numbers → (after_step s.log answer).flags ≡ clear_flags (after_step s.log answer).numbers
     clears Done clear = clear
     clears Failed clear = clear
     clears Off clear = clear
 
-    pub goes_on : (answer : FlashAnswer) → (answer ≡ Off → ⊥) → Leaves (op_of s.log body) answer old new → x.op ≡ op_of s.log body → x.answer ≡ answer → FollowsBytes (record s { log = after_step s.log answer }) content (xs ++ x ∷ []) new
-    goes_on answer on left op same =
+    pub goes_on : IfSome s.course (λ c. IfSome (work_in s.log.tail) (λ h. TakesRecord h.kind (Some c))) → (answer : FlashAnswer) → (answer ≡ Off → ⊥) → Leaves (op_of s.log body) answer old new → x.op ≡ op_of s.log body → x.answer ≡ answer → FollowsBytes (record s { log = after_step s.log answer }) content (xs ++ x ∷ []) new
+    goes_on takes answer on left op same =
         let page' = subst (λ (g : Geometry). IsPageOf g.page (due_bytes s.log body)) (sym is.log.shape) page in
         let then = after_step s.log answer in
         let apart = others s.geometry s.banks s.log is.log state work body old new page leaves s.target other in
@@ -150,5 +158,5 @@ module _ (s : BanksState) (is : IsBanksState s) (state : IsLogState s.log) (cont
             placed = placed_after s.course s.log content old new xs x answer state log.holds work page' on leaves left of_log (ap is_program op) same log.placed;
           });
           banks = with_log s then s.course s.course new (clears answer) (banks_stay s is old new s.course leaves.0.size fronts apart follows.banks);
-          next = next_with_log s then s.course s.course (xs ++ x ∷ []) new (next_by s.course of is.course follows.next);
+          next = next_with_log s then s.course s.course (xs ++ x ∷ []) new (next_by s.course of takes is.course follows.next);
         }

@@ -6,7 +6,7 @@ use Rattle.nv_base.specs.Geometry.{IsLegal, pages_of_bank, sectors_of_bank}
 use Rattle.nv_base.specs.declared.geometry.Geometry.{Geometry}
 use Rattle.fls_model.specs.declared.flash.FlashAnswer.TheVariants.{Failed}
 use Rattle.fls_model.specs.Told.{Change}
-use Rattle.fee_format.specs.Pages.{gate_page}
+use Rattle.fee_format.specs.declared.rec_head.RecordKind.{RecordKind}
 use Rattle.fee_image.specs.Bank.{page_of}
 use Rattle.fee_image.specs.Image.{Layout, layout_of, bank_in, image_page, BankStands, IsLegalLayout}
 use Rattle.fee_image.proofs.Banks.{active_stays}
@@ -18,17 +18,16 @@ use Rattle.fee_switch.specs.declared.active.ActiveBank.{ActiveBank}
 use Rattle.fee_course.specs.declared.course.Course.{Course}
 use Rattle.fee_course.specs.declared.course.Course.TheVariants.{Erase, Copy, Head, Gate}
 use Rattle.fee_course.specs.Course.{IsShort}
-use Rattle.fee_switch.specs.declared.target.Stage.TheVariants as stage
-use Rattle.fee_switch.specs.Banks.{BanksState, IsBanksState, IsLogOf, appended_at}
+use Rattle.fee_switch.specs.Banks.{BanksState, IsBanksState, IsLogOf, TakesRecord, appended_at}
 use Rattle.fee_switch_laws.specs.Shown.{layout_in}
 use Rattle.promise_device.specs.Bridge.{is_program, may_be_closed}
 use Rattle.promise_device.specs.Wear.{bank_of_op}
 use Rattle.promise_device.proofs.Wears.{all_two}
 use Rattle.fee_laws.specs.Inside.{body_of}
-use Rattle.fee_laws.specs.Switches.{op_in}
 use Rattle.fee_laws.specs.Follows.{anything, failed_of, may_be_closed_beside, IsPlacedFor, FollowsLog, StandsFirst, FollowsCopies, FollowsTarget, FollowsBanks, FollowsNext}
 use Rattle.fee_image.proofs.Frames.{SamePages}
-use Rattle.fee_laws.proofs.FollowOperations.{AreOf, bank_of_program, bank_of_erase, failed_behind, repeated_behind, order_behind, failed_last, failed_here, failed_once, failed_on}
+use Rattle.promise_device.proofs.Places.{bank_of_erase}
+use Rattle.fee_laws.proofs.FollowOperations.{AreOf, failed_behind, order_behind, failed_last, failed_here, failed_once, failed_on}
 use Rattle.fee_laws.proofs.FollowStates.{SameBody, state_moves, closed_stays, places_stay}
 
 -- A LOG THAT IS CLOSED
@@ -150,16 +149,15 @@ module _ (s : BanksState) (is : IsBanksState s) (old new : List ℕ) where
   banks_stay (Some c) long fronts same (first, target) = (first_stays (λ j other. fronts j) first, target_stays c long same target)
 
   -- THE NEXT OPERATION
-  -- operations of another bank leave it
-  pub next_stays : (c : Course) (xs more : List Change) (t : ℕ) → IsShort (sectors_of_bank s.geometry s.banks) c → (t ≡ s.target → ⊥) → AreOf s.geometry s.banks t more → SamePages l old new s.target → FollowsNext s c xs old → FollowsNext s c (xs ++ more) new
-  next_stays (Erase zero) xs more t short differs of same next = tt
-  next_stays (Erase (suc n)) xs more t short differs of same next =
+  -- operations of another bank leave it, where the switch takes a record beside them
+  pub next_stays : (c : Course) (kind : RecordKind) (xs more : List Change) (t : ℕ) → TakesRecord kind (Some c) → IsShort (sectors_of_bank s.geometry s.banks) c → (t ≡ s.target → ⊥) → AreOf s.geometry s.banks t more → FollowsNext s c xs old → FollowsNext s c (xs ++ more) new
+  next_stays (Erase zero) kind xs more t takes short differs of next = tt
+  next_stays (Erase (suc n)) kind xs more t takes short differs of next =
       order_behind s.geometry s.banks t s.target (suc n) xs more (λ e. differs (e ∙ bank_of_erase s.geometry s.banks s.target (suc n) (some_sector s.geometry is.legal) short)) of next
-  next_stays (Copy work) xs more t short differs of same next = tt
-  next_stays Head xs more t short differs of same next = tt
-  next_stays (Gate false) xs more t short differs of same next = same 1 (let two = legal.pages in omega (arith, two)) ∙ next
-  next_stays (Gate true) xs more t short differs of same next =
-      repeated_behind s.geometry s.banks t (op_in s stage.Gate) xs more (λ e. differs (e ∙ bank_of_program s.geometry s.banks s.target 1 (gate_page s.geometry.page) (some_page s.geometry is.legal) (let two = legal.pages in omega (arith, two)))) of next
+  next_stays (Copy work) kind xs more t takes short differs of next = tt
+  next_stays Head kind xs more t takes short differs of next = tt
+  next_stays (Gate false) kind xs more t takes short differs of next = absurd takes
+  next_stays (Gate true) kind xs more t takes short differs of next = absurd takes
 
 -- WHAT THEY DON'T READ
 -- the target's log reads no other log, and no course

@@ -27,7 +27,8 @@ use Rattle.fee_laws.specs.Follows.{anything, FollowsCopies, FollowsTarget, Follo
 use Rattle.fee_image.proofs.Erases.{erased_others, erased_blank, still_blank}
 use Rattle.fee_image.proofs.Frames.{SameOthers}
 use Rattle.promise_device.specs.Wear.{bank_of_op}
-use Rattle.fee_laws.proofs.FollowOperations.{AreOf, bank_of_erase, next_in_order, same_in_order}
+use Rattle.promise_device.proofs.Places.{bank_of_erase}
+use Rattle.fee_laws.proofs.FollowOperations.{AreOf, next_in_order, same_in_order}
 use Rattle.fee_laws.proofs.FollowBanks.{some_sector, legal, with_copies}
 use Rattle.fee_laws.proofs.FollowPlaces.{none_placed}
 use Rattle.fee_laws.proofs.FollowTargets.{was, builds, settled_target}

@@ -4,6 +4,7 @@ use Rattle.std.proofs.Common.{◌≡◌, inl, inr, ◌<◌, ◌≤◌, ◌+◌, 
 use Rattle.std.proofs.lemmas.Bool.{cases_lt, cases_eq, eqb-false}
 use Rattle.std.proofs.lemmas.Option.{same_Some}
 use Rattle.std.proofs.lemmas.List.{length-replicate}
+use Rattle.nv_base.specs.Geometry.{address_of_page}
 use Rattle.fls_model.specs.declared.flash.FlashAnswer.TheVariants.{Failed}
 use Rattle.fls_model.specs.Op.{MayLeave, after_op}
 use Rattle.fls_model.specs.Told.{Change}
@@ -30,7 +31,8 @@ use Rattle.fee_laws.specs.Switches.{op_in}
 use Rattle.fee_laws.specs.Follows.{anything, ComesBehind, StandsFirst, target_head, FollowsCopies, FollowsTarget, FollowsBytes}
 use Rattle.fee_image.proofs.Frames.{SameOthers, others_stay, page_stays}
 use Rattle.fee_laws.proofs.FollowStates.{any_content}
-use Rattle.fee_laws.proofs.FollowOperations.{AreOf, bank_of_program}
+use Rattle.promise_device.proofs.Places.{bank_of_program}
+use Rattle.fee_laws.proofs.FollowOperations.{AreOf, gate_behind_gate}
 use Rattle.fee_laws.proofs.FollowBanks.{some_page, legal, copies_stay, with_copies}
 use Rattle.fee_laws.proofs.FollowTargets.{was, first, builds}
 
@@ -85,7 +87,7 @@ module _ (s : BanksState) (is : IsBanksState s) (content old new : List ℕ) (xs
   copies_on = copies_stay s is old new leaves.0.size (λ q low inside. same q inside (λ e. omega (arith, low, e))) was'.1
 
   pub gate_fails : x.answer ≡ Failed → FollowsBytes (fallen_back s (Gate failed)) content (xs ++ x ∷ []) new
-  gate_fails bad = builds s is content old new xs (x ∷ []) (Gate failed) course of leaves.0.size apart follows s.log.flags (Gate true) s.copies s.buffer (head_on, with_copies s s.log (Some (Gate true)) new copies_on) (failed_are_repeated s.geometry s.banks xs x (op_in s stage.Gate) op bad)
+  gate_fails bad = builds s is content old new xs (x ∷ []) (Gate failed) course of leaves.0.size apart follows s.log.flags (Gate true) s.copies s.buffer (head_on, with_copies s s.log (Some (Gate true)) new copies_on) (failed_are_repeated s.geometry s.banks xs x (op_in s stage.Gate) op bad, gate_behind_gate s.geometry (address_of_page s.geometry s.banks s.target 1) page xs x op bad)
 
   module _ (wide : l.pages * l.page * s.banks ≤ length old) (worn : is_worn_out s.active ≡ false) (tail : s.copies.tail ≡ Open) (done : new ≡ after_op (op_at (target_at s stage.Gate) stage.Gate) old) where
     gate_on : image_page l new s.target 1 ≡ page

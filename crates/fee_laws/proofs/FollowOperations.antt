@@ -1,8 +1,7 @@
 -- Operations, and the bank of each.
 use Rattle.std.specs.Prelude.{IsTrue, ◌&&◌, ◌||◌, ◌==◌, if◌then◌else◌}
 use Rattle.std.specs.Option.{option_map_or}
-use Rattle.std.proofs.Common.{◌≡◌, inl, ◌<◌, ◌+◌, ◌*◌, ◌/◌, ◌++◌, ◌∷◌, ℕ, suc, Bool, true, false, List, [], Option, Some, None, refl, sym, ap, ◌∙◌, subst, arith}
-use Rattle.std.proofs.lemmas.Nat.{div-mul-add}
+use Rattle.std.proofs.Common.{◌≡◌, inl, ◌<◌, ◌+◌, ◌-◌, ◌*◌, ◌/◌, ◌++◌, ◌∷◌, ℕ, suc, Bool, true, false, List, [], Option, Some, None, refl, sym, ap, ◌∙◌, subst, arith}
 use Rattle.nv_base.specs.Geometry.{pages_of_bank, sectors_of_bank, size_of_bank, address_of_page}
 use Rattle.nv_base.specs.declared.geometry.Geometry.{Geometry}
 use Rattle.fls_model.specs.declared.flash.FlashAnswer.TheVariants.{Done, Failed}
@@ -15,8 +14,9 @@ use Rattle.fee_image.specs.BankLaws.{erase_of}
 use Rattle.fee_image.specs.Laws.{place_of_sector}
 use Rattle.promise_device.specs.Bridge.{is_program, is_failed, failed_from}
 use Rattle.promise_device.specs.Traits.{is_done}
-use Rattle.promise_device.specs.Wear.{bank_of_op, last_in, failed_in, repeats, is_repeated, erases_before, leads_to, is_in_order, finds_blank}
-use Rattle.promise_device.proofs.Wears.{all_two, one_of, last_here, failures_go_on, failed_are_repeated}
+use Rattle.promise_device.specs.Wear.{bank_of_op, last_in, failed_in, same_op, repeats, erases_before, leads_to, is_in_order, finds_blank, programs_at, leads_to_gate, comes_behind}
+use Rattle.promise_device.proofs.Wears.{all_two, one_of, same_once, latest_is, last_here, failures_go_on, failed_are_repeated}
+use Rattle.promise_device.proofs.Places.{page_number, bank_of_erase}
 
 -- TESTS
 pub unlike : (a b : ℕ) → (a ≡ b → ⊥) → (a == b) ≡ false
@@ -31,25 +31,6 @@ or_right true b is = refl
 or_right false b is = is
 
 -- THE BANK
-pub page_number : (g : Geometry) (banks k q : ℕ) → 0 < g.page → address_of_page g banks k q / g.page ≡ k * pages_of_bank g banks + q
-page_number g banks k q some =
-    let n = k * pages_of_bank g banks + q in
-    let none : n * g.page ≡ n * g.page + 0 = omega arith in
-    ap (λ (a : ℕ). a / g.page) none ∙ div-mul-add n g.page 0 some
-
-sector_number : (g : Geometry) (banks k n : ℕ) → 0 < g.sector → place_of_sector g banks k n / g.sector ≡ k * sectors_of_bank g banks + n
-sector_number g banks k n some =
-    let i = k * sectors_of_bank g banks + n in
-    let none : i * g.sector ≡ i * g.sector + 0 = omega arith in
-    ap (λ (a : ℕ). a / g.sector) none ∙ div-mul-add i g.sector 0 some
-
--- a page's program and a sector's erase change the bank that these lie in
-pub bank_of_program : (g : Geometry) (banks k q : ℕ) (page : List ℕ) → 0 < g.page → q < pages_of_bank g banks → bank_of_op g banks (programs (address_of_page g banks k q) page) ≡ k
-bank_of_program g banks k q page some inside = ap (λ (n : ℕ). n / pages_of_bank g banks) (page_number g banks k q some) ∙ div-mul-add k (pages_of_bank g banks) q inside
-
-pub bank_of_erase : (g : Geometry) (banks k n : ℕ) → 0 < g.sector → n < sectors_of_bank g banks → bank_of_op g banks (erase_of g banks k n) ≡ k
-bank_of_erase g banks k n some inside = ap (λ (i : ℕ). i / sectors_of_bank g banks) (sector_number g banks k n some) ∙ div-mul-add k (sectors_of_bank g banks) n inside
-
 -- a program's page is blank where the bank's page is
 pub page_is_blank : (g : Geometry) (banks k q : ℕ) (bytes : List ℕ) → 0 < g.page → page_at g.page bytes (k * pages_of_bank g banks + q) ≡ blank_page g.page → IsTrue (finds_blank g.page (address_of_page g banks k q) bytes)
 page_is_blank g banks k q bytes some blank = (bytes_are _ _).1 (ap (page_at g.page bytes) (page_number g banks k q some) ∙ blank)
@@ -83,11 +64,7 @@ module _ (g : Geometry) (banks k t : ℕ) (differs : t ≡ k → ⊥) where
   last_behind last [] more of = none_last last more of
   last_behind last (y ∷ ys) more of = last_behind (if bank_of_op g banks y.op == k then Some y else last) ys more of
 
--- so what is to be repeated stays so, and the next erase
-pub repeated_behind : (g : Geometry) (banks t : ℕ) (op : Op) (xs more : List Change) → (t ≡ bank_of_op g banks op → ⊥) → AreOf g banks t more → IsTrue (is_repeated g banks xs op) → IsTrue (is_repeated g banks (xs ++ more) op)
-repeated_behind g banks t op xs more differs of is =
-    subst (λ (o : Option Change). IsTrue (option_map_or (repeats op) o false)) (sym (last_behind g banks (bank_of_op g banks op) t differs None xs more of)) is
-
+-- so the next erase stays so
 pub order_behind : (g : Geometry) (banks t k n : ℕ) (xs more : List Change) → (t ≡ bank_of_op g banks (erase_of g banks k n) → ⊥) → AreOf g banks t more → IsTrue (is_in_order g banks xs (place_of_sector g banks k n) g.sector) → IsTrue (is_in_order g banks (xs ++ more) (place_of_sector g banks k n) g.sector)
 order_behind g banks t k n xs more differs of is =
     let address = place_of_sector g banks k n in
@@ -136,6 +113,27 @@ next_in_order g banks k n xs x some inside op done =
     let last : last_in g banks (bank_of_op g banks (erase_of g banks k (suc n))) None (xs ++ x ∷ []) ≡ Some x = subst (λ (b : ℕ). last_in g banks b None (xs ++ x ∷ []) ≡ Some x) here (last_here g banks xs x) in
     let leads : IsTrue (leads_to address x) = all_two (is_done x.answer) _ (ap is_done done) (subst (λ (o : Op). IsTrue (erases_before address o)) (sym op) ((eq_is _ _).1 (ends k (sectors_of_bank g banks) n g.sector))) in
     or_right _ _ (one_of _ _ (inl (subst (λ (o : Option Change). IsTrue (option_map_or (leads_to address) o false)) (sym last) leads)))
+
+-- THE GATE
+-- behind the head, which was done
+before : (n p : ℕ) → (n + 0) * p ≡ (n + 1) * p - p
+before n p = omega arith
+
+pub gate_behind_head : (g : Geometry) (banks k : ℕ) (head gate : List ℕ) (xs : List Change) (x : Change) → x.op ≡ programs (address_of_page g banks k 0) head → x.answer ≡ Done
+    → IsTrue (comes_behind g (programs (address_of_page g banks k 1) gate) (xs ++ x ∷ []))
+gate_behind_head g banks k head gate xs x op done =
+    let address = address_of_page g banks k 1 in
+    let place : address_of_page g banks k 0 ≡ address - g.page = before (k * pages_of_bank g banks) g.page in
+    let at : IsTrue (programs_at (address - g.page) x.op) = subst (λ (o : Op). IsTrue (programs_at (address - g.page) o)) (sym op) ((eq_is _ _).1 place) in
+    subst (λ (o : Option Change). IsTrue (option_map_or (leads_to_gate g (programs address gate)) o false)) (sym (latest_is None xs x))
+    (one_of (is_done x.answer && programs_at (address - g.page) x.op) _ (inl (all_two (is_done x.answer) _ (ap is_done done) at)))
+
+-- and behind itself, which failed
+pub gate_behind_gate : (g : Geometry) (address : ℕ) (gate : List ℕ) (xs : List Change) (x : Change) → x.op ≡ programs address gate → x.answer ≡ Failed → IsTrue (comes_behind g (programs address gate) (xs ++ x ∷ []))
+gate_behind_gate g address gate xs x op failed =
+    let same : IsTrue (same_op (programs address gate) x.op) = subst (λ (o : Op). IsTrue (same_op (programs address gate) o)) (sym op) (same_once (programs address gate)) in
+    subst (λ (o : Option Change). IsTrue (option_map_or (leads_to_gate g (programs address gate)) o false)) (sym (latest_is None xs x))
+    (or_right (is_done x.answer && programs_at (address - g.page) x.op) _ (all_two (is_failed x.answer) _ (ap is_failed failed) same))
 
 -- and behind one that failed the same one
 pub same_in_order : (g : Geometry) (banks k n : ℕ) (xs : List Change) (x : Change) → x.op ≡ erase_of g banks k n → x.answer ≡ Failed → IsTrue (is_in_order g banks (xs ++ x ∷ []) (place_of_sector g banks k n) g.sector)

@@ -26,7 +26,7 @@ use Rattle.fee_course.specs.Course.{IsShort}
 use Rattle.fee_course.specs.Copies.{next_copy}
 use Rattle.fee_switch.specs.declared.target.Stage.TheVariants as stage
 use Rattle.fee_switch.specs.Target.{op_at}
-use Rattle.fee_switch.specs.Banks.{BanksState, target_at, reads_next, reads_source, reads_place, after_answer}
+use Rattle.fee_switch.specs.Banks.{BanksState, TakesRecord, target_at, reads_next, reads_source, reads_place, after_answer}
 use Rattle.fee_switch.specs.Copy.{CanCopy, CanGoOn, BeginsAt, begun_where, head_at}
 use Rattle.fee_switch_laws.specs.Shown.{layout_in}
 use Rattle.fee_switch_laws.specs.KeepsRoom.{IsRoomy, IsTargetLog, IsOpenCopy}
@@ -51,6 +51,11 @@ use Rattle.fee_laws.proofs.FollowLifts.{some_of, all_pages, operation_follows, m
 use Rattle.fee_laws.proofs.Before.{power}
 
 -- A PAGE OF A RECORD
+-- a record in work is one that the open switch takes
+takes_by : (reserve : ℕ) (s : BanksState) (o : Option Course) → IfSome o (IsRoomy reserve s) → IfSome o (λ c. IfSome (work_in s.log.tail) (λ h. TakesRecord h.kind (Some c)))
+takes_by reserve s None switch = tt
+takes_by reserve s (Some c) switch = switch.work
+
 pub pages_follow : PagesFollow
 pages_follow m entry s listed kept count answer f is follows =
     let on = is.on in
@@ -58,7 +63,8 @@ pages_follow m entry s listed kept count answer f is follows =
     let in_work : IsInWork s.banks s.job h.0 = subst (λ (o : Option RecHead). IfSome o (IsInWork s.banks s.job)) h.1 (on.sound.works on.started).work in
     let a = some_of s.banks.active in_work.active in
     operation_follows s f (record s.banks { log = after_step s.banks.log answer }) (work_op s) (work_op s) answer on.started (power m entry s listed kept count on) is.step
-    (λ not_off old new at leaves left was. goes_on s.banks on.banks on.log s.content old new s.operations (change_of (work_op s) s.fls.flash answer) a.0 a.1 is.work was is.page leaves answer not_off left refl refl) follows
+    (λ not_off old new at leaves left was. goes_on s.banks on.banks on.log s.content old new s.operations (change_of (work_op s) s.fls.flash answer) a.0 a.1 is.work was is.page leaves
+    (takes_by m.reserve s.banks s.banks.course (on.sound.room on.started (power m entry s listed kept count on)).switch) answer not_off left refl refl) follows
 
 module _ (m : Making) (entry : Told) (s : Parts) (listed : List (DeviceNumber × ℕ)) (kept count : ℕ) (c : Course) (made : BanksState) (answer : FlashAnswer) (f : FlsState) (is : IsStepping m entry s listed kept count c made answer f) where
   abbrev on : IsOn m entry s listed kept count
@@ -201,13 +207,13 @@ steps m entry s listed kept count (Erase n) made answer f is changes =
         erase_fails s.banks is.on.banks s.content old new s.operations (change_of (step_op s.banks (Erase n)) s.fls.flash answer) n is.course (short m entry s listed kept count (Erase n) made answer f is) leaves refl was (sym same)
     by_answer Off old new wide leaves left was same online = absurd (online refl)
 steps m entry s listed kept count Head made answer f is changes =
-    lift m entry s listed kept count Head made answer f is (op_at (target_at s.banks stage.Head) stage.Head) s.banks is.makes.0 is.makes.1 (λ not_off old new wide leaves left was. by_answer answer old new wide leaves left was not_off)
+    lift m entry s listed kept count Head made answer f is (op_at (target_at s.banks stage.Head) stage.Head) s.banks is.makes.0 is.makes.1 (λ not_off old new wide leaves left was. by_answer answer old new wide leaves left was refl not_off)
   where
     by_answer : (a : FlashAnswer) (old new : List ℕ) → (layout_in s.banks).pages * (layout_in s.banks).page * s.banks.banks ≤ length old → MayLeave (op_at (target_at s.banks stage.Head) stage.Head) old new → Leaves (op_at (target_at s.banks stage.Head) stage.Head) a old new
-        → FollowsBytes s.banks s.content s.operations old → (a ≡ Off → ⊥) → FollowsBytes (after_answer s.banks Head a) s.content (s.operations ++ change_of (step_op s.banks Head) s.fls.flash answer ∷ []) new
-    by_answer Done old new wide leaves left was online = head_stands s.banks is.on.banks s.content old new s.operations (change_of (step_op s.banks Head) s.fls.flash answer) is.course leaves refl was wide left
-    by_answer Failed old new wide leaves left was online = head_fails s.banks is.on.banks s.content old new s.operations (change_of (step_op s.banks Head) s.fls.flash answer) is.course leaves refl was
-    by_answer Off old new wide leaves left was online = absurd (online refl)
+        → FollowsBytes s.banks s.content s.operations old → a ≡ answer → (a ≡ Off → ⊥) → FollowsBytes (after_answer s.banks Head a) s.content (s.operations ++ change_of (step_op s.banks Head) s.fls.flash answer ∷ []) new
+    by_answer Done old new wide leaves left was same online = head_stands s.banks is.on.banks s.content old new s.operations (change_of (step_op s.banks Head) s.fls.flash answer) is.course leaves refl was wide left (sym same)
+    by_answer Failed old new wide leaves left was same online = head_fails s.banks is.on.banks s.content old new s.operations (change_of (step_op s.banks Head) s.fls.flash answer) is.course leaves refl was
+    by_answer Off old new wide leaves left was same online = absurd (online refl)
 steps m entry s listed kept count (Gate failed) made answer f is changes =
     lift m entry s listed kept count (Gate failed) made answer f is (op_at (target_at s.banks stage.Gate) stage.Gate) s.banks is.makes.0 is.makes.1 (λ not_off old new wide leaves left was. by_answer answer old new wide leaves left was refl not_off)
   where

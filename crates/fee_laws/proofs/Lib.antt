@@ -75,6 +75,7 @@ mod WornShown
 mod WornKnown
 pub mod WornTurn
 mod WornErases
+mod WornHeads
 mod WornPrograms
 mod WornGates
 pub mod WornSteps
@@ -108,3 +109,4 @@ pub mod SwitchTold
 mod FollowLifts
 pub mod FollowTurned
 pub mod FollowCalled
+pub mod Restarts

@@ -1,6 +1,6 @@
 -- What the operations of a device are by themselves, each by the page of its bank that it programs.
 use Rattle.std.specs.Prelude.{IsTrue, IfSome, IsSome, ◌&&◌, ◌||◌, ◌==◌, nat_le, slice_get, if◌then◌else◌}
-use Rattle.std.proofs.Common.{◌≡◌, ◌<◌, ◌≤◌, ◌+◌, ◌-◌, ◌*◌, ◌/◌, ℕ, Bool, true, false, List, [], Option, Some, None, refl, sym, ap, ◌∙◌, subst, arith}
+use Rattle.std.proofs.Common.{◌≡◌, ◌<◌, ◌≤◌, ◌+◌, ◌-◌, ℕ, Bool, true, false, List, [], Option, Some, None, refl, sym, ap, ◌∙◌, subst, arith}
 use Rattle.std.proofs.lemmas.Bool.{lt-leb}
 use Rattle.nv_base.specs.Geometry.{pages_of_bank, address_of_page}
 use Rattle.nv_base.specs.declared.geometry.Geometry.{Geometry}
@@ -47,22 +47,14 @@ use Rattle.fee_laws.proofs.Before.{legal, power}
 use Rattle.fee_laws.proofs.FollowAppends.{due_inside}
 use Rattle.fee_laws.proofs.FollowBanks.{some_page}
 use Rattle.fee_laws.proofs.FollowLifts.{some_of}
-use Rattle.fee_laws.proofs.FollowOperations.{unlike, page_number, bank_of_program}
+use Rattle.promise_device.proofs.Places.{own_page}
+use Rattle.fee_laws.proofs.FollowOperations.{unlike}
 
 -- THE PAGE
--- a program's page is the page of its bank
-page_is : (g : Geometry) (banks k q : ℕ) → 0 < g.page → q < pages_of_bank g banks → page_in_bank g banks (address_of_page g banks k q) ≡ q
-page_is g banks k q some inside =
-    let a = address_of_page g banks k q in
-    let number = page_number g banks k q some in
-    let at : a / g.page / pages_of_bank g banks ≡ k = bank_of_program g banks k q [] some inside in
-    let same : k * pages_of_bank g banks + q - k * pages_of_bank g banks ≡ q = omega arith in
-    (λ i. number i - at i * pages_of_bank g banks) ∙ same
-
 such_page : (m : Making) (t : Trait) (g : Geometry) (banks k q : ℕ) (page : List ℕ) (answer : FlashAnswer) → g ≡ m.geometry → banks ≡ m.banks → 0 < g.page → q < pages_of_bank g banks
     → is_such_op m t (programs (address_of_page g banks k q) page) answer ≡ is_such_page m t q answer
 such_page m t g banks k q page answer shape shared some inside =
-    (λ i. is_such_page m t (page_in_bank (sym shape i) (sym shared i) (address_of_page g banks k q)) answer) ∙ ap (λ (n : ℕ). is_such_page m t n answer) (page_is g banks k q some inside)
+    (λ i. is_such_page m t (page_in_bank (sym shape i) (sym shared i) (address_of_page g banks k q)) answer) ∙ ap (λ (n : ℕ). is_such_page m t n answer) (own_page g banks k q some inside)
 
 -- behind the gate none leaves a switch at its seal
 no_seal : (q : ℕ) (answer : FlashAnswer) → 2 ≤ q → leaves_seal q answer ≡ false

@@ -206,7 +206,7 @@ module _ (m : Making) (entry : Told) (s : Parts) (listed : List (DeviceNumber ×
   first_gate true due gate = refl
   first_gate false due gate =
       let blank' : image_page l bytes s.banks.target 1 ≡ blank_page l.page =
-      subst (λ (g : Geometry). image_page l bytes s.banks.target 1 ≡ blank_page g.page) geometry (subst (λ (x : Layout). image_page x bytes s.banks.target 1 ≡ blank_page s.banks.geometry.page) layout_is due) in
+      subst (λ (g : Geometry). image_page l bytes s.banks.target 1 ≡ blank_page g.page) geometry (subst (λ (x : Layout). image_page x bytes s.banks.target 1 ≡ blank_page s.banks.geometry.page) layout_is due.0) in
       absurd (blank_shut l.page (image_page l bytes s.banks.target 1) (legal m entry s listed kept count on).page blank' gate)
 
   sealed : (again : Bool) (log : Log) → FollowsNext s.banks (course.Gate again) s.operations bytes → IsSealing l m.numbers bytes banks log → UnderWay s.banks.log.places (course.Gate again) → HasCome m failed s.banks.target (course.Gate again) s.banks.log.flags bytes

@@ -1,5 +1,5 @@
 -- The erases of a device: each comes where one is due.
-use Rattle.std.specs.Prelude.{◌*◌, ◌==◌, IfSome, IsTrue, max, option_map}
+use Rattle.std.specs.Prelude.{◌*◌, IfSome, IsTrue, max, option_map}
 use Rattle.std.proofs.Common.{◌≡◌, ◌⊎◌, inl, inr, ◌<◌, ◌+◌, ℕ, zero, suc, Bool, true, false, List, [], ◌∷◌, Option, Some, None, refl, sym, ap, ◌∙◌, subst, arith}
 use Rattle.std.proofs.lemmas.Bool.{eqb-false}
 use Rattle.nv_base.specs.Geometry.{pages_of_sector, sectors_of_bank, size_of_bank}
@@ -9,7 +9,7 @@ use Rattle.nv_base.specs.declared.instance.DeviceNumber.{DeviceNumber}
 use Rattle.fls_model.specs.Told.{Told, ToldBytes, IfBothTold, bytes_now}
 use Rattle.fee_format.specs.BankHead.{last_generation}
 use Rattle.fee_format.proofs.Tests.{eq_is}
-use Rattle.fee_image.specs.Image.{Layout, bank_in}
+use Rattle.fee_image.specs.Image.{Layout, bank_in, active_of}
 use Rattle.fee_image.specs.RecordList.{IsClosed, end_of}
 use Rattle.fee_image.specs.Banks.{Erasing, Banks, StandsBehind}
 use Rattle.fee_image.specs.BankLaws.{erase_of}
@@ -20,13 +20,14 @@ use Rattle.fee_course.specs.declared.course.Course.TheVariants.{Erase}
 use Rattle.fee_course.specs.Copies.{greatest}
 use Rattle.fee_course.specs.Course.{IsShort}
 use Rattle.fee_switch.specs.declared.active.ActiveBank.{ActiveBank}
-use Rattle.fee_switch.specs.Banks.{is_worn_out}
+use Rattle.fee_switch.specs.Active.{active_shown}
+use Rattle.fee_switch.specs.Banks.{is_worn_out, target_after}
 use Rattle.fee_switch_laws.specs.KeepsRoom.{IsRoomy}
 use Rattle.fee_switch_laws.specs.Shown.{old_shown, phase_shown}
 use Rattle.fee_switch_laws.specs.Space.{most_pages, free_pages}
 use Rattle.promise_device.specs.Making.{Making, banks_of}
 use Rattle.promise_device.specs.Bridge.{reading_of}
-use Rattle.promise_device.specs.Wear.{longest_record, most_wanted, bank_of_op, failed_in, may_erase, is_in_order, is_due_by}
+use Rattle.promise_device.specs.Wear.{longest_record, most_wanted, bank_behind, bank_of_op, failed_in, may_erase, is_in_order, has_place, is_due_there, is_due_by}
 use Rattle.promise_device.proofs.Wears.{all_two, one_of, may_erases}
 use Rattle.fls_told.specs.Device.{is_told_sound}
 use Rattle.fee_told.specs.Slots.{banks_with, may_told}
@@ -38,7 +39,7 @@ use Rattle.fee_laws.specs.Follows.{failed_of, may_be_closed_beside, FollowsNext,
 use Rattle.fee_laws.proofs.Before.{power, copied, held_before}
 use Rattle.fee_laws.proofs.FollowKnown.{own_bank, room_beside}
 use Rattle.fee_laws.proofs.FollowBanks.{some_sector}
-use Rattle.fee_laws.proofs.FollowOperations.{bank_of_erase}
+use Rattle.promise_device.proofs.Places.{bank_of_erase, erases_have_place}
 use Rattle.fee_laws.proofs.WornShown.{behind_by, active_is, none_is}
 
 -- the most that a record asks for, by the numbers of the device
@@ -49,6 +50,18 @@ longest_is p (n ∷ ns) = ap (λ (k : ℕ). max (record_pages_of n.1 p) k) (long
 -- where a bank begins
 begins : (k sectors sector : ℕ) → (k * sectors + 0) * sector ≡ k * (sectors * sector)
 begins k sectors sector = omega arith
+
+-- a bank that isn't worn out hasn't the last generation
+pub not_last : (o : Option ActiveBank) → is_worn_out o ≡ false → (a : ActiveBank) → o ≡ Some a → a.head.generation ≡ last_generation → ⊥
+not_last None is a e same = cc e
+not_last (Some x) is a e same =
+    let here : x ≡ a = cc e in
+    eqb-false x.head.generation last_generation is (ap (λ (y : ActiveBank). y.head.generation) here ∙ same)
+
+-- the next target is the next bank
+pub next_shown : (banks : ℕ) (o : Option ActiveBank) → target_after banks o ≡ bank_behind banks (active_shown o)
+next_shown banks None = refl
+next_shown banks (Some a) = refl
 
 -- BYTES
 -- told at the entry they are told now
@@ -105,20 +118,20 @@ module _ (m : Making) (entry : Told) (s : Parts) (listed : List (DeviceNumber ×
     | inr failed ↦ inl (failed_there a active (subst (λ (c : Option Course). IsTrue (may_be_closed_beside c s.banks.log s.operations)) course failed))
   ]
 
-  not_last : (o : Option ActiveBank) → is_worn_out o ≡ false → (a : ActiveBank) → o ≡ Some a → a.head.generation ≡ last_generation → ⊥
-  not_last None is a e same = cc e
-  not_last (Some x) is a e same =
-      let here : x ≡ a = cc e in
-      eqb-false x.head.generation last_generation is (ap (λ (y : ActiveBank). y.head.generation) here ∙ same)
+  -- the bytes show the active one, and the target is the bank behind it
+  shown_by : (o : Option ActiveBank) → s.banks.active ≡ o → active_of l bytes ≡ active_shown o
+  shown_by None none = none_is l m.numbers bytes banks held.banks behind (ap (λ (o : Option ActiveBank). old_shown o s.banks.log body) none)
+  shown_by (Some a) active = active_is l m.numbers bytes banks held.banks behind a.bank a.head (log_of s.banks.log body) (ap (λ (o : Option ActiveBank). old_shown o s.banks.log body) active)
 
-  other : (a : ActiveBank) → s.banks.active ≡ Some a → a.bank ≡ s.banks.target → ⊥
-  other a active = (subst (λ (o : Option ActiveBank). IfSome o (λ y. (y.bank ≡ s.banks.target → ⊥) × (s.banks.log.bank ≡ y.bank))) active on.banks.active).0
+  next : s.banks.target ≡ bank_behind m.banks (active_of l bytes)
+  next =
+      on.banks.next ∙ next_shown s.banks.banks s.banks.active ∙ ap (λ (n : ℕ). bank_behind n (active_shown s.banks.active)) on.sound.made_for.shared
+      ∙ ap (bank_behind m.banks) (sym (shown_by s.banks.active refl))
 
   due_by : (o : Option ActiveBank) → s.banks.active ≡ o → IsTrue (may_erase m s.operations s.banks.target bytes)
-  due_by None none = may_erases m s.operations s.banks.target bytes (inl (none_is l m.numbers bytes banks held.banks behind (ap (λ (o : Option ActiveBank). old_shown o s.banks.log body) none)))
+  due_by None none = may_erases m s.operations s.banks.target bytes next (inl (shown_by None none))
   due_by (Some a) active =
-      may_erases m s.operations s.banks.target bytes
-      (inr (a.bank, a.head, active_is l m.numbers bytes banks held.banks behind a.bank a.head (log_of s.banks.log body) (ap (λ (o : Option ActiveBank). old_shown o s.banks.log body) active), other a active, not_last s.banks.active fresh a active, lacks a active))
+      may_erases m s.operations s.banks.target bytes next (inr (a.bank, a.head, shown_by (Some a) active, not_last s.banks.active fresh a active, lacks a active))
 
   -- IN ORDER
   whole : IsShort (sectors_of_bank s.banks.geometry s.banks.banks) (Erase n)
@@ -131,8 +144,8 @@ module _ (m : Making) (entry : Told) (s : Parts) (listed : List (DeviceNumber ×
       one_of _ _ (inl ((eq_is _ _).1 (place ∙ ap (λ (b : ℕ). b * size_of_bank g shared) (sym at))))
 
   order_by : (k : ℕ) → k < sectors_of_bank s.banks.geometry s.banks.banks → FollowsNext s.banks (Erase k) s.operations bytes → IsTrue (is_in_order s.banks.geometry s.banks.banks s.operations (place_of_sector s.banks.geometry s.banks.banks s.banks.target k) s.banks.geometry.sector)
-  order_by zero some next = first_sector s.banks.geometry s.banks.target s.banks.banks (some_sector s.banks.geometry on.banks.legal) some
-  order_by (suc k) some next = next
+  order_by zero some turn = first_sector s.banks.geometry s.banks.target s.banks.banks (some_sector s.banks.geometry on.banks.legal) some
+  order_by (suc k) some turn = turn
 
   in_order : IsTrue (is_in_order m.geometry m.banks s.operations (place_of_sector s.banks.geometry s.banks.banks s.banks.target n) s.banks.geometry.sector)
   in_order =
@@ -147,7 +160,14 @@ module _ (m : Making) (entry : Told) (s : Parts) (listed : List (DeviceNumber ×
       (subst (λ (b : ℕ). bank_of_op s.banks.geometry b (step_op s.banks (Erase n)) ≡ s.banks.target) on.sound.made_for.shared
       (bank_of_erase s.banks.geometry s.banks.banks s.banks.target n (some_sector s.banks.geometry on.banks.legal) whole))
 
+  placed : IsTrue (has_place m (step_op s.banks (Erase n)))
+  placed =
+      let b = s.banks in
+      let same : record m { geometry = b.geometry; banks = b.banks } ≡ m = (λ i. record m { geometry = on.sound.made_for.banks_geometry i; banks = on.sound.made_for.shared i }) in
+      subst (λ (x : Making). IsTrue (has_place x (step_op b (Erase n)))) same
+      (erases_have_place (record m { geometry = b.geometry; banks = b.banks }) b.target n (some_sector b.geometry on.banks.legal) on.banks.target whole)
+
   pub erase_is_due : IsTrue (is_due_by m s.operations bytes (step_op s.banks (Erase n)))
   erase_is_due =
-      all_two (s.banks.geometry.sector == m.geometry.sector) _ ((eq_is s.banks.geometry.sector m.geometry.sector).1 (ap (λ (g : Geometry). g.sector) on.sound.made_for.banks_geometry))
+      all_two (has_place m (step_op s.banks (Erase n))) (is_due_there m s.operations bytes (step_op s.banks (Erase n))) placed
       (all_two _ _ (subst (λ (k : ℕ). IsTrue (may_erase m s.operations k bytes)) (sym of_target) (due_by s.banks.active refl)) in_order)

@@ -23,7 +23,7 @@ use Rattle.promise_device.specs.Wear.{all_records, most_copied, has_room_behind,
 use Rattle.promise_device.proofs.Wears.{one_of, rooms_compute}
 use Rattle.fee_laws.specs.Inside.{body_of}
 use Rattle.fee_laws.specs.Follows.{anything}
-use Rattle.fee_laws.proofs.FollowOperations.{bank_of_program}
+use Rattle.promise_device.proofs.Places.{bank_of_program}
 use Rattle.fee_laws.proofs.WornErases.{longest_is}
 
 -- the pages of a record of each number, by those of the device

@@ -23,7 +23,7 @@ use Rattle.fee_switch.specs.Banks.{BanksState, next_generation}
 use Rattle.fee_switch.specs.declared.target.Stage.TheVariants as stage
 use Rattle.fee_switch_laws.specs.Shown.{layout_in}
 use Rattle.promise_device.specs.Bridge.{may_be_closed}
-use Rattle.promise_device.specs.Wear.{failed_in, is_repeated, is_in_order}
+use Rattle.promise_device.specs.Wear.{failed_in, is_repeated, is_in_order, comes_behind}
 use Rattle.fee_laws.specs.Inside.{Parts, body_of}
 use Rattle.fee_laws.specs.Switches.{op_in}
 
@@ -88,12 +88,12 @@ FollowsBanks s None bytes = active_shown s.active ≡ active_of (layout_in s) by
 FollowsBanks s (Some c) bytes = StandsFirst s bytes × FollowsTarget s c bytes
 
 -- THE NEXT OPERATION
--- Of a switch's next operation: an erase behind the first comes in its turn, the gate's page is blank, and the gate is made again
--- behind itself, which failed.
+-- Of a switch's next operation: an erase behind the first comes in its turn, the gate comes behind the head, over a blank page, and is
+-- made again behind itself, which failed.
 abbrev pub FollowsNext : BanksState → Course → List Change → List ℕ → Type 0
 FollowsNext s (Erase (suc done)) operations bytes = IsTrue (is_in_order s.geometry s.banks operations (place_of_sector s.geometry s.banks s.target (suc done)) s.geometry.sector)
-FollowsNext s (Gate true) operations bytes = IsTrue (is_repeated s.geometry s.banks operations (op_in s stage.Gate))
-FollowsNext s (Gate false) operations bytes = image_page (layout_in s) bytes s.target 1 ≡ blank_page s.geometry.page
+FollowsNext s (Gate true) operations bytes = IsTrue (is_repeated s.geometry s.banks operations (op_in s stage.Gate)) × IsTrue (comes_behind s.geometry (op_in s stage.Gate) operations)
+FollowsNext s (Gate false) operations bytes = (image_page (layout_in s) bytes s.target 1 ≡ blank_page s.geometry.page) × IsTrue (comes_behind s.geometry (op_in s stage.Gate) operations)
 FollowsNext s c operations bytes = Unit {0}
 
 -- this is the content of the record in work

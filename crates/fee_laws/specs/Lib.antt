@@ -16,3 +16,4 @@ pub mod Follows
 pub mod FollowLaws
 pub mod SwitchTold
 pub mod Wears
+pub mod Restarts

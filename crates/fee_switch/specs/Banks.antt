@@ -48,6 +48,12 @@ pub record BanksState : Type 0 where
   -- room for the bytes of a bank; the content that is copied stands at its front
   pub buffer : List ℕ
 
+-- THE NEXT TARGET
+-- the bank behind the active one, or the first
+abbrev pub target_after : ℕ → Option ActiveBank → ℕ
+target_after banks None = 0
+target_after banks (Some a) = if a.bank + 1 == banks then 0 else a.bank + 1
+
 -- WHAT HOLDS OF ALL BANKS
 -- a log is of this flash and these numbers
 pub record IsLogOf (g : Geometry) (banks : ℕ) (log : LogState) : Type 0 where
@@ -61,6 +67,7 @@ pub record IsBanksState (s : BanksState) : Type 0 where
   pub copies : IsLogOf s.geometry s.banks s.copies
   pub numbers : s.copies.numbers ≡ s.log.numbers
   pub target : s.target < s.banks
+  pub next : s.target ≡ target_after s.banks s.active
   pub target_log : s.copies.bank ≡ s.target
   pub active : IfSome s.active (λ a. (a.bank ≡ s.target → ⊥) × (s.log.bank ≡ a.bank))
   pub course : IfSome s.course (IsShort (sectors_of_bank s.geometry s.banks))
@@ -102,12 +109,7 @@ phase_of (Some Head) = phase.Seal
 phase_of (Some (Gate true)) = phase.Doubtful
 phase_of (Some (Gate failed)) = phase.Seal
 
--- THE NEXT TARGET
--- the bank behind the active one, or the first
-abbrev pub target_after : ℕ → Option ActiveBank → ℕ
-target_after banks None = 0
-target_after banks (Some a) = if a.bank + 1 == banks then 0 else a.bank + 1
-
+-- THE NEXT HEAD
 -- the generation of the target's head
 abbrev pub next_generation : Option ActiveBank → ℕ
 next_generation None = 1

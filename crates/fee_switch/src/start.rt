@@ -116,7 +116,7 @@ impl Banks {
         ensures same { fls.new ≡ record fls.old { flash = fls.new.flash; result = fls.new.result } }
         ensures flash_of { IsSameFlash self.old self.new }
     {
-        self.active = None;
+        self.activate(None);
         let mut first = None;
         let answer = take_banks(
             fls,
@@ -126,14 +126,13 @@ impl Banks {
             &mut self.log,
             &mut self.buffer,
         );
-        self.activate(first);
         if let FlashAnswer::Done = answer {
+            self.activate(first);
             if first.is_none() {
                 self.log.move_to(0);
             }
             BankStart::Ready
         } else {
-            self.active = None;
             BankStart::Failed
         }
     }

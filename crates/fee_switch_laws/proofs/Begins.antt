@@ -125,6 +125,7 @@ module _ (s : BanksState) (bodies : Bodies) (old new : List ℕ) (may : May) (fs
     copies = record { shape = is.copies.shape; shared = is.copies.shared };
     numbers = is.numbers;
     target = is.target;
+    next = is.next;
     target_log = is.target_log;
     active = is.active;
     course = is.course;

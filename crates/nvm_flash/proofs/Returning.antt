@@ -14,6 +14,7 @@ use Rattle.fls_devices.specs.Cutter.{Cutting, OnlyCuts, cutting, told_cutting}
 use Rattle.fee_core.specs.promise_device.Making.{Making}
 use Rattle.fee_core.specs.promise_device.Bridge.{Bridges, reading_of}
 use Rattle.fee_core.specs.promise_device.Wear.{OperationsAreDue}
+use Rattle.fee_core.specs.promise_device.SwitchErases.{RestartsAreFew}
 use Rattle.fee_core.specs.promise_device.FlashRun.{FlashRun, IsChain}
 use Rattle.fee_core.specs.promise_device.Image.{attached}
 use Rattle.fee_core.specs.fee_told.Device.{Device, flash_device, told_of, clock_of}
@@ -38,9 +39,9 @@ none_made n (x ∷ xs) is none = absurd (omega (arith, is, none))
 pub back : (c : Configuration) (inner : Told) (cuts : ℕ) (making : Making) (entry exit : Told) (k : Cutting) (d : Device) → IsOrigin c inner cuts making entry → OnlyCuts k → exit ≡ k.flash.inner
     → told_cutting k ≡ d.flash → IfSome (changes_in (told_cutting k).bytes) (λ changes. changes ≡ d.operations) → (d.operations ≡ [] → ((told_cutting k).ops ≡ entry.ops) × ((told_cutting k).cuts ≡ entry.cuts)) → entry.faults ≤ (told_cutting k).faults
     → (told_cutting k).geometry ≡ making.geometry → AreOfFirst d → Bridges (reading_of making) false (record { entry = entry; exit = told_cutting k; operations = d.operations }) (part_at entry) (told_of d) (clock_of d)
-    → OperationsAreDue making (record { entry = entry; exit = told_cutting k; operations = d.operations })
+    → OperationsAreDue making (record { entry = entry; exit = told_cutting k; operations = d.operations }) → RestartsAreFew making d.operations (told_of d)
     → IsBack c inner exit (part_at entry) (told_of d) (clock_of d)
-back c inner cuts making entry exit k d origin only is_exit told changes none more shape parts bridge wear =
+back c inner cuts making entry exit k d origin only is_exit told changes none more shape parts bridge wear restarts =
     subst (λ (e : Told). IsBack c inner exit (part_at e) (told_of d) (clock_of d)) (sym origin.over)
     (subst (λ (x : Told). IsBack c inner x (part_at (told_cutting (cutting inner cuts))) (told_of d) (clock_of d)) (sym is_exit) (record {
       operations = d.operations;
@@ -51,6 +52,7 @@ back c inner cuts making entry exit k d origin only is_exit told changes none mo
           subst (λ (m : Making). OperationsAreDue m (run_over inner cuts k d.operations)) origin.made_for
           (subst (λ (e : Told). OperationsAreDue making (record { entry = e; exit = told_cutting k; operations = d.operations })) origin.over wear)
           (tells_over inner cuts k d.operations tells) (starts_over (making_of c) inner cuts k d.operations starts);
+      restarts = subst (λ (m : Making). RestartsAreFew m d.operations (told_of d)) origin.made_for restarts;
       parts = parts;
       geometry = shape ∙ ap (λ (m : Making). m.geometry) origin.made_for;
       no_plan = only.no_plan;

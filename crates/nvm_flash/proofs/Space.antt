@@ -8,7 +8,6 @@ use Rattle.fee_core.specs.nv_base.declared.instance.DeviceNumber.{DeviceNumber}
 use Rattle.fee_core.specs.nv_base.Lengths.{AreLengths}
 use Rattle.fee_core.specs.nv_base.Pages.{record_pages_of}
 use Rattle.nvm_core.specs.block_config.declared.block.BlockDesc.{BlockDesc}
-use Rattle.nvm_core.specs.block_config.Banks.{bank_count}
 use Rattle.nvm_core.specs.block_config.Config.{Configuration}
 use Rattle.nvm_core.specs.block_config.Lengths.{length_at, block_lengths, lengths_from, lengths_of}
 use Rattle.nvm_core.specs.block_config.Rules.{IsLegalConfig}
@@ -65,7 +64,7 @@ greatest_blocks p id (b ∷ bs) =
     let here = fold_from (size_of p) (max 0 (size_of p b)) bs in
     let grows = fold_grows (size_of p) 0 (max 0 (size_of p b)) bs (omega arith) in omega (arith, one, more, rest, here, grows)
 
-pub has_space : (c : Configuration) (numbers : List (DeviceNumber × ℕ)) → IsLegalConfig c → numbers ≡ lengths_of c → AreLengths 0 numbers → HasSpace numbers c.geometry bank_count (measures_of c.geometry.page c.blocks).urgent
+pub has_space : (c : Configuration) (numbers : List (DeviceNumber × ℕ)) → IsLegalConfig c → numbers ≡ lengths_of c → AreLengths 0 numbers → HasSpace numbers c.geometry c.banks (measures_of c.geometry.page c.blocks).urgent
 has_space c numbers legal is lengths = record {
   lengths = lengths;
   space =

@@ -12,6 +12,7 @@ use Rattle.fls_devices.specs.Cutter.{cutting, told_cutting}
 use Rattle.fee_core.specs.promise_device.Making.{Making}
 use Rattle.fee_core.specs.promise_device.Bridge.{Bridges, reading_of}
 use Rattle.fee_core.specs.promise_device.Wear.{OperationsAreDue}
+use Rattle.fee_core.specs.promise_device.SwitchErases.{RestartsAreFew}
 use Rattle.fee_core.specs.fee_told.Device.{Device, told_of}
 use Rattle.fee_core.specs.fee_laws.Made.{IsMadeOf}
 use Rattle.nvm_core.specs.ram_blocks.declared.plain_block.PlainBlock.{PlainBlock}
@@ -49,11 +50,12 @@ pub record ComesBack (c : Configuration) (fault : MakeFault) (s t : Told) : Type
   pub cuts : s.cuts ≤ t.cuts
 
 -- THE DEVICE IS TAKEN APART
--- What its part told of the flash is so, and its erases were due. Where it asked for no operation, the flash counted none.
+-- What its part told of the flash is so, its operations were due, and few switches began again. Where it asked for no operation, the flash counted none.
 pub record IsBack (c : Configuration) (inner exit : Told) (before : PartTold) (now : DeviceTold) (clock : Clock) : Type 0 where
   pub operations : List Change
   pub bridges : Bridges (reading_of (making_of c)) true (record { entry = inner; exit = exit; operations = operations }) before now clock
   pub wear : OperationsAreDue (making_of c) (record { entry = inner; exit = exit; operations = operations })
+  pub restarts : RestartsAreFew (making_of c) operations now
   -- all numbers are of its one part
   pub parts : (n : ℕ) → (figures_at now.fixed n).part ≡ First
   pub geometry : exit.geometry ≡ c.geometry

@@ -1,7 +1,6 @@
 -- The figures of the device of a configuration, and the most turns of a job by them.
 use Rattle.std.specs.Prelude.{◌≡◌, ℕ}
 use Rattle.fee_core.specs.nv_base.Geometry.{sectors_of_bank}
-use Rattle.nvm_core.specs.block_config.Banks.{bank_count}
 use Rattle.nvm_core.specs.block_config.Config.{Configuration}
 use Rattle.nvm_core.specs.block_config.Lengths.{lengths_of}
 use Rattle.nvm_core.specs.block_config.Rules.{IsLegalConfig}
@@ -17,7 +16,7 @@ use Rattle.promise_run.specs.JobTurns.{job_turns, write_pages}
 
 -- the figures of its device, made for the configuration
 abbrev pub fixed_by : Configuration → Fixed
-fixed_by c = fixed_for c.geometry.page (sectors_of_bank c.geometry bank_count) (lengths_of c) (measures_of c.geometry.page c.blocks).urgent
+fixed_by c = fixed_for c.geometry.page (sectors_of_bank c.geometry c.banks) (lengths_of c) (measures_of c.geometry.page c.blocks).urgent
 
 -- LAWS
 -- the most turns of a job are those of its program by these figures

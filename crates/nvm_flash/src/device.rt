@@ -9,7 +9,7 @@ ghost use Rattle.nvm_flash.specs.Turns.{fixed_by};
 use fee_core::fls_model::{AttachFault, Flash};
 use fee_core::{Fee, Origin};
 use fls_devices::Cutter;
-use nvm_core::block_config::{BANKS, Config};
+use nvm_core::block_config::Config;
 use std::alloc::Global;
 use thiserror::Error;
 
@@ -42,6 +42,7 @@ pub fn make_device<F: Flash, O: Origin>(
     ensures stopped { IfErr result (λ e. ComesBack config.now e.0 (F.told flash) (F.told e.1)) }
 {
     let geometry = config.geometry();
+    let banks = config.banks();
     let Ok(numbers) = config.lengths(alloc) else {
         return Err((MakeFault::Memory, flash));
     };
@@ -52,7 +53,7 @@ pub fn make_device<F: Flash, O: Origin>(
                 alloc,
                 cutter,
                 geometry,
-                BANKS,
+                banks,
                 &numbers,
                 config.reserve_pages(),
             ) {

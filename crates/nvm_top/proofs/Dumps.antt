@@ -5,6 +5,7 @@ use Rattle.nvm_flash.specs.nv_base.Count.{Rose}
 use Rattle.nvm_flash.specs.nv_base.declared.geometry.Geometry.{Geometry}
 use Rattle.nvm_flash.specs.nv_base.Geometry.{size_of}
 use Rattle.nvm_flash.specs.block_config.Config.{Configuration}
+use Rattle.nvm_flash.specs.fee_image.Image.{layout_of}
 use Rattle.nvm_flash.specs.fls_model.Told.{Told}
 use Rattle.nvm_top.specs.declared.status.Status.{Status}
 use Rattle.nvm_top.specs.declared.status.Status.TheVariants as status
@@ -20,24 +21,24 @@ use Rattle.nvm_top.proofs.PlayLemmas.{report-by}
 use Rattle.nvm_top.proofs.RunLines.{Writes-as, by_stop, read_line}
 
 -- FROM THE ATTACH ON
-stop_line : (g : Geometry) (s t : Told) (why : Stop) → IsAttachStop (size_of g) s.bytes why → IsPlayEnd (size_of g) s t (status_of why) → why ≢ stop.Memory → DumpsFlash g s t (status_of why) (line_of why ∷ [])
-stop_line g s t (stop.WrongSize found needed) is end other = (end.0, (found, is.0, ap (λ (n : ℕ). line_of (stop.WrongSize found n) ∷ []) is.1))
-stop_line g s t stop.FlashFault is end other = (end, refl)
-stop_line g s t stop.InUse is end other = (end.0, refl)
-stop_line g s t stop.Memory is end other = absurd (other refl)
-stop_line g s t _ is end other = absurd is
+stop_line : (g : Geometry) (banks : ℕ) (s t : Told) (why : Stop) → IsAttachStop (size_of g) s.bytes why → IsPlayEnd (size_of g) s t (status_of why) → why ≢ stop.Memory → DumpsFlash g banks s t (status_of why) (line_of why ∷ [])
+stop_line g banks s t (stop.WrongSize found needed) is end other = (end.0, (found, is.0, ap (λ (n : ℕ). line_of (stop.WrongSize found n) ∷ []) is.1))
+stop_line g banks s t stop.FlashFault is end other = (end, refl)
+stop_line g banks s t stop.InUse is end other = (end.0, refl)
+stop_line g banks s t stop.Memory is end other = absurd (other refl)
+stop_line g banks s t _ is end other = absurd is
 
-pub stopped-text : (g : Geometry) (s t : Told) (why : Stop) (w w' : Written) (x : Status) → IsAttachStop (size_of g) s.bytes why → IsPlayEnd (size_of g) s t (status_of why) → Writes (IsStop why) w w' x → Writes (DumpsFlash g s t) w w' x
-stopped-text g s t why w w' x stops end is =
-    Writes-as (IsStop why) (DumpsFlash g s t) w w' x (λ y lines at. by_stop (DumpsFlash g s t) why y lines (stop_line g s t why stops end) at) is
+pub stopped-text : (g : Geometry) (banks : ℕ) (s t : Told) (why : Stop) (w w' : Written) (x : Status) → IsAttachStop (size_of g) s.bytes why → IsPlayEnd (size_of g) s t (status_of why) → Writes (IsStop why) w w' x → Writes (DumpsFlash g banks s t) w w' x
+stopped-text g banks s t why w w' x stops end is =
+    Writes-as (IsStop why) (DumpsFlash g banks s t) w w' x (λ y lines at. by_stop (DumpsFlash g banks s t) why y lines (stop_line g banks s t why stops end) at) is
 
-pub read-text : (g : Geometry) (s t : Told) (image : List ℕ) (w w' : Written) (x : Status) → IsImageOf g s.bytes image → Writes (IsDump g image) w w' x → Writes (DumpsFlash g s t) w w' x
-read-text g s t image w w' x of is =
-    Writes-as (IsDump g image) (DumpsFlash g s t) w w' x (λ y lines at. subst (λ (z : Status). DumpsFlash g s t z lines) (sym at.0) (image, of, at.1)) is
+pub read-text : (g : Geometry) (banks : ℕ) (s t : Told) (image : List ℕ) (w w' : Written) (x : Status) → IsImageOf g s.bytes image → Writes (IsDump (layout_of g banks) image) w w' x → Writes (DumpsFlash g banks s t) w w' x
+read-text g banks s t image w w' x of is =
+    Writes-as (IsDump (layout_of g banks) image) (DumpsFlash g banks s t) w w' x (λ y lines at. subst (λ (z : Status). DumpsFlash g banks s t z lines) (sym at.0) (image, of, at.1)) is
 
 -- AS A WHOLE
-pub configured-text : (left : Option (List ℕ)) (reads reads' : ℕ) (s t : Told) (c : Configuration) (w w' : Written) (x : Status) → IfSome left (λ bytes. HasConfig bytes c) → Writes (DumpsFlash c.geometry s t) w w' x → Writes (DumpsBy left reads reads' s t) w w' x
-configured-text left reads reads' s t c w w' x has is = Writes-as (DumpsFlash c.geometry s t) (DumpsBy left reads reads' s t) w w' x (λ y lines at. inr (c, has, at)) is
+pub configured-text : (left : Option (List ℕ)) (reads reads' : ℕ) (s t : Told) (c : Configuration) (w w' : Written) (x : Status) → IfSome left (λ bytes. HasConfig bytes c) → Writes (DumpsFlash c.geometry c.banks s t) w w' x → Writes (DumpsBy left reads reads' s t) w w' x
+configured-text left reads reads' s t c w w' x has is = Writes-as (DumpsFlash c.geometry c.banks s t) (DumpsBy left reads reads' s t) w w' x (λ y lines at. inr (c, has, at)) is
 
 -- where the configuration isn't read
 pub unread-text : (left : Option (List ℕ)) (reads reads' : ℕ) (s t : Told) (why : Stop) (w w' : Written) (x : Status) → (why ≡ stop.ReadFault → Rose reads reads') → IsCheckStop left why → Writes (IsStop why) w w' x → Writes (DumpsBy left reads reads' s t) w w' x

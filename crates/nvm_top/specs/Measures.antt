@@ -15,7 +15,7 @@ numbers_line blocks instances need bank =
 
 -- how many blocks and instances a configuration has, how many pages a bank needs, and how many it has
 abbrev pub measures_line : Configuration → List ℕ
-measures_line c = numbers_line (length c.blocks) (measures_of c.geometry.page c.blocks).instances (need_pages_of c) (bank_pages_of c.geometry)
+measures_line c = numbers_line (length c.blocks) (measures_of c.geometry.page c.blocks).instances (need_pages_of c) (bank_pages_of c)
 
 -- a command ends well, and writes the measures last
 abbrev pub IsMeasured : Configuration → Status → List (List ℕ) → Type 0

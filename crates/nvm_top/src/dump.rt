@@ -1,7 +1,8 @@
 // The command `dump`: what an image holds, line by line.
 ghost use Rattle.std.specs.Prelude.{◌≡◌, length};
 ghost use Rattle.nvm_flash.specs.nv_base.Count.{Rose};
-ghost use Rattle.nvm_flash.specs.nv_base.Geometry.{IsLegal, size_of};
+ghost use Rattle.nvm_flash.specs.fee_image.Image.{layout_of};
+ghost use Rattle.nvm_flash.specs.nv_base.Geometry.{IsLegal, HasBanks, size_of};
 ghost use Rattle.nvm_top.specs.Causes.{HasCauses};
 ghost use Rattle.nvm_top.specs.Dump.{DumpsBy, DumpsFlash, IsDump, KeepsFlash};
 ghost use Rattle.nvm_top.specs.Output.{IsReport, Writes};
@@ -13,7 +14,6 @@ use crate::image::read_image;
 use crate::output::{put_lines, report};
 use fee_dump::dump_text;
 use nv_streams::{Sink, Source};
-use nvm_flash::block_config::BANKS;
 use nvm_flash::fls_model::Flash;
 use nvm_flash::nv_base::Geometry;
 use std::alloc::Global;
@@ -33,7 +33,7 @@ pub(crate) fn dump<S: Source, K: Sink, F: Flash>(
     match read_configuration(alloc, input) {
         Ok(config) => {
             let mut flash = flash;
-            let status = dump_flash(alloc, config.geometry(), output, &mut flash);
+            let status = dump_flash(alloc, config.geometry(), config.banks(), output, &mut flash);
             (status, flash)
         }
         Err(stop) => (report(alloc, stop, output), flash),
@@ -43,29 +43,38 @@ pub(crate) fn dump<S: Source, K: Sink, F: Flash>(
 fn dump_flash<K: Sink, F: Flash>(
     alloc: Global,
     geometry: Geometry,
+    banks: u32,
     output: &mut K,
     flash: &mut F,
 ) -> Status
-    requires { IsLegal geometry }
-    ensures text { Writes (DumpsFlash geometry (F.told flash.old) (F.told flash.new)) (K.written output.old) (K.written output.new) result }
+    requires legal { IsLegal geometry }
+    requires shared { HasBanks geometry banks }
+    ensures text { Writes (DumpsFlash geometry banks (F.told flash.old) (F.told flash.new)) (K.written output.old) (K.written output.new) result }
     ensures write_fault { result ≡ Status.WriteFault → Rose (K.faults output.old) (K.faults output.new) }
     ensures kept { KeepsFlash (F.told flash.old) (F.told flash.new) }
     ensures untouched { IsBeforeStart result → F.told flash.new ≡ F.told flash.old }
 {
     match read_image(alloc, geometry, flash) {
-        Ok(image) => write_dump(alloc, geometry, image.as_slice(), output),
+        Ok(image) => write_dump(alloc, geometry, banks, image.as_slice(), output),
         Err(stop) => report(alloc, stop, output),
     }
 }
 
-fn write_dump<K: Sink>(alloc: Global, geometry: Geometry, image: &[u8], output: &mut K) -> Status
+fn write_dump<K: Sink>(
+    alloc: Global,
+    geometry: Geometry,
+    banks: u32,
+    image: &[u8],
+    output: &mut K,
+) -> Status
     requires legal { IsLegal geometry }
+    requires shared { HasBanks geometry banks }
     requires size { length image.now ≡ size_of geometry }
     ensures status { IsReport Status.Ok result }
-    ensures text { Writes (IsDump geometry image.now) (K.written output.old) (K.written output.new) result }
+    ensures text { Writes (IsDump (layout_of geometry banks) image.now) (K.written output.old) (K.written output.new) result }
     ensures write_fault { result ≡ Status.WriteFault → Rose (K.faults output.old) (K.faults output.new) }
 {
-    let Ok(text) = dump_text(alloc, image, geometry, BANKS) else {
+    let Ok(text) = dump_text(alloc, image, geometry, banks) else {
         return Status::Memory;
     };
     match put_lines(output, text.as_bytes()) {

@@ -12,12 +12,12 @@ use Rattle.fee_format.specs.declared.bank_head.BankHead.{BankHead}
 use Rattle.fee_format.specs.BankHead.{last_generation}
 use Rattle.fee_format.specs.Formats.{new_format}
 use Rattle.fee_format.proofs.Tests.{eq_is, bytes_are}
-use Rattle.fee_image.specs.Image.{bank_in}
+use Rattle.fee_image.specs.Image.{bank_in, active_of}
 use Rattle.promise_device.specs.Making.{banks_of}
 use Rattle.promise_device.specs.Image.{lacks_pages}
 use Rattle.promise_device.specs.Bridge.{is_program, is_failed}
-use Rattle.promise_device.specs.Wear.{bank_of_op, last_in, failed_in, same_op, repeats, is_repeated, most_wanted, most_copied, may_erase_beside, is_due, are_due}
-use Rattle.promise_device.specs.Laws.{LastsGoOn, FailuresGoOn, FailedAreRepeated, MayErases, RoomsCompute, DueGoOn}
+use Rattle.promise_device.specs.Wear.{bank_of_op, last_in, failed_in, same_op, repeats, is_repeated, most_wanted, most_copied, bank_behind, may_leave, is_due, are_due}
+use Rattle.promise_device.specs.Laws.{LatestIs, LastsGoOn, FailuresGoOn, FailedAreRepeated, MayErases, RoomsCompute, DueGoOn}
 use Rattle.promise_device.proofs.Readings.{lacks_is}
 
 -- TESTS
@@ -37,11 +37,11 @@ one_of true b is = refl
 one_of false b (inl is) = cc is
 one_of false b (inr is) = is
 
-first_of : (a b : Bool) → IsTrue (a && b) → IsTrue a
+pub first_of : (a b : Bool) → IsTrue (a && b) → IsTrue a
 first_of true b is = refl
 first_of false b is = cc is
 
-second_of : (a b : Bool) → IsTrue (a && b) → IsTrue b
+pub second_of : (a b : Bool) → IsTrue (a && b) → IsTrue b
 second_of true b is = is
 second_of false b is = cc is
 
@@ -60,7 +60,7 @@ last_here g banks xs x =
     let k = bank_of_op g banks x.op in
     lasts_go_on g banks k None xs x ∙ ap (λ (b : Bool). if b then Some x else last_in g banks k None xs) ((eq_is k k).1 refl)
 
-same_once : (op : Op) → IsTrue (same_op op op)
+pub same_once : (op : Op) → IsTrue (same_op op op)
 same_once (Program a page) = all_two (a == a) _ ((eq_is a a).1 refl) ((bytes_are page page).1 refl)
 same_once (Erase a n) = all_two (a == a) (n == n) ((eq_is a a).1 refl) ((eq_is n n).1 refl)
 
@@ -72,16 +72,22 @@ repeats_last g banks xs x failed =
 pub failed_are_repeated : FailedAreRepeated
 failed_are_repeated g banks xs x op is failed = subst (λ (y : Op). IsTrue (is_repeated g banks (xs ++ x ∷ []) y)) is (repeats_last g banks xs x failed)
 
+pub latest_is : LatestIs
+latest_is last [] x = refl
+latest_is last (y ∷ ys) x = latest_is (Some y) ys x
+
 -- ERASES
 pub may_erases : MayErases
-may_erases m earlier t image (inl none) = subst (λ (o : Option (ℕ × BankHead)). IsTrue (option_map_or (may_erase_beside m earlier t image) o true)) (sym none) refl
-may_erases m earlier t image (inr (k, h, at, other, fresh, why)) =
+may_erases m earlier t image next (inl none) =
+    all_two (t == bank_behind m.banks (active_of (banks_of m) image)) _ ((eq_is _ _).1 next)
+    (subst (λ (o : Option (ℕ × BankHead)). IsTrue (option_map_or (may_leave m earlier image) o true)) (sym none) refl)
+may_erases m earlier t image next (inr (k, h, at, fresh, why)) =
     let b = bank_in (banks_of m) h.format k in
     let failed = failed_in m.geometry m.banks k false earlier in
     let lacks : IsTrue failed ⊎ IsTrue (lacks_pages (most_wanted m) b image) = elim why [ inl is ↦ inl is | inr few ↦ inr ((lacks_is (most_wanted m) image b).1 few) ] in
-    subst (λ (o : Option (ℕ × BankHead)). IsTrue (option_map_or (may_erase_beside m earlier t image) o true)) (sym at)
-    (all_two (not (k == t) && not (h.generation == last_generation)) (failed || lacks_pages (most_wanted m) b image)
-    (all_two (not (k == t)) (not (h.generation == last_generation)) (unlike k t other) (unlike h.generation last_generation fresh)) (one_of failed (lacks_pages (most_wanted m) b image) lacks))
+    all_two (t == bank_behind m.banks (active_of (banks_of m) image)) _ ((eq_is _ _).1 next)
+    (subst (λ (o : Option (ℕ × BankHead)). IsTrue (option_map_or (may_leave m earlier image) o true)) (sym at)
+    (all_two (not (h.generation == last_generation)) (failed || lacks_pages (most_wanted m) b image) (unlike h.generation last_generation fresh) (one_of failed (lacks_pages (most_wanted m) b image) lacks)))
 
 -- GATES
 pub rooms_compute : RoomsCompute

@@ -1,5 +1,5 @@
 -- Two operations of a flash of two pages of 2 bytes, and what a device tells over two banks of ten pages.
-use Rattle.std.specs.Prelude.{◌≡◌, ℕ, Bool, true, false, List, [], ◌∷◌, ◌++◌, take, replicate, Some, None}
+use Rattle.std.specs.Prelude.{◌≡◌, ◌+◌, ℕ, Bool, true, false, List, [], ◌∷◌, ◌++◌, take, replicate, Some, None}
 use Rattle.nv_base.specs.Plan.{no_planning}
 use Rattle.nv_base.specs.declared.mark.Mark.TheVariants.{Content}
 use Rattle.memif.specs.declared.answer.JobResult.TheVariants.{JobOk}
@@ -136,15 +136,28 @@ erased image = erased_at 160 Done image
 abbrev pub programmed_at : (address : ℕ) → FlashAnswer → List ℕ → Change
 programmed_at address answer image = record { op = Program address (replicate 16 0); before = image; answer = answer }
 
--- of the first page of bank 1, and of the page behind the log of bank 0
+-- of the third page of bank 1, and of the page behind the log of bank 0
 abbrev pub programmed : FlashAnswer → List ℕ → Change
-programmed answer image = programmed_at 160 answer image
+programmed answer image = programmed_at 192 answer image
 
 abbrev pub appended : FlashAnswer → List ℕ → Change
 appended answer image = programmed_at 32 answer image
 
 abbrev pub are_due_there : List Change → Bool
 are_due_there operations = are_due two_banks [] operations
+
+-- three banks of ten pages, of which the first one is active and full, or the last one
+abbrev pub three_banks : Making
+three_banks = record two_banks { geometry = record { page = 16; sector = 160; sectors = 3 }; banks = 3 }
+
+abbrev pub first_of_three : List ℕ
+first_of_three = full ++ replicate 160 255
+
+abbrev pub last_of_three : List ℕ
+last_of_three = taken_over ++ bank_head_page 16 (record { format = 2; generation = 3 }) ++ gate_page 16 ++ written
+
+abbrev pub in_turn : List Change → Bool
+in_turn operations = are_due three_banks [] operations
 
 -- the same flash in sectors of half the size: two a bank
 abbrev pub small_sectors : Making
@@ -164,12 +177,34 @@ in_order operations = are_due small_sectors [] operations
 abbrev pub wide_banks : Making
 wide_banks = record two_banks { geometry = record { page = 16; sector = 320; sectors = 2 } }
 
--- the gate of bank 1 behind its head, beside a blank bank 0, and over these bytes of its other pages
-abbrev pub gate_over : List ℕ → Change
-gate_over pages = record { op = Program 336 (gate_page 16); before = replicate 320 255 ++ bank_head_page 16 (record { format = 2; generation = 1 }) ++ replicate 16 255 ++ pages; answer = Done }
+-- the first head of bank 0, beside a blank bank 1, over these bytes of its other pages; and the gate behind it
+abbrev pub first_head : ℕ → List ℕ
+first_head generation = bank_head_page 16 (record { format = 2; generation = generation })
+
+abbrev pub head_over : ℕ → FlashAnswer → List ℕ → Change
+head_over generation answer pages = record { op = Program 0 (first_head generation); before = replicate 32 255 ++ pages ++ replicate 320 255; answer = answer }
+
+abbrev pub gate_over : FlashAnswer → List ℕ → Change
+gate_over answer pages = record { op = Program 16 (gate_page 16); before = first_head 1 ++ replicate 16 255 ++ pages ++ replicate 320 255; answer = answer }
+
+-- the head once more, over itself
+abbrev pub head_again : List ℕ → Change
+head_again pages = record (gate_over Done pages) { op = Program 0 (first_head 1) }
+
+-- a head of bank 1 beside a bank of the last generation
+abbrev pub head_behind_last : Change
+head_behind_last = record { op = Program 160 (first_head (last_generation + 1)); before = last; answer = Done }
 
 abbrev pub copied : List ℕ
 copied = take 64 written
 
 abbrev pub opens : List ℕ → Bool
-opens pages = are_due wide_banks [] (gate_over pages ∷ [])
+opens pages = are_due wide_banks [] (head_over 1 Done pages ∷ gate_over Done pages ∷ [])
+
+-- these operations there
+abbrev pub are_due_wide : List Change → Bool
+are_due_wide operations = are_due wide_banks [] operations
+
+-- its other pages are blank
+abbrev pub no_records : List ℕ
+no_records = replicate 288 255

@@ -15,7 +15,7 @@ use Rattle.promise_device.specs.Image.{IsSoundFlash, IsOfLastGeneration, is_of_l
 use Rattle.promise_device.specs.FlashRun.{FlashRun, StartsSound}
 use Rattle.promise_device.specs.Reading.{BeginsSound, AttachesSound}
 use Rattle.promise_device.specs.Bridge.{is_program, is_failed, has_failed, may_be_closed, IsWornOut, IsWornBy, reading_of}
-use Rattle.promise_device.specs.Wear.{most_wanted, most_copied, bank_of_op, last_in, failed_in, is_repeated, may_erase, has_room_behind, is_due, are_due}
+use Rattle.promise_device.specs.Wear.{most_wanted, most_copied, bank_of_op, bank_behind, latest, last_in, failed_in, is_repeated, may_erase, has_room_behind, is_due, are_due}
 
 abbrev pub SoundFlashesCompute : Type 0
 SoundFlashesCompute = (m : Making) (image : List ℕ) → IsTrue ((reading_of m).is_sound image) ↔ IsSoundFlash m image
@@ -64,13 +64,16 @@ FailedAreRepeated =
     (g : Geometry) (banks : ℕ) (operations : List Change) (x : Change) (op : Op)
     → x.op ≡ op → x.answer ≡ Failed → IsTrue (is_repeated g banks (operations ++ x ∷ []) op)
 
--- where no bank is active one may erase, and else another one where the active one isn't worn out and lacks the pages, is closed, or
--- may be
+-- one operation more is the last one
+abbrev pub LatestIs : Type 0
+LatestIs = (last : Option Change) (operations : List Change) (x : Change) → latest last (operations ++ x ∷ []) ≡ Some x
+
+-- one may erase the next bank where none is active, and where the active one isn't worn out and lacks the pages, is closed, or may be
 abbrev pub MayErases : Type 0
 MayErases =
-    (m : Making) (earlier : List Change) (t : ℕ) (image : List ℕ)
+    (m : Making) (earlier : List Change) (t : ℕ) (image : List ℕ) → t ≡ bank_behind m.banks (active_of (banks_of m) image)
     → (active_of (banks_of m) image ≡ None)
-    ⊎ ((k : ℕ) × (h : BankHead) × (active_of (banks_of m) image ≡ Some (k, h)) × (k ≡ t → ⊥) × (h.generation ≡ last_generation → ⊥)
+    ⊎ ((k : ℕ) × (h : BankHead) × (active_of (banks_of m) image ≡ Some (k, h)) × (h.generation ≡ last_generation → ⊥)
     × (IsTrue (failed_in m.geometry m.banks k false earlier) ⊎ (let b = bank_in (banks_of m) h.format k in IsClosed b image (end_of b image) ⊎ (b.pages < end_of b image + most_wanted m))))
     → IsTrue (may_erase m earlier t image)
 

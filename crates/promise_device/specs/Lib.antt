@@ -9,3 +9,5 @@ pub mod Room
 pub mod Wear
 pub mod Laws
 pub mod Cases
+pub mod Generations
+pub mod SwitchErases

@@ -4,7 +4,9 @@ ghost use Rattle.fls_model.specs.Op.{Program, Erase};
 ghost use Rattle.fls_model.specs.declared.flash.FlashAnswer.TheVariants.{Done, Failed, Off};
 ghost use Rattle.promise_device.specs.FlashRun.{AreSeen, IsChain, CountsAll};
 ghost use Rattle.promise_device.specs.Bridge.{may_be_closed};
-ghost use Rattle.promise_device.specs.Cases.{blank, other, erase, answered, broken_off, first_byte, program, two_programs, seen_there, never, second, any, counted, Tells, roomy, torn, no_job, urgent_write, standard_write, failed_erase, are_due_there, in_order, erased, erased_at, programmed, programmed_at, appended, first_sector, second_sector, opens, copied, no_bank, full, last, taken_over};
+ghost use Rattle.promise_device.specs.Cases.{blank, other, erase, answered, broken_off, first_byte, program, two_programs, seen_there, never, second, any, counted, Tells, roomy, torn, no_job, urgent_write, standard_write, failed_erase, are_due_there, in_order, erased, erased_at, programmed, programmed_at, appended, first_sector, second_sector, opens, copied, no_bank, full, last, taken_over, in_turn, first_of_three, last_of_three, head_over, gate_over, are_due_wide, no_records, head_again, head_behind_last, two_banks, wide_banks};
+ghost use Rattle.promise_device.specs.Generations.{bank_of_generation};
+ghost use Rattle.promise_device.specs.SwitchErases.{seals, begun_again};
 
 /// An erase that the flash saw, and a program of which a planned cut let nothing be done, so that its bytes stay, or one byte, or
 /// all; two such cuts take their bytes in order. A program that failed, with its answer.
@@ -101,7 +103,7 @@ pub fn banks_that_may_be_closed()
 /// A bank is erased where none is active, or where the active one has fewer free pages than a record may ask for, or is closed; and
 /// behind a program of it that failed, which may have closed it.
 pub fn erases_of_a_flash()
-    ensures none_active { are_due_there (erased no_bank ∷ []) ≡ true }
+    ensures none_active { are_due_there (erased_at 0 Done no_bank ∷ []) ≡ true }
     ensures full { are_due_there (erased full ∷ erased full ∷ []) ≡ true }
     ensures torn { are_due_there (erased torn ∷ []) ≡ true }
     ensures failed { are_due_there (appended Failed roomy ∷ erased roomy ∷ []) ≡ true }
@@ -120,9 +122,18 @@ pub fn erases_of_another_flash()
     ensures failed_before { are_due_there (appended Failed roomy ∷ erased roomy ∷ erased_at 0 Done taken_over ∷ []) ≡ false }
     ensures failed_long_ago { are_due_there (programmed Failed full ∷ erased full ∷ erased_at 0 Done taken_over ∷ []) ≡ false }
     ensures the_active_one { are_due_there (erased_at 0 Done full ∷ []) ≡ false }
+    ensures not_the_first { are_due_there (erased no_bank ∷ []) ≡ false }
     ensures two_sectors { in_order (record (first_sector Done) { op = Erase 160 160 } ∷ []) ≡ false }
     ensures last { are_due_there (erased last ∷ []) ≡ false }
     ensures last_failed { are_due_there (appended Failed last ∷ erased last ∷ []) ≡ false }
+{}
+
+/// Of three banks the next one is erased: the second behind the first, and the first behind the last.
+pub fn erases_of_three_banks()
+    ensures second { in_turn (erased first_of_three ∷ []) ≡ true }
+    ensures first_again { in_turn (erased_at 0 Done last_of_three ∷ []) ≡ true }
+    ensures one_left_out { in_turn (erased_at 320 Done first_of_three ∷ []) ≡ false }
+    ensures back { in_turn (erased last_of_three ∷ []) ≡ false }
 {}
 
 /// The sectors of a bank are erased one behind the other; one that failed is erased again, and a switch that begins again begins
@@ -156,6 +167,7 @@ pub fn programs_of_another_flash()
     ensures cut { are_due_there (appended Off roomy ∷ appended Done torn ∷ []) ≡ false }
     ensures another_page { are_due_there (programmed_at 48 Failed roomy ∷ appended Done torn ∷ []) ≡ false }
     ensures behind_another { are_due_there (appended Failed roomy ∷ programmed_at 48 Done torn ∷ appended Done torn ∷ []) ≡ false }
+    ensures two_pages { are_due_there (record (appended Done roomy) { op = Program 32 (replicate 32 0) } ∷ []) ≡ false }
     ensures other_bytes { are_due_there (record (appended Failed roomy) { op = Program 32 (replicate 16 1) } ∷ appended Done torn ∷ []) ≡ false }
 {}
 
@@ -166,4 +178,24 @@ pub fn banks_that_take_over()
     ensures copied_twice { opens (copied ++ copied ++ replicate 160 255) ≡ true }
     ensures too_many { opens (copied ++ copied ++ copied ++ replicate 96 255) ≡ false }
     ensures closed { opens (copied ++ 0 ∷ replicate 223 255) ≡ false }
+    ensures failed_gate { are_due_wide (head_over 1 Done no_records ∷ gate_over Failed no_records ∷ gate_over Done no_records ∷ []) ≡ true }
+    ensures no_head { are_due_wide (gate_over Done no_records ∷ []) ≡ false }
+    ensures other_page { are_due_wide (head_over 1 Done no_records ∷ record (gate_over Done no_records) { op = Program 16 (replicate 16 1) } ∷ []) ≡ false }
+    ensures failed_head { are_due_wide (head_over 1 Failed no_records ∷ gate_over Done no_records ∷ []) ≡ false }
+    ensures second_generation { are_due_wide (head_over 2 Done no_records ∷ []) ≡ false }
+    ensures head_again { are_due_wide (head_over 1 Failed no_records ∷ head_again no_records ∷ []) ≡ false }
+    ensures behind_the_last { are_due_there (head_behind_last ∷ []) ≡ false }
+{}
+
+/// Of three banks each generation has the next one, so of the first eight the third bank has two; a switch that begins twice began
+/// again once, but for one whose erase failed.
+pub fn generations_of_three_banks()
+    ensures first { bank_of_generation 3 1 ≡ 0 }
+    ensures fourth { bank_of_generation 3 4 ≡ 0 }
+    ensures second_bank { seals 3 1 8 ≡ 3 }
+    ensures third_bank { seals 3 2 8 ≡ 2 }
+    ensures again { begun_again two_banks false (erased full ∷ erased full ∷ []) ≡ 1 }
+    ensures failed { begun_again two_banks false (erased_at 160 Failed full ∷ erased full ∷ []) ≡ 0 }
+    ensures ended { begun_again wide_banks false (record (head_over 1 Done no_records) { op = Erase 0 320 } ∷ gate_over Done no_records ∷ record (head_over 1 Done no_records) { op = Erase 320 320 } ∷ []) ≡ 0 }
+    ensures cut { begun_again wide_banks false (record (head_over 1 Done no_records) { op = Erase 0 320 } ∷ gate_over Off no_records ∷ record (head_over 1 Done no_records) { op = Erase 0 320 } ∷ []) ≡ 1 }
 {}

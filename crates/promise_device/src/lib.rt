@@ -9,7 +9,8 @@ mod cases;
 
 pub use cases::{
     answers_of_another_flash, banks_that_may_be_closed, banks_that_take_over, counts_of_the_flash,
-    erases_of_a_flash, erases_of_another_flash, operations_of_another_flash,
-    operations_of_the_flash, programs_of_a_flash, programs_of_another_flash, room_of_a_bank,
-    room_of_another_bank, sectors_in_order, sectors_out_of_order,
+    erases_of_a_flash, erases_of_another_flash, erases_of_three_banks, generations_of_three_banks,
+    operations_of_another_flash, operations_of_the_flash, programs_of_a_flash,
+    programs_of_another_flash, room_of_a_bank, room_of_another_bank, sectors_in_order,
+    sectors_out_of_order,
 };

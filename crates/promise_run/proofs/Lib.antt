@@ -34,3 +34,4 @@ mod KeptCases
 mod Failing
 pub mod Callers
 pub mod RunHalves
+pub mod BankTurns

@@ -1,7 +1,7 @@
 -- No sector of a bank is erased more often than the one before it, and so than the first.
-use Rattle.std.specs.Prelude.{◌&&◌, ◌||◌, ◌==◌, if◌then◌else◌, count_by}
+use Rattle.std.specs.Prelude.{◌&&◌, ◌||◌, ◌==◌, nat_lt, if◌then◌else◌, count_by}
 use Rattle.std.specs.Option.{option_map_or}
-use Rattle.std.proofs.Common.{◌≡◌, ◌⊎◌, inl, inr, ◌<◌, ◌≤◌, ◌+◌, ◌*◌, ◌/◌, ◌++◌, ℕ, zero, suc, Bool, true, false, IsTrue, List, [], ◌∷◌, Option, Some, None, refl, sym, ap, ◌∙◌, subst, arith}
+use Rattle.std.proofs.Common.{◌≡◌, ◌⊎◌, inl, inr, ◌<◌, ◌≤◌, ◌+◌, ◌*◌, ◌/◌, ◌%◌, ◌++◌, ℕ, zero, suc, Bool, true, false, IsTrue, List, [], ◌∷◌, Option, Some, None, refl, sym, ap, ◌∙◌, subst, arith}
 use Rattle.std.proofs.lemmas.Nat.{div-mul-add}
 use Rattle.std.proofs.lemmas.List.Sums.{sum_by-cons}
 use Rattle.block_machine.specs.nv_base.Geometry.{sectors_of_bank, size_of_bank}
@@ -15,19 +15,11 @@ use Rattle.fee_image.specs.Laws.{place_of_sector}
 use Rattle.promise_device.specs.Making.{Making}
 use Rattle.promise_device.specs.Bridge.{is_failed}
 use Rattle.promise_device.specs.Traits.{is_done}
-use Rattle.promise_device.specs.Wear.{bank_of_op, last_in, same_op, repeats, erases_before, leads_to, is_in_order, may_erase, is_due_by, is_due, are_due}
-use Rattle.promise_device.proofs.Wears.{lasts_go_on}
+use Rattle.promise_device.specs.Wear.{bank_of_op, last_in, same_op, repeats, erases_before, leads_to, is_in_order, may_erase, is_whole, has_place, is_due_there, is_due_by, is_due, are_due}
+use Rattle.promise_device.proofs.Wears.{first_of, second_of, lasts_go_on}
 use Rattle.promise_run.specs.SectorErases.{erases_at, is_erase_done, erases_done, FirstSectorsLead}
 
 -- TESTS
-second_of : (a b : Bool) → IsTrue (a && b) → IsTrue b
-second_of true b is = is
-second_of false b is = cc is
-
-first_of : (a b : Bool) → IsTrue (a && b) → IsTrue a
-first_of true b is = refl
-first_of false b is = cc is
-
 either : (a b : Bool) → IsTrue (a || b) → IsTrue a ⊎ IsTrue b
 either true b is = inl refl
 either false b is = inr is
@@ -147,8 +139,10 @@ module _ (m : Making) (k n : ℕ) (some : 0 < m.geometry.sector) (inside : suc n
   erase_is : (earlier : List Change) (before : List ℕ) (op : Op) → IsTrue (is_due_by m earlier before op) → (x y : ℕ) → op ≡ Erase x y → (y ≡ s) × (x ≡ b → IsTrue (ahead (last_in g m.banks k None earlier)))
   erase_is earlier before op due x y is =
       let here : IsTrue (is_due_by m earlier before (Erase x y)) = subst (λ (o : Op). IsTrue (is_due_by m earlier before o)) is due in
-      let size : y ≡ s = (eq_is y s).0 (first_of (y == s) _ here) in
-      let order = second_of (may_erase m earlier (bank_of_op g m.banks (Erase x y)) before) (is_in_order g m.banks earlier x y) (second_of (y == s) _ here) in
+      let placed = first_of (has_place m (Erase x y)) (is_due_there m earlier before (Erase x y)) here in
+      let there = second_of (has_place m (Erase x y)) (is_due_there m earlier before (Erase x y)) here in
+      let size : y ≡ s = (eq_is y s).0 (second_of (x % s == 0) (y == s) (second_of (nat_lt (bank_of_op g m.banks (Erase x y)) m.banks) (is_whole g (Erase x y)) placed)) in
+      let order = second_of (may_erase m earlier (bank_of_op g m.banks (Erase x y)) before) (is_in_order g m.banks earlier x y) there in
       (size, λ same. order_is earlier y size (subst (λ (z : ℕ). IsTrue (is_in_order g m.banks earlier z y)) same order))
 
   one_more : (earlier : List Change) (x : Change) (first second : ℕ) → Stands (last_in g m.banks k None earlier) first second → IsTrue (is_due m earlier x)

@@ -5,7 +5,7 @@ use Rattle.std.proofs.Common.{◌≡◌, ℕ, zero, suc, Bool, true, false, IsTr
 use Rattle.fls_model.specs.Bytes.{AreBytes}
 use Rattle.block_machine.specs.Words.{Erased}
 use Rattle.block_machine.specs.nv_base.Held.{Held}
-use Rattle.fee_format.specs.BankHead.{bank_head_page}
+use Rattle.fee_format.specs.Pages.{gate_page}
 use Rattle.fee_format.proofs.Tests.{lt_is}
 use Rattle.fee_image.specs.Laws.{BlankIsSound, BlankHasErased, SoundImagesCompute}
 use Rattle.fls_model.specs.Told.{bytes_now}
@@ -68,9 +68,9 @@ bytes_of (x ∷ xs) all (suc k) = bytes_of xs (second_of (nat_lt x 256) _ all) k
 abbrev written : List ℕ
 written = begun 4
 
--- a cut of the fifth operation may leave any bytes on its page, as those of a head
+-- a cut of the fifth operation may leave any bytes on its page, as those of a gate
 abbrev torn : List ℕ
-torn = take 160 written ++ bank_head_page 16 (record { format = 2; generation = 2 }) ++ drop 176 written
+torn = take 128 written ++ gate_page 16 ++ drop 144 written
 
 no_lost_write : CutsKeep lost_write lost_write.beside → ⊥
 no_lost_write cuts =

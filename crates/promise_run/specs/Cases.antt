@@ -31,7 +31,7 @@ use Rattle.promise_run.specs.Run.{Run, Played, Ran, cap, HadRoom, LeavesFor, End
 -- IMAGES
 -- block 2 is as described
 abbrev pub with_block_2 : BlockDesc → Configuration
-with_block_2 d = record { id = 1; geometry = record { page = 16; sector = 160; sectors = 2 }; standard = 8; immediate = 4; blocks = manager_block 1 ∷ d ∷ [] }
+with_block_2 d = record { id = 1; geometry = record { page = 16; sector = 160; sectors = 2 }; banks = 2; standard = 8; immediate = 4; blocks = manager_block 1 ∷ d ∷ [] }
 
 abbrev pub small : Configuration
 small = with_block_2 (plain_block 4)
@@ -238,22 +238,23 @@ kept_write =
 abbrev pub untold_write : Run
 untold_write = let f = kept_write.flash in record kept_write { flash = record f { exit = tells blank None } }
 
--- the first pages of the record in a bank that stands, and the program of the next one; bank 1 has an open gate, and no head
+-- the first pages of the record in a bank that stands, and the program of the next one; behind its last page stands the front of a
+-- record that says that the number is invalid, without its commit gate
 abbrev pub begun : ℕ → List ℕ
 begun pages =
-    bank_head_page 16 (record { format = 2; generation = 1 }) ++ gate_page 16 ++ take (16 * pages) (record_of 128 one) ++ replicate (128 - 16 * pages) 255
-    ++ replicate 16 255 ++ gate_page 16 ++ replicate 128 255
+    bank_head_page 16 (record { format = 2; generation = 1 }) ++ gate_page 16 ++ take (16 * pages) (record_of 128 one) ++ replicate (64 - 16 * pages) 255
+    ++ rec_head_page 2 16 (record { number = record { 0 = 128 }; kind = record_kind.Invalid; length = 0; count = 9 }) ++ gate_page 16 ++ replicate 192 255
 
 abbrev pub programs : ℕ → Change
 programs pages =
     record { op = Program (32 + 16 * pages) (take 16 (drop (16 * pages) (record_of 128 one))); before = begun pages; answer = Done }
 
--- `one` is written and acknowledged with the fourth operation; the fifth programs the head's page of bank 1, so that a cut
--- within it may make that bank stand, and lose what was acknowledged
+-- `one` is written and acknowledged with the fourth operation; the fifth programs the page of that commit gate, with no bit, so that
+-- a cut within it may commit the record, and lose what was acknowledged
 abbrev pub operations : List Change
 operations =
     programs 0 ∷ programs 1 ∷ programs 2 ∷ programs 3
-    ∷ record { op = Program 160 (replicate 16 255); before = begun 4; answer = Done } ∷ []
+    ∷ record { op = Program 128 (replicate 16 255); before = begun 4; answer = Done } ∷ []
 
 abbrev pub lost_write : Run
 lost_write =

@@ -4,7 +4,6 @@ use Rattle.std.specs.Option.{option_map_or}
 use Rattle.block_machine.specs.nv_base.Geometry.{sectors_of_bank}
 use Rattle.block_machine.specs.nv_base.Marks.{number_of}
 use Rattle.block_machine.specs.nv_base.Pages.{record_pages_of}
-use Rattle.block_machine.specs.block_config.Banks.{bank_count}
 use Rattle.block_machine.specs.block_config.Lengths.{lengths_of}
 use Rattle.block_machine.specs.block_config.Sizes.{measures_of}
 use Rattle.block_machine.specs.Words.{JobKind, ReadJob, WriteJob, EraseJob, InvalidateJob, Configuration, Instance}
@@ -18,7 +17,7 @@ use Rattle.memif.specs.Told.{length_of}
 abbrev pub switch_at_most : Configuration → ℕ
 switch_at_most c =
     let m = measures_of c.geometry.page c.blocks in
-    sectors_of_bank c.geometry bank_count + m.instances + m.all + m.greatest + 2
+    sectors_of_bank c.geometry c.banks + m.instances + m.all + m.greatest + 2
 
 -- a record of so many bytes: its pages, the gate that is owed before it, and a switch
 abbrev pub record_at_most : Configuration → ℕ → ℕ

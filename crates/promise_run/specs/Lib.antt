@@ -20,3 +20,4 @@ pub mod RefusedCases
 pub mod UrgentCases
 pub mod OperationCases
 pub mod KeptCases
+pub mod BankTurns

@@ -3,7 +3,6 @@ use Rattle.std.specs.Prelude.{◌≡◌, ◌⊎◌, ◌<◌, ◌≤◌, ◌+◌,
 use Rattle.block_machine.specs.nv_base.Count.{last_count, next_count}
 use Rattle.block_machine.specs.nv_base.Held.{Held}
 use Rattle.block_machine.specs.nv_base.Marks.{instance_of}
-use Rattle.block_machine.specs.block_config.Banks.{bank_count}
 use Rattle.block_machine.specs.block_config.Lengths.{lengths_of}
 use Rattle.block_machine.specs.block_config.Sizes.{measures_of}
 use Rattle.block_machine.specs.Words.{Instance, Mark, Entry, Found, Configuration}
@@ -24,9 +23,9 @@ use Rattle.promise_run.specs.Beside.{Beside, AreCutImages, IsMerged, is_beside, 
 use Rattle.promise_run.specs.Run.{Run, HasOrder, of_flashes, has_cutter, CutsExplain}
 use Rattle.promise_run.specs.Refusals.{RefusesAsAsked}
 
--- the device is made for this configuration, over the banks that a configuration has
+-- the device is made for this configuration, over its banks
 abbrev pub making_of : Configuration → Making
-making_of c = record { geometry = c.geometry; banks = bank_count; numbers = lengths_of c; reserve = (measures_of c.geometry.page c.blocks).urgent }
+making_of c = record { geometry = c.geometry; banks = c.banks; numbers = lengths_of c; reserve = (measures_of c.geometry.page c.blocks).urgent }
 
 -- what a start-up finds in an image
 abbrev pub found_by : Configuration → List ℕ → ℕ → Mark

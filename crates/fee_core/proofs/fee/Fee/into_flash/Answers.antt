@@ -17,6 +17,8 @@ use Rattle.fee_laws.specs.SwitchTold.{TellsSwitchOver}
 use Rattle.fee_core.specs.Whole.{Whole}
 use Rattle.fee_core.proofs.RoomTold.{switch_told, work_told}
 use Rattle.fee_core.proofs.Telling.{all_first}
+use Rattle.promise_device.specs.SwitchErases.{RestartsAreFew}
+use Rattle.fee_laws.proofs.Restarts.{restarts_told}
 use Rattle.fee_core.proofs.WearTold.{wear_told}
 use Rattle.fee_core.proofs.fee.Fee.into_flash.Goals as goal
 
@@ -103,3 +105,10 @@ returns-clause-wear g c =
     let told = g.F.Flash.told c.into_flash.result in
     let here = wear_told m entry told p.parts.operations c.self.invariant.wears in
     subst (λ (x : Device). OperationsAreDue m (record { entry = entry; exit = told; operations = x.operations })) c.self.view_is here
+
+pub returns-clause-restarts : goal.returns-clause-restarts
+returns-clause-restarts g c =
+    let m = g.O.Origin.making in
+    let entry = g.O.Origin.entry in
+    let p = c.self.inside.parts in
+    subst (λ (x : Device). RestartsAreFew m x.operations (told_of x)) c.self.view_is (restarts_told m p.parts entry c.self.invariant.restarts)

@@ -1,4 +1,4 @@
-use Rattle.std.proofs.Common.{[], None, false, refl, ap, ◌∙◌, sym, subst}
+use Rattle.std.proofs.Common.{inr, [], None, false, refl, ap, ◌∙◌, sym, subst}
 use Rattle.memif.specs.declared.answer.JobResult.TheVariants.{JobOk}
 use Rattle.fls_model.specs.Attach.{IsAttached}
 use Rattle.fls_jobs.specs.Start.{IsIdle}
@@ -23,7 +23,7 @@ invariant_of-result g c =
     let s : Parts = record { fls = c.attach.new.self; banks = c.in-Ok.banks; content = c.in-Ok.content; job = None; last = JobOk; given = 0; starts = 0; started = false; faults = 0; worn = None; operations = [] } in
     let m : Making = record { geometry = c.args.geometry; banks = c.args.banks; numbers = c.args.numbers.now; reserve = c.args.reserve } in
     let law = new_is_sound m _ s (record { legal = c.requires.legal; space = c.requires.space; attached = at; banks = c.in-Ok.ensures.banks; geometry = geometry; idle = idle; room = c.in-Ok.ensures.content }) in
-    subst (Sound g.O.Origin.making g.O.Origin.entry) (sym c.unstarted.ensures) (rw (c.requires.making, c.requires.entry, c.in-Ok.ensures.numbers) (record { parts = law.0; follows = unstarted_follows s refl; wears = λ told. refl }))
+    subst (Sound g.O.Origin.making g.O.Origin.entry) (sym c.unstarted.ensures) (rw (c.requires.making, c.requires.entry, c.in-Ok.ensures.numbers) (record { parts = law.0; follows = unstarted_follows s refl; wears = λ told. refl; restarts = inr (inr (refl, refl)) }))
 
 pub returns-clause-parts : goal.returns-clause-parts
 returns-clause-parts g c n =

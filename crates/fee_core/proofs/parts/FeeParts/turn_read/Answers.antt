@@ -25,7 +25,7 @@ pub returns-in_default : goal.returns-in_default
 returns-in_default g c =
     let at = stands c.self.view_is c.requires.up c.active-active.ensures.state c.active-active.ensures.log in
     let is = reading at c.requires.job c.requires.op in
-    turned_from at refl refl at.up.on ((marks_are_read _ _ _ _ _ _ c.args.job is).1 (inl c.in_default.ensures)) at.up.sound.follows at.up.sound.wears
+    turned_from at refl refl at.up.on ((marks_are_read _ _ _ _ _ _ c.args.job is).1 (inl c.in_default.ensures)) at.up.sound.follows at.up.sound.wears at.up.sound.restarts
 
 pub returns-in-Invalid : goal.returns-in-Invalid
 returns-in-Invalid g c =
@@ -33,14 +33,14 @@ returns-in-Invalid g c =
     let is = reading at c.requires.job c.requires.op in
     let log = c.in-Some.ensures in
     let place = ap (λ (l : LogState). place_in l.numbers l.places c.args.job.number.0) (sym log.1) ∙ sym c.find.ensures.place ∙ c.in-Invalid.is in
-    turned_from at refl refl at.up.on ((marks_are_read _ _ _ _ _ _ c.args.job is).0 log.0 c.in-Invalid.count place) at.up.sound.follows at.up.sound.wears
+    turned_from at refl refl at.up.on ((marks_are_read _ _ _ _ _ _ c.args.job is).0 log.0 c.in-Invalid.count place) at.up.sound.follows at.up.sound.wears at.up.sound.restarts
 
 pub returns-in-Erased : goal.returns-in-Erased
 returns-in-Erased g c =
     let at = stands c.self.view_is c.requires.up c.active-active.ensures.state c.active-active.ensures.log in
     let is = reading at c.requires.job c.requires.op in
     let place = ap (λ (l : LogState). place_in l.numbers l.places c.args.job.number.0) (sym c.in-Some.ensures.1) ∙ sym c.find.ensures.place in
-    turned_from at refl refl at.up.on ((marks_are_read _ _ _ _ _ _ c.args.job is).1 (inr (subst IsErasedAt (sym place) c.in-Erased.is))) at.up.sound.follows at.up.sound.wears
+    turned_from at refl refl at.up.on ((marks_are_read _ _ _ _ _ _ c.args.job is).1 (inr (subst IsErasedAt (sym place) c.in-Erased.is))) at.up.sound.follows at.up.sound.wears at.up.sound.restarts
 
 pub returns-in-Done : goal.returns-in-Done
 returns-in-Done g c =

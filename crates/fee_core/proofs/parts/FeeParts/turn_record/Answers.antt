@@ -1,4 +1,4 @@
-use Rattle.std.proofs.Common.{◌≡◌, true, false, refl, ap, ◌∙◌, subst}
+use Rattle.std.proofs.Common.{◌≡◌, true, false, refl, sym, ap, ◌∙◌, subst}
 use Rattle.nv_base.specs.declared.geometry.Geometry.{Geometry}
 use Rattle.memif.specs.declared.answer.JobResult.TheVariants.{JobOk, JobFailed}
 use Rattle.fee_log.specs.Step.{commits}
@@ -22,23 +22,24 @@ returns-in-More g c =
     let at = stands c.self.view_is c.requires.up c.active-active.ensures.state c.active-active.ensures.log in
     let page = paged at c.requires.job c.requires.work c.status.ensures.state c.in-More.ensures.programmed in
     let more = subst (λ (x : Geometry). commits x.page c.self.inside.banks.log.tail ≡ false) at.on.banks.log.shape c.in-More.ensures.last in
-    turned_from at (page.same _ refl) c.saturating_add-self-inside.ensures at.up.on (appends_go_on _ _ _ _ _ _ _ page.step more) page.follows page.wears
+    turned_from at (page.same _ refl) c.saturating_add-self-inside.ensures at.up.on (appends_go_on _ _ _ _ _ _ _ page.step more) page.follows page.wears (page.restarts (λ e. cc e))
 
 pub returns-in-Committed : goal.returns-in-Committed
 returns-in-Committed g c =
     let at = stands c.self.view_is c.requires.up c.active-active.ensures.state c.active-active.ensures.log in
     let page = paged at c.requires.job c.requires.work c.status.ensures.state c.in-Committed.ensures.programmed in
     let last = subst (λ (x : Geometry). commits x.page c.self.inside.banks.log.tail ≡ true) at.on.banks.log.shape c.in-Committed.ensures.last in
-    turned_from at (ap (ended_as JobOk) (page.same _ refl)) c.saturating_add-self-inside.ensures at.up.on (appends_commit _ _ _ _ _ _ _ page.step last) page.follows page.wears
+    turned_from at (ap (ended_as JobOk) (page.same _ refl)) c.saturating_add-self-inside.ensures at.up.on (appends_commit _ _ _ _ _ _ _ page.step last) page.follows page.wears (page.restarts (λ e. cc e))
 
 pub returns-in-Failed : goal.returns-in-Failed
 returns-in-Failed g c =
     let at = stands c.self.view_is c.requires.up c.active-active.ensures.state c.active-active.ensures.log in
     let page = paged at c.requires.job c.requires.work c.status.ensures.state c.in-Failed.ensures.programmed in
-    turned_from at (ap (ended_as JobFailed) (page.same _ c.saturating_add-self-inside-in-Failed.ensures)) c.saturating_add-self-inside.ensures at.up.on (appends_fail _ _ _ _ _ _ _ page.step) page.follows page.wears
+    turned_from at (ap (ended_as JobFailed) (page.same _ c.saturating_add-self-inside-in-Failed.ensures)) c.saturating_add-self-inside.ensures at.up.on (appends_fail _ _ _ _ _ _ _ page.step) page.follows page.wears (page.restarts (λ e. cc e))
 
 pub returns-in-Off : goal.returns-in-Off
 returns-in-Off g c =
     let at = stands c.self.view_is c.requires.up c.active-active.ensures.state c.active-active.ensures.log in
     let page = paged at c.requires.job c.requires.work c.status.ensures.state c.in-Off.ensures.programmed in
-    turned_from at (page.same _ refl) c.saturating_add-self-inside.ensures refl (appends_are_cut _ _ _ _ _ _ _ page.step) page.follows page.wears
+    let cut = appends_are_cut _ _ _ _ _ _ _ page.step in
+    turned_from at (page.same _ refl) c.saturating_add-self-inside.ensures refl cut page.follows page.wears (page.restarts (λ e. sym (cut.sound.off at.on.started)))

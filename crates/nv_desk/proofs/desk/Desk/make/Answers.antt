@@ -1,0 +1,17 @@
+use Rattle.std.proofs.Common.{rules, ap, arith}
+use Rattle.nv_desk.proofs.desk.Desk.make.Goals as goal
+
+pub invariant_of-result : goal.invariant_of-result
+invariant_of-result c = record {
+  agrees = search rules;
+  sound = search rules;
+  fits = search rules;
+  memory = search rules;
+  rooms = search rules;
+  prepared = search rules;
+  place = search rules;
+  longest = λ id. (let most = c.longest_content.ensures id in let room = ap (λ r. r.longest) c.new-rooms.ensures in let stays = c.take_memory.ensures.longest in omega (arith, most, room, stays));
+  within = search rules;
+  read_share = search rules;
+  write_share = search rules;
+}
