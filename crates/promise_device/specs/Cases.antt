@@ -191,6 +191,14 @@ gate_over answer pages = record { op = Program 16 (gate_page 16); before = first
 abbrev pub head_again : List ℕ → Change
 head_again pages = record (gate_over Done pages) { op = Program 0 (first_head 1) }
 
+-- the first head where its gate stands already, alone
+abbrev pub head_over_gate : List ℕ → Change
+head_over_gate pages = record (head_over 1 Done pages) { before = replicate 16 255 ++ gate_page 16 ++ pages ++ replicate 320 255 }
+
+-- a program of the other bank, where the gate may come next
+abbrev pub elsewhere : List ℕ → Change
+elsewhere pages = record (gate_over Done pages) { op = Program 352 (replicate 16 0) }
+
 -- a head of bank 1 beside a bank of the last generation
 abbrev pub head_behind_last : Change
 head_behind_last = record { op = Program 160 (first_head (last_generation + 1)); before = last; answer = Done }

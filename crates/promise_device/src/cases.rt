@@ -4,7 +4,7 @@ ghost use Rattle.fls_model.specs.Op.{Program, Erase};
 ghost use Rattle.fls_model.specs.declared.flash.FlashAnswer.TheVariants.{Done, Failed, Off};
 ghost use Rattle.promise_device.specs.FlashRun.{AreSeen, IsChain, CountsAll};
 ghost use Rattle.promise_device.specs.Bridge.{may_be_closed};
-ghost use Rattle.promise_device.specs.Cases.{blank, other, erase, answered, broken_off, first_byte, program, two_programs, seen_there, never, second, any, counted, Tells, roomy, torn, no_job, urgent_write, standard_write, failed_erase, are_due_there, in_order, erased, erased_at, programmed, programmed_at, appended, first_sector, second_sector, opens, copied, no_bank, full, last, taken_over, in_turn, first_of_three, last_of_three, head_over, gate_over, are_due_wide, no_records, head_again, head_behind_last, two_banks, wide_banks};
+ghost use Rattle.promise_device.specs.Cases.{blank, other, erase, answered, broken_off, first_byte, program, two_programs, seen_there, never, second, any, counted, Tells, roomy, torn, no_job, urgent_write, standard_write, failed_erase, are_due_there, in_order, erased, erased_at, programmed, programmed_at, appended, first_sector, second_sector, opens, copied, no_bank, full, last, taken_over, in_turn, first_of_three, last_of_three, head_over, gate_over, are_due_wide, no_records, head_again, head_over_gate, elsewhere, head_behind_last, two_banks, wide_banks};
 ghost use Rattle.promise_device.specs.Generations.{bank_of_generation};
 ghost use Rattle.promise_device.specs.SwitchErases.{seals, begun_again};
 
@@ -184,6 +184,9 @@ pub fn banks_that_take_over()
     ensures failed_head { are_due_wide (head_over 1 Failed no_records ∷ gate_over Done no_records ∷ []) ≡ false }
     ensures second_generation { are_due_wide (head_over 2 Done no_records ∷ []) ≡ false }
     ensures head_again { are_due_wide (head_over 1 Failed no_records ∷ head_again no_records ∷ []) ≡ false }
+    ensures over_a_gate { are_due_wide (head_over_gate no_records ∷ []) ≡ false }
+    ensures beside_a_gate { are_due_wide (head_over 1 Done no_records ∷ gate_over Failed no_records ∷ elsewhere no_records ∷ []) ≡ true }
+    ensures gate_behind_another { are_due_wide (head_over 1 Done no_records ∷ gate_over Failed no_records ∷ elsewhere no_records ∷ gate_over Done no_records ∷ []) ≡ false }
     ensures behind_the_last { are_due_there (head_behind_last ∷ []) ≡ false }
 {}
 

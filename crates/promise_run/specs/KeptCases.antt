@@ -7,10 +7,9 @@ use Rattle.block_machine.specs.Words.{Write, Accepted, WriteJob, TookContent, As
 use Rattle.block_machine.specs.State.{State}
 use Rattle.block_machine.specs.Steps.{after}
 use Rattle.promise_device.specs.FlashRun.{FlashRun}
-use Rattle.promise_device.specs.Bridge.{IsSuch, reading_of}
 use Rattle.promise_run.specs.JobTurns.{write_pages}
 use Rattle.promise_run.specs.Promise.{making_of}
-use Rattle.promise_run.specs.Turns.{Move, EachMoveSince, PostsUrgent, MayGoOn, TakeKept}
+use Rattle.promise_run.specs.Turns.{Move, EachMoveSince, PostsUrgent, HasTrait, MayGoOn, TakeKept}
 use Rattle.promise_run.specs.Cases.{one}
 use Rattle.promise_run.specs.UrgentCases.{urgent, full, at}
 
@@ -38,4 +37,4 @@ at_immediate = after urgent (Found [] 0 ∷ Ask 0 (Write 2 (Some one) 0) Accepte
 
 -- the first operation of such a flash may be made in this state, where each bank has ten pages, of which the last four are kept
 abbrev pub MayBeMadeIn : FlashRun → State → Type 0
-MayBeMadeIn f s = TakeKept urgent (IsSuch (reading_of (making_of urgent)) f TakesKept) (at 0 0) s (record { entry = None; behind = at 0 1 } ∷ [])
+MayBeMadeIn f s = TakeKept urgent (HasTrait (making_of urgent) f TakesKept) (at 0 0) s (record { entry = None; behind = at 0 1 } ∷ [])

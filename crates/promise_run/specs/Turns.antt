@@ -1,5 +1,5 @@
 -- The turns that a run made, one by one.
-use Rattle.std.specs.Prelude.{◌≡◌, ◌⊎◌, ◌<◌, ◌≤◌, ◌+◌, ◌-◌, ◌==◌, ℕ, zero, suc, not, ◌&&◌, ◌||◌, if◌then◌else◌, Bool, true, false, IsTrue, List, [], ◌∷◌, ◌++◌, length, map, take, min, Option, Some, None, IfSome}
+use Rattle.std.specs.Prelude.{◌≡◌, ◌⊎◌, ◌<◌, ◌≤◌, ◌+◌, ◌-◌, ◌==◌, ℕ, zero, suc, not, ◌&&◌, ◌||◌, if◌then◌else◌, Bool, true, false, IsTrue, List, [], ◌∷◌, ◌++◌, length, map, take, min, Option, Some, None, slice_get, IfSome}
 use Rattle.std.specs.List.{list_all}
 use Rattle.block_machine.specs.nv_base.Count.{last_count, Rose, WereCounted}
 use Rattle.block_machine.specs.nv_base.Entry.{ops_of}
@@ -16,10 +16,12 @@ use Rattle.promise_run.specs.Promise.{making_of}
 pub use Rattle.promise_blocks.specs.Moves.{Moment, Move, entry_list, entries_of, moment_behind, is_asked, is_found, is_picked, is_off}
 use Rattle.promise_run.specs.JobTurns.{write_pages}
 use Rattle.promise_run.specs.Operations.{HadRoom, HasWork, costs_of}
-use Rattle.memif.specs.Clock.{Seals, TakesKept}
+use Rattle.memif.specs.Clock.{Trait, Seals, TakesKept}
+use Rattle.fls_model.specs.Told.{Change}
 use Rattle.promise_device.specs.Making.{Making}
 use Rattle.promise_device.specs.FlashRun.{FlashRun, TellsBytes, StartsSound, HasFailed, bytes_after}
-use Rattle.promise_device.specs.Bridge.{IsWornOut, IsSuch, free_pages, reading_of}
+use Rattle.promise_device.specs.Bridge.{IsWornOut, free_pages}
+use Rattle.promise_device.specs.Traits.{is_such}
 use Rattle.promise_run.specs.Run.{Run, Course, Played, Ran, End, FlashFault}
 
 -- TURNS
@@ -237,6 +239,10 @@ pub record HadFree (making : Making) (f : FlashRun) (operations pages : ℕ) : T
   pub bytes : bytes_after f operations ≡ Some image
   pub free : pages ≤ min making.reserve (free_pages making (take operations f.operations) image)
 
+-- the operation with this number has this trait, by the page that it programs
+abbrev pub HasTrait : Making → FlashRun → Trait → ℕ → Type 0
+HasTrait making f t k = (x : Change) × (slice_get f.operations k ≡ Some x) × IsTrue (is_such making t x)
+
 -- Once so many operations were made the last one, made since the last start-up, had left a switch of banks at its seal: it
 -- programmed a bank's head, or left its gate in doubt.
 pub record IsAtSeal (making : Making) (f : FlashRun) (since operations : ℕ) : Type 0 where
@@ -244,7 +250,7 @@ pub record IsAtSeal (making : Making) (f : FlashRun) (since operations : ℕ) : 
   pub last : ℕ
   pub is_last : operations ≡ last + 1
   pub later : since ≤ last
-  pub such : IsSuch (reading_of making) f Seals last
+  pub such : HasTrait making f Seals last
 
 -- an urgent write of so many pages may go on: they are free, or a switch is at its seal, and they are kept for it
 abbrev pub MayGoOn : Making → FlashRun → (since operations pages : ℕ) → Type 0
@@ -294,7 +300,7 @@ pub record KeepsTurns (most : State → Job → ℕ) (r : Run) (made : List Step
   pub cuts : CutsCome r.configuration None first (after r.configuration (take 1 r.history)) made moves.moves
   pub work : HasWork (costs_of r.configuration) (HadRoom (making_of r.configuration) r.flash) (IsWornOut (making_of r.configuration) r.flash) r.configuration first
       (after r.configuration (take 1 r.history)) (all_moves moves.moves)
-  pub kept : TakeKept r.configuration (IsSuch (reading_of (making_of r.configuration)) r.flash TakesKept) first (after r.configuration (take 1 r.history)) (all_moves moves.moves)
+  pub kept : TakeKept r.configuration (HasTrait (making_of r.configuration) r.flash TakesKept) first (after r.configuration (take 1 r.history)) (all_moves moves.moves)
   pub urgent : TellsBytes r.flash → StartsSound (making_of r.configuration) r.flash
       → EachMoveSince r.configuration (PostsUrgent r.configuration 4 (write_pages r.configuration) (MayGoOn (making_of r.configuration) r.flash) (λ id one left. Unit {0})) first.ops
       (after r.configuration (take 1 r.history)) (all_moves moves.moves)
@@ -337,7 +343,7 @@ pub record KeepsRunTurns (most : State → Job → ℕ) (r : Run) : Type 0 where
   pub rests : StaysAtRest r.configuration first (after r.configuration (take 1 r.history)) moves
   pub work : HasWork (costs_of r.configuration) (HadRoom (making_of r.configuration) r.flash) (IsWornOut (making_of r.configuration) r.flash) r.configuration first
       (after r.configuration (take 1 r.history)) moves
-  pub kept : TakeKept r.configuration (IsSuch (reading_of (making_of r.configuration)) r.flash TakesKept) first (after r.configuration (take 1 r.history)) moves
+  pub kept : TakeKept r.configuration (HasTrait (making_of r.configuration) r.flash TakesKept) first (after r.configuration (take 1 r.history)) moves
   pub urgent : TellsBytes r.flash → StartsSound (making_of r.configuration) r.flash
       → EachMoveSince r.configuration (PostsUrgent r.configuration 5 (write_pages r.configuration) (MayGoOn (making_of r.configuration) r.flash) (λ id one left. Unit {0})) first.ops
       (after r.configuration (take 1 r.history)) moves
