@@ -46,9 +46,6 @@ ended x left left' reads reads' written written' writes writes' entry exit =
 abbrev pub call_in : Mode → Ended → Call
 call_in m e = call_by m e.left e.status e.entry e.exit e.written e.written_after
 
-abbrev pub call_of : Ended → Call
-call_of = call_in mode.Play
-
 abbrev pub IsCaused : Ended → Type 0
 IsCaused e = HasCauses e.status e.read_faults e.read_faults_after e.write_faults e.write_faults_after e.left_after
 
@@ -75,13 +72,13 @@ KeepsRunCommand = KeepsSteps mode.Run
 
 -- with the steps that are drawn for a configuration
 pub record KeepsSoak (steps : Configuration → List Step) (e : Ended) : Type 0 where
-  pub promise : HasSoaked e.left steps (call_of e) ⊎ StopsFor SoakStopsBy e
+  pub promise : HasSoaked e.left steps (call_in mode.Play e) ⊎ StopsFor SoakStopsBy e
   pub untouched : IsBeforeAttach e.status → e.exit ≡ e.entry
   pub causes : IsCaused e
 
 -- with an answer to each request
 pub record KeepsUds (e : Ended) : Type 0 where
-  pub promise : HasAnswered e.left e.status (call_of e) ⊎ StopsFor UdsStopsBy e
+  pub promise : HasAnswered e.left e.status (call_in mode.Play e) ⊎ StopsFor UdsStopsBy e
   pub untouched : IsBeforeAttach e.status → e.exit ≡ e.entry
   pub causes : IsCaused e
 

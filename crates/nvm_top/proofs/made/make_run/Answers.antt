@@ -1,13 +1,21 @@
-use Rattle.std.proofs.Common.{◌≡◌, ℕ, List, sym, subst}
+use Rattle.std.proofs.Common.{◌≡◌, ℕ, List, sym, ap, ◌∙◌, subst}
+use Rattle.nvm_flash.specs.block_config.Config.{Configuration}
 use Rattle.nvm_flash.specs.memif.Told.{First}
 use Rattle.nvm_flash.specs.nvm_core.Stack.{StackState}
 use Rattle.nvm_flash.specs.ram_blocks.declared.plain_block.PlainBlock.{PlainBlock}
+use Rattle.nvm_script.specs.Played.{ArePlayed}
 use Rattle.script_player.specs.Made.{cuts_of}
 use Rattle.script_player.specs.PlainKept.{IsKept}
 use Rattle.script_player.specs.PlainPaying.{payer_by}
 use Rattle.script_player.specs.PlainTold.{told_by}
 use Rattle.nvm_top.specs.Stack.{BeginsPaying, IsStarted}
 use Rattle.nvm_top.proofs.made.make_run.Goals as goal
+
+pub make_steps-end-requires-clause-played : goal.make_steps-end-requires-clause-played
+make_steps-end-requires-clause-played g c =
+    let told = g.P.Device.MemDevice.told in
+    let same = ap (λ (s : StackState g.row.P-Device.Denot (List PlainBlock)). (told_by told s).configuration) c.over-stack.ensures ∙ c.in-Ok.ensures.started.configuration in
+    subst (λ (x : Configuration). ArePlayed x c.args.script.steps) (sym same) c.requires.played
 
 pub returns-in-Ok-clause-made : goal.returns-in-Ok-clause-made
 returns-in-Ok-clause-made g c =

@@ -21,7 +21,7 @@ use Rattle.nvm_top.proofs.play.play_steps.Goals as goal
 
 pub history-history-requires : goal.history-history-requires
 history-history-requires g c =
-    let made = c.in-Ok.ensures.made in keeps_history _ (ap (λ x. x.desk.cap) c.stack.ensures ∙ (made.most ∙ made.started.most))
+    let made = c.in-Ok.ensures.made in record { kept = keeps_history _ (ap (λ x. x.desk.cap) c.stack.ensures ∙ (made.most ∙ made.started.most)) }
 
 pub returns-in-Ok-clause-promise : goal.returns-in-Ok-clause-promise
 returns-in-Ok-clause-promise g c input =

@@ -12,10 +12,10 @@ use Rattle.nvm_top.proofs.Running.{callers_came, callers_late, none_came, unwrit
 use Rattle.nvm_top.proofs.run.run_over.Goals as goal
 
 pub history-requires : goal.history-requires
-history-requires g c = keeps_history _ c.in-Ok.ensures.started.most
+history-requires g c = record { kept = keeps_history _ c.in-Ok.ensures.started.most }
 
 pub history-history-requires : goal.history-history-requires
-history-history-requires g c = keeps_history _ (c.in-Ok-play_callers.ensures.ran.cap ∙ c.in-Ok.ensures.started.most)
+history-history-requires g c = record { kept = keeps_history _ (c.in-Ok-play_callers.ensures.ran.cap ∙ c.in-Ok.ensures.started.most) }
 
 pub returns-in-Ok-play_callers-clause-promise : goal.returns-in-Ok-play_callers-clause-promise
 returns-in-Ok-play_callers-clause-promise g c input =

@@ -18,7 +18,7 @@ use Rattle.nvm_top.proofs.uds.serve_over.Goals as goal
 
 pub history-history-requires : goal.history-history-requires
 history-history-requires g c =
-    let made = c.in-Ok.ensures.served in keeps_history _ (ap (λ x. x.desk.cap) c.stack.ensures ∙ (made.most ∙ made.started.most))
+    let made = c.in-Ok.ensures.served in record { kept = keeps_history _ (ap (λ x. x.desk.cap) c.stack.ensures ∙ (made.most ∙ made.started.most)) }
 
 pub write_served-status-requires-clause-pieces : goal.write_served-status-requires-clause-pieces
 write_served-status-requires-clause-pieces g c =
