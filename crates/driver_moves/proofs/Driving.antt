@@ -63,9 +63,9 @@ at s desk = record s { desk = desk; kept = λ before. StackKeepsAsTold before de
 
 -- of others, between turns or while one is under way
 asks_told : (asks : List Entry) (s : Seen) → AreAsks asks → AreReplied s.desk.config s.desk.cap (state_of s.desk) asks → StaysKept s.desk s.hand s.device s.clock (with_more s.desk asks) s.hand s.device s.clock → IsTied s.desk s.hand s.device
-    → TellsReady s.device s.clock → ArePending 5 s.begun (at s s.desk) → HasMoved 5 (at s s.desk) (at s (with_more s.desk asks))
+    → TellsReady s.device s.clock → ArePending true s.begun (at s s.desk) → HasMoved true (at s s.desk) (at s (with_more s.desk asks))
 asks_told asks s are replied kept tied ready pending =
-    asks_moved 5 asks (at s s.desk) (at s (with_more s.desk asks)) (record {
+    asks_moved true asks (at s s.desk) (at s (with_more s.desk asks)) (record {
       are = are_asked asks are;
       replied = replied;
       adds = refl;
@@ -88,9 +88,9 @@ module _ {D C : Type 0} (told : D → DeviceTold) (clock : D → Clock) where
   At desk s = seen_of told clock desk s
 
   -- nothing
-  pub none_moved : (desk : DeskState) (s : DriverState D C) → HasMoved 5 (At desk s) (At desk s)
+  pub none_moved : (desk : DeskState) (s : DriverState D C) → HasMoved true (At desk s) (At desk s)
   none_moved desk s =
-      still_moved 5 (At desk s) (At desk s) (record {
+      still_moved true (At desk s) (At desk s) (record {
         desk = refl;
         hand = refl;
         begun = refl;
@@ -107,10 +107,10 @@ module _ {D C : Type 0} (told : D → DeviceTold) (clock : D → Clock) where
 
   -- what `count` sees
   pub sees_moved : (desk desk_new : DeskState) (s : DriverState D C) → SeesRequests told clock desk desk_new s → NextIsPending desk.config (state_of desk) → HandIsPending (state_of desk) → IsTied desk s.hand (told s.device)
-      → StaysKept desk s.hand (told s.device) (clock s.device) desk_new s.hand (told s.device) (clock s.device) → HasMoved 5 (At desk s) (At desk_new s)
+      → StaysKept desk s.hand (told s.device) (clock s.device) desk_new s.hand (told s.device) (clock s.device) → HasMoved true (At desk s) (At desk_new s)
   sees_moved desk desk_new s sees next held tied kept =
-      subst (λ (d : DeskState). HasMoved 5 (At desk s) (At d s)) (sym sees.grows)
-      (asks_told sees.asks (At desk s) sees.are sees.replied (subst (λ (d : DeskState). StaysKept desk s.hand (told s.device) (clock s.device) d s.hand (told s.device) (clock s.device)) sees.grows kept) tied sees.ready (omega arith, next, held))
+      subst (λ (d : DeskState). HasMoved true (At desk s) (At d s)) (sym sees.grows)
+      (asks_told sees.asks (At desk s) sees.are sees.replied (subst (λ (d : DeskState). StaysKept desk s.hand (told s.device) (clock s.device) d s.hand (told s.device) (clock s.device)) sees.grows kept) tied sees.ready (next, held))
 
   -- A TURN
   module _ (copies : C → List Told) (is_store : C → ℕ → ℕ → List ℕ → Type 0) (looked : C → C → ℕ → ℕ → Type 0) (answer : Turned) (desk desk_new : DeskState) (old new : DriverState D C) (next : NextIsPending desk.config (state_of desk)) (held : HandIsPending (state_of desk))
@@ -134,19 +134,19 @@ module _ {D C : Type 0} (told : D → DeviceTold) (clock : D → Clock) where
     ]
 
     -- its first half alone
-    ended_moved : BeginsTurn told clock copies is_store looked (Ended answer) desk desk_new old new → HasMoved 5 (At desk old) (At desk_new new)
+    ended_moved : BeginsTurn told clock copies is_store looked (Ended answer) desk desk_new old new → HasMoved true (At desk old) (At desk_new new)
     ended_moved begins =
         let asked = with_more desk begins.asks in
         let (e, adds, none) = half_adds_one answer _ _ asked desk_new _ _ (told new.device) begins.half.half in
         let uncut = half_uncut asked desk_new (told old.device) (told new.device) begins.half.device (λ off. on_behind _ asked desk_new e adds none ∙ off) in
-        has_moved_more 5 (At desk old) (At asked old) (At desk_new new) (asks_told begins.asks (At desk old) begins.are begins.replied begins.stands tied begins.ready (omega arith, next, held))
-        (turn_moved (At asked old) (At desk_new new) 5
+        has_moved_more true (At desk old) (At asked old) (At desk_new new) (asks_told begins.asks (At desk old) begins.are begins.replied begins.stands tied begins.ready (next, held))
+        (turn_moved (At asked old) (At desk_new new) true
         (ended_is_told told clock copies is_store looked (stack_of asked old) (stack_of desk_new new) (IsUncut asked (told old.device)) (IsUncut desk_new (told new.device)) uncut begins.kept begins.tied begins.clock_stays answer
         (λ is. subst (λ (d : DeskState). (state_of d).off ≡ true) (same_desk (stack_of asked old) (stack_of desk_new new) answer is begins.half) (begins.off (ap Ended is)))
         (taken (stack_of desk old) (stack_of asked old) (stack_of desk_new new) answer refl refl takes) begins.order (is_on desk_new (told new.device)) begins.served begins.half))
 
     -- with the device's turn
-    device_moved : (desk_between : DeskState) (between : DriverState D C) → BeginsTurn told clock copies is_store looked Device desk desk_between old between → EndsTurn told clock answer desk_between desk_new between new → HasMoved 5 (At desk old) (At desk_new new)
+    device_moved : (desk_between : DeskState) (between : DriverState D C) → BeginsTurn told clock copies is_store looked Device desk desk_between old between → EndsTurn told clock answer desk_between desk_new between new → HasMoved true (At desk old) (At desk_new new)
     device_moved desk_between between begins ends =
         let asked = with_more desk begins.asks in
         let last = with_more desk_between ends.asks in
@@ -164,14 +164,14 @@ module _ {D C : Type 0} (told : D → DeviceTold) (clock : D → Clock) where
         let same : desk_between ≡ asked = begins.half.half.0.0 in
         let on_between : (state_of desk_between).off ≡ false = ap (λ (d : DeskState). (state_of d).off) same ∙ begins.half.half.2 in
         let on : (state_of last).off ≡ false = asks_power desk_between.config desk_between.entries ends.asks ends.are ∙ on_between in
-        has_moved_more 5 (At desk old) (At asked old) (At desk_new new) (asks_told begins.asks (At desk old) begins.are begins.replied begins.stands tied begins.ready (omega arith, next, held))
-        (has_moved_more 5 (At asked old) third (At desk_new new)
-        (half_moved 5 (At asked old) third
+        has_moved_more true (At desk old) (At asked old) (At desk_new new) (asks_told begins.asks (At desk old) begins.are begins.replied begins.stands tied begins.ready (next, held))
+        (has_moved_more true (At asked old) third (At desk_new new)
+        (half_moved true (At asked old) third
         (half_is_told told clock copies is_store looked (stack_of asked old) (stack_of desk_between between) (IsUncut asked (told old.device)) (IsUncut desk_between (told between.device))
         (half_uncut asked desk_between (told old.device) (told between.device) begins.half.device (λ off. ap (λ (d : DeskState). (state_of d).off) same ∙ off)) begins.kept begins.tied begins.clock_stays begins.half begins.served))
-        (has_moved_more 5 third (at third last) (At desk_new new)
-        (asks_told ends.asks third ends.are ends.replied ends.stands begins.half.tied ends.ready (omega arith, (unfinished old.hand between.hand (told old.device) (told between.device) begins.half.at_device).1))
-        (turn_moved (at third last) (At desk_new new) 5
+        (has_moved_more true third (at third last) (At desk_new new)
+        (asks_told ends.asks third ends.are ends.replied ends.stands begins.half.tied ends.ready (refl, (unfinished old.hand between.hand (told old.device) (told between.device) begins.half.at_device).1))
+        (turn_moved (at third last) (At desk_new new) true
         (device_is_told told clock copies is_store looked (stack_of last between) (stack_of desk_new new) (IsUncut last (told between.device)) (IsUncut desk_new (told new.device))
         (device_uncut answer last desk_new (told between.device) (told new.device) (clock between.device) (clock new.device) on ends.adds ends.turns) ends.kept answer b
         (record {
@@ -187,7 +187,7 @@ module _ {D C : Type 0} (told : D → DeviceTold) (clock : D → Clock) where
         (λ is. faulty (stack_of desk old) (stack_of desk_new new) answer between begins.half.device is takes) tied_new.paired ends.turns ends.adds ends.hand (is_on desk_new (told new.device))
         (λ number turns calm up due. ends.nearer number turns (begins.half.started refl) begins.half.half.1 calm up due)))))
 
-    pub driver_moved : TurnsBehind told clock copies is_store looked answer desk desk_new old new → HasMoved 5 (At desk old) (At desk_new new)
+    pub driver_moved : TurnsBehind told clock copies is_store looked answer desk desk_new old new → HasMoved true (At desk old) (At desk_new new)
     driver_moved (inl begins) = ended_moved begins
     driver_moved (inr (desk_between, between, begins, cuts, ends)) = device_moved desk_between between begins ends
 

@@ -5,7 +5,7 @@
 //! turns comes to is left to the crates above.
 #![tactic(auto)]
 
-ghost use Rattle.std.specs.Prelude.{◌≡◌, true};
+ghost use Rattle.std.specs.Prelude.{◌≡◌, true, false};
 ghost use Rattle.turn_gate.specs.Pass.{knows};
 ghost use Rattle.nvm_moves.specs.nvm_device_laws.Turn.{TellsSlots};
 ghost use Rattle.nvm_shared.specs.Locked.{desk_with};
@@ -32,7 +32,7 @@ pub fn make_turn<W: Wait, D: MemDevice, C: NotedCopies + Drop>(
     requires driver { IsDriverOf D.told D.clock C.told shared.now pass.old driver.old }
     requires telling { shared.now.terms.tells ≡ true → TellsSlots (D.told driver.old.device) }
     requires lock { C.is_of shared.now.gate }
-    ensures moved { HasMoved 5 (seen_of D.told D.clock (desk_with shared.now.terms (knows pass.old).seen) driver.old) (seen_of D.told D.clock (desk_with shared.now.terms (knows pass.new).seen) driver.new) }
+    ensures moved { HasMoved true (seen_of D.told D.clock (desk_with shared.now.terms (knows pass.old).seen) driver.old) (seen_of D.told D.clock (desk_with shared.now.terms (knows pass.new).seen) driver.new) }
 {
     let turned = driver.turn(rt, shared, pass);
     turned
@@ -41,7 +41,7 @@ pub fn make_turn<W: Wait, D: MemDevice, C: NotedCopies + Drop>(
 /// A turn of a stack of one's own, by the same law.
 pub fn stack_turn<D: MemDevice, C: SyncCalls + Drop>(stack: &mut Stack<D, C>) -> Turned
     requires { stack.old.ready ≡ true }
-    ensures moved { HasMoved 4 (seen_in D.told D.clock stack.old) (seen_in D.told D.clock stack.new) }
+    ensures moved { HasMoved false (seen_in D.told D.clock stack.old) (seen_in D.told D.clock stack.new) }
 {
     let before = stack.device();
     let _first = before.status();

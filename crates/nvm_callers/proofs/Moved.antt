@@ -1,5 +1,5 @@
 -- What a driver's turns did, with the requests between, as moves.
-use Rattle.std.proofs.Common.{inl, inr, ℕ, zero, suc, List, sym, subst}
+use Rattle.std.proofs.Common.{inl, inr, ℕ, zero, suc, true, List, sym, subst}
 use Rattle.driver_moves.specs.memif.Told.{DeviceTold}
 use Rattle.driver_moves.specs.memif.Clock.{Clock}
 use Rattle.driver_moves.specs.block_machine.Words.{Entry}
@@ -16,7 +16,7 @@ use Rattle.nvm_callers.specs.Driven.{DrivesBy, DrivesOn, HasDriven}
 
 module _ {D C : Type 0} (told : D → DeviceTold) (clock : D → Clock) (copies : C → List Told) (is_store : C → ℕ → ℕ → List ℕ → Type 0) (looked : C → C → ℕ → ℕ → Type 0) (over : C → C → Type 0) (stands : C → ℕ → ℕ → List Entry → Type 0) (t : Terms) where
   abbrev Moves : (seen seen_new : List Entry) → (old new : DriverState D C) → Type 0
-  Moves seen seen_new old new = HasMoved 5 (seen_of told clock (desk_with t seen) old) (seen_of told clock (desk_with t seen_new) new)
+  Moves seen seen_new old new = HasMoved true (seen_of told clock (desk_with t seen) old) (seen_of told clock (desk_with t seen_new) new)
 
   one : (seen seen_new : List Entry) (old new : DriverState D C) → DrivesOn told clock copies is_store looked over stands t seen seen_new old new → Moves seen seen_new old new
   one seen seen_new old new (inl is) =
@@ -29,7 +29,7 @@ module _ {D C : Type 0} (told : D → DeviceTold) (clock : D → Clock) (copies 
   by : (n : ℕ) (seen seen_new : List Entry) (old new : DriverState D C) → DrivesBy told clock copies is_store looked over stands t n seen seen_new old new → Moves seen seen_new old new
   by zero seen seen_new old new is = subst (λ (l : List Entry). Moves seen l old new) (sym is.0) (subst (λ (s : DriverState D C). Moves seen seen old s) (sym is.1) (none_moved told clock (desk_with t seen) old))
   by (suc n) seen seen_new old new (between, s, before, last) =
-      has_moved_more 5 (seen_of told clock (desk_with t seen) old) (seen_of told clock (desk_with t between) s) (seen_of told clock (desk_with t seen_new) new) (by n seen between old s before) (one between seen_new s new last)
+      has_moved_more true (seen_of told clock (desk_with t seen) old) (seen_of told clock (desk_with t between) s) (seen_of told clock (desk_with t seen_new) new) (by n seen between old s before) (one between seen_new s new last)
 
   -- the entries of any number of turns, with what came between, are moves that keep the law
   pub driving_moves : (seen seen_new : List Entry) (old new : DriverState D C) → HasDriven told clock copies is_store looked over stands t seen seen_new old new → Moves seen seen_new old new

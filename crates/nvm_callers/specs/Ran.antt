@@ -1,5 +1,5 @@
 -- What a run of callers comes to.
-use Rattle.std.specs.Prelude.{◌≡◌, ◌≢◌, ℕ, not, IsTrue, List, ◌++◌, length, take, Option}
+use Rattle.std.specs.Prelude.{◌≡◌, ◌≢◌, ℕ, true, not, IsTrue, List, ◌++◌, length, take, Option}
 use Rattle.std.specs.List.{list_all}
 use Rattle.driver_moves.specs.nv_base.Count.{WereCounted}
 use Rattle.driver_moves.specs.memif.Told.{DeviceTold}
@@ -44,7 +44,7 @@ pub record WasRun {D : Type 0} (told : D → DeviceTold) (clock : D → Clock) (
   pub keeps : StaysKept s.desk s.hand (told s.device) (clock s.device) desk hand (told device) (clock device)
   pub cuts : IsUncut s.desk (told s.device)
       → IsUncut desk (told device) × WereCounted (offs_in more) (told s.device).first.planning.unplanned (told device).first.planning.unplanned
-  pub moved : HasMoved 5 (seen_at s.desk s.hand (told s.device) (clock s.device)) (seen_at desk hand (told device) (clock device))
+  pub moved : HasMoved true (seen_at s.desk s.hand (told s.device) (clock s.device)) (seen_at desk hand (told device) (clock device))
   pub ends : e ≢ ending.Memory → IsTrue (has_ended desk.config desk.entries)
 
 -- Each caller asked for what its steps ask for, in that order; and nobody else asked.

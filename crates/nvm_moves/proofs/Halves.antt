@@ -58,12 +58,13 @@ use Rattle.nvm_core.specs.Work.{left_of, left_with, IsWithin, TakesTurns}
 use Rattle.nvm_core.proofs.block_laws.HistoryLaws.{histories_step}
 use Rattle.nvm_moves.proofs.Most.{some_by, within_of}
 use Rattle.script_walks.specs.Walk.{is_due, is_at_rest, begins_with_pick_or_post}
-use Rattle.promise_run.specs.Turns.{Moment, Move, entry_list, is_asked, is_found, is_off, is_picked}
+use Rattle.promise_run.specs.Turns.{Moment, Move, EndsCanceled, entry_list, is_asked, is_found, is_off, is_picked}
 use Rattle.promise_run.proofs.UrgentAsks.{not_true}
 use Rattle.nvm_moves.specs.Seen.{Begun, IsOn, Seen, moment_by}
 use Rattle.nvm_moves.specs.Served.{IsDueWithin}
 use Rattle.nvm_moves.specs.Worked.{HadPages}
-use Rattle.nvm_moves.specs.Moved.{FitsHand, IsTurnTold, IsHalfTold}
+use Rattle.nvm_moves.specs.Moved.{BeginsIn, FitsHand, IsTurnTold, IsHalfTold}
+use Rattle.nvm_moves.proofs.Canceled.{allowed_ends, held_ends, late_ends}
 use Rattle.nvm_moves.proofs.DeviceDue.{device_soon}
 use Rattle.nvm_moves.proofs.DeviceWorks.{device_works, on_by}
 use Rattle.nvm_moves.proofs.TurnServed.{ended_soon, turn_soon}
@@ -141,7 +142,7 @@ device_fits s answer a b ops = by (asked_by answer a b ops) (asked_picks_none an
 pub record IsEntryOf (W : Type 0) (ops : ℕ) (old new : DeskState) (hand hand_new : Option HandState) (d d_new : DeviceTold) (e : Option Entry) : Type 0 where
   pub one : AddsOne ops old new e
   pub turns : (is_asked e ≡ false) × (is_found e ≡ false)
-  pub begins : IsTrue (not (is_due (state_of old)) || begins_with_pick_or_post (entry_list e))
+  pub begins : BeginsIn (state_of old) e
   -- behind a Pick this holds; behind another the job is out of hand, or the power is off
   pub picks : is_picked e ≡ true → W
   pub on : is_off e ≡ false
@@ -156,7 +157,7 @@ module _ (W : Type 0) (ops : ℕ) (old new : DeskState) (hand hand_new : Option 
     record {
       one = record { adds = is.adds; of = record { told = refl; kind = inl refl } };
       turns = (refl, refl);
-      begins = begins_by (is_due (state_of old));
+      begins = (begins_by (is_due (state_of old)), allowed_ends old.config old.cap (state_of old) (Post id is.result is.given is.refused ops) (is.allowed tt) refl);
       picks = λ picked. absurd (cc picked);
       on = refl;
       fits = fits_none _ (state_of old).hand none;
@@ -169,7 +170,7 @@ module _ (W : Type 0) (ops : ℕ) (old new : DeskState) (hand hand_new : Option 
     record {
       one = record { adds = is.adds; of = record { told = refl; kind = inl refl } };
       turns = (refl, refl);
-      begins = begins_by (is_due (state_of old));
+      begins = (begins_by (is_due (state_of old)), allowed_ends old.config old.cap (state_of old) (Post 0 is.result is.given is.refused ops) (is.allowed tt) refl);
       picks = λ picked. absurd (cc picked);
       on = refl;
       fits = fits_none _ (state_of old).hand none;
@@ -185,16 +186,19 @@ module _ (W : Type 0) (ops : ℕ) (old new : DeskState) (hand hand_new : Option 
   pub half_entry : (answer : Turned) (Holds : ℕ → Taken → Type 0) (Fits : Type 0) (before after : List Told) → (answer ≡ turned.Off → (state_of old).off ≡ true) → (answer ≡ turned.Picked → W) → (answer ≡ turned.Posted → (state_of new).hand ≡ None) → ops ≡ ops_of d_new
       → IsHalf (Ended answer) Holds Fits old new before after d_new → AtDevice (Ended answer) hand d new hand_new d_new → (e : Option Entry) × IsEntryOf W ops old new hand hand_new d d_new e
   half_entry turned.Off Holds Fits before after off within out now half at =
-      (None, record { one = record { adds = half.0.0 ∙ none_more old; of = tt }; turns = (refl, refl); begins = not_late (is_due (state_of old)) false (due_off (state_of old) (off refl)); picks = λ picked. absurd (cc picked); on = refl; fits = tt; drops = λ other on held. absurd (let no_ : true ≡ false = sym (off refl) ∙ ap (λ (x : DeskState). (state_of x).off) (sym half.0.0) ∙ on in cc no_); rests = λ rest. (refl, at.0, at.1) })
+      (None, record { one = record { adds = half.0.0 ∙ none_more old; of = tt }; turns = (refl, refl); begins = let late = due_off (state_of old) (off refl) in (not_late (is_due (state_of old)) false late, late_ends (state_of old) None late); picks = λ picked. absurd (cc picked); on = refl; fits = tt; drops = λ other on held. absurd (let no_ : true ≡ false = sym (off refl) ∙ ap (λ (x : DeskState). (state_of x).off) (sym half.0.0) ∙ on in cc no_); rests = λ rest. (refl, at.0, at.1) })
   half_entry turned.Idle Holds Fits before after off within out now half at =
-      (None, record { one = record { adds = half.0.0 ∙ none_more old; of = tt }; turns = (refl, refl); begins = not_late (is_due (state_of old)) false (due_rest (state_of old) (at_rest old.config (state_of old) half.1.hand half.1.next)); picks = λ picked. absurd (cc picked); on = refl; fits = tt; drops = λ other on held. not_out (ap (λ (x : DeskState). (state_of x).hand) half.0.0 ∙ half.1.hand) held; rests = λ rest. (refl, at.0, at.1) })
+      (None, record { one = record { adds = half.0.0 ∙ none_more old; of = tt }; turns = (refl, refl); begins = let late = due_rest (state_of old) (at_rest old.config (state_of old) half.1.hand half.1.next) in (not_late (is_due (state_of old)) false late, late_ends (state_of old) None late); picks = λ picked. absurd (cc picked); on = refl; fits = tt; drops = λ other on held. not_out (ap (λ (x : DeskState). (state_of x).hand) half.0.0 ∙ half.1.hand) held; rests = λ rest. (refl, at.0, at.1) })
   half_entry turned.Worked Holds Fits before after off within out now half at = absurd half
   half_entry turned.Picked Holds Fits before after off within out now (block, is) at = (
     Some (Pick block is.kind is.taken ops),
     record {
       one = record { adds = subst (λ (n : ℕ). new ≡ with_entries old (Pick block is.kind is.taken n ∷ [])) (sym now) is.adds; of = record { told = refl; kind = inl refl } };
       turns = (refl, refl);
-      begins = begins_by (is_due (state_of old));
+      begins = (
+        begins_by (is_due (state_of old)),
+        subst (λ (n : ℕ). EndsCanceled (state_of old) (Some (Pick block is.kind is.taken n))) (sym now) (allowed_ends old.config old.cap (state_of old) (Pick block is.kind is.taken (ops_of d_new)) is.allowed refl),
+      );
       picks = λ picked. within refl;
       on = refl;
       fits = not_true (state_of old).off is.allowed.0.on;
@@ -207,7 +211,7 @@ module _ (W : Type 0) (ops : ℕ) (old new : DeskState) (hand hand_new : Option 
     record {
       one = record { adds = subst (λ (n : ℕ). new ≡ with_entries old (Post (job_block held.job) held.is.result held.is.given held.is.refused n ∷ [])) (sym now) held.is.adds; of = record { told = refl; kind = inl refl } };
       turns = (refl, refl);
-      begins = begins_by (is_due (state_of old));
+      begins = (begins_by (is_due (state_of old)), held_ends (state_of old) held.job (Some (Post (job_block held.job) held.is.result held.is.given held.is.refused ops)) held.hand);
       picks = λ picked. absurd (cc picked);
       on = refl;
       fits = subst (λ (o : Option Job). IfSome o (λ j. job_block j ≡ job_block held.job)) (sym held.hand) refl;
@@ -416,7 +420,7 @@ module _ {D C : Type 0} (told : D → DeviceTold) (clock : D → Clock) (copies 
           );
           turns = turns_by (ops_of d_new) e one.of;
           ended = refl;
-          begins = (b.state, inl (b, refl, refl), not_late (is_due b.state) (begins_with_pick_or_post (entry_list e)) begun.late);
+          begins = (b.state, inl (b, refl, refl), (not_late (is_due b.state) (begins_with_pick_or_post (entry_list e)) begun.late, late_ends b.state e begun.late));
           rests = λ rest idle. absurd (never_idle old.desk.config (state_of old.desk) b.hand old.hand b.device d begun.goes begun.paired begun.busy rest idle);
           adds = one.adds;
           one = makes_one a d (clock old.device) d_new (clock new.device) is;
@@ -508,7 +512,9 @@ module _ {D C : Type 0} (told : D → DeviceTold) (clock : D → Clock) (copies 
           );
           turns = turns_by (ops_of d_new) e one.of;
           ended = refl;
-          begins = (state_of old.desk, inr refl, not_late (is_due (state_of old.desk)) (begins_with_pick_or_post (entry_list e)) (never_late old.desk.config (state_of old.desk) half.half.3));
+          begins =
+              let late = never_late old.desk.config (state_of old.desk) half.half.3 in
+              (state_of old.desk, inr refl, (not_late (is_due (state_of old.desk)) (begins_with_pick_or_post (entry_list e)) late, late_ends (state_of old.desk) e late));
           rests = λ at_rest idle. absurd (never_idle old.desk.config (state_of old.desk) old.hand between.hand (told old.device) d half.at_device paired_between half.half.1 at_rest idle);
           adds = whole.adds;
           one = omega (arith, most, ops);

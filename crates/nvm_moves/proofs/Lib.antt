@@ -13,6 +13,7 @@ pub mod DeviceWorks
 mod WorkedMoves
 pub mod Moved
 pub mod Resting
+mod Canceled
 pub mod Most
 pub mod Halves
 pub mod Posted

@@ -1,5 +1,5 @@
 -- What a call does as a move, and moves behind moves.
-use Rattle.std.specs.Prelude.{IfSome, IsTrue, if◌then◌else◌, is_none, option_map, not, ◌||◌}
+use Rattle.std.specs.Prelude.{IfSome, IsTrue, if◌then◌else◌, is_none, option_map, not, ◌&&◌, ◌||◌}
 use Rattle.std.specs.Option.{option_map_or}
 use Rattle.std.proofs.Common.{◌≡◌, inl, inr, ◌≤◌, ◌<◌, ◌+◌, ◌-◌, ℕ, Bool, true, false, List, [], ◌∷◌, ◌++◌, Option, Some, None, refl, sym, ap, ◌∙◌, subst, arith, append_assoc}
 use Rattle.std.proofs.lemmas.List.{append-nil}
@@ -41,7 +41,7 @@ use Rattle.nvm_moves.proofs.TurnEntries.{asks_urgent, none_more}
 use Rattle.nvm_moves.specs.Along.{Cursor, Frame, left_behind, next_by, cursor_behind, Along, Among}
 use Rattle.nvm_moves.proofs.Along.{along_by, along_more, along_to, cursor_more, cursor_now, cursor_state, entries_more}
 use Rattle.nvm_moves.specs.Seen.{Begun, Seen, device_begun, frame_in, frame_of, hand_begun, left_seen, moment_by, moment_seen, work_seen}
-use Rattle.nvm_moves.specs.Served.{AreServed, DueAt, IsServable, MayGoOn, ServesBy, due_by}
+use Rattle.nvm_moves.specs.Served.{AreServed, DueAt, IsServable, MayGoOn, ServesBy, due_by, turns_beside}
 use Rattle.nvm_moves.specs.Worked.{HadPages, KeepToWork}
 use Rattle.nvm_moves.specs.Moved.{FitsHand, IsLawful, IsPaidAt, IsTurnTold, IsAt, IsHalfTold, IsStartTold, IsStillTold, ArePending, AreAsked, AreAsksTold, Owes, HasMoved}
 use Rattle.nvm_moves.proofs.Consequences.{count_failed}
@@ -81,35 +81,35 @@ is_at s = record { now = refl; state = refl; here = inl refl; begun = among s.be
     among None = tt
     among (Some b) = inr (inl refl)
 
-module _ (more : ℕ) (x y : Seen) (is : HasMoved more x y) where
+module _ (within : Bool) (x y : Seen) (is : HasMoved within x y) where
   pub moment_then : moment_behind (moment_seen x) is.moves ≡ moment_seen y
-  moment_then = sym (cursor_now (frame_of x) (cursor_of x) is.moves) ∙ (is.lawful (cursor_of x) (is_at x)).1.now
+  moment_then = sym (cursor_now (frame_of within x) (cursor_of x) is.moves) ∙ (is.lawful (cursor_of x) (is_at x)).1.now
 
   pub state_then : after_from x.desk.config (state_of x.desk) (entries_of is.moves) ≡ state_of y.desk
-  state_then = sym (cursor_state (frame_of x) (cursor_of x) is.moves) ∙ (is.lawful (cursor_of x) (is_at x)).1.state
+  state_then = sym (cursor_state (frame_of within x) (cursor_of x) is.moves) ∙ (is.lawful (cursor_of x) (is_at x)).1.state
 
   pub counts_then : CountFailed y.clock.failed (moment_seen x) is.moves
-  counts_then = count_failed (frame_of x) y.clock (cursor_of x) is.moves (is.lawful (cursor_of x) (is_at x)).0
+  counts_then = count_failed (frame_of within x) y.clock (cursor_of x) is.moves (is.lawful (cursor_of x) (is_at x)).0
 
   ops_then : (moment_behind (moment_seen x) is.moves).ops ≤ y.device.ops
   ops_then = let ops = ap (λ (m : Moment). m.ops) moment_then in omega (arith, ops)
 
-module _ (more : ℕ) (x y z : Seen) (one : HasMoved more x y) (two : HasMoved more y z) where
+module _ (within : Bool) (x y z : Seen) (one : HasMoved within x y) (two : HasMoved within y z) where
   config : y.desk.config ≡ x.desk.config
   config = ap (λ (d : DeskState). d.config) one.tell
 
   abbrev Served_by : ℕ → Configuration → Fixed → Moment → State → Type 0
-  Served_by since c f now s = AreServed more c (pages_in f c) (MayGoOn z.clock f.reserve) (DueAt y) (DueAt z) since now s two.moves
+  Served_by since c f now s = AreServed (turns_beside within) c (pages_in f c) (MayGoOn z.clock f.reserve) (DueAt y) (DueAt z) since now s two.moves
 
-  serves : (since : ℕ) → ServesBy more y.clock (DueAt x) (DueAt y) since x one.moves → ServesBy more z.clock (DueAt y) (DueAt z) (found_behind since one.moves) y two.moves → ServesBy more z.clock (DueAt x) (DueAt z) since x (one.moves ++ two.moves)
+  serves : (since : ℕ) → ServesBy within y.clock (DueAt x) (DueAt y) since x one.moves → ServesBy within z.clock (DueAt y) (DueAt z) (found_behind since one.moves) y two.moves → ServesBy within z.clock (DueAt x) (DueAt z) since x (one.moves ++ two.moves)
   serves since first second =
       let c = x.desk.config in
       let d = x.device.fixed in
       let from = found_behind since one.moves in
-      served_more more c (pages_in d c) (MayGoOn z.clock d.reserve) (DueAt x) (DueAt y) (DueAt z) since (moment_seen x) (state_of x.desk) one.moves two.moves
-      (served_on more c (pages_in d c) y.device z.device y.clock z.clock two.lasts d.reserve y.clock.failed (DueAt x) (DueAt y) since (moment_seen x) (state_of x.desk) one.moves (ops_then more x y one) (counts_then more x y one) first)
-      (subst (λ (now : Moment). Served_by from c d now (after_from c (state_of x.desk) (entries_of one.moves))) (sym (moment_then more x y one))
-      (subst (λ (s : State). Served_by from c d (moment_seen y) s) (sym (state_then more x y one))
+      served_more (turns_beside within) c (pages_in d c) (MayGoOn z.clock d.reserve) (DueAt x) (DueAt y) (DueAt z) since (moment_seen x) (state_of x.desk) one.moves two.moves
+      (served_on (turns_beside within) c (pages_in d c) y.device z.device y.clock z.clock two.lasts d.reserve y.clock.failed (DueAt x) (DueAt y) since (moment_seen x) (state_of x.desk) one.moves (ops_then within x y one) (counts_then within x y one) first)
+      (subst (λ (now : Moment). Served_by from c d now (after_from c (state_of x.desk) (entries_of one.moves))) (sym (moment_then within x y one))
+      (subst (λ (s : State). Served_by from c d (moment_seen y) s) (sym (state_then within x y one))
       (subst (λ (f : Fixed). Served_by from c f (moment_seen y) (state_of y.desk)) one.fixed (subst (λ (g : Configuration). Served_by from g y.device.fixed (moment_seen y) (state_of y.desk)) config second))))
 
   abbrev Worked_by : Configuration → Fixed → Moment → State → Type 0
@@ -120,16 +120,16 @@ module _ (more : ℕ) (x y z : Seen) (one : HasMoved more x y) (two : HasMoved m
       let c = x.desk.config in
       let d = x.device.fixed in
       worked_more (costs_in d) (HadPages z.clock) (worn_so_far z.device z.clock) c (moment_seen x) (state_of x.desk) (work_seen x) (work_seen y) (work_seen z) one.moves two.moves
-      (worked_on y.device z.device y.clock z.clock two.lasts (costs_in d) y.clock.failed c (moment_seen x) (state_of x.desk) (work_seen x) (work_seen y) one.moves (ops_then more x y one) (counts_then more x y one) first)
-      (subst (λ (now : Moment). Worked_by c d now (after_from c (state_of x.desk) (entries_of one.moves))) (sym (moment_then more x y one))
-      (subst (λ (s : State). Worked_by c d (moment_seen y) s) (sym (state_then more x y one))
+      (worked_on y.device z.device y.clock z.clock two.lasts (costs_in d) y.clock.failed c (moment_seen x) (state_of x.desk) (work_seen x) (work_seen y) one.moves (ops_then within x y one) (counts_then within x y one) first)
+      (subst (λ (now : Moment). Worked_by c d now (after_from c (state_of x.desk) (entries_of one.moves))) (sym (moment_then within x y one))
+      (subst (λ (s : State). Worked_by c d (moment_seen y) s) (sym (state_then within x y one))
       (subst (λ (f : Fixed). Worked_by c f (moment_seen y) (state_of y.desk)) one.fixed (subst (λ (g : Configuration). Worked_by g y.device.fixed (moment_seen y) (state_of y.desk)) config second))))
 
-pub has_moved_more : (more : ℕ) (x y z : Seen) → HasMoved more x y → HasMoved more y z → HasMoved more x z
-has_moved_more more x y z one two =
+pub has_moved_more : (within : Bool) (x y z : Seen) → HasMoved within x y → HasMoved within y z → HasMoved within x z
+has_moved_more within x y z one two =
     let c = x.desk.config in
-    let f = frame_of x in
-    let same : frame_of y ≡ f = ap (λ (d : DeskState). frame_in d.config y.device.fixed) one.tell ∙ ap (frame_in c) one.fixed in
+    let f = frame_of within x in
+    let same : frame_of within y ≡ f = ap (λ (d : DeskState). frame_in within d.config y.device.fixed) one.tell ∙ ap (frame_in within c) one.fixed in
     record {
       moves = one.moves ++ two.moves;
       tell = two.tell ∙ ap (λ (d : DeskState). with_entries d (entries_of two.moves)) one.tell ∙ ap (λ (h : List Entry). record x.desk { entries = h }) (append_assoc x.desk.entries (entries_of one.moves) (entries_of two.moves))
@@ -139,8 +139,8 @@ has_moved_more more x y z one two =
       stays = record { told = λ tells. one.stays.told (two.stays.told tells); kept = λ before kept. two.stays.kept before (one.stays.kept before kept) };
       uncut = λ uncut. two.uncut (one.uncut uncut);
       servable = λ since is. subst (λ (n : ℕ). IsServable n z) (sym (found_more since one.moves two.moves)) (two.servable (found_behind since one.moves) (one.servable since is));
-      served = λ since is. serves more x y z one two since (one.served since is) (two.served (found_behind since one.moves) (one.servable since is));
-      work = λ uncut simple. works more x y z one two (one.work uncut simple) (two.work (one.uncut uncut) (subst IsSimple (sym one.fixed) simple));
+      served = λ since is. serves within x y z one two since (one.served since is) (two.served (found_behind since one.moves) (one.servable since is));
+      work = λ uncut simple. works within x y z one two (one.work uncut simple) (two.work (one.uncut uncut) (subst IsSimple (sym one.fixed) simple));
       lawful = λ k at.
           let (first, then_) = one.lawful k at in
           let (second, last) = subst (λ (g : Frame). Along g (IsLawful g.config z.clock) (cursor_behind f k one.moves) two.moves × IsAt z (cursor_behind g (cursor_behind f k one.moves) two.moves)) same (two.lawful (cursor_behind f k one.moves) then_) in
@@ -209,9 +209,9 @@ module _ (old new : Seen) where
     by_entry (Some (Found marks ops)) is = (priced (Found marks ops) is, paid.owes)
 
   -- THE TURNS THAT ARE LEFT
-  module _ (is : IsTurnTold old new) (k : Cursor) (at : IsAt old k) where
+  module _ (within : Bool) (is : IsTurnTold old new) (k : Cursor) (at : IsAt old k) where
     abbrev f : Frame
-    f = frame_of old
+    f = frame_of within old
 
     abbrev next : State
     next = after_from old.desk.config k.state (entry_list is.entry)
@@ -252,8 +252,8 @@ module _ (old new : Seen) where
         let few = fewer_by none picked on held behind in let least = few.0 in let less = few.1 in omega (arith, least, less, low)
 
   -- it is one move
-  pub turn_moved : (more : ℕ) → IsTurnTold old new → HasMoved more old new
-  turn_moved more is =
+  pub turn_moved : (within : Bool) → IsTurnTold old new → HasMoved within old new
+  turn_moved within is =
       let c = old.desk.config in
       let m = of_turn is.entry in
       record {
@@ -292,11 +292,11 @@ module _ (old new : Seen) where
                         due,
                       );
                   fits = subst (λ (t : State). FitsHand t is.entry) (sym at.state) is.fits;
-                  posts = posts_by is k at behind k.left at.left;
+                  posts = posts_by within is k at behind k.left at.left;
                 },
                 tt,
               ),
-              record { now = refl; state = behind; here = inl behind; begun = subst (λ (o : Option Begun). IfSome o (λ b. Among b.state (next_by (frame_of old) k m).since)) (sym is.ended) tt; left = left_on is k at behind },
+              record { now = refl; state = behind; here = inl behind; begun = subst (λ (o : Option Begun). IfSome o (λ b. Among b.state (next_by (frame_of within old) k m).since)) (sym is.ended) tt; left = left_on within is k at behind },
             );
         uncut = is.uncut;
         servable = λ since s. subst (λ (n : ℕ). IsServable n new) (not_found (is_found is.entry) new.device.ops since is.turns.1)
@@ -377,11 +377,12 @@ module _ (f : Frame) where
         asks_lawful clock now (next_by f k (record { entry = Some e; behind = now })) es rest refl,
       )
 
-  -- the states since the last turn are kept
-  asks_since : (now : Moment) (k : Cursor) (es : List Entry) → AreAsked es → (s : State) → Among s k.since → Among s (cursor_behind f k (asked_moves now es)).since
-  asks_since now k [] are s among = among
-  asks_since now k (e ∷ es) (one, rest) s among =
-      asks_since now (next_by f k (record { entry = Some e; behind = now })) es rest s (inr (subst (λ (b : Bool). Among s (if b then k.since else [])) (sym one) among))
+  -- the states since the last turn are kept, where requests come within one
+  asks_since : f.within ≡ true → (now : Moment) (k : Cursor) (es : List Entry) → AreAsked es → (s : State) → Among s k.since → Among s (cursor_behind f k (asked_moves now es)).since
+  asks_since within now k [] are s among = among
+  asks_since within now k (e ∷ es) (one, rest) s among =
+      let both : (is_asked (Some e) && f.within) ≡ true = ap (λ (b : Bool). b && f.within) one ∙ within in
+      asks_since within now (next_by f k (record { entry = Some e; behind = now })) es rest s (inr (subst (λ (b : Bool). Among s (if b then k.since else [])) (sym both) among))
 
   asks_here : (now : Moment) (k : Cursor) (es : List Entry) → AreAsked es → Among k.state k.since → Among (cursor_behind f k (asked_moves now es)).state (cursor_behind f k (asked_moves now es)).since
   asks_here now k [] are here = here
@@ -407,14 +408,19 @@ module _ (c : Configuration) where
   asks_urgency h (Off ops ∷ es) (one, rest) = absurd (let P : false ≡ true = one in cc P)
   asks_urgency h (Found marks ops ∷ es) (one, rest) = absurd (let P : false ≡ true = one in cc P)
 
-begun_on : (f : Frame) (now : Moment) (k : Cursor) (es : List Entry) → AreAsked es → (o : Option Begun) → IfSome o (λ b. Among b.state k.since) → IfSome o (λ b. Among b.state (cursor_behind f k (asked_moves now es)).since)
-begun_on f now k es are None among = tt
-begun_on f now k es are (Some b) among = asks_since f now k es are b.state among
+begun_on : (f : Frame) (s : Seen) (now : Moment) (k : Cursor) (es : List Entry) → AreAsked es → (o : Option Begun) → ArePending f.within o s → IfSome o (λ b. Among b.state k.since)
+    → IfSome o (λ b. Among b.state (cursor_behind f k (asked_moves now es)).since)
+begun_on f s now k es are None pending among = tt
+begun_on f s now k es are (Some b) pending among = asks_since f pending.0 now k es are b.state among
 
-pub asks_moved : (more : ℕ) (asks : List Entry) (old new : Seen) → AreAsksTold more asks old new → HasMoved more old new
-asks_moved more asks old new is =
+few_beside : (within : Bool) → 4 ≤ turns_beside within
+few_beside true = omega arith
+few_beside false = omega arith
+
+pub asks_moved : (within : Bool) (asks : List Entry) (old new : Seen) → AreAsksTold within asks old new → HasMoved within old new
+asks_moved within asks old new is =
     let c = old.desk.config in
-    let f = frame_of old in
+    let f = frame_of within old in
     let now = moment_seen old in
     let same : now ≡ moment_seen new = ap (moment_by old.begun) (sym is.device) ∙ ap (λ (o : Option Begun). moment_by o new.device) (sym is.begun) in
     let same_left : left_seen old ≡ left_seen new = ap (λ (o : Option Begun). left_by o old.hand old.device) (sym is.begun) ∙ ap (λ (h : Option HandState). left_by new.begun h old.device) (sym is.hand) ∙ ap (left_by new.begun new.hand) (sym is.device) in
@@ -430,7 +436,7 @@ asks_moved more asks old new is =
       uncut = is.uncut;
       servable = λ since s. subst (λ (n : ℕ). IsServable n new) (asks_found now since asks is.are) (record { uncut = is.uncut s.uncut; first = subst AreFirst (sym fixed) s.first; sealed = is.seals since s.sealed });
       served = λ since s.
-          served_as more c (pages_in old.device.fixed c) (MayGoOn new.clock old.device.fixed.reserve) (DueAt old) (DueAt old) (due_by old.begun old.hand old.device (with_entries old.desk asks)) (DueAt new) since now (state_of old.desk) (asked_moves now asks)
+          served_as (turns_beside within) c (pages_in old.device.fixed c) (MayGoOn new.clock old.device.fixed.reserve) (DueAt old) (DueAt old) (due_by old.begun old.hand old.device (with_entries old.desk asks)) (DueAt new) since now (state_of old.desk) (asked_moves now asks)
           (λ one id turns due. due) due_then (serves since s old.begun is.pending);
       work = λ uncut simple. subst (λ (w : Work). KeepToWork (worn_so_far new.device new.clock) new.clock old w (asked_moves now asks)) same_work
           (asks_worked (costs_in old.device.fixed) (HadPages new.clock) (worn_so_far new.device new.clock) c now (state_of old.desk) (work_seen old) asks is.are);
@@ -442,7 +448,7 @@ asks_moved more asks old new is =
               now = cursor_now f k (asked_moves now asks) ∙ ap (λ (m : Moment). moment_behind m (asked_moves now asks)) at.now ∙ asks_behind now asks ∙ same;
               state = state;
               here = subst (λ (s : State). Among s (cursor_behind f k (asked_moves now asks)).since) state (asks_here f now k asks is.are (subst (λ (s : State). Among s k.since) (sym at.state) at.here));
-              begun = subst (λ (o : Option Begun). IfSome o (λ b. Among b.state (cursor_behind f k (asked_moves now asks)).since)) (sym is.begun) (begun_on f now k asks is.are old.begun at.begun);
+              begun = subst (λ (o : Option Begun). IfSome o (λ b. Among b.state (cursor_behind f k (asked_moves now asks)).since)) (sym is.begun) (begun_on f old now k asks is.are old.begun is.pending at.begun);
               left = subst (λ (o : Option ℕ). IfSome o (λ n. left_seen new ≤ n)) (sym (asks_left f now k asks is.are)) (subst (λ (l : ℕ). IfSome k.left (λ n. l ≤ n)) same_left at.left);
             },
           );
@@ -467,19 +473,19 @@ asks_moved more asks old new is =
         (subst (λ (h : Option HandState). due_by old.begun h new.device new.desk one id turns) (sym is.hand)
         (subst (λ (d : DeviceTold). due_by old.begun old.hand d new.desk one id turns) (sym is.device) (subst (λ (x : DeskState). due_by old.begun old.hand old.device x one id turns) (sym is.adds) due)))
 
-    serves : (since : ℕ) → IsServable since old → (o : Option Begun) → ArePending more o old
-        → AreServed more old.desk.config (pages_in old.device.fixed old.desk.config) (MayGoOn new.clock old.device.fixed.reserve) (due_by o old.hand old.device old.desk) (due_by o old.hand old.device (with_entries old.desk asks)) since (moment_seen old) (state_of old.desk)
+    serves : (since : ℕ) → IsServable since old → (o : Option Begun) → ArePending within o old
+        → AreServed (turns_beside within) old.desk.config (pages_in old.device.fixed old.desk.config) (MayGoOn new.clock old.device.fixed.reserve) (due_by o old.hand old.device old.desk) (due_by o old.hand old.device (with_entries old.desk asks)) since (moment_seen old) (state_of old.desk)
         (asked_moves (moment_seen old) asks)
     serves since s None pending =
-        between_served old.hand old.device s.first more (MayGoOn new.clock old.device.fixed.reserve) since (moment_seen old) old.desk asks is.replied is.tied.started
-        (roomy since old.desk old.hand old.device new.device old.clock new.clock (is.on s.uncut) s.sealed is.order is.frees is.tied.paired is.tied.up is.lasts) pending.0 pending.1 pending.2
+        between_served old.hand old.device s.first (turns_beside within) (MayGoOn new.clock old.device.fixed.reserve) since (moment_seen old) old.desk asks is.replied is.tied.started
+        (roomy since old.desk old.hand old.device new.device old.clock new.clock (is.on s.uncut) s.sealed is.order is.frees is.tied.paired is.tied.up is.lasts) (few_beside within) pending.0 pending.1
     serves since s (Some b) pending =
-        within_served old.hand old.device s.first more (MayGoOn new.clock old.device.fixed.reserve) since (moment_seen old) old.desk asks is.replied is.tied.started
-        (roomy since old.desk old.hand old.device new.device old.clock new.clock (is.on s.uncut) s.sealed is.order is.frees is.tied.paired is.tied.up is.lasts) pending.0 pending.1
+        within_served old.hand old.device s.first (turns_beside within) (MayGoOn new.clock old.device.fixed.reserve) since (moment_seen old) old.desk asks is.replied is.tied.started
+        (roomy since old.desk old.hand old.device new.device old.clock new.clock (is.on s.uncut) s.sealed is.order is.frees is.tied.paired is.tied.up is.lasts) (subst (λ (b : Bool). 5 ≤ turns_beside b) (sym pending.0) (omega arith)) pending.1
 
 -- a half that goes to the device makes no move
-pub half_moved : (more : ℕ) (old new : Seen) → IsHalfTold old new → HasMoved more old new
-half_moved more old new is =
+pub half_moved : (within : Bool) (old new : Seen) → IsHalfTold old new → HasMoved within old new
+half_moved within old new is =
     let faults : faults_of old.device ≡ faults_of new.device = ap faults_of (sym is.leaves) in
     let ops : old.device.ops ≡ new.device.ops = ap (λ (d : DeviceTold). d.ops) (sym is.leaves) in
     let fixed : new.device.fixed ≡ old.device.fixed = ap (λ (d : DeviceTold). d.fixed) is.leaves in
@@ -544,10 +550,10 @@ found_price c s (Wrote i mark ops) is = absurd (cc is)
 found_price c s (Post block r given refused ops) is = absurd (cc is)
 found_price c s (Off ops) is = absurd (cc is)
 
-pub start_moved : (more : ℕ) (old new : Seen) → IsStartTold old new → HasMoved more old new
-start_moved more old new is =
+pub start_moved : (within : Bool) (old new : Seen) → IsStartTold old new → HasMoved within old new
+start_moved within old new is =
     let c = old.desk.config in
-    let f = frame_of old in
+    let f = frame_of within old in
     let m : Move = record { entry = Some is.entry; behind = moment_seen new } in
     let not_ = no_ask_found is.entry is.found in
     let same = is.ops in
@@ -602,8 +608,8 @@ start_moved more old new is =
     picked_stays k m none = rw none refl
 
 -- NOTHING
-pub still_moved : (more : ℕ) (old new : Seen) → IsStillTold old new → HasMoved more old new
-still_moved more old new is =
+pub still_moved : (within : Bool) (old new : Seen) → IsStillTold old new → HasMoved within old new
+still_moved within old new is =
     let urgent : has_urgent old.desk ≡ has_urgent new.desk = ap has_urgent (sym is.desk) in
     let faults : faults_of new.device ≡ faults_of old.device = ap (λ (m : Moment). m.faults) is.moment in
     record {

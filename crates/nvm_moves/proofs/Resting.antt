@@ -21,7 +21,7 @@ pub some_none : (j : Job) → Some j ≡ None → ⊥
 some_none j is = cc is
 
 -- the manager turns to what comes next by what waits, what is in hand and the sweep
-next_at : (c : Configuration) (s : State) (hand : Option Job) (waiting : List Job) (sweep : Option Sweep) → s.hand ≡ hand → s.waiting ≡ waiting → s.sweep ≡ sweep → next_of c s ≡ next_by c s (next_in c waiting) hand sweep
+pub next_at : (c : Configuration) (s : State) (hand : Option Job) (waiting : List Job) (sweep : Option Sweep) → s.hand ≡ hand → s.waiting ≡ waiting → s.sweep ≡ sweep → next_of c s ≡ next_by c s (next_in c waiting) hand sweep
 next_at c s hand waiting sweep h w o = rw (h, w, o) refl
 
 pub rests_next : (c : Configuration) (s : State) → IsTrue (is_at_rest s) → (s.hand ≡ None) × (next_of c s ≡ Nothing)

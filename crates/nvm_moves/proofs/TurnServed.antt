@@ -1,6 +1,6 @@
 -- What is due, in one turn.
 use Rattle.std.specs.Prelude.{IsTrue, ◌||◌, ◌&&◌}
-use Rattle.std.proofs.Common.{◌≡◌, ◌⊎◌, inl, inr, ℕ, ◌+◌, Bool, true, false, List, [], ◌∷◌, ◌++◌, Option, refl, sym, ap, ◌∙◌, subst}
+use Rattle.std.proofs.Common.{◌≡◌, ◌⊎◌, inl, inr, ℕ, Bool, true, false, List, [], ◌∷◌, ◌++◌, Option, refl, sym, ap, ◌∙◌, subst}
 use Rattle.std.proofs.lemmas.Bool.{cases_Bool}
 use Rattle.nvm_core.specs.nv_base.Count.{Rose}
 use Rattle.nvm_core.specs.memif.Told.{DeviceTold, faults_of, is_off}

@@ -1,13 +1,14 @@
 -- A law along the moves of one history.
-use Rattle.std.specs.Prelude.{◌≡◌, ◌⊎◌, ◌-◌, ◌||◌, ℕ, if◌then◌else◌, is_none, option_map, List, [], ◌∷◌, Option, None}
+use Rattle.std.specs.Prelude.{◌≡◌, ◌⊎◌, ◌-◌, ◌&&◌, ◌||◌, ℕ, Bool, if◌then◌else◌, is_none, option_map, List, [], ◌∷◌, Option, None}
 use Rattle.nvm_core.specs.block_machine.Words.{Configuration}
 use Rattle.nvm_core.specs.block_machine.State.{State, Job}
 use Rattle.nvm_core.specs.block_machine.Steps.{after_from}
 use Rattle.nvm_core.specs.promise_blocks.Work.{has_risen}
 use Rattle.promise_run.specs.Turns.{Moment, Move, entry_list, is_asked, is_found, is_picked}
 
--- What is known where a move comes: the moment, the state, the states since the last turn, behind it and behind each request, the operations
--- at the last start-up, the faults before the turn of the last Pick, and where nothing came between the turns in which its job is posted.
+-- What is known where a move comes: the moment, the state, the states that a turn may have seen, the operations at the last start-up, the
+-- faults before the turn of the last Pick, and where nothing came between the turns in which its job is posted. A turn saw this state; where
+-- requests come within turns it may have seen the one behind the last turn, or behind a request since.
 pub record Cursor : Type 0 where
   pub now : Moment
   pub state : State
@@ -21,10 +22,11 @@ abbrev pub Among : State → List State → Type 0
 Among s [] = ⊥
 Among s (t ∷ ts) = (t ≡ s) ⊎ Among s ts
 
--- what never changes: the configuration, and the most turns of a job, in a state in which it is in hand
+-- what never changes: the configuration, the most turns of a job, in a state in which it is in hand, and whether requests come within a turn
 pub record Frame : Type 0 where
   pub config : Configuration
   pub most : State → Job → ℕ
+  pub within : Bool
 
 -- A request is no turn; a Pick has its most; a start-up, a fault, an Off and the Post of the job drop it.
 abbrev pub left_behind : Frame → Cursor → Move → Option ℕ
@@ -39,7 +41,7 @@ abbrev pub next_by : Frame → Cursor → Move → Cursor
 next_by f k m = record {
   now = m.behind;
   state = after_from f.config k.state (entry_list m.entry);
-  since = after_from f.config k.state (entry_list m.entry) ∷ (if is_asked m.entry then k.since else []);
+  since = after_from f.config k.state (entry_list m.entry) ∷ (if is_asked m.entry && f.within then k.since else []);
   found = if is_found m.entry then m.behind.ops else k.found;
   picked = if is_picked m.entry then k.now.faults else k.picked;
   left = left_behind f k m;

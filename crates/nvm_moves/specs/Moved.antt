@@ -13,7 +13,8 @@ use Rattle.nvm_core.specs.block_machine.Steps.{after_from}
 use Rattle.nvm_core.specs.promise_blocks.Payment.{Worn}
 use Rattle.nvm_core.specs.promise_blocks.Work.{has_risen}
 use Rattle.nvm_core.specs.nv_desk.Desk.{state_of}
-use Rattle.nvm_core.specs.job_progress.JobInHand.{IsPaired}
+use Rattle.nvm_core.specs.job_progress.JobInHand.{IsPaired, program_for}
+use Rattle.nvm_core.specs.nvm_figures.Left.{most_turns}
 use Rattle.nvm_core.specs.nvm_device_laws.Turn.{TellsSlots}
 use Rattle.nvm_core.specs.nvm_laws.AtDevice.{GoesOn}
 use Rattle.nvm_core.specs.nvm_laws.Due.{post_first}
@@ -26,7 +27,7 @@ use Rattle.nvm_core.specs.DueWrites.{AreFirst}
 use Rattle.nvm_core.specs.OperationStart.{LeavesDevice}
 use Rattle.nvm_core.specs.Paying.{OwesSince, PaysSince, has_urgent, worn_so_far}
 use Rattle.script_walks.specs.Walk.{is_due, is_at_rest, begins_with_pick_or_post}
-use Rattle.promise_run.specs.Turns.{Move, entry_list, entries_of, is_asked, is_found, is_picked, found_behind, IsMoveMade, IsPostedSoon, CountsOwn, HasImmediate, IsPaidSince}
+use Rattle.promise_run.specs.Turns.{Move, entry_list, entries_of, is_asked, is_found, is_picked, found_behind, EndsCanceled, IsMoveMade, IsPostedSoon, CountsOwn, HasImmediate, IsPaidSince}
 use Rattle.nvm_moves.specs.Along.{Cursor, Among, Along, cursor_behind}
 use Rattle.nvm_moves.specs.Seen.{Begun, Seen, IsOn, frame_of, left_seen, moment_seen, work_seen}
 use Rattle.nvm_moves.specs.Served.{DueAt, IsServable, ServesBy}
@@ -45,10 +46,14 @@ pub record IsAt (s : Seen) (k : Cursor) : Type 0 where
 abbrev pub RestsAt : Cursor → Move → Type 0
 RestsAt k m = IsTrue (is_at_rest k.state) → k.now.busy ≡ false → is_asked m.entry ≡ false → is_found m.entry ≡ false → (m.entry ≡ None) × (m.behind ≡ k.now)
 
--- A turn saw one of the states since the turn before it, behind which requests may have come within it, and doesn't go by where something
--- was due there.
+-- A turn that saw this state doesn't go by where something was due in it; and where a WriteAll that was canceled was all that was pending it
+-- posts id 0 as canceled, or picks it where it wasn't begun.
+abbrev pub BeginsIn : State → Option Entry → Type 0
+BeginsIn s e = IsTrue (not (is_due s) || begins_with_pick_or_post (entry_list e)) × EndsCanceled s e
+
+-- A turn saw one of the states since the turn before it, behind which requests may have come within it.
 abbrev pub BeginsAt : Cursor → Move → Type 0
-BeginsAt k m = is_asked m.entry ≡ false → is_found m.entry ≡ false → (s : State) × Among s k.since × IsTrue (not (is_due s) || begins_with_pick_or_post (entry_list m.entry))
+BeginsAt k m = is_asked m.entry ≡ false → is_found m.entry ≡ false → (s : State) × Among s k.since × BeginsIn s m.entry
 
 -- The job in hand, picked so many turns before its last, is posted by then: a turn that leaves it in hand wasn't the last.
 abbrev pub PostsAt : Configuration → Cursor → Move → Type 0
@@ -85,19 +90,19 @@ Owes since s = OwesSince (has_urgent s.desk) since s.hand s.device s.clock
 
 -- The list of the desk grew by the entries of moves, each of which keeps the law; where the device tells what it holds each Post is paid
 -- since its Pick. Where no power cut stands in the way urgent writes are posted soon, and over a simple device the moves keep to what is
--- open at it. These urgent writes take so many turns beside their pages.
-pub record HasMoved (more : ℕ) (old new : Seen) : Type 0 where
+-- open at it. Requests come between turns alone, or within them too.
+pub record HasMoved (within : Bool) (old new : Seen) : Type 0 where
   pub moves : List Move
   pub tell : new.desk ≡ with_entries old.desk (entries_of moves)
   pub fixed : new.device.fixed ≡ old.device.fixed
   pub lasts : Lasts old.device old.clock new.device new.clock
   pub stays : KeepsOn old new
   pub uncut : old.uncut → new.uncut
-  pub lawful : (k : Cursor) → IsAt old k → Along (frame_of old) (IsLawful old.desk.config new.clock) k moves × IsAt new (cursor_behind (frame_of old) k moves)
+  pub lawful : (k : Cursor) → IsAt old k → Along (frame_of within old) (IsLawful old.desk.config new.clock) k moves × IsAt new (cursor_behind (frame_of within old) k moves)
   pub paid : TellsSlots new.device → (before : Part → PartTold) → old.kept before → (k : Cursor) → IsAt old k → Owes k.picked old
-      → Along (frame_of old) (IsPaidAt old.desk.config (worn_so_far new.device new.clock)) k moves × Owes (cursor_behind (frame_of old) k moves).picked new
+      → Along (frame_of within old) (IsPaidAt old.desk.config (worn_so_far new.device new.clock)) k moves × Owes (cursor_behind (frame_of within old) k moves).picked new
   pub servable : (since : ℕ) → IsServable since old → IsServable (found_behind since moves) new
-  pub served : (since : ℕ) → IsServable since old → ServesBy more new.clock (DueAt old) (DueAt new) since old moves
+  pub served : (since : ℕ) → IsServable since old → ServesBy within new.clock (DueAt old) (DueAt new) since old moves
   pub work : old.uncut → IsSimple old.device.fixed → KeepToWork (worn_so_far new.device new.clock) new.clock old (work_seen new) moves
 
 -- WHAT A CALL TELLS
@@ -106,10 +111,10 @@ pub record IsTurnTold (old new : Seen) : Type 0 where
   pub entry : Option Entry
   pub turns : (is_asked entry ≡ false) × (is_found entry ≡ false)
   pub ended : new.begun ≡ None
-  pub begins : (s : State) × (((b : Begun) × (old.begun ≡ Some b) × (b.state ≡ s)) ⊎ (state_of old.desk ≡ s)) × IsTrue (not (is_due s) || begins_with_pick_or_post (entry_list entry))
+  pub begins : (s : State) × (((b : Begun) × (old.begun ≡ Some b) × (b.state ≡ s)) ⊎ (state_of old.desk ≡ s)) × BeginsIn s entry
   pub fits : FitsHand (state_of old.desk) entry
   -- behind a Pick at most the most turns of its job are left, and else fewer
-  pub most : is_picked entry ≡ true → IfSome (state_of new.desk).hand (λ j. left_seen new ≤ (frame_of old).most (state_of new.desk) j)
+  pub most : is_picked entry ≡ true → IfSome (state_of new.desk).hand (λ j. left_seen new ≤ most_turns old.device.fixed (program_for old.desk.config (state_of new.desk) j))
   pub fewer : is_picked entry ≡ false → (Rose (faults_of old.device) (faults_of new.device) → ⊥) → (state_of new.desk).off ≡ false → is_none (state_of new.desk).hand ≡ false → (0 < left_seen new) × (left_seen new < left_seen old)
   pub rests : IsTrue (is_at_rest (state_of old.desk)) → (moment_seen old).busy ≡ false → (entry ≡ None) × (moment_seen new ≡ moment_seen old)
   pub adds : new.desk ≡ with_entries old.desk (entry_list entry)
@@ -131,16 +136,16 @@ pub record IsTurnTold (old new : Seen) : Type 0 where
   pub work : old.uncut → IsSimple old.device.fixed → KeepsToWork (worn_so_far new.device new.clock) new.clock old (work_seen new) (record { entry = entry; behind = moment_seen new })
 
 -- Requests: the device stands still, and so does the job in hand. Between turns the block of what is next is PENDING, and that of what is in
--- hand, and an urgent write takes four turns beside its pages; within one the job in hand isn't finished, and it takes this turn too.
+-- hand; within one the job in hand isn't finished, and an urgent write takes this turn too.
 abbrev pub AreAsked : List Entry → Type 0
 AreAsked [] = Unit {0}
 AreAsked (e ∷ es) = (is_asked (Some e) ≡ true) × AreAsked es
 
-abbrev pub ArePending : (more : ℕ) → Option Begun → Seen → Type 0
-ArePending more None s = (4 ≤ more) × NextIsPending s.desk.config (state_of s.desk) × IfSome (state_of s.desk).hand (λ j. is_pending (status_of (state_of s.desk) (job_block j)) ≡ true)
-ArePending more (Some b) s = (5 ≤ more) × (post_first s.hand ≡ 0)
+abbrev pub ArePending : (within : Bool) → Option Begun → Seen → Type 0
+ArePending within None s = NextIsPending s.desk.config (state_of s.desk) × IfSome (state_of s.desk).hand (λ j. is_pending (status_of (state_of s.desk) (job_block j)) ≡ true)
+ArePending within (Some b) s = (within ≡ true) × (post_first s.hand ≡ 0)
 
-pub record AreAsksTold (more : ℕ) (asks : List Entry) (old new : Seen) : Type 0 where
+pub record AreAsksTold (within : Bool) (asks : List Entry) (old new : Seen) : Type 0 where
   pub are : AreAsked asks
   pub replied : AreReplied old.desk.config old.desk.cap (state_of old.desk) asks
   pub adds : new.desk ≡ with_entries old.desk asks
@@ -155,7 +160,7 @@ pub record AreAsksTold (more : ℕ) (asks : List Entry) (old new : Seen) : Type 
   pub tied : IsTied old.desk old.hand old.device
   pub order : InOrder old.device old.clock
   pub frees : FreesReady old.device old.clock
-  pub pending : ArePending more old.begun old
+  pub pending : ArePending within old.begun old
 
 -- The first half of a turn that goes to the device: it makes no move.
 pub record IsHalfTold (old new : Seen) : Type 0 where

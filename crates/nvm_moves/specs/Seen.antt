@@ -1,5 +1,5 @@
 -- A stack at a moment, all told.
-use Rattle.std.specs.Prelude.{◌≡◌, ℕ, true, false, not, Option}
+use Rattle.std.specs.Prelude.{◌≡◌, ℕ, Bool, true, false, not, Option}
 use Rattle.std.specs.Option.{option_map_or}
 use Rattle.nvm_core.specs.memif.Told.{DeviceTold, Part, PartTold, Fixed, faults_of, nothing_open}
 use Rattle.nvm_core.specs.memif.Clock.{Clock}
@@ -59,8 +59,8 @@ left_seen s = left_with (hand_begun s.begun s.hand) (device_begun s.begun s.devi
 abbrev pub work_seen : Seen → Work
 work_seen s = work_in (device_begun s.begun s.device)
 
-abbrev pub frame_in : Configuration → Fixed → Frame
-frame_in c f = record { config = c; most = λ t j. most_turns f (program_for c t j) }
+abbrev pub frame_in : (within : Bool) → Configuration → Fixed → Frame
+frame_in within c f = record { config = c; most = λ t j. most_turns f (program_for c t j); within = within }
 
-abbrev pub frame_of : Seen → Frame
-frame_of s = frame_in s.desk.config s.device.fixed
+abbrev pub frame_of : (within : Bool) → Seen → Frame
+frame_of within s = frame_in within s.desk.config s.device.fixed

@@ -1,5 +1,5 @@
 -- When urgent writes are due, between moves and behind them.
-use Rattle.std.specs.Prelude.{◌≡◌, ◌⊎◌, ◌≤◌, ◌<◌, ◌+◌, min, ℕ, Bool, true, false, List, Option, Some, None}
+use Rattle.std.specs.Prelude.{◌≡◌, ◌⊎◌, ◌≤◌, ◌<◌, ◌+◌, min, ℕ, Bool, true, false, if◌then◌else◌, List, Option, Some, None}
 use Rattle.nvm_core.specs.nv_base.Count.{last_count}
 use Rattle.nvm_core.specs.memif.Told.{DeviceTold}
 use Rattle.nvm_core.specs.memif.Clock.{Clock, Seals}
@@ -61,6 +61,10 @@ pub record IsServable (since : ℕ) (s : Seen) : Type 0 where
   pub first : AreFirst s.device.fixed
   pub sealed : IsSealedSince since s.device s.clock
 
+-- the turns that an urgent write takes beside its pages: one more where it may come within a turn
+abbrev pub turns_beside : (within : Bool) → ℕ
+turns_beside within = if within then 5 else 4
+
 -- From what is due before moves to what is due behind them: it is posted soon, and so is what is accepted in them, within its pages and so
 -- many turns.
 pub record AreServed (more : ℕ) (c : Configuration) (pages : State → ℕ → ℕ) (free : (since operations pages : ℕ) → Type 0) (P Q : Bool → ℕ → ℕ → Type 0) (since : ℕ) (before : Moment) (s : State) (moves : List Move) : Type 0 where
@@ -68,6 +72,6 @@ pub record AreServed (more : ℕ) (c : Configuration) (pages : State → ℕ →
   pub urgent : EachMoveSince c (PostsUrgent c more pages free (λ id o n. Q o id n)) since s moves
 
 -- by what a clock tells of the operations
-abbrev pub ServesBy : (more : ℕ) → Clock → (P Q : Bool → ℕ → ℕ → Type 0) → ℕ → Seen → List Move → Type 0
-ServesBy more clock P Q since s moves =
-    AreServed more s.desk.config (pages_in s.device.fixed s.desk.config) (MayGoOn clock s.device.fixed.reserve) P Q since (moment_seen s) (state_of s.desk) moves
+abbrev pub ServesBy : (within : Bool) → Clock → (P Q : Bool → ℕ → ℕ → Type 0) → ℕ → Seen → List Move → Type 0
+ServesBy within clock P Q since s moves =
+    AreServed (turns_beside within) s.desk.config (pages_in s.device.fixed s.desk.config) (MayGoOn clock s.device.fixed.reserve) P Q since (moment_seen s) (state_of s.desk) moves

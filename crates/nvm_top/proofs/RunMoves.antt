@@ -79,7 +79,7 @@ pub record BeginsRun (desk : DeskState) (hand : Option HandState) (d : DeviceTol
   pub owes : OwesSince (has_urgent desk) (faults_of d) hand d clock
 
 module _ (desk : DeskState) (hand : Option HandState) (d : DeviceTold) (clock : Clock) (begins : BeginsRun desk hand d clock) (uncut : IsUncut desk d) (kept : (before : Part → PartTold) × StackKeepsAsTold before desk hand d clock)
-    (desk_new : DeskState) (hand_new : Option HandState) (now : DeviceTold) (clock_new : Clock) (config : desk_new.config ≡ desk.config) (w : HasMoved 5 (seen_at desk hand d clock) (seen_at desk_new hand_new now clock_new)) where
+    (desk_new : DeskState) (hand_new : Option HandState) (now : DeviceTold) (clock_new : Clock) (config : desk_new.config ≡ desk.config) (w : HasMoved true (seen_at desk hand d clock) (seen_at desk_new hand_new now clock_new)) where
   abbrev old : Seen
   old = seen_at desk hand d clock
 
@@ -99,11 +99,11 @@ module _ (desk : DeskState) (hand : Option HandState) (d : DeviceTold) (clock : 
   at : IsAt old cursor
   at = record { now = refl; state = refl; here = inl refl; begun = tt; left = tt }
 
-  along : Along (frame_of old) (IsLawful c clock_new) cursor w.moves
+  along : Along (frame_of true old) (IsLawful c clock_new) cursor w.moves
   along = (w.lawful cursor at).0
 
   behind : moment_behind first w.moves ≡ moment_seen new
-  behind = moment_then 5 old new w
+  behind = moment_then true old new w
 
   servable : AreFirst now.fixed → IsServable d.ops old
   servable parts = record { uncut = uncut; first = subst AreFirst w.fixed parts; sealed = λ on k since at few was. absurd (omega (arith, since, at)) }
@@ -118,7 +118,7 @@ module _ (desk : DeskState) (hand : Option HandState) (d : DeviceTold) (clock : 
             subst (λ (f : Costs). AreWorked f (HadPages clock_new) clock_new.worn c first (state_of desk) (record { left = begins.left; trying = None }) w.moves work.efforts) begins.costs
             (subst (λ (x : Work). AreWorked (costs_in d.fixed) (HadPages clock_new) clock_new.worn c first (state_of desk) x w.moves work.efforts) (sym begins.is)
             (worked_by (costs_in d.fixed) (HadPages clock_new) (HadPages clock_new) (worn_so_far now clock_new) clock_new.worn clock_new.failed now.ops (λ k p few had. had) (λ k p urgent is. is.1) c first (state_of desk) (work_in d) w.moves work.efforts
-            (let ops = ap (λ (m : Moment). m.ops) behind in omega (arith, ops)) (counts_then 5 old new w) work.are));
+            (let ops = ap (λ (m : Moment). m.ops) behind in omega (arith, ops)) (counts_then true old new w) work.are));
       }
 
   urgent : AreFirst now.fixed → EachMoveSince c (PostsUrgent c 5 (write_pages c) (device.MayGoOn clock_new (making_of c).reserve) (λ id one left. Unit {0})) d.ops (state_of desk) w.moves
@@ -131,7 +131,7 @@ module _ (desk : DeskState) (hand : Option HandState) (d : DeviceTold) (clock : 
   paid : TellsSlots now → ArePaidSince c clock_new.worn first.faults first (state_of desk) w.moves
   paid slots =
       since_too c (worn_so_far now clock_new) clock_new.worn (λ k n urgent is. is.1) first.faults first (state_of desk) w.moves
-      (are_paid (frame_of old) (worn_so_far now clock_new) cursor w.moves (w.paid slots kept.0 kept.1 cursor at begins.owes).0)
+      (are_paid (frame_of true old) (worn_so_far now clock_new) cursor w.moves (w.paid slots kept.0 kept.1 cursor at begins.owes).0)
 
   -- behind one entry
   pub moves_came : (marks : List (Instance × Mark)) (ops : ℕ) → desk.entries ≡ Found marks ops ∷ [] → ops ≡ d.ops → HasMovesTo desk_new.config desk_new.entries now clock_new
@@ -145,16 +145,16 @@ module _ (desk : DeskState) (hand : Option HandState) (d : DeviceTold) (clock : 
         first = first;
         moves = w.moves;
         tell = adds ∙ ap (λ (es : List Entry). es ++ entries_of w.moves) (sym start);
-        are = are_made (frame_of old) clock_new cursor w.moves along;
+        are = are_made (frame_of true old) clock_new cursor w.moves along;
         faults = ap (λ (m : Moment). m.faults) behind;
         ops = ap (λ (m : Moment). m.ops) behind;
         begins = subst (BeginsAt first) (sym grown) (ap (λ (n : ℕ). Some n) made);
-        failed = counts_then 5 old new w;
-        serves = subst (λ (s : State). BeginWithin c (s ∷ []) s w.moves) (sym state) (begin_within (frame_of old) clock_new cursor w.moves along);
+        failed = counts_then true old new w;
+        serves = subst (λ (s : State). BeginWithin c (s ∷ []) s w.moves) (sym state) (begin_within (frame_of true old) clock_new refl cursor w.moves along);
         posts = subst (λ (s : State). EachMove c (PostsPicked c (job_turns c)) s w.moves) (sym state)
-            (subst (λ (f : State → Job → ℕ). EachMove c (PostsPicked c f) (state_of desk) w.moves) begins.most (posts_picked (frame_of old) clock_new cursor w.moves along));
-        rests = subst (λ (s : State). StaysAtRest c first s w.moves) (sym state) (stays_at_rest (frame_of old) clock_new cursor w.moves along);
-        kept = subst (λ (s : State). TakeKept c (clock_new.was TakesKept) first s w.moves) (sym state) (take_kept (frame_of old) clock_new cursor w.moves along);
+            (subst (λ (f : State → Job → ℕ). EachMove c (PostsPicked c f) (state_of desk) w.moves) begins.most (posts_picked (frame_of true old) clock_new cursor w.moves along));
+        rests = subst (λ (s : State). StaysAtRest c first s w.moves) (sym state) (stays_at_rest (frame_of true old) clock_new cursor w.moves along);
+        kept = subst (λ (s : State). TakeKept c (clock_new.was TakesKept) first s w.moves) (sym state) (take_kept (frame_of true old) clock_new cursor w.moves along);
         work = λ parts. subst (λ (s : State). HasWork (costs_of c) (HadPages clock_new) clock_new.worn c first s w.moves) (sym state) (works parts);
         urgent = λ parts.
             subst (λ (s : State). EachMoveSince c (PostsUrgent c 5 (write_pages c) (device.MayGoOn clock_new (making_of c).reserve) (λ id one left. Unit {0})) d.ops s w.moves) (sym state) (urgent parts);

@@ -33,7 +33,7 @@ returns g c =
     let after = c.device-after.ensures in
     let up : new.ready ≡ true = turned_ready told clock copies is_store looked c.turn-turned.result old new is.turns ∙ ready in
     record {
-      moved = turn_moved (seen_in told clock old) (seen_in told clock new) 4
+      moved = turn_moved (seen_in told clock old) (seen_in told clock new) false
           (turn_is_told told clock copies is_store looked old new (IsOn old.desk (told old.device)) (IsOn new.desk (told new.device))
           (λ on. still_on new.desk (told old.device) (told new.device) (stack_fixed told clock copies is_store looked c.turn-turned.result old new is.turns) (after.power up) on.one) is.keeps c.turn-turned.result is.turns is.counted is.lasts is.pays is.kept
           (λ half answer. went_off told copies is_store looked c.turn-turned.result old new answer half (after.power up)) is.left (before.tied ready) (after.tied up).paired is.seals is.due (subst (λ d. InOrder (told d) (clock d)) before.device c.status-first.ensures.order) (subst (λ d. InOrder (told d) (clock d)) after.device c.status-last.ensures.order)
