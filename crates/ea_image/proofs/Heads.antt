@@ -1,5 +1,5 @@
 -- Heads from their bytes.
-use Rattle.std.specs.Prelude.{◌&&◌, nat_lt, ◌-◌, if◌then◌else◌}
+use Rattle.std.specs.Prelude.{◌&&◌, nat_lt, if◌then◌else◌}
 use Rattle.std.proofs.Common.{◌≡◌, ◌↔◌, ◌<◌, ◌^◌, ℕ, Bool, true, false, IsTrue, List, Some, None, refl, sym, ap, ◌∙◌, subst}
 use Rattle.std.specs.Int.{w16, w32, to_be_bytes, from_be_bytes}
 use Rattle.std.proofs.lemmas.Bool.{false≢true}

@@ -19,7 +19,7 @@ use Rattle.ea_told.specs.States.{no_state}
 use Rattle.ea_told.specs.Made.{fresh, IsNew}
 use Rattle.ea_told.specs.Inside.{IsSound}
 use Rattle.ea_told.specs.Device.{told_of}
-use Rattle.ea_told.proofs.Made.{new_sound}
+use Rattle.ea_told.proofs.Made.{parts_begin}
 use Rattle.ea_slots.specs.Whole.{IsMadeOf}
 
 zeros_small : (n : ℕ) → All (λ (x : ℕ). x < 256) (replicate n 0)
@@ -45,7 +45,7 @@ makes m entry slots g numbers flash v f listed states content starts operations 
     let first : fresh m f (replicate g.sector 0) ≡ fresh (record { geometry = g; numbers = numbers }) f (replicate g.sector 0) = ap (λ (x : Making). fresh x f (replicate g.sector 0)) making in
     let behind : Parts = record { fls = f; geometry = g; numbers = listed; states = states; content = content; job = None; last = JobOk; given = 0; starts = starts; started = false; off = false; ops = 0; faults = 0; operations = operations } in
     let all : behind ≡ fresh (record { geometry = g; numbers = numbers }) f (replicate g.sector 0) = (λ k. record { fls = f; geometry = g; numbers = same k; states = states_are k; content = content_is k; job = None; last = JobOk; given = 0; starts = none k; started = false; off = false; ops = 0; faults = 0; operations = empty k }) in
-    subst (IsSound m entry) (first ∙ sym all) (new_sound m entry f (replicate g.sector 0) new)
+    subst (IsSound m entry) (first ∙ sym all) (parts_begin m entry f (replicate g.sector 0) new)
 
 pub is_made : (m : Making) (entry : Told) (g : Geometry) (numbers : List (DeviceNumber × ℕ)) (f : FlsState) (states : List SlotState) (content : List ℕ) (starts : ℕ) (operations : List Change) → starts ≡ 0 → operations ≡ []
     → IsMadeOf m (told_of m entry (record { fls = f; geometry = g; numbers = numbers; states = states; content = content; job = None; last = JobOk; given = 0; starts = starts; started = false; off = false; ops = 0; faults = 0; operations = operations }))

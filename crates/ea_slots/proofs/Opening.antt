@@ -18,7 +18,8 @@ use Rattle.ea_told.specs.Calls.{opened}
 use Rattle.ea_told.specs.Device.{mark_of, told_of, clock_of}
 use Rattle.ea_told.specs.Inside.{IsSound}
 use Rattle.ea_told.proofs.Lists.{entry_length}
-use Rattle.ea_told.proofs.Opening.{MayOpen, open_sound, opens, open_stays}
+use Rattle.ea_told.specs.Laws.{MayOpen}
+use Rattle.ea_told.proofs.Opening.{parts_open}
 use Rattle.ea_slots.specs.Jobs.{IsJobOf, IsContentOf, AsksFor}
 use Rattle.ea_slots.proofs.Places.{of_length}
 
@@ -84,9 +85,10 @@ module _ {m : Making} {entry : Told} {w v : Parts} (shown : w ≡ v) (sound : Is
       → HasOpened m entry v j content (opened j room w)
   has_opened content room front of size small =
       let may : MayOpen m entry v j room = record { sound = sound; started = started; shut = shut; size = job.size; entry_is = job.entry; fits = job.fits; step = job.step; room = size ∙ ap (λ (x : Parts). length x.content) shown; small = small } in
+      let taken = parts_open m entry v j room may in
       let own : HasOpened m entry v j content (opened j room v) = record {
-        sound = open_sound m entry v j room may;
-        opens = subst (λ (k : Option Mark). Opens (record { number = j.number.0; mark = k; urgent = j.urgent }) (told_of m entry v) (told_of m entry (opened j room v))) (mark_at j.op j.length room content front of) (opens m entry v j room may);
-        stays = open_stays m entry v j room may;
+        sound = taken.sound;
+        opens = subst (λ (k : Option Mark). Opens (record { number = j.number.0; mark = k; urgent = j.urgent }) (told_of m entry v) (told_of m entry (opened j room v))) (mark_at j.op j.length room content front of) taken.opens;
+        stays = taken.stays;
       } in
       subst (λ (x : Parts). HasOpened m entry v j content (opened j room x)) (sym shown) own

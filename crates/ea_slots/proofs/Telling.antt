@@ -1,6 +1,6 @@
 -- What the calls of a device say of it as a memory device.
 use Rattle.std.specs.Prelude.{◌==◌, if◌then◌else◌, IfSome}
-use Rattle.std.proofs.Common.{◌≡◌, ◌≢◌, ◌+◌, ℕ, zero, suc, Bool, true, false, List, length, take, Option, Some, None, refl, sym, ap, subst, arith}
+use Rattle.std.proofs.Common.{◌≡◌, ◌≢◌, ◌+◌, ℕ, zero, suc, Bool, true, false, List, take, Option, Some, None, refl, sym, ap, subst, arith}
 use Rattle.std.proofs.lemmas.Bool.{ne_eqb}
 use Rattle.nv_base.specs.declared.geometry.Geometry.{Geometry}
 use Rattle.memif.specs.declared.answer.JobResult.{JobResult}
@@ -18,15 +18,15 @@ use Rattle.ea_told.specs.Device.{state_at, head_of, stand_of, told_of, clock_of}
 use Rattle.ea_told.specs.Inside.{IsSound, IsJob}
 use Rattle.ea_told.specs.Calls.{with_plan, canceled}
 use Rattle.ea_told.specs.Laws.{IsStepping}
-use Rattle.ea_told.proofs.Order.{order}
-use Rattle.ea_told.proofs.Called.{plan_sound, plan_stays, cancel_sound, cancel_is, cancel_stays}
+use Rattle.ea_told.proofs.Order.{parts_order}
+use Rattle.ea_told.proofs.Called.{parts_plan, parts_cancel}
 use Rattle.ea_told.proofs.Stepping.{slot}
 
 same_clock : (c : Clock) → SameClock c c
 same_clock c = record { may_find = λ w m. ((λ h. h), (λ h. h)); off_in = λ k. ((λ h. h), (λ h. h)); failed = λ k. ((λ h. h), (λ h. h)); worn = λ k n urgent. ((λ h. h), (λ h. h)); of_second = λ k. ((λ h. h), (λ h. h)); spare = λ k free. ((λ h. h), (λ h. h)); was = λ t k. ((λ h. h), (λ h. h)) }
 
 pub stays : (m : Making) (entry : Told) (s : Parts) → IsSound m entry s → ClockStays (clock_of m entry s) (told_of m entry s) (clock_of m entry s)
-stays m entry s sound = record { same = same_clock (clock_of m entry s); order = order m entry s sound }
+stays m entry s sound = record { same = same_clock (clock_of m entry s); order = (parts_order m entry s sound).order }
 
 -- A PLAN
 abbrev pub ArmsAs : Making → Told → ℕ → ℕ → ℕ → Parts → Parts → Type 0
@@ -42,7 +42,7 @@ not_armed m entry s which nth keep ne = subst
     (sym (ne_eqb which 0 ne)) (second_planned m entry s nth keep (which == 1))
 
 pub arms : (m : Making) (entry : Told) (which nth keep : ℕ) (s t : Parts) → IsSound m entry s → (which ≡ 0 → t ≡ with_plan nth keep s) → (which ≢ 0 → t ≡ s) → ArmsAs m entry which nth keep s t
-arms m entry zero nth keep s t sound plan none = subst (ArmsAs m entry 0 nth keep s) (sym (plan refl)) (plan_sound m entry s nth keep sound, (refl, plan_stays m entry s nth keep sound))
+arms m entry zero nth keep s t sound plan none = subst (ArmsAs m entry 0 nth keep s) (sym (plan refl)) ((parts_plan m entry nth keep s sound).sound, (refl, (parts_plan m entry nth keep s sound).stays))
 arms m entry (suc k) nth keep s t sound plan none =
     let ne : suc k ≢ 0 = λ e. cc e in
     subst (ArmsAs m entry (suc k) nth keep s) (sym (none ne)) (sound, (not_armed m entry s (suc k) nth keep ne, stays m entry s sound))
@@ -73,12 +73,12 @@ cancels m entry s t sound ends shut = by_job s.job refl
       ),
     )
     by_job (Some j) e =
-        let up = is_started m entry s j sound e in
+        let dropped = parts_cancel m entry s sound (is_started m entry s j sound e) in
         subst (CancelsAs m entry s) (sym (ends (λ none. cc (none, e)))) (
-          cancel_sound m entry s sound up,
+          dropped.sound,
           (
-            subst (λ (b : Bool). IfElse b (IsCanceled (told_of m entry s) (told_of m entry (canceled s))) (told_of m entry (canceled s) ≡ told_of m entry s)) (opened_as (Some j) e) (cancel_is m entry s sound up),
-            cancel_stays m entry s sound up,
+            subst (λ (b : Bool). IfElse b (IsCanceled (told_of m entry s) (told_of m entry (canceled s))) (told_of m entry (canceled s) ≡ told_of m entry s)) (opened_as (Some j) e) dropped.cancels,
+            dropped.stays,
           ),
         )
 

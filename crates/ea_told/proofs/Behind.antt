@@ -26,7 +26,7 @@ use Rattle.ea_told.specs.Turn.{last_after, given_after, off_after}
 use Rattle.ea_told.specs.Laws.{IsStepping}
 use Rattle.ea_told.proofs.Bytes.{each_told, before_told, next_length, few_faults}
 use Rattle.ea_told.proofs.Stepping.{op, size, started, power}
-use Rattle.ea_told.proofs.Stepped.{t, e, d0, after, cuts, run, worn_same, hold_all, stand_all}
+use Rattle.ea_told.proofs.Stepped.{t, d0, after, cuts, run, worn_same, hold_all, stand_all}
 
 given_few : (a : FlashAnswer) (step : SlotStep) (given most : ℕ) → given ≤ most → given_after a step given ≤ most
 given_few Done EraseHead given most le = le

@@ -22,6 +22,7 @@ use Rattle.ea_told.specs.Parts.{Parts}
 use Rattle.ea_told.specs.Device.{state_at, stand_of, job_leaves, slot_told, slots_in, flash_device, told_of, clock_of}
 use Rattle.ea_told.specs.Inside.{IsSound}
 use Rattle.ea_told.specs.Calls.{with_plan, canceled}
+use Rattle.ea_told.specs.Laws.{PartsCancel, PartsPlan}
 use Rattle.ea_told.proofs.Lists.{at_listed}
 use Rattle.ea_told.proofs.Order.{order}
 use Rattle.ea_told.proofs.Slot.{AreFewer, keeps_same, no_marks}
@@ -59,7 +60,7 @@ module _ (m : Making) (entry : Told) (s : Parts) (nth keep : ℕ) (sound : IsSou
   since (inl few) = let same = cuts_stay nth keep s.fls.flash.planning in inl (omega arith)
   since (inr big) = inr big
 
-  pub plan_sound : IsSound m entry t
+  plan_sound : IsSound m entry t
   plan_sound =
       let was = sound.made_for in
       record {
@@ -89,8 +90,11 @@ module _ (m : Making) (entry : Told) (s : Parts) (nth keep : ℕ) (sound : IsSou
       still_come None is = tt
       still_come (Some j) is = bytes_too (bytes_now s.fls.flash) j is
 
-  pub plan_stays : ClockStays (clock_of m entry s) (told_of m entry t) (clock_of m entry t)
+  plan_stays : ClockStays (clock_of m entry s) (told_of m entry t) (clock_of m entry t)
   plan_stays = record { same = clocks_stay (flash_device m entry s) (flash_device m entry t) none (λ n. refl); order = order m entry t plan_sound }
+
+pub parts_plan : PartsPlan
+parts_plan m entry nth keep s sound = record { sound = plan_sound m entry s nth keep sound; stays = plan_stays m entry s nth keep sound }
 
 -- A CANCEL
 kept_all : (f f' : ℕ → DeviceNumber × ℕ → Slot) → ((i : ℕ) (x : DeviceNumber × ℕ) → Keeps (f i x) (f' i x)) → (o : Option (ℕ × (DeviceNumber × ℕ))) → Keeps (at_entry no_slot f o) (at_entry no_slot f' o)
@@ -107,7 +111,7 @@ module _ (m : Making) (entry : Told) (s : Parts) (sound : IsSound m entry s) (st
   run_still : HasRun (flash_device m entry u)
   run_still = runs_stay (flash_device m entry s) (flash_device m entry u) sound.run (record { none = none_made; bytes = refl; counts = (refl, refl); came = (refl, refl); flash_faults = omega arith; faults = sound.run.faults; cuts = sound.run.cuts; worn = λ n since e. inl e })
 
-  pub cancel_sound : IsSound m entry u
+  cancel_sound : IsSound m entry u
   cancel_sound =
       let was = sound.made_for in
       record {
@@ -145,8 +149,11 @@ module _ (m : Making) (entry : Told) (s : Parts) (sound : IsSound m entry s) (st
       subst (λ (b : List ℕ). Keeps (slot_with (flash_device m entry s) old k) (slot_with (flash_device m entry u) b k)) (sym (some_eq old new (bytes_now s.fls.flash) are.1 are.2))
       (subst (λ (x : Slot). Keeps x (slot_with (flash_device m entry u) old k)) (sym one) (subst (λ (x : Slot). Keeps (at_entry no_slot (before old) (entry_of m k)) x) (sym two) kept)))
 
-  pub cancel_is : IsCanceled (told_of m entry s) (told_of m entry u)
+  cancel_is : IsCanceled (told_of m entry s) (told_of m entry u)
   cancel_is = record { only = refl; marks = cancel_marks; left = omega arith; ready = omega arith }
 
-  pub cancel_stays : ClockStays (clock_of m entry s) (told_of m entry u) (clock_of m entry u)
+  cancel_stays : ClockStays (clock_of m entry s) (told_of m entry u) (clock_of m entry u)
   cancel_stays = record { same = clocks_stay (flash_device m entry s) (flash_device m entry u) none_made (λ n. refl); order = order m entry u cancel_sound }
+
+pub parts_cancel : PartsCancel
+parts_cancel m entry s sound started = record { sound = cancel_sound m entry s sound started; cancels = cancel_is m entry s sound started; stays = cancel_stays m entry s sound started }

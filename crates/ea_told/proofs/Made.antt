@@ -1,23 +1,21 @@
 -- A device that is made, and what its flash is told of at the end.
 use Rattle.std.specs.Prelude.{IfSome, replicate}
-use Rattle.std.proofs.Common.{◌≡◌, inl, ◌≤◌, ℕ, zero, suc, false, List, length, Option, Some, None, refl, ap, arith}
+use Rattle.std.proofs.Common.{◌≡◌, inl, ◌≤◌, ℕ, zero, suc, List, length, Option, Some, None, refl, ap, arith}
 use Rattle.nv_base.specs.Plan.{Planning}
 use Rattle.nv_base.specs.declared.geometry.Geometry.{Geometry}
 use Rattle.fls_model.specs.Attach.{IsFilled, AreBytesOf}
 use Rattle.fls_model.specs.Told.{Told, ToldBytes, IfBothTold}
 use Rattle.fls_jobs.specs.State.{FlsState}
-use Rattle.fls_told.specs.Device.{flash_run}
-use Rattle.fls_told.specs.Runs.{IsMade, HasRun, part_before}
+use Rattle.fls_told.specs.Runs.{IsMade, HasRun}
 use Rattle.fls_told.proofs.Making.{runs_begin}
 use Rattle.fls_told.proofs.Runs.{runs_bridge}
-use Rattle.promise_device.specs.Bridge.{Bridges}
 use Rattle.ea_told.specs.Making.{Making, entry_of, at_entry}
 use Rattle.ea_told.specs.Parts.{Parts}
-use Rattle.ea_told.specs.Reading.{reading_of}
 use Rattle.ea_told.specs.States.{no_state}
-use Rattle.ea_told.specs.Device.{state_at, flash_device, told_of, clock_of}
+use Rattle.ea_told.specs.Device.{state_at, flash_device}
 use Rattle.ea_told.specs.Inside.{CountsCuts, IsSound}
 use Rattle.ea_told.specs.Made.{fresh, IsNew}
+use Rattle.ea_told.specs.Laws.{PartsBegin, PartsBridge}
 use Rattle.ea_told.proofs.Bytes.{run_counts}
 use Rattle.ea_told.proofs.Reading.{slots_attach_sound}
 
@@ -56,7 +54,7 @@ module _ (m : Making) (entry : Told) (f : FlsState) (content : List ℕ) (new : 
   run : HasRun (flash_device m entry s)
   run = runs_begin (flash_device m entry s) is_made (slots_attach_sound m) (run_counts entry f.flash cuts)
 
-  pub new_sound : IsSound m entry s
+  new_sound : IsSound m entry s
   new_sound = record {
     made_for = record {
       slots = new.slots;
@@ -84,7 +82,8 @@ module _ (m : Making) (entry : Told) (f : FlsState) (content : List ℕ) (new : 
     off = λ up. cc up;
   }
 
--- what a sound device told of its flash is so
-pub sound_bridge : (m : Making) (entry : Told) (s : Parts) → IsSound m entry s
-    → Bridges (reading_of m) false (flash_run (flash_device m entry s)) (part_before (flash_device m entry s)) (told_of m entry s) (clock_of m entry s)
-sound_bridge m entry s sound = runs_bridge (flash_device m entry s) sound.run
+pub parts_begin : PartsBegin
+parts_begin m entry f content new = new_sound m entry f content new
+
+pub parts_bridge : PartsBridge
+parts_bridge m entry s sound = runs_bridge (flash_device m entry s) sound.run

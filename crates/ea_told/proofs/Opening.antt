@@ -1,7 +1,6 @@
 -- A job is taken.
 use Rattle.std.specs.Prelude.{IfSome, ◌==◌, if◌then◌else◌}
-use Rattle.std.specs.List.{All}
-use Rattle.std.proofs.Common.{◌≡◌, ◌≢◌, inl, inr, ◌<◌, ◌≤◌, ◌+◌, ℕ, Bool, true, false, List, [], ◌∷◌, length, take, Option, Some, None, refl, sym, ap, ◌∙◌, subst, arith}
+use Rattle.std.proofs.Common.{◌≡◌, inl, inr, ◌≤◌, ◌+◌, ℕ, Bool, true, false, List, [], ◌∷◌, take, Option, Some, None, refl, sym, ap, ◌∙◌, subst, arith}
 use Rattle.std.proofs.lemmas.Bool.{cases_Bool, cases_eq, false≢true}
 use Rattle.std.proofs.lemmas.List.Elements.{Contains-append_left, Contains-append_cases}
 use Rattle.nv_base.specs.Held.{held_next}
@@ -21,7 +20,6 @@ use Rattle.fls_told.proofs.Tells.{tells_keep, tells_doubt}
 use Rattle.fee_format.specs.Pages.{body_pages_of}
 use Rattle.fee_format.proofs.Tests.{eq_is}
 use Rattle.ea_image.specs.declared.memory.SlotMemory.{SlotMemory}
-use Rattle.ea_image.specs.declared.step.SlotStep.TheVariants.{EraseHead}
 use Rattle.ea_image.specs.Memory.{settled_of}
 use Rattle.ea_image.specs.Slots.{slot_bytes}
 use Rattle.ea_told.specs.declared.job.EaJob.{EaJob}
@@ -29,23 +27,12 @@ use Rattle.ea_told.specs.Making.{Making, entry_of, at_entry}
 use Rattle.ea_told.specs.Parts.{Parts}
 use Rattle.ea_told.specs.Calls.{opened}
 use Rattle.ea_told.specs.Device.{fixed_for, state_at, can_write, mark_of, stand_of, left_of, left_by, job_leaves, slot_told, doubts_as, slots_in, flash_device, told_of, clock_of}
-use Rattle.ea_told.specs.Inside.{IsLengthOf, IsJob, HasComeTo, IsSound}
+use Rattle.ea_told.specs.Inside.{IsJob, HasComeTo, IsSound}
+use Rattle.ea_told.specs.Laws.{MayOpen, PartsOpen}
 use Rattle.ea_told.proofs.Lists.{at_listed, entry_is}
 use Rattle.ea_told.proofs.Order.{order, figures_of, job_few}
 use Rattle.ea_told.proofs.Slot.{keeps_same, same_marks, has_first, has_one}
 use Rattle.ea_told.proofs.Stepping.{job_here, job_elsewhere}
-
--- a job begins with its first step
-pub record MayOpen (m : Making) (entry : Told) (s : Parts) (j : EaJob) (content : List ℕ) : Type 0 where
-  pub sound : IsSound m entry s
-  pub started : s.started ≡ true
-  pub shut : s.job ≡ None
-  pub size : ℕ
-  pub entry_is : entry_of m j.number.0 ≡ Some (j.place, (j.number, size))
-  pub fits : IsLengthOf j.op j.length size
-  pub step : j.step ≡ EraseHead
-  pub room : length content ≡ length s.content
-  pub small : All (λ x. x < 256) content
 
 doubts_one : (w : SlotMemory) (slots : _ → _) (mark : Mark) → Doubts mark (slot_told w slots []) (slot_told w slots (mark ∷ []))
 doubts_one w slots mark = record {
@@ -58,7 +45,7 @@ doubts_one w slots mark = record {
 }
 
 module _ (m : Making) (entry : Told) (s : Parts) (j : EaJob) (content : List ℕ) (may : MayOpen m entry s j content) where
-  abbrev pub t : Parts
+  abbrev t : Parts
   t = opened j content s
 
   abbrev d : FlashDevice
@@ -95,7 +82,7 @@ module _ (m : Making) (entry : Told) (s : Parts) (j : EaJob) (content : List ℕ
   any_bytes None P each = tt
   any_bytes (Some b) P each = each b
 
-  pub open_sound : IsSound m entry t
+  open_sound : IsSound m entry t
   open_sound =
       let was = may.sound.made_for in
       record {
@@ -113,7 +100,7 @@ module _ (m : Making) (entry : Told) (s : Parts) (j : EaJob) (content : List ℕ
         off = may.sound.off;
       }
 
-  pub open_stays : ClockStays (clock_of m entry s) (told_of m entry t) (clock_of m entry t)
+  open_stays : ClockStays (clock_of m entry s) (told_of m entry t) (clock_of m entry t)
   open_stays = record { same = clocks_stay d e none (λ n. refl); order = order m entry t open_sound }
 
   -- WHAT IS TOLD
@@ -205,7 +192,7 @@ module _ (m : Making) (entry : Told) (s : Parts) (j : EaJob) (content : List ℕ
   prompt true is = λ enough. absurd (let some = pages_some in omega arith)
   prompt false is = omega arith
 
-  pub opens : Opens told (told_of m entry s) (told_of m entry t)
+  opens : Opens told (told_of m entry s) (told_of m entry t)
   opens = record {
     only = refl;
     marks = marks_by told.mark refl;
@@ -214,3 +201,6 @@ module _ (m : Making) (entry : Told) (s : Parts) (j : EaJob) (content : List ℕ
     left_beside = λ one' switching. absurd (false≢true switching);
     ready = prompt (urgent_first (fixed_for m) (Open told)) refl;
   }
+
+pub parts_open : PartsOpen
+parts_open m entry s j content may = record { sound = open_sound m entry s j content may; opens = opens m entry s j content may; stays = open_stays m entry s j content may }

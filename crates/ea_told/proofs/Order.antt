@@ -28,6 +28,7 @@ use Rattle.ea_told.specs.Parts.{Parts}
 use Rattle.ea_told.specs.Reading.{held_in}
 use Rattle.ea_told.specs.Device.{figures_for, fixed_for, state_at, can_write, mark_of, stand_of, job_left, left_of, wait_of, job_leaves, slot_told, slots_in, flash_device, told_of, clock_of}
 use Rattle.ea_told.specs.Inside.{IsLengthOf, IsJob, HoldAll, IsSound}
+use Rattle.ea_told.specs.Laws.{PartsOrder}
 use Rattle.ea_told.proofs.Bytes.{has_bytes, attached_is, each_told, told_at, now_at}
 use Rattle.ea_told.proofs.Lists.{at_listed, at_mapped, entry_length}
 use Rattle.ea_told.proofs.Slot.{found_possible}
@@ -180,7 +181,7 @@ module _ (m : Making) (entry : Told) (s : Parts) (sound : IsSound m entry s) whe
   }
 
   -- FREE PAGES
-  pub frees_ready : FreesReady (told_of m entry s) (clock_of m entry s)
+  frees_ready : FreesReady (told_of m entry s) (clock_of m entry s)
   frees_ready started on pages spare = omega arith
 
   needs : (o : Option EaJob) → IfSome o (IsJob m s) → is_open (stand_of s.content o s.last s.given) ≡ true → is_read (stand_of s.content o s.last s.given) ≡ false → 1 ≤ pages_needed (fixed_for m) (stand_of s.content o s.last s.given)
@@ -196,8 +197,11 @@ module _ (m : Making) (entry : Told) (s : Parts) (sound : IsSound m entry s) whe
       by_op Invalidate writes = omega (arith, e)
       by_op Erase writes = omega (arith, e)
 
-  pub room_is_left : RoomIsLeft (told_of m entry s) (clock_of m entry s)
+  room_is_left : RoomIsLeft (told_of m entry s) (clock_of m entry s)
   room_is_left started on shut opened no_read pages spare enough =
       let none : pages ≤ 0 = spare.few in
       let some' = needs s.job sound.job opened no_read in
       absurd (omega (arith, none, some', enough))
+
+pub parts_order : PartsOrder
+parts_order m entry s sound = record { order = order m entry s sound; ready = frees_ready m entry s sound; room = room_is_left m entry s sound }

@@ -1,6 +1,6 @@
 -- What is told of one number, from one moment to the next.
 use Rattle.std.specs.Prelude.{◌++◌, map, take, Contains}
-use Rattle.std.proofs.Common.{◌≡◌, ◌≢◌, inl, inr, ◌+◌, ℕ, zero, suc, List, [], ◌∷◌, Option, Some, None, length, refl, sym, ap, ◌∙◌, subst, arith}
+use Rattle.std.proofs.Common.{◌≡◌, ◌≢◌, inl, inr, ℕ, zero, suc, List, [], ◌∷◌, Option, Some, None, refl, sym, ap, ◌∙◌, subst, arith}
 use Rattle.std.proofs.lemmas.List.Elements.{Contains-append_left, Contains-append_right, Contains-append_cases}
 use Rattle.nv_base.specs.Held.{Held, held_next, more_writes}
 use Rattle.nv_base.specs.declared.mark.Mark.{Mark}

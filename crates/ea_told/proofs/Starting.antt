@@ -29,7 +29,8 @@ use Rattle.ea_told.specs.Making.{Making, entry_of, at_entry}
 use Rattle.ea_told.specs.Parts.{Parts}
 use Rattle.ea_told.specs.Device.{state_at, slot_told, slots_in, flash_device, told_of, clock_of}
 use Rattle.ea_told.specs.Inside.{HoldAll, StandAll, CountsCuts, IsSound}
-use Rattle.ea_told.specs.Start.{LoadsAll, started_as, StartsWith, IsStart}
+use Rattle.ea_told.specs.Laws.{PartsStart}
+use Rattle.ea_told.specs.Start.{LoadsAll, started_as, StartsWith}
 use Rattle.ea_told.proofs.Bytes.{told_at, each_told, rose_next}
 use Rattle.ea_told.proofs.Lists.{at_listed}
 use Rattle.ea_told.proofs.Order.{order, now_possible}
@@ -196,10 +197,8 @@ more_by : (a b : ℕ) → Rose a b → a ≤ b
 more_by a b (inl less) = omega arith
 more_by a b (inr (big, le)) = le
 
--- a device that was started, or failed to
-pub starts : (m : Making) (entry : Told) (answer : Result (Unit {0}) StartFault) (s t : Parts) → IsSound m entry s → IsStart m answer s t
-    → StartsUp answer (told_of m entry s) (clock_of m entry s) (told_of m entry t) (clock_of m entry t) × IsSound m entry t
-starts m entry (Ok u) s t sound is =
+pub parts_start : PartsStart
+parts_start m entry (Ok u) s t sound is =
     let c = is.came in
     let more : s.fls.flash.faults ≤ is.fls.flash.faults = (let x = ap (λ (y : Told). y.faults) c.0 in omega (arith, x)) in
     let t' = started_as s is.fls is.states is.content true s.faults in
@@ -208,7 +207,7 @@ starts m entry (Ok u) s t sound is =
           (refl, off_now m entry s sound is.fls is.states is.content is.starts true s.faults more (inl refl) (λ x. c.1), refl, no_doubts m entry s sound is.fls is.states is.content is.starts true s.faults more (inl refl) (λ x. c.1)),
       start_sound m entry s sound is.fls is.states is.content is.starts true s.faults more (inl refl) (λ x. c.1),
     )
-starts m entry (Err u) s t sound is =
+parts_start m entry (Err u) s t sound is =
     let c = is.came in
     let more = more_by s.fls.flash.faults is.fls.flash.faults c.0 in
     subst (λ (x : Parts). StartsUp (Err u) (told_of m entry s) (clock_of m entry s) (told_of m entry x) (clock_of m entry x) × IsSound m entry x) (sym c.1) (

@@ -1,6 +1,6 @@
 -- The turn of a step that was asked for.
 use Rattle.std.specs.Prelude.{not, is_none, ◌&&◌, if◌then◌else◌}
-use Rattle.std.proofs.Common.{◌≡◌, ◌≢◌, inl, inr, ◌≤◌, Bool, true, false, [], ◌∷◌, Option, Some, None, refl, sym, ap, ◌∙◌, subst, arith}
+use Rattle.std.proofs.Common.{◌≡◌, inl, inr, ◌≤◌, Bool, true, false, [], ◌∷◌, Option, Some, None, refl, sym, ap, ◌∙◌, subst, arith}
 use Rattle.std.proofs.lemmas.Bool.{false≢true}
 use Rattle.nv_base.specs.Count.{Rose, next_count}
 use Rattle.nv_base.specs.declared.mark.Mark.{Mark}

@@ -23,8 +23,6 @@ mod flagged_device;
 #[cfg(test)]
 mod flags;
 #[cfg(test)]
-mod floor;
-#[cfg(test)]
 mod found;
 #[cfg(test)]
 mod lock;
