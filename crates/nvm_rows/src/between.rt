@@ -1,10 +1,10 @@
 // A step or a fault at each turn of a job.
 use crate::case::Case;
-use crate::everywhere::{KEEPS, fail_each};
+use crate::everywhere::{fail_each, keeps};
 use crate::faults::Failing;
 use crate::ranges::Ranges;
 use crate::spots::with_line;
-use crate::trials::{Trial, Trials};
+use crate::trials::{Share, Trial, Trials};
 use anyhow::Context;
 use std::alloc::{AllocError, AllocGlobal, Global};
 use std::sync::Wait;
@@ -21,22 +21,12 @@ pub fn try_between<R: Print + AllocGlobal + Threads + Wait + Sync>(
     step: &str,
 ) -> anyhow::Result<()> {
     let alloc = rt.alloc();
-    let mut trials = Trials::of(alloc, case)?;
+    let mut trials = Trials::of(alloc, case, Share::All)?;
     let before = before_the_drain(case)?;
     let whole = trials.entries(rt, &case.input)?;
-    let mut ranges = Ranges::of(format!(in alloc; "{step} behind turns")?);
+    let mut ranges = trials.ranges(format!(in alloc; "{step} behind turns")?);
     for number in 0..MOST_TURNS {
-        let text = with_turns(alloc, before, number)?;
-        let from = trials.entries(rt, &text)?;
-        let text = with_line(alloc, &text, step)?;
-        let input = with_line(alloc, &text, "drain")?;
-        let trial = Trial {
-            number,
-            input: &input,
-            fault: None,
-            from,
-        };
-        trials.run(rt, &mut ranges, trial)?;
+        let from = step_behind(rt, &mut trials, &mut ranges, before, step, number)?;
         if from == whole {
             break;
         }
@@ -45,23 +35,51 @@ pub fn try_between<R: Print + AllocGlobal + Threads + Wait + Sync>(
     trials.show(rt)
 }
 
+// Runs a script with a step behind so many turns more, and a drain behind that. It gives the entries before the step.
+fn step_behind<R: Print + AllocGlobal + Threads + Wait + Sync>(
+    rt: &R,
+    trials: &mut Trials<'_>,
+    ranges: &mut Ranges,
+    before: &[u8],
+    step: &str,
+    number: u64,
+) -> anyhow::Result<u64> {
+    let text = with_turns(rt.alloc(), before, number)?;
+    let from = trials.entries(rt, &text)?;
+    let input = with_step(rt.alloc(), &text, step)?;
+    let trial = Trial {
+        number,
+        input: &input,
+        fault: None,
+        from,
+    };
+    trials.run(rt, ranges, trial)?;
+    Ok(from)
+}
+
+// A script with a step behind it, and a drain.
+fn with_step(alloc: Global, text: &[u8], step: &str) -> Result<Vec<u8>, AllocError> {
+    let text = with_line(alloc, text, step)?;
+    with_line(alloc, &text, "drain")
+}
+
 /// Runs the script of a case once for each changing operation and each read of its last `drain` with a fault at it, and
 /// prints what that drain came to.
 pub fn try_faults<R: Print + AllocGlobal + Threads + Wait + Sync>(
     rt: &R,
     case: &Case,
 ) -> anyhow::Result<()> {
-    let mut trials = Trials::of(rt.alloc(), case)?;
+    let mut trials = Trials::of(rt.alloc(), case, Share::All)?;
     let before = before_the_drain(case)?;
     let from = trials.entries(rt, before)?;
-    let before = trials.call(rt, before, None)?;
-    let whole = trials.call(rt, &case.input, None)?;
-    for keep in KEEPS {
+    let before = trials.counts(rt, before)?;
+    let whole = trials.counts(rt, &case.input)?;
+    for keep in keeps(rt.alloc(), case)? {
         let failing = Failing::Operation { keep };
-        let operations = (before.operations, whole.operations);
+        let operations = (before.0, whole.0);
         fail_each(rt, &mut trials, &case.input, from, failing, operations)?;
     }
-    let reads = (before.reads, whole.reads);
+    let reads = (before.1, whole.1);
     fail_each(rt, &mut trials, &case.input, from, Failing::Read, reads)?;
     trials.show(rt)
 }

@@ -1,13 +1,14 @@
 // A worked case, as its lines give it.
 use crate::faults::Faults;
 use crate::lines::add_line;
+use crate::trials::Share;
 use anyhow::{Context, bail};
 use script_soak::Draws;
 use std::alloc::{AllocError, Global};
 
 /// One call of the program: its name, its words, its input, the flash at the start, and what fails. Then what else is shown:
 /// whether the bytes of the flash at the end aren't; whether the lines are shown by caller; whether the call is made twice; whether the steps of its `soak` are
-/// made on a stack; whether the script is also run with a cut and a fault everywhere, and with a fault at each call of its
+/// made on a stack; which of its runs with a cut and a fault everywhere are made too, if any; whether it is run with a fault at each call of its
 /// last drain; the steps that are tried at each turn of that drain; and, where it is also played over a device in memory,
 /// the numbers of turns there. Where it has a history that was printed elsewhere, nothing is called, and that is judged with
 /// what a further start-up printed.
@@ -22,7 +23,7 @@ pub struct Case {
     pub callers: bool,
     pub again: bool,
     pub stack: bool,
-    pub everywhere: bool,
+    pub everywhere: Option<Share>,
     pub each_fault: bool,
     pub between: Vec<String>,
     pub plain: Option<Vec<u64>>,
@@ -43,7 +44,7 @@ impl Case {
             callers: false,
             again: false,
             stack: false,
-            everywhere: false,
+            everywhere: None,
             each_fault: false,
             between: Vec::new(alloc),
             plain: None,
@@ -60,7 +61,7 @@ impl Case {
             "callers" => self.callers = true,
             "again" => self.again = true,
             "stack" => self.stack = true,
-            "everywhere" => self.everywhere = true,
+            "everywhere" => self.everywhere = Some(share(rest)?),
             "faults" => self.each_fault = true,
             "plain" => self.plain = Some(numbers(alloc, rest)?),
             "words" => add_words(alloc, &mut self.words, rest)?,
@@ -132,6 +133,15 @@ fn put(flash: &mut [u8], address: usize, bytes: &[u8]) -> Option<()> {
 /// The number that a text is.
 pub fn number(text: &str) -> anyhow::Result<u64> {
     text.parse::<u64>().context("a number")
+}
+
+// All runs; or one of so many shares of them, from 0, so that each share can be made in a process of its own.
+fn share(text: &str) -> anyhow::Result<Share> {
+    if text.is_empty() {
+        return Ok(Share::All);
+    }
+    let (place, of) = pair(text)?;
+    Ok(Share::Part { place, of })
 }
 
 // Numbers, one space between them.

@@ -1,58 +1,119 @@
 // A script with one cut or one fault at each place.
 use crate::case::Case;
 use crate::faults::{Failing, Fault};
-use crate::ranges::Ranges;
 use crate::spots::{Spot, spots, with_line, with_plan};
-use crate::trials::{Trial, Trials};
+use crate::trials::{Share, Trial, Trials};
+use nvm_script::first_line;
+use nvm_top::nvm_flash::block_config::read;
 use std::alloc::{AllocError, AllocGlobal, Global};
 use std::sync::Wait;
 use std::thread::Threads;
 
-/// The bytes of an operation that are done, of a page of 16: none, half, all but one, all.
-pub const KEEPS: [u32; 4] = [0, 8, 15, 16];
+/// The bytes of an operation that are done: none, half of a page of the case's configuration, all of it but one, all.
+pub fn keeps(alloc: Global, case: &Case) -> anyhow::Result<[u32; 4]> {
+    let page = read(alloc, first_line(&case.input))?.geometry().page;
+    Ok([0, page / 2, page.saturating_sub(1), page])
+}
 
 // A plan so far away that no cut of it comes.
 const FAR: u64 = 1_000_000;
 
 /// Runs the script of a case once for each changing operation with a power cut at it, once for each with a fault at it,
-/// and once for each read with a fault at it. Each run has a start-up at its end. It prints how they ended, and what was
-/// counted over all of them.
+/// and once for each read with a fault at it. Each run has a start-up at its end. It prints how those of a share ended, and
+/// what was counted over them; of a part it prints first how many runs there are in all.
 pub fn try_everywhere<R: Print + AllocGlobal + Threads + Wait + Sync>(
     rt: &R,
     case: &Case,
+    share: Share,
 ) -> anyhow::Result<()> {
     let alloc = rt.alloc();
-    let mut trials = Trials::of(alloc, case)?;
+    let keeps = keeps(alloc, case)?;
+    let mut trials = Trials::of(alloc, case, share)?;
     let input = with_line(alloc, &case.input, "restart")?;
-    let whole = trials.call(rt, &input, None)?;
-    for keep in KEEPS {
-        for spot in &spots(alloc, &input)? {
-            cut_behind(rt, &mut trials, &input, *spot, keep)?;
-        }
-        let failing = Failing::Operation { keep };
-        let operations = (0, whole.operations);
-        fail_each(rt, &mut trials, &input, u64::MAX, failing, operations)?;
-    }
-    let reads = (0, whole.reads);
-    fail_each(rt, &mut trials, &input, u64::MAX, Failing::Read, reads)?;
+    try_each(rt, &mut trials, &input, keeps, share)?;
     trials.show(rt)
 }
 
-// A cut at each operation that the steps behind a place make, where no other plan stands. The last number is one more
-// than these, where the plan stands to the end.
+// The runs of an input.
+fn try_each<R: Print + AllocGlobal + Threads + Wait + Sync>(
+    rt: &R,
+    trials: &mut Trials<'_>,
+    input: &[u8],
+    keeps: [u32; 4],
+    share: Share,
+) -> anyhow::Result<()> {
+    let (operations, reads) = trials.counts(rt, input)?;
+    let places = places(rt, trials, input)?;
+    if let Share::Part { .. } = share {
+        let each = sum_of(&places).saturating_add(operations);
+        let all = each.saturating_mul(4).saturating_add(reads);
+        println!(rt; "of {all} runs")?;
+    }
+    for keep in keeps {
+        cut_each(rt, trials, input, &places, keep)?;
+        let failing = Failing::Operation { keep };
+        fail_each(rt, trials, input, u64::MAX, failing, (0, operations))?;
+    }
+    fail_each(rt, trials, input, u64::MAX, Failing::Read, (0, reads))
+}
+
+// The cuts of an input that keep so many bytes.
+fn cut_each<R: Print + AllocGlobal + Threads + Wait + Sync>(
+    rt: &R,
+    trials: &mut Trials<'_>,
+    input: &[u8],
+    places: &[Place],
+    keep: u32,
+) -> anyhow::Result<()> {
+    for place in places {
+        cut_behind(rt, trials, input, *place, keep)?;
+    }
+    Ok(())
+}
+
+// A place of a plan, with the number of its last cut: one more than the operations that the steps behind it make, where no
+// other plan stands. There the plan stands to the end.
+#[derive(Clone, Copy)]
+struct Place {
+    spot: Spot,
+    last: u64,
+}
+
+// The places of an input.
+fn places<R: AllocGlobal + Threads + Wait + Sync>(
+    rt: &R,
+    trials: &Trials<'_>,
+    input: &[u8],
+) -> anyhow::Result<Vec<Place>> {
+    let mut places: Vec<Place> = Vec::new(rt.alloc());
+    for spot in &spots(rt.alloc(), input)? {
+        let last = operations_behind(rt, trials, input, *spot)?.saturating_add(1);
+        places.push(Place { spot: *spot, last })?;
+    }
+    Ok(places)
+}
+
+fn sum_of(places: &[Place]) -> u64 {
+    let mut sum: u64 = 0;
+    for place in places {
+        sum = sum.saturating_add(place.last);
+    }
+    sum
+}
+
+// A cut at each operation that the steps behind a place make, and at one more.
 fn cut_behind<R: Print + AllocGlobal + Threads + Wait + Sync>(
     rt: &R,
     trials: &mut Trials<'_>,
     input: &[u8],
-    spot: Spot,
+    place: Place,
     keep: u32,
 ) -> anyhow::Result<()> {
     let alloc = rt.alloc();
-    let line = spot.line;
-    let mut ranges = Ranges::of(format!(in alloc; "cut behind line {line} keep {keep} at")?);
-    let count = operations_behind(rt, trials, input, spot)?;
-    for number in 1..=count.saturating_add(1) {
-        let text = with_plan(alloc, input, spot.at, number, keep)?;
+    let line = place.spot.line;
+    let mut ranges = trials.ranges(format!(in alloc; "cut behind line {line} keep {keep} at")?);
+    for number in 1..=place.last {
+        let text = with_plan(alloc, input, place.spot.at, number, keep)?;
         let trial = Trial {
             number,
             input: &text,
@@ -74,8 +135,8 @@ fn operations_behind<R: AllocGlobal + Threads + Wait + Sync>(
     let before = input.get(..spot.at).unwrap_or(input);
     let behind = input.get(..spot.end).unwrap_or(input);
     let behind = with_plan(rt.alloc(), behind, spot.at, FAR, 0)?;
-    let before = trials.call(rt, before, None)?.operations;
-    let behind = trials.call(rt, &behind, None)?.operations;
+    let (before, _) = trials.counts(rt, before)?;
+    let (behind, _) = trials.counts(rt, &behind)?;
     Ok(behind.saturating_sub(before))
 }
 
@@ -88,7 +149,7 @@ pub fn fail_each<R: Print + AllocGlobal + Threads + Wait + Sync>(
     failing: Failing,
     (before, last): (u64, u64),
 ) -> anyhow::Result<()> {
-    let mut ranges = Ranges::of(title(rt.alloc(), failing)?);
+    let mut ranges = trials.ranges(title(rt.alloc(), failing)?);
     for number in 1..=last.saturating_sub(before) {
         let nth = before.saturating_add(number);
         let trial = Trial {

@@ -14,11 +14,20 @@ pub fn show_plain<R: Print + AllocGlobal>(
     turns: &[u64],
     called: &Called,
 ) -> anyhow::Result<()> {
-    let alloc = rt.alloc();
-    let input = steps_in_memory(alloc, &case.input, turns)?;
-    let text = play_in_memory(alloc, &input)?;
-    let mut printed = str::from_utf8(&called.output)?;
-    for line in str::from_utf8(&text)?.split('\n') {
+    let text = text_in_memory(rt.alloc(), &case.input, turns)?;
+    show_lines(rt, str::from_utf8(&text)?, str::from_utf8(&called.output)?)
+}
+
+// The history of a script in memory.
+fn text_in_memory(alloc: Global, input: &[u8], turns: &[u64]) -> anyhow::Result<Vec<u8>> {
+    let input = steps_in_memory(alloc, input, turns)?;
+    play_in_memory(alloc, &input)
+}
+
+// The lines of a history in memory, beside the text that the call printed.
+fn show_lines<R: Print + AllocGlobal>(rt: &R, text: &str, printed: &str) -> anyhow::Result<()> {
+    let mut printed = printed;
+    for line in text.split('\n') {
         if line.is_empty() {
             continue;
         }

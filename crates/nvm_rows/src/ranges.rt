@@ -1,19 +1,21 @@
 // Runs that differ in one number.
 use std::alloc::AllocGlobal;
 
-/// Runs one after the other, under what was tried in them: those that ended alike get one line.
+/// Runs one after the other, under what was tried in them: those that ended alike get one line, unless each has one.
 #[derive(Drop)]
 pub struct Ranges {
     what: String,
+    single: bool,
     first: u64,
     last: u64,
     outcome: Option<String>,
 }
 
 impl Ranges {
-    pub fn of(what: String) -> Ranges {
+    pub fn of(what: String, single: bool) -> Ranges {
         Ranges {
             what,
+            single,
             first: 0,
             last: 0,
             outcome: None,
@@ -37,6 +39,10 @@ impl Ranges {
         }
         self.last = number;
         self.outcome = Some(outcome);
+        if self.single {
+            self.end(rt)?;
+            self.outcome = None;
+        }
         Ok(())
     }
 

@@ -2,13 +2,10 @@
 ghost use Rattle.std.specs.Prelude.{◌≡◌, true};
 ghost use Rattle.nvm_top.specs.nvm_flash.Made.{IsOrigin};
 
-use crate::call::Called;
-use crate::case::{Case, number};
-use crate::show::same_or_not;
 use anyhow::{Context, bail};
 use fls_model::{MemFlash, mem_flash};
 use nv_base::{Bytes, Request};
-use nvm_script::{StepKind, StepList, first_line, summary_text};
+use nvm_script::{StepKind, StepList, summary_text};
 use nvm_top::nvm_flash::block_config::{Config, read};
 use nvm_top::nvm_flash::fee_core::Origin;
 use nvm_top::nvm_flash::memif::MemDevice;
@@ -18,39 +15,25 @@ use nvm_top::nvm_flash::promise_run::CAP;
 use nvm_top::nvm_flash::ram_blocks::PlainSync;
 use nvm_top::nvm_flash::{give_back, make_stack};
 use script_soak::soak_steps;
-use std::alloc::{AllocGlobal, Global};
+use std::alloc::Global;
 use std::marker::Brand;
 
-/// Makes the steps that a case's `soak` draws on a stack over a blank flash in memory, and prints whether the summary of
-/// its history and the bytes of its flash are those of the call.
-pub fn show_stack<R: Print + AllocGlobal>(
-    rt: &R,
-    case: &Case,
-    called: &Called,
-) -> anyhow::Result<()> {
-    let alloc = rt.alloc();
-    let [_, _, seed, count] = case.words.as_slice() else {
-        bail!("no words of soak");
-    };
-    let config = read(alloc, first_line(&case.input))?;
-    let steps = drawn(alloc, &config, seed.as_str(), count.as_str())?;
-    let made = make_over(alloc, config, steps, mem_flash(alloc, &[], 0)?);
-    let (text, flash) = made.context("a step isn't made on a stack")?;
-    let is_same = text.as_slice() == called.output.as_slice()
-        && flash.bytes() == called.flash.as_slice();
-    let what = same_or_not(is_same);
-    println!(rt; "on a stack {what}")?;
-    Ok(())
-}
-
-// The steps of these words.
-fn drawn(alloc: Global, config: &Config, seed: &str, count: &str) -> anyhow::Result<StepList> {
-    let seed = u32::try_from(number(seed)?).context("a seed")?;
-    let count = u32::try_from(number(count)?).context("a count")?;
+/// Makes the steps that `soak` draws from a seed, in so many rounds, on a stack of this configuration over a blank flash in
+/// memory. It gives the summary of the history, and the bytes of the flash.
+pub fn soak_on_a_stack(
+    alloc: Global,
+    configuration: &[u8],
+    seed: u32,
+    count: u32,
+) -> anyhow::Result<(Bytes, Vec<u8>)> {
     if count == u32::MAX {
         bail!("too many rounds");
     }
-    Ok(soak_steps(alloc, config, seed, count)?)
+    let config = read(alloc, configuration)?;
+    let steps = soak_steps(alloc, &config, seed, count)?;
+    let made = make_over(alloc, config, steps, mem_flash(alloc, &[], 0)?);
+    let (text, flash) = made.context("a step isn't made on a stack")?;
+    Ok((text, flash.bytes().to_vec(alloc)?))
 }
 
 // The summary of the history that steps make over a flash, and the flash; None where one isn't made.

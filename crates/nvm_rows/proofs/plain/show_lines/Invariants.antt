@@ -1,7 +1,7 @@
 -- What is left of the text that was printed is text.
 use denote.Text.{Utf8}
 use denote.Shadow.{shadow}
-use Rattle.nvm_rows.proofs.plain.show_plain.Given as goal
+use Rattle.nvm_rows.proofs.plain.show_lines.Given as goal
 
 abbrev pub invariant-loop-line : goal.invariant-loop-line
 invariant-loop-line g l =
