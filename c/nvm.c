@@ -3,11 +3,13 @@
 #include "nvm_c.h"
 #include <string.h>
 
-enum { TURN_POSTED = 3, TURN_OFF = 4 };
+enum { TURN_PICKED = 2, TURN_POSTED = 3, TURN_OFF = 4 };
 
 typedef struct {
     void *destination;  /* where what a job gives goes */
     uint8_t is_pending, to_ram, changed;
+    uint8_t before;     /* the status before the ReadAll that is pending, or of a job that ended since */
+    uint8_t is_member;    /* whether it is a member of ReadAll, as far as one has shown it */
 } block_state;
 
 static nvm_handle unit;
@@ -82,7 +84,10 @@ static int gives(NvM_RequestResultType result) {
     return result == NVM_REQ_OK || result == NVM_REQ_REDUNDANCY_FAILED || result == NVM_REQ_RESTORED_FROM_ROM;
 }
 
-void NvM_ReadAll(void) { ask_job(NVM_READ_ALL, 0, NULL, 0, NULL, 1); }
+void NvM_ReadAll(void) {
+    if (ask_job(NVM_READ_ALL, 0, NULL, 0, NULL, 1) != E_OK) return;
+    for (unsigned id = 2; id < config.count + 2u; id++) states[id].before = nvm_status(&unit, (NvM_BlockIdType)id);
+}
 
 void NvM_WriteAll(void) {
     for (unsigned id = 2; id < config.count + 2u; id++)
@@ -138,18 +143,33 @@ Std_ReturnType NvM_GetErrorStatus(NvM_BlockIdType id, NvM_RequestResultType *res
     return E_OK;
 }
 
-/* A job has ended: what it gave is put where it was asked for, before the callback. Behind a ReadAll that is the stack's RAM of each
-   block whose status is OK, 7 or 8, also of one that is no member. */
+/* While a ReadAll is pending no other request is taken: so a block that nobody asked for, and whose status is another one now, is a
+   member. It is pending from the turn on that takes it in hand, or posted at once. */
+static void find_members(void) {
+    for (unsigned id = 2; id < config.count + 2u; id++)
+        if (!states[id].is_pending && nvm_status(&unit, (NvM_BlockIdType)id) != states[id].before) states[id].is_member = 1;
+}
+
+/* A ReadAll has ended: each member that was given a content has it in its RAM block. */
+static void end_read_all(void) {
+    for (unsigned id = 2; id < config.count + 2u; id++) {
+        if (!states[id].is_member || !gives(nvm_status(&unit, (NvM_BlockIdType)id))) continue;
+        take_ram((NvM_BlockIdType)id);
+        states[id].changed = 0;
+    }
+}
+
+/* A job has ended: what it gave is put where it was asked for, before the callback. */
 static void end_job(NvM_BlockIdType id, NvM_RequestResultType result) {
     block_state *state = &states[id];
     const NvM_BlockType *block = block_of(id);
     size_t size = 0;
     state->is_pending = 0;
-    if (id == 0) {
-        for (unsigned other = 2; other < config.count + 2u; other++) {
-            if (state->to_ram && gives(nvm_status(&unit, (NvM_BlockIdType)other))) take_ram((NvM_BlockIdType)other);
-            if (result != NVM_REQ_CANCELED) states[other].changed = 0;
-        }
+    state->before = result;
+    if (id == 0 && state->to_ram) {
+        end_read_all();
+    } else if (id == 0) {
+        for (unsigned other = 2; other < config.count + 2u && result != NVM_REQ_CANCELED; other++) states[other].changed = 0;
     } else if (gives(result) && state->destination && block) {
         nvm_given(&unit, state->destination, block->length, &size);
     } else if (gives(result) && state->to_ram) {
@@ -172,6 +192,7 @@ void NvM_MainFunction(void) {
     if (fault != NVM_SIM_UP) return;
     turned = nvm_turn(&unit);
     is_off = turned == TURN_OFF;
+    if (states[0].is_pending && states[0].to_ram && (turned == TURN_PICKED || turned == TURN_POSTED)) find_members();
     if (turned == TURN_POSTED) end_jobs();
 }
 

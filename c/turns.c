@@ -1,14 +1,14 @@
 /* A long run: so many cycles of 10 ms, in each of which a status is polled, and in every fiftieth a setting is written. It ends with 0
-   where every write was stored, and memory stayed as it was behind the first tenth. */
+   where every write was stored, and memory stayed as it was behind the second tenth. */
 #include "nvm.h"
 #include <stdio.h>
 #include <stdlib.h>
 #include <string.h>
-#include <sys/resource.h>
+#include <unistd.h>
 
 static const char TEXT[] =
     "{\"id\":7,\"page\":16,\"sector\":256,\"sectors\":8,\"standard\":4,\"immediate\":1,\"blocks\":[{\"length\":4}]}";
-enum { FLASH_SIZE = 256 * 8, SETTING = 2 };
+enum { FLASH_SIZE = 256 * 8, SETTING = 2, CYCLES = 5000000 };
 
 static uint8_t flash[FLASH_SIZE];
 static const NvM_BlockType BLOCKS[] = { { SETTING, 4, NULL } };
@@ -20,16 +20,19 @@ static void job_end(NvM_BlockIdType block, NvM_RequestResultType result) {
     failed += result != NVM_REQ_OK;
 }
 
+/* What the process has of its own in memory now, in kB: pages of files, as of the program's text, come and go with the system. */
 static long memory(void) {
-    struct rusage use;
-    getrusage(RUSAGE_SELF, &use);
-    return use.ru_maxrss;
+    long resident = 0, shared = 0;
+    FILE *file = fopen("/proc/self/statm", "r");
+    if (file && fscanf(file, "%*d %ld %ld", &resident, &shared) != 2) resident = shared = 0;
+    if (file) fclose(file);
+    return (resident - shared) * (sysconf(_SC_PAGESIZE) / 1024);
 }
 
 int main(int count, char **words) {
-    unsigned long cycles = count > 1 ? strtoul(words[1], NULL, 10) : 1000000, most = 0;
-    unsigned asked = 0;
-    long before = 0;
+    unsigned long cycles = count > 1 ? strtoul(words[1], NULL, 10) : CYCLES;
+    unsigned asked = 0, entries;
+    long before = 0, more;
     NvM_ConfigType config = { TEXT, BLOCKS, 1, flash, FLASH_SIZE, 0, job_end };
     memset(flash, 0xFF, FLASH_SIZE);
     NvM_Init(&config);
@@ -42,10 +45,11 @@ int main(int count, char **words) {
             asked += NvM_WriteBlock(SETTING, content) == E_OK;
         }
         NvM_MainFunction();
-        if (NvM_SimEntries() > most) most = NvM_SimEntries();
-        if (cycle == cycles / 10 * 9 / 2) before = memory();
+        if (cycle == cycles / 5) before = memory();
     }
-    printf("%lu cycles, %u writes asked, %u ended, %u failed, at most %lu entries, %ld kB more\n", cycles, asked, ended, failed, most, memory() - before);
+    more = memory() - before;
+    entries = NvM_SimEntries();
+    printf("%lu cycles, %u writes asked, %u ended, %u failed, %u entries, %ld kB more\n", cycles, asked, ended, failed, entries, more);
     NvM_SimClose();
-    return asked == 0 || asked - ended > 1 || failed || memory() - before > 1024;
+    return asked == 0 || asked - ended > 1 || failed || more > 0;
 }

@@ -45,7 +45,7 @@ static void job_end(NvM_BlockIdType block, NvM_RequestResultType result) {
     if (block == TROUBLE && result != NVM_REQ_OK && result != NVM_REQ_INTEGRITY_FAILED) printf("trouble code: result %u\n", result);
 }
 
-/* The 10 ms task: one turn, which calls the flash at most once. */
+/* The 10 ms task: one turn, which changes the flash by one operation at most. */
 static void task(void) { NvM_MainFunction(); }
 
 /* Cycles until a request is served or the power is off, at most so many. Tells whether it was served. */

@@ -65,7 +65,7 @@ impl Unit for Odometer {
     }
 }
 
-/// The 10 ms task: one turn, which is at most one call of the flash.
+/// The 10 ms task: one turn, which changes the flash by one operation at most.
 fn task<D: MemDevice>(stack: &mut UnitStack<D>) -> Turned
     requires { stack.old.ready ≡ true }
     ensures { stack.new.ready ≡ true }
