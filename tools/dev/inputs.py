@@ -7,8 +7,8 @@ from nvmtools import histories, units
 MULTIPLIER, INCREMENT = 6364136223846793005, 1442695040888963407
 
 
-def unit(page, sector, sectors, blocks):
-    line = json.dumps({"id": 7, "page": page, "sector": sector, "sectors": sectors, "standard": 64, "immediate": 8,
+def unit(page, sector, sectors, blocks, banks=2):
+    line = json.dumps({"id": 7, "page": page, "sector": sector, "sectors": sectors, "banks": banks, "standard": 64, "immediate": 8,
                        "blocks": blocks}, separators=(",", ":"))
     return units.Unit("a drawn unit", line, json.loads(line), [])
 
@@ -22,6 +22,8 @@ SMALL = [
     unit(256, 16384, 2, [{"length": 700}, {"length": 8, "priority": 0}]),
     unit(16, 1024, 4, [{"length": 9, "ram": "sync", "writeall": True}, {"length": 7, "kind": "dataset", "nv": 2, "rom": ["07*7"]},
                        {"length": 5, "once": True}]),
+    unit(16, 256, 12, [{"length": 20}, {"length": 4, "priority": 0}], banks=3),
+    unit(16, 1024, 8, [{"length": 40}, {"kind": "redundant", "length": 6}, {"length": 20, "priority": 0, "writes": 1}], banks=8),
 ]
 # whose records go over several pages of a page cache
 LARGE = [

@@ -1,86 +1,95 @@
-"""Calls of the program and of the worked cases' program, and how a tool ends."""
-import argparse
+"""Calls of the program and of the worked cases' program. What a tool needs to begin and end, and of files, is passed on."""
 import os
-import shutil
+import re
+import select
+import signal
 import subprocess
-import sys
 import tempfile
-import textwrap
 from collections import namedtuple
+
+from nvmtools.files import read_file, read_text, scratch
+from nvmtools.tool import Stop, run_tool
+
+__all__ = ["Stop", "read_file", "read_text", "run_tool", "scratch"]
 
 TOP = os.path.dirname(os.path.dirname(os.path.dirname(os.path.abspath(__file__))))
 # where ./nvm couldn't start the program, it says why itself
 NOT_STARTED = (125, 126, 127)
+# a program that NVM or NVM_ROWS names is given up where it prints nothing for so many seconds, or more than so much
+SECONDS = 600
+MOST_ANSWER, MOST_LINES = 1 << 30, 1_000_000
 
 
-class Stop(Exception):
-    """Ends a tool with one line and a status that isn't 0."""
-
-    def __init__(self, text, status=2):
-        super().__init__(text)
-        self.status = status
+def start_of(program):
+    """The file that is started for a program: NVM or NVM_ROWS may name another one in place of ./nvm."""
+    return os.environ.get({"nvm_bench": "NVM", "nvm_rows": "NVM_ROWS"}[program]) or f"{TOP}/nvm"
 
 
-class Words(argparse.ArgumentParser):
-    """The words of a tool. Wrong ones get one line."""
+def silence(start):
+    """For how many seconds a program may print nothing: ./nvm for ever, as it may have to prove and build the program first."""
+    told = os.environ.get("NVM_SECONDS", "")
+    if told and not re.fullmatch("[1-9][0-9]{0,5}", told):
+        raise Stop(f"NVM_SECONDS is {told[:20]}: a number of seconds")
+    return int(told) if told else None if start == f"{TOP}/nvm" else SECONDS
 
-    def error(self, message):
-        self.exit(2, f"{self.prog}: {message}; see {self.prog} --help\n")
 
-
-def run_tool(main, doc, add_words):
-    """Reads the words of a tool, whose help is its doc, runs it, and ends with the status that it returns."""
-    wide = min(shutil.get_terminal_size().columns, 100)
-    about = "\n\n".join(textwrap.fill(" ".join(it.split()), wide) for it in doc.split("\n\n"))
-    words = Words(description=about, formatter_class=argparse.RawDescriptionHelpFormatter)
-    add_words(words)
-    given = words.parse_args()
+def lines_of(words, text, program="nvm_bench"):
+    """Calls a program of this repository with words and an input: yields its lines as they come, and returns its status."""
+    start = start_of(program)
+    limit = silence(start)
+    with tempfile.TemporaryFile() as given:
+        given.write(text.encode())
+        given.seek(0)
+        try:
+            ran = subprocess.Popen([start, *words], stdin=given, stdout=subprocess.PIPE, start_new_session=True,
+                                   env={**os.environ, "NVM_PROGRAM": program})
+        except (OSError, ValueError) as error:
+            raise Stop(f"{start}: {getattr(error, 'strerror', error)}", 127) from None
     try:
-        status = main(given) or 0
-        sys.stdout.flush()
-    except Stop as stop:
-        sys.stdout.flush()
-        print(f"{words.prog}: {stop}", file=sys.stderr)
-        status = stop.status
-    except BrokenPipeError:
-        # whoever read the output has gone, so nobody reads what is left of it
-        os.dup2(os.open(os.devnull, os.O_WRONLY), sys.stdout.fileno())
-        status = 1
-    except KeyboardInterrupt:
-        status = 130
-    sys.exit(status)
+        yield from lines_in(ran.stdout, start, limit)
+        ran.wait(limit)
+    except subprocess.TimeoutExpired:
+        raise Stop(f"{start} doesn't end: nothing came for {limit} seconds", 127) from None
+    finally:
+        if ran.poll() is None:
+            os.killpg(ran.pid, signal.SIGKILL)
+        ran.stdout.close()
+        ran.wait()
+    if ran.returncode in NOT_STARTED or ran.returncode < 0:
+        raise Stop(f"{start} ended with {ran.returncode}", 127)
+    return ran.returncode
 
 
-def read_file(path):
-    """The bytes of a file, or of standard input where the path is '-'."""
-    try:
-        if path == "-":
-            return sys.stdin.buffer.read()
-        with open(path, "rb") as file:
-            return file.read()
-    except OSError as error:
-        raise Stop(f"{path}: {error.strerror}") from None
-
-
-def read_text(path):
-    try:
-        return read_file(path).decode()
-    except UnicodeDecodeError as error:
-        raise Stop(f"{path}: byte {error.start} isn't UTF-8") from None
+def lines_in(pipe, start, limit):
+    """The lines that come through a pipe."""
+    size, begun = 0, []
+    while True:
+        if not select.select([pipe], [], [], limit)[0]:
+            raise Stop(f"{start} doesn't answer: nothing came for {limit} seconds", 127)
+        part = os.read(pipe.fileno(), 1 << 16)
+        size += len(part)
+        if size > MOST_ANSWER:
+            raise Stop(f"{start} doesn't end: more than {MOST_ANSWER:,} bytes came", 127)
+        *whole, rest = part.split(b"\n")
+        for line in whole:
+            yield b"".join([*begun, line]).decode(errors="replace")
+            begun = []
+        if not part:
+            break
+        begun.append(rest)
+    if last := b"".join(begun):
+        yield last.decode(errors="replace")
 
 
 def call(words, text, program="nvm_bench"):
-    """Calls a program of this repository with words and an input: its lines and its status. NVM or NVM_ROWS may name another
-    file in place of ./nvm."""
-    start = os.environ.get({"nvm_bench": "NVM", "nvm_rows": "NVM_ROWS"}[program]) or f"{TOP}/nvm"
-    try:
-        ran = subprocess.run([start, *words], input=text.encode(), stdout=subprocess.PIPE,
-                             env={**os.environ, "NVM_PROGRAM": program})
-    except OSError as error:
-        raise Stop(f"{start}: {error.strerror}", 127) from None
-    if ran.returncode in NOT_STARTED or ran.returncode < 0:
-        raise Stop(f"{start} ended with {ran.returncode}", 127)
-    return ran.stdout.decode().splitlines(), ran.returncode
+    """Calls a program of this repository with words and an input: its lines and its status."""
+    lines, coming = [], lines_of(words, text, program)
+    while len(lines) <= MOST_LINES:
+        try:
+            lines.append(next(coming))
+        except StopIteration as end:
+            return lines, end.value
+    raise Stop(f"{start_of(program)} doesn't end: more than {MOST_LINES:,} lines came", 127)
 
 
 def play(lines, image="mem"):
@@ -110,6 +119,9 @@ Case = namedtuple("Case", "command lines more")
 Tried = namedtuple("Tried", "written status rest")
 
 
+SHORT = "the worked cases' program printed less than was asked for"
+
+
 def try_cases(cases):
     """Runs worked cases in memory: for each what is printed of it. docs/CONTRIBUTING.md has what a case's line means."""
     text = []
@@ -125,14 +137,14 @@ def try_cases(cases):
             found.append(last)
         elif line:
             last.append(line)
+    if len(found) != len(cases):
+        raise Stop(SHORT, 4)
     return [tried_of(lines) for lines in found]
 
 
 def tried_of(lines):
-    end = next(place for place, line in enumerate(lines) if line.startswith("status "))
+    """What is printed of a case, but for its name."""
+    end = next((place for place, line in enumerate(lines) if re.fullmatch("status [0-9]{1,3}", line)), None)
+    if end is None:
+        raise Stop(SHORT, 4)
     return Tried([line[2:] for line in lines[:end]], int(lines[end].split()[1]), lines[end + 1:])
-
-
-def scratch():
-    """A folder that is gone behind its use, in memory where there is such a file system."""
-    return tempfile.TemporaryDirectory(prefix="nvm-", dir="/dev/shm" if os.path.isdir("/dev/shm") else None)

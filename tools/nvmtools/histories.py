@@ -3,6 +3,8 @@ is')."""
 import re
 from collections import namedtuple
 
+from nvmtools.tool import Stop
+
 RESULTS = ("done", "FAILED", "pending", "never written, no defaults", "passed over", "invalidated", "canceled",
            "ONE COPY OF TWO", "defaults given")
 # results that aren't what was asked for
@@ -13,20 +15,34 @@ REFUSALS = ("", "no such block", "the power is off", "no such request of this bl
             "the history is full")
 WRITES = ("write", "invalidate", "erase")
 
+NUMBER = "[0-9]{1,18}"
+CONTENT = r"(?:[0-9a-f]{2}\*[1-9][0-9]{0,3}|(?:[0-9a-f]{2})+)"
+MARK = f"(?:data {CONTENT}|invalid|erased)"
+# an entry, or what stands behind the last one
+LINE = re.compile(
+    rf"(?:found {NUMBER}(?: {NUMBER}\.{NUMBER} {MARK})*|off|wrote {NUMBER}\.{NUMBER} {MARK}"
+    rf"|pick {NUMBER} (?:read|restore|erase|invalidate|readall|writeall"
+    rf"|write (?:{CONTENT}(?: store {NUMBER})?|refused {NUMBER}|stale {NUMBER} {NUMBER}))"
+    rf"|post {NUMBER} [0-8](?: data {CONTENT}| refused {NUMBER})?) ops {NUMBER}"
+    rf"|ask {NUMBER} (?:(?:readall|writeall|cancel)|[a-z]+ {NUMBER}(?: store {NUMBER}| {NUMBER}| {CONTENT})?)"
+    rf" -> (?:ok|refused (?:[1-9]|1[0-7])|status [0-8]|index {NUMBER})")
+LAST = re.compile(rf"end {NUMBER}|uds [0-9a-f]+|flash fault|flash in use|history full|power off")
+
 # an entry: its line, its first word, its other words, and the operations of its line, if it has them
 Entry = namedtuple("Entry", "line kind words ops")
 
 
-def entries(lines):
+def entries(lines, path="the program's output"):
     """The entries of a history, without its last line."""
     found = []
-    for line in lines:
-        if line.startswith("end "):
-            continue
-        ops = re.search(r" ops (\d+)$", line)
-        text = line[:ops.start()] if ops else line
+    for number, line in enumerate(lines, 1):
+        if not LINE.fullmatch(line):
+            if LAST.fullmatch(line):
+                continue
+            raise Stop(f"{path}:{number}: no line of a history: {line[:60]}", 4)
+        text, _, ops = line.rpartition(" ops ") if not line.startswith("ask ") else (line, "", None)
         kind, _, rest = text.partition(" ")
-        found.append(Entry(line, kind, rest.split(), int(ops[1]) if ops else None))
+        found.append(Entry(line, kind, rest.split(), ops and int(ops)))
     return found
 
 
@@ -49,6 +65,25 @@ def refused(entry):
 def result(entry):
     """The result of a job that ended, or None."""
     return int(entry.words[1]) if entry.kind == "post" else None
+
+
+def first_posts(entries):
+    """The places of the Posts of members, and of the whole, in each ReadAll of a first start: no id is stored, or another one (of
+    block 1 it ends with 8), and else nothing failed but that blocks without defaults were never written."""
+    places, begun = set(), None
+    for place, entry in enumerate(entries):
+        if entry.kind == "pick" and entry.words == ["0", "readall"]:
+            begun = place
+        elif entry.kind in ("found", "off"):
+            begun = None
+        elif begun is not None and entry.kind == "post" and entry.words[0] == "0":
+            posts = [it for it in range(begun, place) if entries[it].kind == "post"]
+            results = {it: result(entries[it]) for it in posts}
+            if result(entry) == 1 and any(entries[it].words[0] == "1" and results[it] == 8 for it in posts) \
+                    and set(results.values()) <= {0, 3, 8}:
+                places |= {place, *(it for it in posts if results[it] == 3)}
+            begun = None
+    return places
 
 
 def mark_in(words):
@@ -77,18 +112,18 @@ def in_words(unit, entry):
         says = {"ok": "accepted", "refused": f"REFUSED: {REFUSALS[number] if number < len(REFUSALS) else number}",
                 "status": f"status: {RESULTS[number] if number < len(RESULTS) else number}",
                 "index": f"index {number}"}[reply.split()[0]]
-        return f"caller {words[0]} asks: {asked}: {says}"
+        return f"caller {words[0]} asks: {unit.step(asked.split())}: {says}"
     if entry.kind == "pick":
         return f"{unit.called(int(words[0]))}: {' '.join(words[1:])} is taken in hand"
     if entry.kind == "wrote":
-        return f"instance {words[0]} is stored: {' '.join(words[1:])}"
+        return f"instance {unit.instance(words[0])} is stored: {' '.join(words[1:])}"
     if entry.kind == "post":
         ended = f"{unit.called(int(words[0]))}: ended, {RESULTS[int(words[1])]}"
         return f"{ended}: {' '.join(words[2:])}" if words[2:] else ended
     if entry.kind == "off":
         return "THE POWER IS OFF"
-    marks = ", ".join(f"{instance} {mark}" for instance, mark in found_marks(entry).items())
-    return f"a start-up finds {words[0]} marks" + (f": {marks}" if marks else "")
+    found = found_marks(entry)
+    return f"a start-up finds {words[0]} marks" + (f": {unit.marks(found)}" if found else "")
 
 
 class Marks:

@@ -34,12 +34,12 @@ def is_idle(line):
 
 def fields(line):
     """The fields of a step without its caller."""
-    return re.sub(r"^\d+: ", "", without_return(line)).split(" ")
+    return re.sub(r"^[0-9]+: ", "", without_return(line)).split(" ")
 
 
 def caller_of(line):
     """The caller of a step: 0 where it names none."""
-    named = re.match(r"(\d+): ", line)
+    named = re.match(r"([0-9]+): ", line)
     return int(named[1]) if named else 0
 
 
@@ -52,10 +52,10 @@ def why_no_step(unit, line, near, command="play", owners=None):
     if text != text.strip(" ") or "  " in text or "\t" in text:
         return "one space between fields, and none at either end"
     words = text.split(" ")
-    caller = re.fullmatch(r"(\d+):", words[0])
+    caller = re.fullmatch(r"([0-9]+):", words[0])
     if caller:
-        if not re.fullmatch(r"0|[1-9]\d*", caller[1]) or int(caller[1]) > MOST_CALLERS:
-            return f"a caller is 0 to {MOST_CALLERS}, and this one is {caller[1]}"
+        if not re.fullmatch(r"0|[1-9][0-9]?", caller[1]) or int(caller[1]) > MOST_CALLERS:
+            return f"a caller is 0 to {MOST_CALLERS}, and this one is {caller[1][:20]}"
         words = words[1:]
         if words and words[0] in WITHOUT_CALLER:
             return f'"{words[0]}" takes no caller'
@@ -78,7 +78,8 @@ def why_no_field(step, kind, word):
     if not re.fullmatch(r"0|[1-9][0-9]*", word):
         return f'no number "{word[:20]}": digits, without a sign and leading zeros'
     least, most = (1, COUNTS[step]) if kind == "N" else LIMITS[kind]
-    return None if least <= int(word) <= most else f"{word} is out of range: {least} to {most}"
+    is_in_range = len(word) <= len(str(most)) and least <= int(word) <= most
+    return None if is_in_range else f"{word[:20]} is out of range: {least} to {most}"
 
 
 def why_not_owner(unit, words, caller, owners):

@@ -2,20 +2,23 @@
 
 A unit file is JSON over as many lines as one likes, with comments from // to the end of a line, a comma behind a last item, and
 for each block a "name" and an "id" in any order; the program's line has none of these. A script is read too: its first line is
-the configuration, and the others are its steps."""
+the configuration, and the others are its steps. Where that line is @FILE, the configuration is the unit of that file, and names
+may stand in the steps. This is the one place at which the tools read sources."""
 import copy
 import difflib
 import json
+import os
 import re
 from collections import namedtuple
 
-from nvmtools import calls, manual, steps
+from nvmtools import calls, manual, names, steps
 from nvmtools.calls import Stop
-from nvmtools.contents import read_content
+from nvmtools.places import Place, Places, parse
 
 DEMO = ('{"id":1,"page":16,"sector":256,"sectors":8,"standard":8,"immediate":4,"blocks":[{"length":4,"priority":10,'
         '"ram":"permanent","readall":true,"writeall":true,"reads":1,"writes":1},{"length":20,"priority":0,"defaults":"a5*20",'
         '"reads":1,"writes":1}]}')
+DEMO_LINE = "@demo"
 KEYS = ("id", "page", "sector", "sectors", "standard", "immediate", "blocks", "banks")
 FLAGS = ("readall", "writeall", "once", "protected", "resistant")
 TRIES = ("reads", "writes", "repeats")
@@ -24,23 +27,32 @@ BLOCK_KEYS = ("kind", "length", "priority", "ram", "defaults", "nv", "rom", *FLA
 OURS = ("name", "id")
 MANAGERS_OWN = {"kind": "redundant", "length": 2, "ram": "permanent", "name": "configuration id", "reads": 1, "writes": 1,
                 "priority": 255}
+# (a half of a character that takes two numbers is none)
+NAME = r"[^\s.\"\ud800-\udfff](?:[^.\"\n\ud800-\udfff]*[^\s.\"\ud800-\udfff])?"
 FIRST_ID = 2
-MOST_SECTORS, MOST_BYTES = 64, 4_194_304
+MOST_SECTORS, MOST_BYTES, MOST_BLOCKS = 64, 4_194_304, 511
+FEWEST_BANKS, MOST_BANKS = 2, 8
 
-# what a file says: its path, the program's line, the JSON of it, and the lines below it where the file is a script
-Given = namedtuple("Given", "path line source script")
+# what a file says: its path, the program's line, the JSON of it, and the lines below it where the file is a script: as the
+# program reads them, as they are written, and by their place why one is no step; and the file that the configuration stands in,
+# where its parts stand, and the places of its blocks by their ids
+Given = namedtuple("Given", "path line source script written faults config places order", defaults=((), {}, None, None, ()))
+# what is wrong with a unit or a script: its place, of what kind it is, its rule or refusal, the text, and the line of a script
+Finding = namedtuple("Finding", "place kind number text line", defaults=(None,))
 
 
 class Unit:
     """What a file says of a unit: the program's line, the steps behind it, and the blocks by id."""
 
-    def __init__(self, path, line, source, script):
-        self.path, self.line, self.source, self.script = path, line, source, script
+    def __init__(self, path, line, source, script, written=(), faults=None, config=None, places=None, order=()):
+        self.path, self.line, self.source, self.script, self.written = path, line, source, script, written
+        self.faults, self.config, self.places, self.order = faults or {}, config or path, places, order
         self.page, self.sector, self.sectors = source["page"], source["sector"], source["sectors"]
         self.size = self.sector * self.sectors
         self.banks = source.get("banks", 2)
         self.bank_pages = self.size // self.banks // self.page
-        self.blocks = {1: MANAGERS_OWN, **{FIRST_ID + i: block for i, block in enumerate(source["blocks"])}}
+        self.blocks = blocks_of(source)
+        self.has_names = any(block.get("name") for block in source["blocks"])
 
     def instances(self, block):
         """How many instances of the block are stored."""
@@ -79,9 +91,39 @@ class Unit:
             return "all blocks"
         return f"block {block}" + (f" ({self.name(block)})" if self.name(block) else "")
 
+    def place(self, block, key=None):
+        return place_of(self, block, key)
+
+    def instance(self, word):
+        """An instance of a history, as 7.1, by the name of its block where the unit has names."""
+        number, _, index = word.partition(".")
+        name = self.name(int(number)) if self.has_names else None
+        return word if not name else name if self.instances(int(number)) == 1 else f"{name}.{index}"
+
+    def marks(self, found):
+        """Marks by instance, as a person is told of them."""
+        return ", ".join(f"{self.instance(instance)} {mark}" for instance, mark in found.items()) or "nothing"
+
+    def step(self, words):
+        """A step or a job, with the name of its block where the unit has names."""
+        name = self.name(int(words[1])) if self.has_names and len(words) > 1 and words[1].isdigit() else None
+        return " ".join([words[0], f'"{name}"' if " " in name else name, *words[2:]] if name else words)
+
     def key(self, block, index):
         """An instance as a key of values: by name where the block has one, with an index where it is a dataset."""
         return (self.name(block) or str(block)) + (f".{index}" if self.blocks[block].get("kind") == "dataset" else "")
+
+
+def place_of(given, block, key=None):
+    """The place of a key of a block, or of the whole configuration where the block is 0; where the key is absent, of what lacks
+    it."""
+    way = ("blocks", given.order[block - FIRST_ID]) if block else ()
+    return given.places.of(*way, *([key] if key else []))
+
+
+def blocks_of(source):
+    """The blocks of a configuration by their ids."""
+    return {1: MANAGERS_OWN, **{FIRST_ID + i: block for i, block in enumerate(source["blocks"])}}
 
 
 def near(word, words):
@@ -90,70 +132,34 @@ def near(word, words):
     return f'did you mean "{found[0]}"?' if found else f"there are {', '.join(words)}"
 
 
-def without_comments(text):
-    """The same text with blanks in place of comments and of commas behind a last item, so that each place stays."""
-    found, in_text, at = [], False, 0
-    while at < len(text):
-        if in_text and text[at] == "\\":
-            found.append(text[at:at + 2])
-            at += 2
-            continue
-        if text[at] == '"':
-            in_text = not in_text
-        elif not in_text and text.startswith("//", at):
-            end = text.find("\n", at)
-            end = len(text) if end < 0 else end
-            found.append(" " * (end - at))
-            at = end
-            continue
-        elif not in_text and text[at] == "," and re.match(r",(\s|//[^\n]*\n)*[\]}]", text[at:]):
-            found.append(" ")
-            at += 1
-            continue
-        found.append(text[at])
-        at += 1
-    return "".join(found)
-
-
-def parse(path, text):
-    """The JSON of a unit, or an end that shows the place where it is none."""
-    try:
-        return json.loads(without_comments(text))
-    except json.JSONDecodeError as error:
-        line = text.split("\n")[error.lineno - 1].rstrip("\r")
-        start = max(0, error.colno - 40)
-        place = f"\n  {line[start:start + 78]}\n  {' ' * (error.colno - 1 - start)}^" if line else ""
-        raise Stop(f"{path}:{error.lineno}:{error.colno}: rule 1: no JSON: {error.msg}{place}", 3) from None
-    except RecursionError:
-        raise Stop(f"{path}: rule 1: nested deeper than 127", 3) from None
-
-
-def sorted_by_id(path, blocks):
-    """The blocks by their ids, where they have ids."""
+def order_by_id(places, blocks):
+    """The places of the blocks by their ids, where they have ids."""
     if not any(isinstance(block, dict) and "id" in block for block in blocks):
-        return blocks
+        return range(len(blocks))
     for place, block in enumerate(blocks):
         if not isinstance(block, dict) or type(block.get("id")) is not int:
-            raise Stop(f"{path}: item {place + 1} of the blocks has no \"id\": each block has one, or none has", 3)
-    blocks = sorted(blocks, key=lambda block: block["id"])
-    for wanted, block in enumerate(blocks, FIRST_ID):
+            raise Stop(f"{places.of('blocks', place)}: item {place + 1} of the blocks has no \"id\": each block has one, or none has", 3)
+    order = sorted(range(len(blocks)), key=lambda place: blocks[place]["id"])
+    for wanted, place in enumerate(order, FIRST_ID):
+        block = blocks[place]
         if block["id"] != wanted:
-            raise Stop(f"{path}: the ids are {FIRST_ID}, {FIRST_ID + 1} and so on without a gap: {block['id']} "
-                       f"({block.get('name', 'no name')}) stands where {wanted} is due", 3)
-    return blocks
+            raise Stop(f"{places.of('blocks', place, 'id')}: the ids are {FIRST_ID}, {FIRST_ID + 1} and so on without a gap: "
+                       f"{block['id']} ({block.get('name', 'no name')}) stands where {wanted} is due", 3)
+    return order
 
 
-def stop_on_names(path, blocks):
+def stop_on_names(places, blocks):
     """Names tell blocks apart, and can't be taken for ids or indices."""
     seen = set()
-    for block in blocks:
+    for place, block in enumerate(blocks):
         name = block.get("name") if isinstance(block, dict) else None
         if name is None:
             continue
-        if not isinstance(name, str) or not re.fullmatch(r"[^\s.\"](?:[^.\"\n]*[^\s.\"])?", name) or name.isdigit():
-            raise Stop(f"{path}: {json.dumps(name)} is no name: a text without dots and quotes that is no number", 3)
+        if not isinstance(name, str) or not re.fullmatch(NAME, name) or name.isdigit():
+            raise Stop(f"{places.of('blocks', place, 'name')}: {json.dumps(name)} is no name: a text without dots and quotes "
+                       "that is no number", 3)
         if name in seen:
-            raise Stop(f"{path}: two blocks have the name {json.dumps(name)}", 3)
+            raise Stop(f"{places.of('blocks', place, 'name')}: two blocks have the name {json.dumps(name)}", 3)
         seen.add(name)
 
 
@@ -169,14 +175,14 @@ def line_of(source):
 def is_script(lines):
     """Whether the first line is a configuration by itself, and the others are steps."""
     first = lines[0].strip()
-    if first == "@demo":
+    if first.startswith("@"):
         return True
     if not any(line.strip() for line in lines[1:]):
         return False
     try:
         json.loads(first)
         return True
-    except (json.JSONDecodeError, RecursionError):
+    except (ValueError, RecursionError):
         pass
     words = [line.split() for line in lines[1:]]
     return any(it and it[0] in steps.FORMS for it in words)
@@ -190,7 +196,11 @@ def read_unit(path):
 
 def check(line):
     """What the program says of a configuration line, and its status."""
-    return calls.call(["mem", "check"], line + "\n")
+    printed, status = calls.call(["mem", "check"], line + "\n")
+    if status in (0, 3) and not (printed and re.match("config ok " if status == 0 else r"config rule \d+ block \d+$", printed[-1])):
+        raise Stop(f"{calls.start_of('nvm_bench')} isn't this program: of a configuration it says "
+                   f"{printed[-1][:60] if printed else 'nothing'}", 127)
+    return printed, status
 
 
 def read_source(path):
@@ -198,27 +208,52 @@ def read_source(path):
     text = calls.read_text(path)
     lines = [steps.without_return(line) for line in text.split("\n")]
     if not is_script(lines):
-        return unit_file(path, parse(path, text))
+        return unit_file(path, text)
     first = lines[0]
     # (a last line is a line with or without its newline)
     below = lines[1:-1] if lines[-1] == "" else lines[1:]
-    return Given(path, first, json.loads(DEMO) if first == "@demo" else parse(path, first), below)
+    if first.startswith("@") and first != DEMO_LINE:
+        return beside_unit(path, first[1:], below)
+    source = json.loads(DEMO) if first == DEMO_LINE else parse(path, first)
+    return Given(path, first, source, below, below, places=Places(path, first), order=range(MOST_BLOCKS))
 
 
-def unit_file(path, source):
+def beside_unit(path, name, written):
+    """What a script says whose first line names the file of its unit, from the script's folder on: each line below as the program
+    reads it."""
+    config = os.path.join(os.path.dirname(path), name)
+    if not os.path.exists(config):
+        raise Stop(f"{path}:1: there is no file {config}: the first line is @demo, a configuration, or @ and the file of a unit")
+    unit = unit_file(config, calls.read_text(config))
+    is_whole = isinstance(unit.source, dict) and isinstance(unit.source.get("blocks"), list)
+    blocks = blocks_of(unit.source) if is_whole else {}
+    ids = names.ids_of({number: block for number, block in blocks.items() if isinstance(block, dict)})
+    read = [names.plain_step(ids, near, line) for line in written]
+    faults = {number: why for number, (_, why) in enumerate(read, 2) if why}
+    return unit._replace(path=path, script=[line for line, _ in read], written=written, faults=faults)
+
+
+def unit_file(path, text):
+    source, places, order = parse(path, text), Places(path, text), range(MOST_BLOCKS)
     if isinstance(source, dict) and isinstance(source.get("blocks"), list):
-        source = {**source, "blocks": sorted_by_id(path, source["blocks"])}
-        stop_on_names(path, source["blocks"])
-    return Given(path, line_of(source), source, [])
+        order = order_by_id(places, source["blocks"])
+        stop_on_names(places, source["blocks"])
+        source = {**source, "blocks": [source["blocks"][place] for place in order]}
+    return Given(path, line_of(source), source, [], config=path, places=places, order=order)
 
 
 def accept(given, printed, status):
     """The unit, by what the program's check printed of its line, or an end that says why it is refused."""
     if status:
-        raise Stop(f"{given.path}: {refusal(given.source, printed[-1] if printed else '', status)}", 3)
+        it = refusal(given, given.source, printed[-1] if printed else "", status)
+        raise Stop(f"{it.place}: {it.text}", 3)
+    for number, why in given.faults.items():
+        raise Stop(f"{given.path}:{number}: {why}", 4)
     return Unit(*given)
 
 
+# the key by which a rule about several is told
+OF_KEY = {7: "sectors", 23: "blocks", 24: "sectors"}
 # the rules that the parts of a configuration break together: what is mended of a part would change what they say
 TOGETHER = (1, 7, 10, 23, 24)
 MOST_REFUSALS = 50
@@ -233,7 +268,7 @@ def refusals(given):
         said = re.fullmatch(r"config rule (\d+) block (\d+)", printed[-1]) if printed else None
         if found and (not said or int(said[1]) in TOGETHER):
             break
-        found.append(refusal(source, printed[-1] if printed else "", status))
+        found.append(refusal(given, source, printed[-1] if printed else "", status))
         if not said or int(said[1]) in TOGETHER or not mend(source, int(said[1]), int(said[2])):
             break
         printed, status = check(line_of(source))
@@ -246,7 +281,10 @@ def mend(source, rule, block):
         return False
     if not block:
         key = key_of(source, rule)
-        well = {"id": 1, "page": 16, "sector": 4096, "sectors": 2, "standard": 1, "immediate": 1}
+        # (as many sectors as banks share evenly)
+        banks = source.get("banks", FEWEST_BANKS)
+        sectors = 2 * banks if is_number(banks, FEWEST_BANKS, MOST_BANKS) else 2
+        well = {"id": 1, "page": 16, "sector": 4096, "sectors": sectors, "standard": 1, "immediate": 1}
         if key in well:
             source[key] = well[key]
             return True
@@ -265,20 +303,21 @@ def mend(source, rule, block):
     return True
 
 
-def refusal(source, printed, status):
-    """Why the program refuses a configuration, in words."""
+def refusal(given, source, printed, status):
+    """Why the program refuses a configuration, in words, and where that stands."""
     said = re.fullmatch(r"config rule (\d+) block (\d+)", printed)
     if not said:
-        return f"the program ends with status {status}: {printed}"
+        return Finding(Place(given.config or given.path), "status", status, f"the program ends with status {status}: {printed}")
     rule, block = int(said[1]), int(said[2])
-    where = f"rule {rule}"
+    where, what = (source["blocks"][block - FIRST_ID] if block else source), f"rule {rule}"
     if block:
-        name = source["blocks"][block - FIRST_ID].get("name") if isinstance(source["blocks"][block - FIRST_ID], dict) else None
-        where += f", block {block}" + (f" ({name})" if name else "")
-    return f"{where}: {broken(source, rule, block)}"
+        name = where.get("name") if isinstance(where, dict) else None
+        what += f", block {block}" + (f" ({name})" if name else "")
+    key = OF_KEY.get(rule) or key_of(where, rule)
+    return Finding(place_of(given, block, key), "rule", rule, f"{what}: {broken(source, where, rule, key)}")
 
 
-def broken(source, rule, block):
+def broken(source, where, rule, key):
     """What breaks a rule: the key and its value beside what the manual wants, or the sum that is too great."""
     if rule == 1:
         return "no JSON as the program reads it: one object on one line"
@@ -287,15 +326,16 @@ def broken(source, rule, block):
         return f"{count} sectors of {sector} are {sector * count} bytes: a flash has at most {MOST_BYTES}"
     if rule == 24:
         return too_small(source)
-    where = source["blocks"][block - FIRST_ID] if block else source
-    key = key_of(where, rule)
-    wanted = next((row for row in manual.rule(rule) if key and key in row[0].split(", ")), manual.rule(rule)[0])
     if rule in (2, 11):
         if not key:
             return f"{json.dumps(where)[:40]} is no object"
         return f'there is no key "{key}"; {near(key, KEYS if rule == 2 else BLOCK_KEYS)}'
+    wanted = next((row for row in manual.rule(rule) if key and key in row[0].split(", ")), manual.rule(rule)[0])
     found = "" if key is None else f'"{key}" is {json.dumps(where[key])[:60]}; ' if key in where else f'"{key}" is missing; '
-    return f"{found}wanted: {wanted[2]}" if key in FLAGS or key in TRIES else f"{found}wanted: {wanted[1]} ({wanted[2]})"
+    if key in FLAGS:
+        # (the first part of what to do is about the value, and the other one about the block)
+        return f"{found}wanted: true or false" if rule == 19 else found + wanted[2].partition("; ")[2]
+    return f"{found}wanted: {wanted[2]}" if key in TRIES else f"{found}wanted: {wanted[1]} ({wanted[2]})"
 
 
 def is_number(value, least, most):
@@ -307,8 +347,7 @@ def key_of(where, rule):
     if not isinstance(where, dict):
         return None
     single = {3: "id", 4: "page", 5: "sector", 6: "sectors", 8: "standard", 9: "immediate", 10: "blocks", 12: "kind",
-              13: "length", 14: "priority", 29: "banks",
-              15: "ram", 16: "defaults", 17: "nv", 18: "rom", 21: "once"}
+              13: "length", 14: "priority", 15: "ram", 16: "defaults", 17: "nv", 18: "rom", 21: "once", 29: "banks"}
     if rule in single:
         return single[rule]
     # (a script's own line has no names and ids; a unit file's are taken out)
