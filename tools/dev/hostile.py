@@ -85,7 +85,7 @@ def programs_that_do_not_answer():
 
 def outputs_that_cannot_be_written():
     told = [f"lint {UNIT}", f"lint {UNIT} --json", f"plan {UNIT}", f"sweep {SCRIPT}", f"cuts {SCRIPT}", f"timeline {SCRIPT}",
-            f"picture $image {SCRIPT} --text", f"provision {UNIT} $none $made", "manual", "manual --page lint", "lint --help",
+            f"picture $image {SCRIPT} --text", f"provision {UNIT} $none $made --replace", "manual", "manual --page lint", "lint --help",
             "dev/edges", "dev/edges nvm_top", "dev/try --help"]
     for words in told:
         yield Try(words, b"", 6, "standard output is closed", streams=">&-")
