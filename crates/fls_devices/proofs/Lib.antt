@@ -1,9 +1,5 @@
 mod Cuts
-mod Enlargements
-mod FileOperations
-mod FileSteps
 mod HaveParts
 mod Merging
-mod Mixtures
 mod Parts
 mod Steps

@@ -1,10 +1,7 @@
-pub mod ByteFile
 pub mod Cutter
 pub mod CutterInside
 pub mod FaultScript
 pub mod FaultScriptInside
-pub mod FileFlash
-pub mod FileFlashInside
 pub mod Journal
 pub mod Overlay
 pub mod Part

@@ -1,5 +1,0 @@
-use Rattle.fls_devices.proofs.FileOperations.{settled}
-use Rattle.fls_devices.proofs.file_flash.is_settled.Goals as goal
-
-pub returns-clause-found : goal.returns-clause-found
-returns-clause-found g c = rw c.in-Some.is (settled c.args.lost.now c.settle.new.lost (g.T.ByteFile.held c.in-Some.file) (g.T.ByteFile.held c.settle.new.file) c.settle.ensures)

@@ -1,0 +1,4 @@
+mod Enlargements
+mod FileOperations
+mod FileSteps
+mod Mixtures

@@ -1,0 +1,3 @@
+pub mod ByteFile
+pub mod FileFlash
+pub mod FileFlashInside
