@@ -119,6 +119,21 @@ impl Job {
         }
     }
 
+    /// Gives its content back, if it has one.
+    pub fn into_content(self) -> Option<Bytes>
+        ensures { result ≡ option_map (λ x. x.0) self.content }
+    {
+        let Job {
+            request,
+            staged,
+            ..
+        } = self;
+        match staged {
+            Some(Staged { bytes, .. }) => Some(bytes),
+            None => content_of(request),
+        }
+    }
+
     /// The number of the store that its content is of, or 0.
     pub fn store(&self) -> u64
         ensures { result ≡ option_map_or (λ x. x.1) self.now.content 0 }
@@ -196,6 +211,16 @@ impl Job {
         ensures { self.new ≡ record self.old { reserved = self.old.reserved + 2 } }
     {
         self.reserved += 2;
+    }
+}
+
+// The content that a request brought.
+fn content_of(request: Request) -> Option<Bytes>
+    ensures { result ≡ option_map (λ x. x.0) (asked_content request) }
+{
+    match request {
+        Request::Write { content, .. } => content,
+        _ => None,
     }
 }
 

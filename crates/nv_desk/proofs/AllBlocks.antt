@@ -2,11 +2,11 @@
 use Rattle.std.proofs.Common.{◌≡◌, ℕ, ◌+◌, Bool, true, false, List, [], ◌∷◌, refl, sym, subst, Option, Some, None, if◌then◌else◌, ap, ◌∙◌, arith}
 use Rattle.block_machine.specs.nv_base.History.{Listed}
 use Rattle.block_machine.specs.Words.{Configuration, JobKind, ReqResult, Pick, TookNothing, Post}
-use Rattle.block_machine.specs.State.{State, Job, Sweep}
+use Rattle.block_machine.specs.State.{State, Job, Sweep, jobs_of}
 use Rattle.block_machine.specs.Blocks.{desc_of, block_at}
 use Rattle.block_machine.specs.Sweeps.{is_picked, sweep_result}
 use Rattle.block_machine.specs.Next.{Next, BeginSweep, PickMember, PostMember, EndSweep, next_in, next_by, next_of, next_member, next_in_sweep}
-use Rattle.block_machine.specs.Steps.{after, changed_by, step, posted, posted_next, with_status}
+use Rattle.block_machine.specs.Steps.{after, changed_by, step, picked, posted, posted_next, with_status}
 use Rattle.block_machine.specs.Legal.{IsAllowed, IsDriving, MayPost, MayPostNext}
 use Rattle.block_laws.specs.Consistent.{IsConsistent}
 use Rattle.block_laws.proofs.NextLaws.{none_waits}
@@ -21,6 +21,7 @@ use Rattle.nv_desk_state.specs.Kept.{Agrees}
 use Rattle.nv_desk_state.specs.Pending.{AreSweeps}
 use Rattle.nv_desk.specs.Sound.{IsSound}
 use Rattle.nv_desk.proofs.Drivers.{HasRoom, has_room, allowed_kept}
+use Rattle.nv_desk.proofs.Entries.{stay_ready}
 use Rattle.nv_desk.proofs.Sound.{sound_same}
 
 -- no job is pending, and the request wasn't picked yet
@@ -84,10 +85,11 @@ begun_kept d h k kind ops is may kind_is added agrees =
     let s = after d.config d.history.entries in
     let b = begins d.config s may.sweep may.is in
     let same = kind_is (kept_sweep d.config d.kept.sweep s may.sweep b.sweep is.agrees.sweep) in
-    allowed_kept d h k d.rooms (Pick 0 (sweep_kind may.sweep.writes) TookNothing ops) is
+    allowed_kept d h k d.rooms d.places (Pick 0 (sweep_kind may.sweep.writes) TookNothing ops) is
     (may_begin d.config d.history.cap s may.sweep ops may.is may.driving) refl
     (begun_sound d.config s may.sweep ops is.sound may.is) (rw same at added)
     (begun_step d.config k s may.sweep ops may.is (agrees b)) (omega arith) refl
+    (stay_ready d _ is (ap (λ n. jobs_of (picked d.config s TookNothing n)) may.is))
 
 -- THE END OF A SWEEP
 
@@ -171,7 +173,8 @@ pub ended_kept : (d : Inside) (h : Listed) (k : Kept) (answer : ReqResult) (ops 
 ended_kept d h k answer ops is may added agrees =
     let s = after d.config d.history.entries in
     let x = ends d.config s may.sweep may.is in
-    allowed_kept d h k d.rooms (Post 0 (sweep_result may.sweep) None 0 ops) is
+    allowed_kept d h k d.rooms d.places (Post 0 (sweep_result may.sweep) None 0 ops) is
     (may_finish d.config d.history.cap s may.sweep ops x.hand may.is may.driving) refl
     (finished_sound d.config s may.sweep ops is.sound x may.is) added
     (finished_step d.config k s may.sweep ops x.hand may.is (agrees x)) (omega arith) refl
+    (stay_ready d _ is (ap (λ o. jobs_of (posted d.config s (sweep_result may.sweep) None o)) x.hand ∙ ap (λ n. jobs_of (posted_next d.config s (sweep_result may.sweep) None n)) may.is))

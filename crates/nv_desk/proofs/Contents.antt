@@ -21,6 +21,7 @@ use Rattle.multi_jobs.specs.Members.{ids_from, is_member}
 use Rattle.multi_jobs.specs.Sweep.{members_at}
 use Rattle.multi_jobs.specs.declared.sweep.Place.{Place}
 use Rattle.multi_jobs.specs.declared.sweep.Place.TheVariants.{First, Behind, Over}
+use Rattle.job_pending.specs.declared.take.Take.{Take}
 use Rattle.job_pending.specs.declared.take.Take.TheVariants as take
 use Rattle.job_pending.specs.Take.{Took, taken_with}
 use Rattle.nv_desk_state.specs.declared.kept.Kept.{Kept}
@@ -28,7 +29,7 @@ use Rattle.nv_desk_state.specs.declared.sweep.PendingSweep.{PendingSweep}
 use Rattle.nv_desk_state.specs.Kept.{Agrees}
 use Rattle.nv_desk_state.specs.Pending.{AreSweeps, IsAtMember}
 use Rattle.nv_desk.specs.Sound.{HasRam, IsPendingJob, IsSound}
-use Rattle.nv_desk.specs.Picks.{copied_in}
+use Rattle.nv_desk.specs.Picks.{copied_in, own_first, took_of}
 use Rattle.nv_desk.proofs.Asks.{has_ram}
 use Rattle.block_laws.proofs.JobLists.{each_push}
 
@@ -94,6 +95,24 @@ job_takes c cap s j t ops ram next pending allowed =
     subst (MayPick c s (job_block j) (kind_of j) t) (ap (λ (o : Option Job). next_by c s o s.hand s.sweep) next) allowed.1 in
     takes_whole (desc_of c (job_block j)) (block_at s (job_block j)) j (kind_of j) t may.takes pending.content
     (λ writes none plain. from_ram c s (job_block j) ram (pending.ram writes none) plain)
+
+-- one that has a content takes that, as a copy would be the same
+own_by : (d : BlockDesc) (b : BlockState) (j : Job) (kind : JobKind) (t : Take) (lent : List ℕ) (o : Option (List ℕ × ℕ)) → j.content ≡ o
+    → TakesBy d b j kind (taken_with o (took_of t lent)) → taken_with o (took_of (own_first t o) lent) ≡ taken_with o (took_of t lent)
+own_by d b j WriteJob (take.Copied store) lent (Some x) is takes =
+    let own : TookContent lent store ≡ TookContent x.0 x.1 = subst (λ (o : Option (List ℕ × ℕ)). TakesForWrite d b j o (is_synchronized d.ram) (TookContent lent store)) is takes in
+    sym own
+own_by d b j kind (take.Copied store) lent (Some x) is takes = cc
+own_by d b j kind (take.Copied store) lent None is takes = refl
+own_by d b j kind t lent o is takes = refl
+
+pub own_same : (c : Configuration) (cap : ℕ) (s : State) (j : Job) (t : Take) (lent : List ℕ) (ops : ℕ) → next_in c s.waiting ≡ Some j
+    → IsAllowed c cap s (Pick (job_block j) (kind_of j) (taken_with j.content (took_of t lent)) ops)
+    → taken_with j.content (took_of (own_first t j.content) lent) ≡ taken_with j.content (took_of t lent)
+own_same c cap s j t lent ops next allowed =
+    let may : MayPick c s (job_block j) (kind_of j) (taken_with j.content (took_of t lent)) (PickJob j) =
+    subst (MayPick c s (job_block j) (kind_of j) (taken_with j.content (took_of t lent))) (ap (λ (o : Option Job). next_by c s o s.hand s.sweep) next) allowed.1 in
+    own_by (desc_of c (job_block j)) (block_at s (job_block j)) j (kind_of j) t lent j.content refl may.takes
 
 -- A MEMBER OF A REQUEST ON ALL BLOCKS
 member_ram : (ram : RamKind) (w : Bool) → w ≡ true → MayBeMember ram w → has_no_ram ram ≡ false

@@ -1,14 +1,14 @@
 -- One entry more of the driver.
-use Rattle.std.specs.Option.{option_map_or}
+use Rattle.std.specs.Option.{option_and_then, option_map_or}
 use Rattle.std.proofs.lemmas.Bool.{and_parts}
 use Rattle.std.proofs.lemmas.List.Sums.{sum_by-cons}
-use Rattle.std.proofs.Common.{◌≢◌, option_map, ◌&&◌, Bool, false, sym, ◌∙◌, get_or, ◌≡◌, ◌≤◌, ◌<◌, ℕ, ◌+◌, true, List, ◌++◌, length, refl, ap, arith, subst, Option, Some, None, IfSome, IsSome, option_to_list}
+use Rattle.std.proofs.Common.{◌≢◌, option_map, ◌&&◌, Bool, false, sym, ◌∙◌, get_or, ◌≡◌, ◌≤◌, ◌<◌, ℕ, ◌+◌, true, List, ◌∷◌, ◌++◌, length, refl, ap, arith, subst, Option, Some, None, IfSome, IsSome, option_to_list}
 use Rattle.block_machine.specs.nv_base.History.{Listed}
 use Rattle.block_machine.specs.block_config.Block.{record_count}
 use Rattle.block_machine.specs.block_config.declared.block.BlockKind.{BlockKind}
 use Rattle.block_machine.specs.block_config.declared.block.BlockKind.TheVariants.{Native, Redundant, Dataset}
 use Rattle.block_machine.specs.Words.{ReqResult, Wrote, Post, Configuration, Entry, Instance, Mark, JobKind, ReadJob, RestoreJob}
-use Rattle.block_machine.specs.State.{State, Job, Sweep}
+use Rattle.block_machine.specs.State.{State, Job, Sweep, jobs_of}
 use Rattle.block_machine.specs.Blocks.{desc_of, job_block, keeps_ram, names_ram, records_by, records_of}
 use Rattle.block_machine.specs.Sweeps.{sweep_entries, after_member}
 use Rattle.block_machine.specs.Reply.{reserved_entries}
@@ -27,14 +27,16 @@ use Rattle.nv_desk_state.specs.Kept.{Agrees}
 use Rattle.nv_desk.specs.Sound.{IsPendingJob, IsSound}
 use Rattle.nv_desk.specs.Desk.{IsKept, shown}
 use Rattle.nv_desk.specs.Driver.{MayAdd, MayEnd, block_now, mark_now}
-use Rattle.nv_desk.proofs.Entries.{entry_kept}
+use Rattle.nv_desk.specs.Places.{Ready, AreReady, put_back}
+use Rattle.nv_desk.proofs.Entries.{entry_kept, StandReady}
+use Rattle.nv_desk.proofs.Ready.{back_length, ended_ready}
 use Rattle.job_pending.specs.Pending.{Pending, Agree, IsHeld, IsOther, StandsApart}
 use Rattle.block_laws.proofs.JobLists.{each_more}
 
--- there is room for the entry, and for two contents with it
+-- there is room for the entry, and for a content with it
 pub record HasRoom (d : Inside) (e : Entry) : Type 0 where
   pub place : HasPlace d.history
-  pub rooms : 2 ≤ d.rooms.count
+  pub rooms : 1 ≤ d.rooms.count
   pub fewer : reserved_entries d.config (changed_by d.config (after d.config d.history.entries) e) + 1 ≤ reserved_entries d.config
       (after d.config d.history.entries)
 
@@ -51,28 +53,28 @@ pub has_room : (d : Inside) (e : Entry) → IsKept d → IsAllowed d.config d.hi
 has_room d e is allowed uses = room_for d e is (driver_entries_are_reserved d.config d.history.cap (after d.config d.history.entries) e is.sound.consistent allowed uses)
 
 -- what is kept stands behind it
-pub driver_kept : (d : Inside) (h : Listed) (k : Kept) (r : Roomy) (e : Entry) → IsKept d → HasRoom d e
+pub driver_kept : (d : Inside) (h : Listed) (k : Kept) (r : Roomy) (p : Ready) (e : Entry) → IsKept d → HasRoom d e
     → IsSound d.config (step d.config (after d.config d.history.entries) e)
     → h ≡ with_entry d.history e → Agrees d.config k (changed_by d.config (after d.config d.history.entries) e)
-    → d.rooms.count ≤ r.count + 2 → r.longest ≡ d.rooms.longest
-    → IsKept (record d { history = h; kept = k; rooms = r })
-driver_kept d h k r e is has sound added agrees count longest =
+    → d.rooms.count ≤ r.count + 1 → r.longest ≡ d.rooms.longest → StandReady d (changed_by d.config (after d.config d.history.entries) e) p
+    → IsKept (record d { history = h; kept = k; rooms = r; places = p })
+driver_kept d h k r p e is has sound added agrees count longest places =
     let left = reserved_entries d.config (changed_by d.config (after d.config d.history.entries) e) in
     let reserved = ap (λ (x : Listed). x.reserved) added in
-    entry_kept d h k r e left is
+    entry_kept d h k r p e left is
     (record { entries = ap (λ (x : Listed). x.entries) added; cap = ap (λ (x : Listed). x.cap) added; memory = omega (arith, reserved, has.fewer, is.memory) })
-    agrees sound (omega arith) (omega (arith, has.fewer, is.fits)) (omega (arith, has.fewer, is.rooms, count)) (omega (arith, longest))
+    agrees sound (omega arith) (omega (arith, has.fewer, is.fits)) (omega (arith, has.fewer, is.rooms, count)) (omega (arith, longest)) places
 
 -- so it does behind one that the machine allows
-pub allowed_kept : (d : Inside) (h : Listed) (k : Kept) (r : Roomy) (e : Entry) → IsKept d
+pub allowed_kept : (d : Inside) (h : Listed) (k : Kept) (r : Roomy) (p : Ready) (e : Entry) → IsKept d
     → IsAllowed d.config d.history.cap (after d.config d.history.entries) e → uses_reserved e ≡ true
     → (IsConsistent d.config (step d.config (after d.config d.history.entries) e) → IsSound d.config (step d.config (after d.config d.history.entries) e))
     → h ≡ with_entry d.history e → Agrees d.config k (changed_by d.config (after d.config d.history.entries) e)
-    → d.rooms.count ≤ r.count + 2 → r.longest ≡ d.rooms.longest
-    → IsKept (record d { history = h; kept = k; rooms = r })
-allowed_kept d h k r e is allowed uses sound added agrees count longest = driver_kept d h k r e is (has_room d e is allowed uses)
+    → d.rooms.count ≤ r.count + 1 → r.longest ≡ d.rooms.longest → StandReady d (changed_by d.config (after d.config d.history.entries) e) p
+    → IsKept (record d { history = h; kept = k; rooms = r; places = p })
+allowed_kept d h k r p e is allowed uses sound added agrees count longest places = driver_kept d h k r p e is (has_room d e is allowed uses)
     (sound (allowed_steps_stay_consistent d.config d.history.cap (after d.config d.history.entries) e is.sound.consistent allowed))
-    added agrees count longest
+    added agrees count longest places
 
 given_fits : (c : Configuration) (n id : ℕ) (given : Option (List ℕ)) → IfSome given (λ x. length x ≡ (desc_of c id).length)
     → ((id : ℕ) → (desc_of c id).length ≤ n) → IfSome given (λ x. length x ≤ n)
@@ -216,6 +218,34 @@ room_to_end d r given refused ops is may =
     let s = after d.config d.history.entries in
     let h = holds s may.hand in
     room_for d (Post (block_now s) r given refused ops) is (post_fewer d.config s (block_now s) refused ops r given h.job h.is is.sound.consistent)
+
+-- and its content goes back to its place
+place_of : (o : Option Job) (n : ℕ) (waiting : List Job) (j : Job) → o ≡ Some j → IfSome o (IsHeld n waiting) → job_block j < n
+place_of None n waiting j is held = cc
+place_of (Some x) n waiting j is held = let e : x ≡ j = cc in subst (λ (y : Job). job_block y < n) e held.place
+
+pub post_places : (d : Inside) (places : Ready) (block : ℕ) (r : ReqResult) (given : Option (List ℕ)) (refused ops at : ℕ) (content : Option (List ℕ)) (j : Job) → IsKept d
+    → (after d.config d.history.entries).hand ≡ Some j → at ≡ block_now (after d.config d.history.entries)
+    → content ≡ option_map (λ x. x.0) (option_and_then (λ h. h.content) d.kept.jobs.hand) → places ≡ put_back d.places at content
+    → StandReady d (changed_by d.config (after d.config d.history.entries) (Post block r given refused ops)) places
+post_places d places block r given refused ops at content j is hand on gives changed =
+    let s = after d.config d.history.entries in
+    let c = d.config in
+    let here : at ≡ job_block j = on ∙ ap (λ (o : Option Job). option_map_or job_block o 0) hand in
+    let own : content ≡ option_map (λ x. x.0) j.content =
+    gives ∙ ap (λ (o : Option Job). option_map (λ x. x.0) (option_and_then (λ h. h.content) o)) (is.agrees.jobs.hand ∙ hand) in
+    let all : places ≡ put_back d.places (job_block j) (option_map (λ x. x.0) j.content) =
+    changed ∙ ap (λ (n : ℕ). put_back d.places n content) here ∙ ap (put_back d.places (job_block j)) own in
+    let low : job_block j < length d.places = omega (arith, place_of s.hand (length d.kept.jobs.slots) s.waiting j hand is.agrees.jobs.hand_apart, is.agrees.places, is.one_each) in
+    let held : AreReady c (j ∷ s.waiting) d.places = subst (λ (o : Option Job). AreReady c (option_to_list o ++ s.waiting) d.places) hand is.ready in
+    let sound : IsPendingJob c s j = first_by (IsPendingJob c s) s.hand s.waiting j hand is.sound.jobs in
+    let jobs : jobs_of (changed_by c s (Post block r given refused ops)) ≡ s.waiting = ap (λ (o : Option Job). jobs_of (posted c s r given o)) hand in
+    subst (StandReady d (changed_by c s (Post block r given refused ops))) (sym all)
+    (record {
+      count = back_length d.places (job_block j) (option_map (λ x. x.0) j.content);
+      ready = subst (λ (js : List Job). AreReady c js (put_back d.places (job_block j) (option_map (λ x. x.0) j.content))) (sym jobs)
+          (ended_ready c j s.waiting d.places j.content refl low sound.content held);
+    })
 
 -- the other jobs are on other blocks
 pub others_of : (j : Job) (waiting : List Job) → StandsApart j waiting → Each (λ x. job_block x ≢ job_block j) waiting

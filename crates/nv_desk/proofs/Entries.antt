@@ -1,8 +1,9 @@
 -- One entry more.
-use Rattle.std.proofs.Common.{◌≡◌, ◌≤◌, ℕ, ◌+◌, ◌*◌, true, [], ◌∷◌, ◌++◌, length, length-append, ap, ◌∙◌, arith, sym}
+use Rattle.std.proofs.Common.{◌≡◌, ◌≤◌, ℕ, ◌+◌, true, refl, subst, [], ◌∷◌, ◌++◌, length, length-append, is_some, option_map, ap, ◌∙◌, arith, sym}
 use Rattle.block_machine.specs.nv_base.History.{Listed}
-use Rattle.block_machine.specs.Words.{Configuration, Entry}
-use Rattle.block_machine.specs.State.{State}
+use Rattle.block_machine.specs.Words.{Configuration, Entry, Request, Ask, Accepted}
+use Rattle.block_machine.specs.State.{State, jobs_of}
+use Rattle.block_machine.specs.Blocks.{asked_block, asked_content, job_kind}
 use Rattle.block_machine.specs.Reply.{reserved_entries, fits}
 use Rattle.block_machine.specs.Steps.{after, step, changed_by}
 use Rattle.block_machine.specs.Legal.{IsAllowed}
@@ -13,9 +14,11 @@ use Rattle.block_laws.proofs.NextLaws.{fitting_has_room}
 use Rattle.nv_desk.specs.declared.desk.Desk.TheInside.{Inside}
 use Rattle.nv_desk_state.specs.declared.kept.Kept.{Kept}
 use Rattle.nv_desk.specs.Rooms.{Roomy, with_entry}
+use Rattle.nv_desk.specs.Places.{Ready, AreReady, taken_from}
 use Rattle.nv_desk_state.specs.Kept.{Agrees}
 use Rattle.nv_desk.specs.Sound.{IsSound}
 use Rattle.nv_desk.specs.Desk.{IsKept}
+use Rattle.nv_desk.proofs.Ready.{accepted_ready, taken_length}
 
 -- counts are never kept
 stepped : (c : Configuration) (k : Kept) (s : State) (e : Entry) → Agrees c k (changed_by c s e) → Agrees c k (step c s e)
@@ -57,22 +60,34 @@ memory_kept d h r is same more longest count =
       fits = rw (entries, cap) is.fits;
       memory = rw entries (omega (arith, is.memory, more));
       rooms = rw entries (omega (arith, is.rooms, count));
+      one_each = is.one_each;
+      ready = rw entries is.ready;
       prepared = rw entries is.prepared;
-      place = λ now. let place = is.place (rw entries at now) in (omega (arith, place.0, more), omega (arith, place.1, count));
+      place = λ now. let (entry, content, places) = is.place (rw entries at now) in (omega (arith, entry, more), omega (arith, content, count), places);
       longest = λ id. omega (arith, is.longest id, longest);
       within = rw cap is.within;
       read_share = is.read_share;
       write_share = is.write_share;
     }
 
+-- the places of contents are those of the jobs of a state
+pub record StandReady (d : Inside) (s : State) (p : Ready) : Type 0 where
+  pub count : length p ≡ length d.places
+  pub ready : AreReady d.config (jobs_of s) p
+
+-- they are, where the jobs stay
+pub stay_ready : (d : Inside) (s : State) → IsKept d → jobs_of s ≡ jobs_of (after d.config d.history.entries) → StandReady d s d.places
+stay_ready d s is same = record { count = refl; ready = subst (λ js. AreReady d.config js d.places) (sym same) is.ready }
+
 -- What is kept stands behind an entry, with memory for the entries that are reserved then.
-pub entry_kept : (d : Inside) (h : Listed) (k : Kept) (r : Roomy) (e : Entry) (most : ℕ) → IsKept d → IsPushed d.history h e most
+pub entry_kept : (d : Inside) (h : Listed) (k : Kept) (r : Roomy) (p : Ready) (e : Entry) (most : ℕ) → IsKept d → IsPushed d.history h e most
     → Agrees d.config k (changed_by d.config (after d.config d.history.entries) e)
     → IsSound d.config (step d.config (after d.config d.history.entries) e)
     → reserved_entries d.config (changed_by d.config (after d.config d.history.entries) e) ≤ most
-    → length d.history.entries + 1 + most ≤ d.history.cap → 2 * most ≤ r.count → d.rooms.longest ≤ r.longest
-    → IsKept (record d { history = h; kept = k; rooms = r })
-entry_kept d h k r e most is push agrees sound few fits rooms longest =
+    → length d.history.entries + 1 + most ≤ d.history.cap → most ≤ r.count → d.rooms.longest ≤ r.longest
+    → StandReady d (changed_by d.config (after d.config d.history.entries) e) p
+    → IsKept (record d { history = h; kept = k; rooms = r; places = p })
+entry_kept d h k r p e most is push agrees sound few fits rooms longest places =
     let next : after d.config h.entries ≡ step d.config (after d.config d.history.entries) e = ap (after d.config) push.entries
     ∙ histories_step d.config d.history.entries e in
     let reserved : reserved_entries d.config (after d.config h.entries) ≡ reserved_entries d.config
@@ -84,6 +99,8 @@ entry_kept d h k r e most is push agrees sound few fits rooms longest =
       fits = omega (arith, reserved, few, fits, count, push.cap);
       memory = omega (arith, reserved, few, push.memory);
       rooms = omega (arith, reserved, few, rooms);
+      one_each = places.count ∙ is.one_each;
+      ready = rw next places.ready;
       prepared = omega (arith, is.prepared, count);
       place = λ same. absurd (omega (arith, is.prepared, count, same));
       longest = λ id. omega (arith, is.longest id, longest);
@@ -93,7 +110,7 @@ entry_kept d h k r e most is push agrees sound few fits rooms longest =
     }
 
 -- so it does behind a request that is noted or accepted, with memory for the entries that it reserves
-pub ask_kept : (d : Inside) (mid h : Listed) (k : Kept) (r : Roomy) (e : Entry) (most more : ℕ) → IsKept d
+pub ask_kept : (d : Inside) (mid h : Listed) (k : Kept) (r : Roomy) (p : Ready) (e : Entry) (most more : ℕ) → IsKept d
     → record mid { reserved = d.history.reserved } ≡ d.history → most + 1 ≤ mid.reserved → h ≡ with_entry mid e
     → IsAllowed d.config d.history.cap (after d.config d.history.entries) e
     → Agrees d.config k (changed_by d.config (after d.config d.history.entries) e)
@@ -101,16 +118,29 @@ pub ask_kept : (d : Inside) (mid h : Listed) (k : Kept) (r : Roomy) (e : Entry) 
     → most ≡ reserved_entries d.config (after d.config d.history.entries) + more
     → reserved_entries d.config (changed_by d.config (after d.config d.history.entries) e) ≡ reserved_entries d.config (after d.config d.history.entries) + more
     → fits d.config d.history.cap (after d.config d.history.entries) (1 + more) ≡ true
-    → 2 * most ≤ r.count → r.longest ≡ d.rooms.longest → IsKept (record d { history = h; kept = k; rooms = r })
-ask_kept d mid h k r e most more is same entries added allowed agrees sound value changed fitting contents longest =
+    → most ≤ r.count → r.longest ≡ d.rooms.longest → StandReady d (changed_by d.config (after d.config d.history.entries) e) p
+    → IsKept (record d { history = h; kept = k; rooms = r; places = p })
+ask_kept d mid h k r p e most more is same entries added allowed agrees sound value changed fitting contents longest places =
     let s = after d.config d.history.entries in
     let room = (fitting_has_room d.config d.history.cap s (1 + more)).0 fitting in
     let counted = entries_are_counted d.config d.history.entries in
-    entry_kept d h k r e most is (pushed d.history mid h e most same entries added) agrees
+    entry_kept d h k r p e most is (pushed d.history mid h e most same entries added) agrees
     (sound (allowed_steps_stay_consistent d.config d.history.cap s e is.sound.consistent allowed))
-    (omega (arith, value, changed)) (omega (arith, room, value, counted)) contents (omega (arith, longest))
+    (omega (arith, value, changed)) (omega (arith, room, value, counted)) contents (omega (arith, longest)) places
 
 -- the next entry's number, where only memory was taken
 pub counted_still : (d : Inside) (mid : Listed) → record mid { reserved = d.history.reserved } ≡ d.history
     → length mid.entries ≡ (after d.config d.history.entries).count
 counted_still d mid same = ap (λ (h : Listed). length h.entries) same ∙ sym (entries_are_counted d.config d.history.entries)
+
+-- the places behind a job that is accepted
+pub job_places : (d : Inside) (places : Ready) (caller : ℕ) (r : Request) → IsKept d → is_some (job_kind r) ≡ true
+    → places ≡ taken_from d.places (asked_block r) (option_map (λ x. x.0) (asked_content r))
+    → StandReady d (changed_by d.config (after d.config d.history.entries) (Ask caller r Accepted)) places
+job_places d places caller r is some changed =
+    let content = option_map (λ x. x.0) (asked_content r) in
+    subst (StandReady d (changed_by d.config (after d.config d.history.entries) (Ask caller r Accepted))) (sym changed)
+    (record {
+      count = taken_length d.places (asked_block r) content;
+      ready = accepted_ready d.config (after d.config d.history.entries) r d.places some is.ready;
+    })

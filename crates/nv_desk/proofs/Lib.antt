@@ -8,6 +8,7 @@ pub mod Jobs
 pub mod Lengths
 pub mod MemberEntries
 pub mod Picks
+pub mod Ready
 pub mod Requests
 pub mod Sound
 pub mod SoundDriver

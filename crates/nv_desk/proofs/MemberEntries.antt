@@ -1,17 +1,19 @@
 -- A member of a request on all blocks is picked, or posted without a Pick.
-use Rattle.std.proofs.Common.{◌≡◌, ◌≤◌, ◌<◌, ℕ, ◌+◌, Bool, true, false, List, [], ◌∷◌, length, get_or, refl, sym, subst, Option, Some, None, IfSome, IsTrue, if◌then◌else◌, ap, ◌∙◌, arith}
+use Rattle.std.proofs.Common.{◌≡◌, ◌≤◌, ◌<◌, ℕ, ◌+◌, Bool, true, false, List, [], ◌∷◌, ◌++◌, option_to_list, length, get_or, refl, sym, subst, Option, Some, None, IfSome, IsSomeAnd, IsTrue, if◌then◌else◌, ap, ◌∙◌, arith}
 use Rattle.std.proofs.lemmas.List.{length-set}
 use Rattle.block_machine.specs.block_config.Rules.{IsLegalConfig}
 use Rattle.block_machine.specs.Words.{Configuration, ReqResult, Pick, Post, JobKind, Pending}
-use Rattle.block_machine.specs.State.{State, Job, Sweep}
+use Rattle.block_machine.specs.State.{State, Job, Sweep, jobs_of}
 use Rattle.block_machine.specs.Blocks.{desc_of, block_at, is_pending, keeps_ram, status_of}
 use Rattle.block_machine.specs.Sweeps.{is_picked, member_job, member_kind}
 use Rattle.block_machine.specs.Next.{Next, BeginSweep, PickMember, PostMember, next_in, next_by, next_of, next_member}
-use Rattle.block_machine.specs.Steps.{after, changed_by, step, posted, posted_next, content_after, in_hand, with_member, ended}
+use Rattle.block_machine.specs.Steps.{after, changed_by, step, picked, picked_job, posted, posted_next, content_after, in_hand, with_member, ended}
 use Rattle.block_laws.specs.Consistent.{IsConsistent}
 use Rattle.block_laws.proofs.NextLaws.{none_waits}
 use Rattle.block_states.specs.States.{rooms_of}
 use Rattle.block_states.proofs.Started.{rooms_have_lengths}
+use Rattle.job_pending.specs.declared.take.Take.{Take}
+use Rattle.job_pending.specs.declared.take.Take.TheVariants as take
 use Rattle.job_pending.specs.Take.{Took, taken_with}
 use Rattle.nv_desk_state.specs.declared.kept.Kept.{Kept}
 use Rattle.nv_desk_state.specs.Kept.{Agrees}
@@ -19,11 +21,15 @@ use Rattle.nv_desk_state.specs.Pending.{IsAtMember}
 use Rattle.nv_desk.specs.declared.desk.Desk.TheInside.{Inside}
 use Rattle.nv_desk.specs.Sound.{HasRam, IsSound}
 use Rattle.nv_desk.specs.Desk.{IsKept, shown}
-use Rattle.nv_desk.specs.Picks.{CanTake}
+use Rattle.nv_desk.specs.Picks.{CanTake, copied_of, took_of}
+use Rattle.nv_desk.specs.Places.{Ready, AreReady, IsReady, taken_from}
+use Rattle.nv_desk_state.proofs.Members.{member_known}
 use Rattle.nv_desk.specs.Members.{MayPickMember}
 use Rattle.nv_desk.proofs.Drivers.{HasRoom, has_room, in_room}
 use Rattle.nv_desk.proofs.Contents.{FillsRooms, block_is, copied_fits, member_ram_is, member_takes, ram_is_whole, writes_is}
 use Rattle.nv_desk.proofs.Sound.{now}
+use Rattle.nv_desk.proofs.Entries.{StandReady}
+use Rattle.nv_desk.proofs.Ready.{member_ready, taken_length}
 
 -- WHICH MEMBER
 
@@ -88,6 +94,7 @@ pub record MemberPick (d : Inside) (took : Took) (ops : ℕ) (sw : Sweep) (id : 
   pub ram : sw.writes ≡ true → HasRam d.config id
   pub whole : IfSome (content_after None (taken_with None took)) (λ x. length x.0 ≡ (desc_of d.config id).length)
   pub takes : CanTake d.rooms None took
+  pub place : IsReady d.config d.places id
 
 pub member_pick : (d : Inside) (id : ℕ) (took : Took) (ops : ℕ) → IsKept d → IsLegalConfig d.config → FillsRooms d.kept
     → (may : MayPickMember (shown d) id took ops) → MemberPick d took ops may.sweep id
@@ -105,6 +112,7 @@ member_pick d id took ops is legal fills may =
       ram = some;
       whole = whole;
       takes = record { rooms = has.rooms; own = tt; copied = copied_fits (desc_of d.config id).length d.rooms.longest None took (is.longest id) whole };
+      place = is.ready id (let known = member_known d.config d.kept s may.sweep id (omega (arith, legal.blocks_low)) is.agrees x in omega (arith, known, is.agrees.places)) (rw (x.hand, x.waiting) tt);
     }
 
 held_sound : (c : Configuration) (s : State) (sw : Sweep) (id : ℕ) (t : Took) (count ops : ℕ)
@@ -138,7 +146,46 @@ pub member_step : (c : Configuration) (k : Kept) (s : State) (sw : Sweep) (id : 
     → Agrees c k (in_hand c (with_member s sw id) (member_job c sw id) (taken_with None t)) → Agrees c k (changed_by c s (Pick id kind (taken_with None t) ops))
 member_step c k s sw id kind t ops is h = rw is h
 
+fits_by : (n id : ℕ) (places : Ready) (t : Take) (lent : List ℕ) → IsSomeAnd (get_or places id None) (λ bytes. length bytes ≡ n)
+    → IfSome (content_after None (taken_with None (took_of t lent))) (λ x. length x.0 ≡ n)
+    → IfSome (copied_of t lent) (λ x. IsSomeAnd (get_or places id None) (λ bytes. length bytes ≡ length x))
+fits_by n id places (take.Copied store) lent is whole = subst (λ (m : ℕ). IsSomeAnd (get_or places id None) (λ bytes. length bytes ≡ m)) (sym whole) is
+fits_by n id places take.Nothing lent is whole = tt
+fits_by n id places take.Own lent is whole = tt
+fits_by n id places (take.Refused count) lent is whole = tt
+fits_by n id places (take.Stale asked got count) lent is whole = tt
+
+pub member_fits : (d : Inside) (id : ℕ) (t : Take) (lent : List ℕ) → IsReady d.config d.places id
+    → IfSome (content_after None (taken_with None (took_of t lent))) (λ x. length x.0 ≡ (desc_of d.config id).length)
+    → IfSome (copied_of t lent) (λ x. IsSomeAnd (get_or d.places id None) (λ bytes. length bytes ≡ length x))
+member_fits d id t lent is whole = fits_by (desc_of d.config id).length id d.places t lent is whole
+
+-- the places behind it
+pub member_places : (d : Inside) (places : Ready) (kind : JobKind) (t : Take) (lent : List ℕ) (ops : ℕ) (sw : Sweep) (id : ℕ) → IsKept d
+    → IsAtMember (after d.config d.history.entries) sw id → next_of d.config (after d.config d.history.entries) ≡ PickMember sw id
+    → places ≡ taken_from d.places id (copied_of t lent)
+    → StandReady d (changed_by d.config (after d.config d.history.entries) (Pick id kind (taken_with None (took_of t lent)) ops)) places
+member_places d places kind t lent ops sw id is x next changed =
+    let s = after d.config d.history.entries in
+    let c = d.config in
+    let none : AreReady c [] d.places = subst (λ (js : List Job). AreReady c js d.places) (ap (λ (o : Option Job). option_to_list o ++ s.waiting) x.hand ∙ x.waiting) is.ready in
+    let job = member_job c sw id in
+    let jobs : jobs_of (changed_by c s (Pick id kind (taken_with None (took_of t lent)) ops)) ≡ picked_job (taken_with None (took_of t lent)) 0 job ∷ [] =
+    ap (λ (n : Next). jobs_of (picked c s (taken_with None (took_of t lent)) n)) next ∙ rw (x.hand, x.waiting) refl in
+    subst (StandReady d (changed_by c s (Pick id kind (taken_with None (took_of t lent)) ops))) (sym changed)
+    (record {
+      count = taken_length d.places id (copied_of t lent);
+      ready = subst (λ (js : List Job). AreReady c js (taken_from d.places id (copied_of t lent))) (sym jobs)
+          (subst (λ (n : ℕ). AreReady c (picked_job (taken_with None (took_of t lent)) 0 job ∷ []) (taken_from d.places n (copied_of t lent))) (block_is sw.writes id)
+          (member_ready c job t lent 0 d.places none));
+    })
+
 -- A POST
+
+pub posted_jobs : (c : Configuration) (s : State) (sw : Sweep) (id : ℕ) (r : ReqResult) (given : Option (List ℕ)) (refused ops : ℕ) → s.hand ≡ None
+    → next_of c s ≡ PostMember sw id → jobs_of (changed_by c s (Post id r given refused ops)) ≡ jobs_of s
+posted_jobs c s sw id r given refused ops hand is =
+    ap (λ (o : Option Job). jobs_of (posted c s r given o)) hand ∙ ap (λ (n : Next). jobs_of (posted_next c s r given n)) is
 
 posted_by : (c : Configuration) (k : Kept) (s : State) (r : ReqResult) (given : Option (List ℕ)) (n m : Next) → n ≡ m
     → Agrees c k (posted_next c s r given m) → Agrees c k (posted_next c s r given n)

@@ -4,7 +4,7 @@ use Rattle.std.specs.Option.{option_map_or}
 use Rattle.std.proofs.lemmas.List.Sums.{sum_by-cons}
 use Rattle.block_machine.specs.nv_base.History.{Listed}
 use Rattle.block_machine.specs.Words.{Configuration, JobKind, Taken, Pick}
-use Rattle.block_machine.specs.State.{State, Job}
+use Rattle.block_machine.specs.State.{State, Job, jobs_of}
 use Rattle.block_machine.specs.Blocks.{desc_of, job_block, kind_of, rank_of}
 use Rattle.block_machine.specs.Next.{PickJob, next_in, next_of}
 use Rattle.block_machine.specs.Reply.{reserved_entries}
@@ -12,6 +12,8 @@ use Rattle.block_machine.specs.Steps.{after, step, changed_by, in_hand, content_
 use Rattle.block_machine.specs.Legal.{MayInterrupt}
 use Rattle.block_laws.specs.Consistent.{Each, IsConsistent, IsWaitingJob, IsJobInHand}
 use Rattle.block_laws.proofs.NextLaws.{next_is_waiting}
+use Rattle.job_pending.specs.declared.take.Take.{Take}
+use Rattle.job_pending.specs.declared.take.Take.TheVariants as take
 use Rattle.job_pending.specs.Take.{Took, taken_with}
 use Rattle.job_pending.specs.Pending.{Pending, Agree}
 use Rattle.nv_desk_state.specs.declared.kept.Kept.{Kept}
@@ -19,10 +21,13 @@ use Rattle.nv_desk_state.specs.Kept.{Agrees}
 use Rattle.nv_desk.specs.Sound.{IsPendingJob, IsSound}
 use Rattle.nv_desk.specs.declared.desk.Desk.TheInside.{Inside}
 use Rattle.nv_desk.specs.Desk.{DeskState, IsKept, shown, state_of}
-use Rattle.nv_desk.specs.Picks.{CanTake, IsInterruption, MayPickNext}
-use Rattle.nv_desk.specs.Rooms.{with_entry}
-use Rattle.nv_desk.proofs.Contents.{FillsRooms, copied_fits, job_takes, ram_is_whole}
+use Rattle.nv_desk.specs.Picks.{CanTake, IsInterruption, MayPickNext, copied_of, own_first, took_of}
+use Rattle.nv_desk.specs.Places.{Ready, IsReady, AreReady, taken_from}
+use Rattle.nv_desk.specs.Rooms.{Roomy, with_entry}
+use Rattle.nv_desk.proofs.Contents.{FillsRooms, copied_fits, job_takes, own_same, ram_is_whole}
 use Rattle.nv_desk.proofs.Drivers.{HasRoom, has_room}
+use Rattle.nv_desk.proofs.Entries.{StandReady}
+use Rattle.nv_desk.proofs.Ready.{next_place, picked_ready, taken_length}
 use Rattle.nv_desk.proofs.SoundDriver.{sound_pick}
 
 -- what holds of all holds of one
@@ -35,8 +40,11 @@ each_in : (P : Job → Type 0) (o : Option Job) (waiting before : List Job) (j :
 each_in P None waiting before j after is each = each_mid P before j after (subst (Each P) is each)
 each_in P (Some x) waiting before j after is each = each_mid P before j after (subst (Each P) is each.1)
 
+pub some_is : (x y : Job) → Some x ≡ Some y → x ≡ y
+some_is x y e = cc
+
 -- what is known of it
-pub record IsReady (c : Configuration) (s : State) (j : Job) : Type 0 where
+pub record IsNext (c : Configuration) (s : State) (j : Job) : Type 0 where
   pub pending : IsPendingJob c s j
   pub number : j.number < s.count
   pub other : IfSome s.hand (λ h. (h.number < s.count) × (j.number ≢ h.number))
@@ -50,7 +58,7 @@ other_by c s (Some x) before j after is h = (
       (subst (Each (λ (y : Job). y.number ≢ x.number)) is h.apart),
 )
 
-pub ready : (c : Configuration) (s : State) (j : Job) → IsSound c s → next_in c s.waiting ≡ Some j → IsReady c s j
+pub ready : (c : Configuration) (s : State) (j : Job) → IsSound c s → next_in c s.waiting ≡ Some j → IsNext c s j
 ready c s j sound next =
     let (before, after, is) = next_is_waiting c s.waiting j next in
     record {
@@ -81,7 +89,7 @@ room_by c s p (Some y) (Some x) j n m h is hand other low count fits within =
     let all = rw is at fits in
     subst (λ (z : Job). p.reserved + z.reserved + 2 < 2 ^ 32) e (omega (arith, sum, differs, other.0, low, kept, count, all, within))
 
-pub pick_room : (c : Configuration) (s : State) (p : Pending) (j : Job) (n m : ℕ) → Agree c p s.waiting s.hand → IsReady c s j → s.count ≡ n
+pub pick_room : (c : Configuration) (s : State) (p : Pending) (j : Job) (n m : ℕ) → Agree c p s.waiting s.hand → IsNext c s j → s.count ≡ n
     → n + reserved_entries c s ≤ m → m < 2 ^ 32 → IfSome p.hand (λ h. p.reserved + h.reserved + 2 < 2 ^ 32)
 pick_room c s p j n m h r count fits within = room_by c s p s.hand p.hand j n m h refl refl r.other r.number count fits within
 
@@ -95,7 +103,7 @@ pub pick_step : (c : Configuration) (k : Kept) (s : State) (j : Job) (block : �
 pick_step c k s j block kind t ops next h = rw (next_is c s j next) h
 
 pub picked_sound : (c : Configuration) (s : State) (j : Job) (block : ℕ) (kind : JobKind) (t : Took) (ops : ℕ)
-    → IsSound c s → next_in c s.waiting ≡ Some j → IsReady c s j
+    → IsSound c s → next_in c s.waiting ≡ Some j → IsNext c s j
     → IfSome (content_after j.content (taken_with j.content t)) (λ x. length x.0 ≡ (desc_of c (job_block j)).length)
     → IsConsistent c (step c s (Pick block kind (taken_with j.content t) ops)) → IsSound c (step c s (Pick block kind (taken_with j.content t) ops))
 picked_sound c s j block kind t ops sound next r whole consistent =
@@ -110,9 +118,10 @@ content_within n m (Some x) less fits = omega (arith, less, fits)
 -- what the Pick finds: room for its entry and for copies, what is known of the job, and a content of its block's length
 pub record JobPick (d : Inside) (took : Took) (ops : ℕ) (j : Job) : Type 0 where
   pub room : HasRoom d (Pick (job_block j) (kind_of j) (taken_with j.content took) ops)
-  pub ready : IsReady d.config (after d.config d.history.entries) j
+  pub ready : IsNext d.config (after d.config d.history.entries) j
   pub whole : IfSome (content_after j.content (taken_with j.content took)) (λ x. length x.0 ≡ (desc_of d.config (job_block j)).length)
   pub takes : CanTake d.rooms j.content took
+  pub place : j.content ≡ None → IsReady d.config d.places (job_block j)
 
 pub job_pick : (d : Inside) (took : Took) (ops : ℕ) → IsKept d → FillsRooms d.kept → (may : MayPickNext (shown d) took ops) → JobPick d took ops may.job
 job_pick d took ops is fills may =
@@ -132,7 +141,48 @@ job_pick d took ops is fills may =
         own = content_within d.rooms.longest n j.content (is.longest (job_block j)) r.pending.content;
         copied = copied_fits n d.rooms.longest j.content took (is.longest (job_block j)) whole;
       };
+      place = next_place d.config d.kept.jobs s j d.places is.agrees.jobs may.is r.pending.pending (is.sound.places may.allowed.0.started) is.ready;
     }
+
+-- what it takes, where one that has a content takes that
+pub own_next : (d : Inside) (t : Take) (lent : List ℕ) (ops : ℕ) → MayPickNext (shown d) (took_of t lent) ops → (j : Job)
+    → next_in d.config (after d.config d.history.entries).waiting ≡ Some j → taken_with j.content (took_of (own_first t j.content) lent) ≡ taken_with j.content (took_of t lent)
+own_next d t lent ops may j next =
+    subst (λ (x : Job). taken_with x.content (took_of (own_first t x.content) lent) ≡ taken_with x.content (took_of t lent)) (some_is may.job j (sym may.is ∙ next))
+    (own_same d.config d.history.cap (after d.config d.history.entries) may.job t lent ops may.is may.allowed)
+
+pub whole_own : (d : Inside) (t : Take) (lent : List ℕ) (j : Job) → taken_with j.content (took_of (own_first t j.content) lent) ≡ taken_with j.content (took_of t lent)
+    → IfSome (content_after j.content (taken_with j.content (took_of t lent))) (λ x. length x.0 ≡ (desc_of d.config (job_block j)).length)
+    → IfSome (content_after j.content (taken_with j.content (took_of (own_first t j.content) lent))) (λ x. length x.0 ≡ (desc_of d.config (job_block j)).length)
+whole_own d t lent j one whole = rw one whole
+
+own_by : (r : Roomy) (t : Take) (lent : List ℕ) (content : Option (List ℕ × ℕ)) → CanTake r content (took_of t lent) → CanTake r content (took_of (own_first t content) lent)
+own_by r (take.Copied store) lent (Some x) can = record { rooms = can.rooms; own = can.own; copied = tt }
+own_by r (take.Copied store) lent None can = can
+own_by r t lent content can = can
+
+pub takes_own : (d : Inside) (t : Take) (lent : List ℕ) (j : Job) → CanTake d.rooms j.content (took_of t lent) → CanTake d.rooms j.content (took_of (own_first t j.content) lent)
+takes_own d t lent j can = own_by d.rooms t lent j.content can
+
+-- the places behind it
+pub pick_places : (d : Inside) (places : Ready) (block : ℕ) (kind : JobKind) (t own : Take) (lent : List ℕ) (ops at : ℕ) (x j : Job) → IsKept d
+    → next_in d.config (after d.config d.history.entries).waiting ≡ Some j → x ≡ j → own ≡ own_first t x.content → at ≡ job_block x
+    → taken_with j.content (took_of (own_first t j.content) lent) ≡ taken_with j.content (took_of t lent)
+    → places ≡ taken_from d.places at (copied_of own lent)
+    → StandReady d (changed_by d.config (after d.config d.history.entries) (Pick block kind (taken_with j.content (took_of t lent)) ops)) places
+pick_places d places block kind t own lent ops at x j is next same takes on one changed =
+    let s = after d.config d.history.entries in
+    let first = own_first t j.content in
+    let which : own ≡ first = takes ∙ ap (λ (y : Job). own_first t y.content) same in
+    let there : at ≡ job_block j = on ∙ ap job_block same in
+    let all : places ≡ taken_from d.places (job_block j) (copied_of first lent) =
+    changed ∙ ap (λ (n : ℕ). taken_from d.places n (copied_of own lent)) there ∙ ap (λ (u : Take). taken_from d.places (job_block j) (copied_of u lent)) which in
+    subst (StandReady d (changed_by d.config s (Pick block kind (taken_with j.content (took_of t lent)) ops))) (sym all)
+    (record {
+      count = taken_length d.places (job_block j) (copied_of first lent);
+      ready = rw (next_is d.config s j next) (subst (λ (u : Taken). AreReady d.config (jobs_of (in_hand d.config s j u)) (taken_from d.places (job_block j) (copied_of first lent))) one
+          (picked_ready d.config s j first lent d.places next is.sound.consistent.apart is.ready));
+    })
 
 -- its entry, by the job that it is of
 pub entry_of : (h new : Listed) (block : ℕ) (kind : JobKind) (t : Taken) (x j : Job) (took : Took) (ops : ℕ) → block ≡ job_block x → kind ≡ kind_of x
@@ -143,9 +193,6 @@ entry_of h new block kind t x j took ops at is takes same adds =
     ∙ ap (λ (k : JobKind). with_entry h (Pick (job_block x) k t ops)) is
     ∙ ap (λ (u : Taken). with_entry h (Pick (job_block x) (kind_of x) u ops)) takes
     ∙ ap (λ (y : Job). with_entry h (Pick (job_block y) (kind_of y) (taken_with y.content took) ops)) same
-
-pub some_is : (x y : Job) → Some x ≡ Some y → x ≡ y
-some_is x y e = cc
 
 -- AN INTERRUPTION
 

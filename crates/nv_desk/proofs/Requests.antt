@@ -27,6 +27,9 @@ pub sweep_agrees : (c : Configuration) (k : Kept) (s : State) (writes : Bool) �
     → Agrees c k (accepted c s (sweep_request writes))
 sweep_agrees c k s writes h = rw (accepted_sweep c s writes) h
 
+pub sweep_jobs : (c : Configuration) (s : State) (writes : Bool) → jobs_of (accepted c s (sweep_request writes)) ≡ jobs_of s
+sweep_jobs c s writes = ap jobs_of (accepted_sweep c s writes)
+
 -- none was pending before, so that it adds its entries to the reserved ones
 pub sweep_reserves : (c : Configuration) (cap : ℕ) (s : State) (writes : Bool) → IsSound c s
     → IsSweepAccepted c cap s (sweep_request writes) → reserved_entries c
@@ -60,6 +63,17 @@ change_reserves c s rooms (GetIndex block) is = refl
 change_reserves c s rooms (Status block) is = refl
 change_reserves c s rooms CancelWriteAll is = omega (arith, cancel_reserves c s.sweep)
 change_reserves c s rooms r is = absurd is
+
+pub change_jobs : (c : Configuration) (s : State) (rooms : List ℕ) (r : Request) → IsChange rooms r → jobs_of (accepted c s r) ≡ jobs_of s
+change_jobs c s rooms (SetIndex block index) is = refl
+change_jobs c s rooms (SetProtection block on) is = refl
+change_jobs c s rooms (SetLock block on) is = refl
+change_jobs c s rooms (SetRam block on) is = refl
+change_jobs c s rooms (PutRam block content) is = refl
+change_jobs c s rooms (GetIndex block) is = refl
+change_jobs c s rooms (Status block) is = refl
+change_jobs c s rooms CancelWriteAll is = refl
+change_jobs c s rooms r is = absurd is
 
 -- one that changes nothing
 pub same_sound : (c : Configuration) (s : State) (caller : ℕ) (r : Request) (reply : Reply) → IsSound c s

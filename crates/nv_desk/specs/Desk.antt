@@ -1,12 +1,13 @@
 -- What the desk shows, and what it keeps.
-use Rattle.std.specs.Prelude.{◌≡◌, ℕ, ◌+◌, ◌*◌, ◌≤◌, ◌<◌, ◌^◌, true, false, Bool, List, [], length}
+use Rattle.std.specs.Prelude.{◌≡◌, ℕ, ◌+◌, ◌≤◌, ◌<◌, ◌^◌, true, false, Bool, List, [], length}
 use Rattle.block_machine.specs.Words.{Configuration, Entry, Request, ReadAll, WriteAll}
-use Rattle.block_machine.specs.State.{State}
+use Rattle.block_machine.specs.State.{State, jobs_of}
 use Rattle.block_machine.specs.Blocks.{desc_of}
 use Rattle.block_machine.specs.Sweeps.{sweep_entries, sweep_at}
 use Rattle.block_machine.specs.Reply.{reserved_entries}
 use Rattle.block_machine.specs.Steps.{after}
 use Rattle.nv_desk_state.specs.Kept.{Agrees}
+use Rattle.nv_desk.specs.Places.{AllReady, AreReady}
 use Rattle.nv_desk.specs.Sound.{IsSound}
 use Rattle.nv_desk.specs.declared.desk.Desk.TheInside.{Inside}
 
@@ -30,16 +31,18 @@ abbrev pub state_of : DeskState → State
 state_of d = after d.config d.entries
 
 -- What is kept stands for the state after the history. The reserved entries fit under the cap, and there is memory for
--- them, and for two contents with each. Until the next entry there is memory for a start-up's and an Off behind it, once it
--- was taken.
+-- them, and for one content with each. The content of a job has the place of its block. Until the next entry there is memory
+-- for a start-up's and an Off behind it, and each place stands ready, once it was taken.
 pub record IsKept (d : Inside) : Type 0 where
   pub agrees : Agrees d.config d.kept (after d.config d.history.entries)
   pub sound : IsSound d.config (after d.config d.history.entries)
   pub fits : length d.history.entries + reserved_entries d.config (after d.config d.history.entries) ≤ d.history.cap
   pub memory : reserved_entries d.config (after d.config d.history.entries) ≤ d.history.reserved
-  pub rooms : 2 * reserved_entries d.config (after d.config d.history.entries) ≤ d.rooms.count
+  pub rooms : reserved_entries d.config (after d.config d.history.entries) ≤ d.rooms.count
+  pub one_each : length d.places ≡ length d.config.blocks + 1
+  pub ready : AreReady d.config (jobs_of (after d.config d.history.entries)) d.places
   pub prepared : d.prepared ≤ length d.history.entries
-  pub place : d.prepared ≡ length d.history.entries → (2 ≤ d.history.reserved) × (2 ≤ d.rooms.count)
+  pub place : d.prepared ≡ length d.history.entries → (2 ≤ d.history.reserved) × (1 ≤ d.rooms.count) × AllReady d.config d.places
   pub longest : (id : ℕ) → (desc_of d.config id).length ≤ d.rooms.longest
   pub within : d.history.cap < 2 ^ 32
   pub read_share : d.read_share ≡ sweep_entries d.config (sweep_at d.config 0 false)

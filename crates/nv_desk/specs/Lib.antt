@@ -4,6 +4,7 @@ pub mod Desk
 pub mod Driver
 pub mod Members
 pub mod Picks
-pub mod Recorder
+pub mod Places
 pub mod Rooms
 pub mod Sound
+pub use Rattle.nv_recorder.specs.Recorder as Recorder

@@ -30,9 +30,14 @@ copied_in (t, copy) = None
 abbrev pub content_in : Option Job → Option (List ℕ × ℕ)
 content_in job = option_and_then (λ j. j.content) job
 
--- there is room for what a Pick takes, once for the job and once for the history
+-- a job that has a content takes that in place of a copy
+abbrev pub own_first : Take → Option (List ℕ × ℕ) → Take
+own_first (take.Copied store) (Some x) = take.Own
+own_first t content = t
+
+-- there is room in the history for what a Pick takes
 pub record CanTake (r : Roomy) (content : Option (List ℕ × ℕ)) (took : Took) : Type 0 where
-  pub rooms : 2 ≤ r.count
+  pub rooms : 1 ≤ r.count
   pub own : IfSome content (λ x. length x.0 ≤ r.longest)
   pub copied : IfSome (copied_in took) (λ x. length x ≤ r.longest)
 

@@ -1,15 +1,17 @@
 // Requests.
-ghost use Rattle.std.specs.Prelude.{◌≡◌, ◌++◌, ◌∷◌, ◌≤◌, ◌↔◌, [], true, false, is_some, IsTrue, IfOk, OnOk, OnErr, IsErrOf};
-ghost use Rattle.block_machine.specs.Blocks.{job_kind};
+ghost use Rattle.std.specs.Prelude.{◌≡◌, ◌++◌, ◌∷◌, ◌≤◌, ◌↔◌, [], true, false, is_some, length, get_or, option_map, None, IsTrue, IfOk, IfSome, IsSomeAnd, OnOk, OnErr, IsErrOf};
+ghost use Rattle.block_machine.specs.Blocks.{asked_block, asked_content, job_kind};
 ghost use Rattle.block_machine.specs.Reply.{fits, reply_of};
 ghost use Rattle.block_machine.specs.Steps.{asked};
 ghost use Rattle.block_machine.specs.Legal.{IsAllowed, IsLegal, HasStore};
 ghost use Rattle.block_states.specs.States.{rooms_of};
 ghost use Rattle.nv_desk.specs.Desk.{state_of, sweep_request};
+ghost use Rattle.nv_desk.specs.Places.{taken_from};
 ghost use Rattle.nv_desk_state.specs.Kept.{IsChange};
 
 use crate::Desk;
 use crate::memory::take_memory;
+use crate::places::Places;
 use block_machine::nv_base::{Bytes, Entry, Reply, Request};
 use job_pending::Job;
 use std::alloc::{AllocError, Global};
@@ -71,9 +73,9 @@ impl Desk {
     {
         let _sizes = self.config.queue_sizes();
         let needed = self.needed(&request);
-        let asked_for = copied(&request)?;
         let reserved = self.kept.reserved() as u32 + needed;
         take_memory(alloc, &mut self.history, &mut self.rooms, reserved)?;
+        let asked_for = in_place(&request, &mut self.places);
         let job = Job::accepted(self.history.len(), asked_for, needed);
         self.kept.accept(&self.config, job);
         self.history.add(acceptance(caller, request));
@@ -192,10 +194,44 @@ fn acceptance(caller: u8, request: Request) -> Entry
     }
 }
 
-fn copied(request: &Request) -> Result<Request, AllocError>
-    ensures { IfOk result (λ r. r ≡ request.now) }
+// A request that makes a job, with its content in its block's place.
+fn in_place(request: &Request, places: &mut Places) -> Request
+    requires kind { is_some (job_kind request.now) ≡ true }
+    requires place { IfSome (asked_content request.now) (λ x. IsSomeAnd (get_or places.old (asked_block request.now) None) (λ bytes. length bytes ≡ length x.0)) }
+    ensures request { result ≡ request.now }
+    ensures places { places.new ≡ taken_from places.old (asked_block request.now) (option_map (λ x. x.0) (asked_content request.now)) }
 {
-    request.clone()
+    match request {
+        Request::Read { block, ram } => Request::Read {
+            block: *block,
+            ram: *ram,
+        },
+        Request::Write {
+            block,
+            content: Some(content),
+            store,
+        } => Request::Write {
+            block: *block,
+            content: places.fill(*block, content.as_slice()),
+            store: *store,
+        },
+        Request::Write {
+            block,
+            content: None,
+            store,
+        } => Request::Write {
+            block: *block,
+            content: None,
+            store: *store,
+        },
+        Request::Restore { block, ram } => Request::Restore {
+            block: *block,
+            ram: *ram,
+        },
+        Request::Erase { block } => Request::Erase { block: *block },
+        Request::Invalidate { block } => Request::Invalidate { block: *block },
+        _ => Request::ReadAll,
+    }
 }
 
 fn sweep_request(writes: bool) -> Request

@@ -1,15 +1,16 @@
 // The desk.
 ghost use Rattle.std.specs.Prelude.{◌≡◌, ◌≤◌, ◌-◌, true, length, slice_get, option_copied, IfOk};
 ghost use Rattle.nv_desk.specs.Desk.{first_desk};
-ghost use Rattle.nv_desk.specs.Recorder.{keeps};
+ghost use Rattle.nv_recorder.specs.Recorder.{keeps};
 
 use crate::longest::longest_content;
 use crate::memory::take_memory;
-use crate::recorder::Recorder;
+use crate::places::Places;
 use crate::rooms::Rooms;
 use block_machine::block_config::Config;
 use block_machine::nv_base::{Entry, History};
 use nv_desk_state::{Kept, sweep_share};
+use nv_recorder::Recorder;
 use std::alloc::{AllocError, Global};
 use std::marker::Model;
 
@@ -21,6 +22,7 @@ pub struct Desk {
     pub(crate) history: Recorder,
     pub(crate) kept: Kept,
     pub(crate) rooms: Rooms,
+    pub(crate) places: Places,
     pub(crate) prepared: u32,
     pub(crate) read_share: u32,
     pub(crate) write_share: u32,
@@ -38,11 +40,12 @@ impl Model for Desk {
 
 impl Desk {
     /// The desk of a configuration before the first start-up, with a history of at most `cap` entries. It takes the memory of
-    /// that start-up's entry, and of an Off behind it.
+    /// that start-up's entry, and of an Off behind it, and a place for the content of each block.
     pub fn make(alloc: Global, config: Config, cap: u32) -> Result<Desk, AllocError>
         ensures { IfOk result (λ d. d ≡ first_desk config cap) }
     {
         let kept = Kept::make(alloc, &config)?;
+        let places = Places::make(alloc, &config)?;
         let mut rooms = Rooms::new(alloc, longest_content(&config));
         let mut history = Recorder::make(alloc, cap);
         take_memory(alloc, &mut history, &mut rooms, 1)?;
@@ -53,6 +56,7 @@ impl Desk {
             history,
             kept,
             rooms,
+            places,
             prepared: 0,
             read_share,
             write_share,

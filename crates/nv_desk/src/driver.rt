@@ -10,10 +10,10 @@ ghost use Rattle.nv_desk.specs.Rooms.{CanPost, with_entry};
 
 use crate::Desk;
 use crate::memory::add;
-use crate::recorder::Recorder;
 use crate::rooms::Rooms;
 use block_machine::nv_base::{Bytes, Entry, Instance, JobKind, Mark, ReqResult};
 use job_pending::PendingJobs;
+use nv_recorder::Recorder;
 
 impl Desk {
     /// The power is off. It takes no memory.
@@ -52,7 +52,8 @@ impl Desk {
         } }
     {
         let block = block_in_hand(&self.kept.jobs);
-        self.kept.end(&self.config, answer, given);
+        let content = self.kept.end(&self.config, answer, given);
+        self.places.put(block, content);
         let (history, rooms) = (&mut self.history, &mut self.rooms);
         add_post(history, rooms, block, answer, given, refused, ops);
     }

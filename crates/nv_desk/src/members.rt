@@ -12,7 +12,7 @@ ghost use Rattle.nv_desk.specs.Picks.{took_of};
 
 use crate::Desk;
 use crate::driver::add_post;
-use crate::pick::{add_pick, takes};
+use crate::pick::{add_pick, copy_of, taken_of};
 use block_machine::nv_base::{Entry, JobKind, ReqResult};
 use job_pending::Take;
 use nv_desk_state::PendingSweep;
@@ -29,7 +29,8 @@ impl Desk {
         self.kept.blocks.fills_its_rooms();
         let _sizes = self.config.queue_sizes();
         let job = member_kind(&self.kept.sweep);
-        let (copy, taken) = takes(take, lent, None, &mut self.rooms);
+        let copy = copy_of(take, lent, block, &mut self.places);
+        let taken = taken_of(take, lent, None, &mut self.rooms);
         self.kept.pick_member(&self.config, block, take, copy);
         add_pick(&mut self.history, block, job, taken, ops);
     }

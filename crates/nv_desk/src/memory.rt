@@ -1,13 +1,13 @@
 // Memory for entries that come later.
-ghost use Rattle.std.specs.Prelude.{◌≡◌, ◌≤◌, ◌<◌, ◌^◌, ◌+◌, ◌*◌, OnOk};
+ghost use Rattle.std.specs.Prelude.{◌≡◌, ◌≤◌, ◌<◌, ◌^◌, ◌+◌, OnOk};
 ghost use Rattle.nv_desk.specs.Rooms.{HasPlace, with_entry};
 
-use crate::recorder::Recorder;
 use crate::rooms::Rooms;
 use block_machine::nv_base::Entry;
+use nv_recorder::Recorder;
 use std::alloc::{AllocError, Global};
 
-/// Takes the memory of one entry now, of so many that are reserved, and of two contents with each of those. What was taken
+/// Takes the memory of one entry now, of so many that are reserved, and of one content with each of those. What was taken
 /// stays also where not all was found.
 pub fn take_memory(
     alloc: Global,
@@ -21,10 +21,10 @@ pub fn take_memory(
     ensures longest { rooms.new.longest ≡ rooms.old.longest }
     ensures rooms_stay { rooms.old.count ≤ rooms.new.count }
     ensures entries { OnOk result (reserved + 1 ≤ history.new.reserved) }
-    ensures contents { OnOk result (2 * reserved ≤ rooms.new.count) }
+    ensures contents { OnOk result (reserved ≤ rooms.new.count) }
 {
     history.reserve(reserved + 1)?;
-    rooms.provide(alloc, 2 * u64::from(reserved))?;
+    rooms.provide(alloc, u64::from(reserved))?;
     Ok(())
 }
 

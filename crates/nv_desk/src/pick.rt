@@ -1,19 +1,21 @@
 // The Pick of a job.
-ghost use Rattle.std.specs.Prelude.{◌≡◌, ◌≤◌, ◌<◌, ◌+◌, ◌++◌, ◌∷◌, [], length, Some, None, IfSome, option_copied};
+ghost use Rattle.std.specs.Prelude.{◌≡◌, ◌≤◌, ◌<◌, ◌+◌, ◌++◌, ◌∷◌, [], length, get_or, Some, None, IfSome, IsSomeAnd, option_copied};
 ghost use Rattle.block_machine.specs.State.{Job as MachineJob};
 ghost use Rattle.block_machine.specs.Blocks.{job_block, kind_of};
 ghost use Rattle.block_machine.specs.Next.{next_in};
 ghost use Rattle.job_pending.specs.Take.{content_taken, taken_with};
 ghost use Rattle.nv_desk.specs.Desk.{state_of};
-ghost use Rattle.nv_desk.specs.Picks.{MayPickNext, CanTake, content_in, copied_in, copied_of, took_of};
+ghost use Rattle.nv_desk.specs.Picks.{MayPickNext, CanTake, content_in, copied_of, own_first, took_of};
+ghost use Rattle.nv_desk.specs.Places.{taken_from};
 ghost use Rattle.nv_desk.specs.Rooms.{HasPlace, with_entry};
 
 use crate::Desk;
 use crate::memory::add;
-use crate::recorder::Recorder;
+use crate::places::Places;
 use crate::rooms::Rooms;
 use block_machine::nv_base::{Bytes, Entry, JobKind, Taken};
 use job_pending::{Job, Take};
+use nv_recorder::Recorder;
 
 impl Desk {
     /// The next job comes in hand with what it takes of a content that is lent; one that is in hand is interrupted. It takes
@@ -32,7 +34,9 @@ impl Desk {
         };
         let block = next.block();
         let job = next.kind();
-        let (copy, taken) = takes(take, lent, Some(next), &mut self.rooms);
+        let take = own_first(take, next);
+        let copy = copy_of(take, lent, block, &mut self.places);
+        let taken = taken_of(take, lent, Some(next), &mut self.rooms);
         self.kept.pick(&self.config, take, copy);
         add_pick(&mut self.history, block, job, taken, ops);
     }
@@ -54,44 +58,31 @@ pub fn add_pick(history: &mut Recorder, block: u16, job: JobKind, taken: Taken, 
     );
 }
 
-/// The copy of what is lent that the Pick of a job takes, or of none that has a content of its own, if it takes one; and what it
-/// takes as bytes for the history.
-pub fn takes(
-    take: Take,
-    lent: &[u8],
-    job: Option<&Job>,
-    rooms: &mut Rooms,
-) -> (Option<Bytes>, Taken)
-    requires { CanTake rooms.old (content_in (option_copied job)) (took_of take lent.now) }
-    ensures copy { result.0 ≡ copied_of take lent.now }
-    ensures taken { result.1 ≡ taken_with (content_in (option_copied job.entry)) (took_of take lent.now) }
-    ensures longest { rooms.new.longest ≡ rooms.old.longest }
-    ensures count { rooms.old.count ≤ rooms.new.count + 2 }
+// What a job takes that has a content of its own.
+fn own_first(take: Take, job: &Job) -> Take
+    ensures { result ≡ own_first take job.now.content }
 {
-    let copy = copy_of(take, lent, rooms);
-    let taken = taken_of(take, lent, job, rooms);
-    (copy, taken)
+    match (take, job.content()) {
+        (Take::Copied { .. }, Some(_)) => Take::Own,
+        _ => take,
+    }
 }
 
-// A copy of what is lent, where it is taken.
-fn copy_of(take: Take, lent: &[u8], rooms: &mut Rooms) -> Option<Bytes>
-    requires some { 0 < rooms.old.count }
-    requires copied { IfSome (copied_in (took_of take lent.now)) (λ x. length x ≤ rooms.old.longest) }
+/// A copy of what is lent, where it is taken, in its block's place. It takes no memory.
+pub fn copy_of(take: Take, lent: &[u8], block: u16, places: &mut Places) -> Option<Bytes>
+    requires { IfSome (copied_of take lent.now) (λ x. IsSomeAnd (get_or places.old block None) (λ bytes. length bytes ≡ length x)) }
     ensures copy { result ≡ copied_of take lent.now }
-    ensures longest { rooms.new.longest ≡ rooms.old.longest }
-    ensures count { rooms.old.count ≤ rooms.new.count + 1 }
+    ensures places { places.new ≡ taken_from places.old block (copied_of take lent.now) }
 {
     match take {
-        Take::Copied { .. } => Some(rooms.fill(lent)),
+        Take::Copied { .. } => places.fill(block, lent),
         Take::Nothing | Take::Own | Take::Refused { .. } | Take::Stale { .. } => None,
     }
 }
 
-// What a job takes, as bytes of their own.
-fn taken_of(take: Take, lent: &[u8], job: Option<&Job>, rooms: &mut Rooms) -> Taken
-    requires some { 0 < rooms.old.count }
-    requires own { IfSome (content_in (option_copied job)) (λ x. length x.0 ≤ rooms.old.longest) }
-    requires copied { IfSome (copied_in (took_of take lent.now)) (λ x. length x ≤ rooms.old.longest) }
+/// What the Pick of a job takes, or of none that has a content of its own, as bytes for the history.
+pub fn taken_of(take: Take, lent: &[u8], job: Option<&Job>, rooms: &mut Rooms) -> Taken
+    requires { CanTake rooms.old (content_in (option_copied job)) (took_of take lent.now) }
     ensures taken { result ≡ taken_with (content_in (option_copied job.entry)) (took_of take lent.now) }
     ensures longest { rooms.new.longest ≡ rooms.old.longest }
     ensures count { rooms.old.count ≤ rooms.new.count + 1 }

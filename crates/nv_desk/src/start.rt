@@ -1,12 +1,13 @@
 // Start-ups.
 ghost use Rattle.std.specs.Prelude.{◌≡◌, ◌≤◌, ◌+◌, ◌++◌, ◌∷◌, ◌↔◌, [], length, IsTrue, true, IfOk, OnOk, OnErr};
 ghost use Rattle.nv_desk.specs.Desk.{first_desk, state_of};
-ghost use Rattle.nv_desk.specs.Recorder.{keeps};
+ghost use Rattle.nv_recorder.specs.Recorder.{keeps};
 
 use crate::Desk;
 use crate::memory::take_memory;
-use crate::recorder::Recorder;
+use crate::places::Places;
 use block_machine::nv_base::{Entry, History, Marks};
+use nv_recorder::Recorder;
 use std::alloc::{AllocError, Global};
 use std::mem;
 
@@ -18,12 +19,18 @@ impl Desk {
         self.history.cap() - self.history.len() >= 2
     }
 
-    /// Takes the memory of a start-up's entry, and of an Off behind it. At Err nothing changed.
+    /// Takes the memory of a start-up's entry, and of an Off behind it, and a new place for each content, where that isn't taken
+    /// since the last entry. At Err nothing changed.
     pub fn room_for_found(&mut self, alloc: Global) -> Result<(), AllocError>
         ensures ok { OnOk result (self.new ≡ record self.old { prepared = length self.old.entries }) }
         ensures err { OnErr result (self.new ≡ self.old) }
     {
+        if self.prepared == self.history.len() {
+            return Ok(());
+        }
+        let places = Places::make(alloc, &self.config)?;
         take_memory(alloc, &mut self.history, &mut self.rooms, 1)?;
+        self.places = places;
         self.prepared = self.history.len();
         Ok(())
     }
@@ -38,9 +45,11 @@ impl Desk {
         ensures fits { OnOk result (2 ≤ self.old.cap) }
         ensures err { OnErr result (self.new ≡ self.old) }
     {
+        let places = Places::make(alloc, &self.config)?;
         let mut history = Recorder::make(alloc, self.history.cap());
         take_memory(alloc, &mut history, &mut self.rooms, 1)?;
         self.kept.forget();
+        self.places = places;
         self.prepared = 0;
         Ok(mem::replace(&mut self.history, history).into_history())
     }

@@ -1,5 +1,6 @@
 // What the driver's entries change of what is kept.
 ghost use Rattle.std.specs.Prelude.{◌≡◌, ◌<◌, ◌+◌, ◌^◌, ◌&&◌, ◌∷◌, true, false, ℕ, List, [], length, get_or, Option, Some, None, IfSome, option_copied, option_map};
+ghost use Rattle.std.specs.Option.{option_and_then};
 ghost use Rattle.block_machine.specs.Words.{Configuration, Instance, Mark};
 ghost use Rattle.block_machine.specs.State.{State, Job as MachineJob, Sweep as MachineSweep};
 ghost use Rattle.block_machine.specs.Blocks.{job_block, kind_of, names_ram, keeps_ram};
@@ -44,20 +45,22 @@ impl Kept {
         self.jobs.wrote(index);
     }
 
-    /// The job in hand ends with this result, and gives a content or nothing.
-    pub fn end(&mut self, config: &Config, answer: ReqResult, given: Option<&[u8]>)
+    /// The job in hand ends with this result, and gives a content or nothing. Hands the content that it wrote back, if it has one.
+    pub fn end(&mut self, config: &Config, answer: ReqResult, given: Option<&[u8]>) -> Option<Bytes>
         requires { IfSome self.old.jobs.hand (λ h. (names_ram h.request && keeps_ram config.now (job_block h)) ≡ true
             → IfSome (option_copied given) (λ x. length x ≡ get_or self.old.blocks.rooms (job_block h) 0)) }
-        ensures { (s : State) (j : MachineJob) → Agrees config.now self.old s → s.hand ≡ Some j
+        ensures posted { (s : State) (j : MachineJob) → Agrees config.now self.old s → s.hand ≡ Some j
             → Agrees config.now self.new (posted config.now s answer (option_copied given.entry) (Some j)) }
+        ensures content { result ≡ option_map (λ x. x.0) (option_and_then (λ j. j.content) self.old.jobs.hand) }
     {
         let Some(job) = self.jobs.end() else {
-            return;
+            return None;
         };
         let ram = names_ram(job.request());
         self.blocks
             .end(config, job.block(), job.kind(), ram, answer, given);
         note(&mut self.sweep, answer);
+        job.into_content()
     }
 
     /// What is kept is as before the first start-up. The memory stays.

@@ -1,12 +1,13 @@
-use Rattle.std.proofs.Common.{◌∙◌, ap, arith}
+use Rattle.std.proofs.Common.{◌∙◌, length, ap, arith}
 use Rattle.block_machine.specs.Words.{Ask, Accepted}
 use Rattle.block_machine.specs.State.{Job}
-use Rattle.block_machine.specs.Blocks.{asked_block, job_block, rank_of}
+use Rattle.block_machine.specs.Blocks.{asked_block, asked_content, job_block, rank_of}
 use Rattle.block_machine.specs.Reply.{needed}
 use Rattle.block_machine.specs.Steps.{after}
-use Rattle.nv_desk.proofs.Asks.{job_accepted}
+use Rattle.nv_desk.proofs.Asks.{job_accepted, known_of}
 use Rattle.nv_desk.proofs.Jobs.{new_job, few_entries, few_unpicked, few_reserved, has_place, job_is, job_agrees, job_reserves, job_sound, no_sweep}
-use Rattle.nv_desk.proofs.Entries.{ask_kept, counted_still}
+use Rattle.nv_desk.proofs.Entries.{ask_kept, counted_still, job_places}
+use Rattle.nv_desk.proofs.Ready.{asked_fits, asked_place}
 use Rattle.nv_desk.proofs.desk.Desk.accept_job.Goals as goal
 
 pub overflow_add-reserved : goal.overflow_add-reserved
@@ -19,6 +20,16 @@ pub take_memory-requires : goal.take_memory-requires
 take_memory-requires c = few_entries c.self.inside c.args.caller c.args.request _ _ c.self.invariant c.requires.kind (rw (← c.self.view_is) at c.requires.allowed)
     (rw (← c.self.view_is) at c.needed-needed.ensures) (c.reserved.ensures.value _ _ c.self.invariant.agrees)
 
+pub in_place-asked_for-requires-clause-place : goal.in_place-asked_for-requires-clause-place
+in_place-asked_for-requires-clause-place c =
+    let d = c.self.inside in
+    let s = after d.config d.history.entries in
+    let allowed = rw (← c.self.view_is) at c.requires.allowed in
+    let passed = job_accepted d.config d.history.cap s c.args.request c.requires.kind allowed.replies in
+    let known = known_of (length d.config.blocks) (asked_block c.args.request) passed.known in
+    asked_fits d.config d.places (asked_block c.args.request) (asked_content c.args.request)
+    (asked_place d.config s (asked_block c.args.request) d.places known.1 passed.free c.self.invariant.sound.jobs c.self.invariant.ready) passed.content
+
 pub accept-requires-clause-known : goal.accept-requires-clause-known
 accept-requires-clause-known c =
     let d = c.self.inside in
@@ -26,7 +37,7 @@ accept-requires-clause-known c =
     let allowed = rw (← c.self.view_is) at c.requires.allowed in
     has_place d.config d.history.cap s d.kept c.args.request c.accepted-job.result
     (job_accepted d.config d.history.cap s c.args.request c.requires.kind allowed.replies) c.self.invariant.agrees
-    (ap job_block c.accepted-job.ensures ∙ ap asked_block c.in_ok-asked_for.ensures)
+    (ap job_block c.accepted-job.ensures ∙ ap asked_block c.in_place-asked_for.ensures.request)
 
 pub accept-requires-clause-room : goal.accept-requires-clause-room
 accept-requires-clause-room c =
@@ -48,14 +59,15 @@ invariant_of-self-2 c =
     let need = rw (← c.self.view_is) at c.needed-needed.ensures in
     let passed = job_accepted d.config d.history.cap s c.args.request c.requires.kind allowed.replies in
     let count = c.len.ensures.count ∙ counted_still d c.take_memory.new.history c.take_memory.ensures.same in
-    let job = job_is d.config s.count c.len.result c.needed-needed.result c.args.request c.in_ok-asked_for.asked_for c.accepted-job.result c.accepted-job.ensures count c.in_ok-asked_for.ensures need in
+    let job = job_is d.config s.count c.len.result c.needed-needed.result c.args.request c.in_place-asked_for.result c.accepted-job.result c.accepted-job.ensures count c.in_place-asked_for.ensures.request need in
     let new = new_job d.config d.history.cap s c.args.request c.accepted-job.result c.self.invariant.sound passed (ap job_block job)
     (ap (λ (j : Job). j.number) job) in
     let none = no_sweep d.config s c.self.invariant.sound.consistent passed.alone in
-    ask_kept d _ _ _ _ (Ask c.args.caller c.args.request Accepted) _ (needed d.config c.args.request) c.self.invariant
+    ask_kept d _ _ _ _ _ (Ask c.args.caller c.args.request Accepted) _ (needed d.config c.args.request) c.self.invariant
     c.take_memory.ensures.same c.in_ok-take_memory.ensures.entries (rw c.acceptance.ensures at c.add.ensures) allowed
     (job_agrees d.config c.accept.new.self s c.args.request c.accepted-job.result c.requires.kind job
     (c.accept.ensures s c.self.invariant.agrees new (ap (λ (j : Job). j.taken) job) none))
     (λ consistent. job_sound d.config d.history.cap s c.args.caller c.args.request c.self.invariant.sound consistent c.requires.kind allowed.started passed)
     (omega (arith, need, c.reserved.ensures.value d.config s c.self.invariant.agrees)) (job_reserves d.config s c.args.request c.requires.kind) passed.room
     c.in_ok-take_memory.ensures.contents c.take_memory.ensures.longest
+    (job_places d c.in_place-asked_for.new.places c.args.caller c.args.request c.self.invariant c.requires.kind c.in_place-asked_for.ensures.places)

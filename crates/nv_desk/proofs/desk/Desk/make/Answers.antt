@@ -8,6 +8,8 @@ invariant_of-result c = record {
   fits = search rules;
   memory = search rules;
   rooms = search rules;
+  one_each = c.in_ok-places.ensures.places;
+  ready = λ id low none. c.in_ok-places.ensures.ready id low;
   prepared = search rules;
   place = search rules;
   longest = λ id. (let most = c.longest_content.ensures id in let room = ap (λ r. r.longest) c.new-rooms.ensures in let stays = c.take_memory.ensures.longest in omega (arith, most, room, stays));

@@ -1,20 +1,34 @@
-use Rattle.std.proofs.Common.{◌∙◌, arith, refl}
+use Rattle.std.proofs.Common.{◌≡◌, ◌∙◌, sym, ap, subst, arith, refl, Some}
 use Rattle.block_machine.specs.Words.{Pick}
+use Rattle.block_machine.specs.State.{Job}
 use Rattle.block_machine.specs.Blocks.{job_block, kind_of}
 use Rattle.block_machine.specs.Steps.{after}
-use Rattle.job_pending.specs.Take.{taken_with}
 use Rattle.block_laws.proofs.HistoryLaws.{entries_are_counted}
-use Rattle.nv_desk.specs.Picks.{took_of}
+use Rattle.job_pending.specs.declared.take.Take.{Take}
+use Rattle.job_pending.specs.Take.{taken_with}
+use Rattle.nv_desk.specs.Picks.{own_first, took_of}
 use Rattle.nv_desk.proofs.Drivers.{allowed_kept}
-use Rattle.nv_desk.proofs.Picks.{entry_of, job_pick, ready, pick_room, pick_step, picked_sound, some_is}
+use Rattle.nv_desk.proofs.Ready.{copy_fits}
+use Rattle.nv_desk.proofs.Picks.{entry_of, job_pick, own_next, pick_places, pick_room, pick_step, picked_sound, ready, some_is, takes_own, whole_own}
 use Rattle.nv_desk.proofs.desk.Desk.pick_job.Goals as goal
 
-pub takes-copy-requires : goal.takes-copy-requires
-takes-copy-requires c =
+pub copy_of-copy-requires : goal.copy_of-copy-requires
+copy_of-copy-requires c =
     let d = c.self.inside in
     let may = rw (← c.self.view_is) at c.requires in
-    rw (some_is c.in-Some.next.now may.job (c.in-Some.ensures d.config _ _ c.self.invariant.agrees.jobs ∙ may.is))
-    (job_pick d _ c.args.ops c.self.invariant c.fills_its_rooms.ensures may).takes
+    let p = job_pick d _ c.args.ops c.self.invariant c.fills_its_rooms.ensures may in
+    let same = some_is c.in-Some.next.now may.job (c.in-Some.ensures d.config _ _ c.self.invariant.agrees.jobs ∙ may.is) in
+    rw (c.own_first-take.ensures, c.block-block.ensures, same)
+    (copy_fits d.config d.places (job_block may.job) c.args.take c.args.lent.now may.job.content p.place
+    (whole_own d c.args.take c.args.lent.now may.job (own_next d c.args.take c.args.lent.now c.args.ops may may.job may.is) p.whole))
+
+pub taken_of-taken-requires : goal.taken_of-taken-requires
+taken_of-taken-requires c =
+    let d = c.self.inside in
+    let may = rw (← c.self.view_is) at c.requires in
+    let p = job_pick d _ c.args.ops c.self.invariant c.fills_its_rooms.ensures may in
+    let same = some_is c.in-Some.next.now may.job (c.in-Some.ensures d.config _ _ c.self.invariant.agrees.jobs ∙ may.is) in
+    rw (c.own_first-take.ensures, same) (takes_own d c.args.take c.args.lent.now may.job p.takes)
 
 pub pick-requires : goal.pick-requires
 pick-requires c =
@@ -33,20 +47,37 @@ invariant_of-self c =
     let s = after d.config d.history.entries in
     let may = rw (← c.self.view_is) at c.requires in
     let p = job_pick d _ c.args.ops c.self.invariant c.fills_its_rooms.ensures may in
-    let same = some_is c.in-Some.next.now may.job (c.in-Some.ensures d.config s.waiting s.hand c.self.invariant.agrees.jobs ∙ may.is) in
-    let took = took_of c.args.take c.args.lent.now in
+    let x = c.in-Some.next.now in
+    let same = some_is x may.job (c.in-Some.ensures d.config s.waiting s.hand c.self.invariant.agrees.jobs ∙ may.is) in
+    let lent = c.args.lent.now in
+    let took = took_of c.args.take lent in
     let taken = taken_with may.job.content took in
-    allowed_kept d _ _ _ (Pick (job_block may.job) (kind_of may.job) taken c.args.ops) c.self.invariant may.allowed refl
+    let one = own_next d c.args.take lent c.args.ops may may.job may.is in
+    let own : c.own_first-take.result ≡ own_first c.args.take may.job.content = c.own_first-take.ensures ∙ ap (λ (y : Job). own_first c.args.take y.content) same in
+    let takes : c.taken_of-taken.result ≡ taken_with x.content took = c.taken_of-taken.ensures.taken
+    ∙ ap (λ (u : Take). taken_with x.content (took_of u lent)) c.own_first-take.ensures
+    ∙ subst (λ (y : Job). taken_with y.content (took_of (own_first c.args.take y.content) lent) ≡ taken_with y.content took) (sym same) one in
+    allowed_kept d _ _ _ _ (Pick (job_block may.job) (kind_of may.job) taken c.args.ops) c.self.invariant may.allowed refl
     (picked_sound d.config s may.job (job_block may.job) (kind_of may.job) took c.args.ops c.self.invariant.sound may.is p.ready p.whole)
-    (entry_of _ _ _ _ _ c.in-Some.next.now may.job took c.args.ops c.block-block.ensures c.kind-job.ensures c.takes-copy.ensures.taken same c.add_pick.ensures)
+    (entry_of _ _ _ _ _ x may.job took c.args.ops c.block-block.ensures c.kind-job.ensures takes same c.add_pick.ensures)
     (pick_step d.config c.pick.new.self s may.job (job_block may.job) (kind_of may.job) taken c.args.ops may.is
-    (rw c.takes-copy.ensures.copy at (c.pick.ensures s may.job c.self.invariant.agrees may.is)))
-    (omega (arith, c.takes-copy.ensures.count)) c.takes-copy.ensures.longest
+    (rw (c.copy_of-copy.ensures.copy, own, one) at (c.pick.ensures s may.job c.self.invariant.agrees may.is)))
+    (omega (arith, c.taken_of-taken.ensures.count)) c.taken_of-taken.ensures.longest
+    (pick_places d c.copy_of-copy.new.places (job_block may.job) (kind_of may.job) c.args.take c.own_first-take.result lent c.args.ops c.block-block.result x may.job
+    c.self.invariant may.is same c.own_first-take.ensures c.block-block.ensures one c.copy_of-copy.ensures.places)
 
 pub returns : goal.returns
 returns c = rw (← c.self.view_is) (λ j next.
-    let same = some_is c.in-Some.next.now j (c.in-Some.ensures c.self.inside.config _ _ c.self.invariant.agrees.jobs ∙ next) in
-    rw (entry_of _ _ _ _ _ c.in-Some.next.now j (took_of c.args.take c.args.lent.now) c.args.ops c.block-block.ensures c.kind-job.ensures c.takes-copy.ensures.taken same c.add_pick.ensures) refl)
+    let d = c.self.inside in
+    let s = after d.config d.history.entries in
+    let may = rw (← c.self.view_is) at c.requires in
+    let x = c.in-Some.next.now in
+    let lent = c.args.lent.now in
+    let is = c.in-Some.ensures d.config s.waiting s.hand c.self.invariant.agrees.jobs in
+    let takes : c.taken_of-taken.result ≡ taken_with x.content (took_of c.args.take lent) = c.taken_of-taken.ensures.taken
+    ∙ ap (λ (u : Take). taken_with x.content (took_of u lent)) c.own_first-take.ensures
+    ∙ own_next d c.args.take lent c.args.ops may x (sym is) in
+    rw (entry_of _ _ _ _ _ x j (took_of c.args.take lent) c.args.ops c.block-block.ensures c.kind-job.ensures takes (some_is x j (is ∙ next)) c.add_pick.ensures) refl)
 
 pub returns-in_default : goal.returns-in_default
 returns-in_default c = rw (← c.self.view_is) (λ j next.

@@ -7,11 +7,16 @@ use Rattle.nv_desk.specs.Picks.{took_of}
 use Rattle.nv_desk_state.proofs.Members.{member_known}
 use Rattle.nv_desk.proofs.AllBlocks.{kept_sweep}
 use Rattle.nv_desk.proofs.Drivers.{allowed_kept}
-use Rattle.nv_desk.proofs.MemberEntries.{at_picked, member_pick, member_sound, member_step}
+use Rattle.nv_desk.proofs.MemberEntries.{at_picked, member_fits, member_pick, member_places, member_sound, member_step}
 use Rattle.nv_desk.proofs.desk.Desk.pick_member.Goals as goal
 
-pub takes-copy-requires : goal.takes-copy-requires
-takes-copy-requires c = (member_pick c.self.inside c.args.block _ c.args.ops c.self.invariant c.queue_sizes-sizes.ensures.legal c.fills_its_rooms.ensures (rw (← c.self.view_is) at c.requires)).takes
+pub copy_of-copy-requires : goal.copy_of-copy-requires
+copy_of-copy-requires c =
+    let p = member_pick c.self.inside c.args.block _ c.args.ops c.self.invariant c.queue_sizes-sizes.ensures.legal c.fills_its_rooms.ensures (rw (← c.self.view_is) at c.requires) in
+    member_fits c.self.inside c.args.block c.args.take c.args.lent.now p.place p.whole
+
+pub taken_of-taken-requires : goal.taken_of-taken-requires
+taken_of-taken-requires c = (member_pick c.self.inside c.args.block _ c.args.ops c.self.invariant c.queue_sizes-sizes.ensures.legal c.fills_its_rooms.ensures (rw (← c.self.view_is) at c.requires)).takes
 
 pub pick_member-requires : goal.pick_member-requires
 pick_member-requires c =
@@ -33,13 +38,15 @@ invariant_of-self c =
     let known = member_known d.config d.kept s may.sweep c.args.block (omega (arith, c.queue_sizes-sizes.ensures.legal.blocks_low)) c.self.invariant.agrees p.member in
     let kind = c.member_kind-job.ensures d.config may.sweep (kept_sweep d.config d.kept.sweep s may.sweep p.member.sweep c.self.invariant.agrees.sweep) in
     let took = took_of c.args.take c.args.lent.now in
-    allowed_kept d _ _ _ (Pick c.args.block (member_kind may.sweep.writes) (taken_with None took) c.args.ops) c.self.invariant may.allowed refl
+    allowed_kept d _ _ _ _ (Pick c.args.block (member_kind may.sweep.writes) (taken_with None took) c.args.ops) c.self.invariant may.allowed refl
     (member_sound d.config s may.sweep c.args.block (member_kind may.sweep.writes) took c.args.ops c.self.invariant.sound p.member may.is
     (omega (arith, known, c.self.invariant.agrees.places)) may.allowed.0.started p.ram p.whole)
-    (rw (kind, c.takes-copy.ensures.taken) at c.add_pick.ensures)
+    (rw (kind, c.taken_of-taken.ensures.taken) at c.add_pick.ensures)
     (member_step d.config c.pick_member.new.self s may.sweep c.args.block (member_kind may.sweep.writes) took c.args.ops may.is
-    (rw c.takes-copy.ensures.copy at (c.pick_member.ensures s may.sweep c.self.invariant.agrees p.member)))
-    (omega (arith, c.takes-copy.ensures.count)) c.takes-copy.ensures.longest
+    (rw c.copy_of-copy.ensures.copy at (c.pick_member.ensures s may.sweep c.self.invariant.agrees p.member)))
+    (omega (arith, c.taken_of-taken.ensures.count)) c.taken_of-taken.ensures.longest
+    (member_places d c.copy_of-copy.new.places (member_kind may.sweep.writes) c.args.take c.args.lent.now c.args.ops may.sweep c.args.block c.self.invariant p.member may.is
+    c.copy_of-copy.ensures.places)
 
 pub returns : goal.returns
 returns c = rw (← c.self.view_is) (λ sw next.
@@ -47,4 +54,4 @@ returns c = rw (← c.self.view_is) (λ sw next.
     let s = after d.config d.history.entries in
     let x = at_picked d.config s sw c.args.block next in
     let kind = c.member_kind-job.ensures d.config sw (kept_sweep d.config d.kept.sweep s sw x.sweep c.self.invariant.agrees.sweep) in
-    rw (c.add_pick.ensures, kind, c.takes-copy.ensures.taken) refl)
+    rw (c.add_pick.ensures, kind, c.taken_of-taken.ensures.taken) refl)

@@ -5,6 +5,7 @@ use Rattle.block_machine.specs.Blocks.{mark_of}
 use Rattle.block_machine.specs.Steps.{after}
 use Rattle.nv_desk.specs.Driver.{mark_now}
 use Rattle.nv_desk.proofs.Drivers.{room_to_write, allowed_kept, writing, few_records, content_fits, in_hand, wrote_step}
+use Rattle.nv_desk.proofs.Ready.{wrote_ready}
 use Rattle.nv_desk.proofs.SoundDriver.{sound_wrote}
 use Rattle.nv_desk.proofs.desk.Desk.wrote.Goals as goal
 
@@ -40,12 +41,13 @@ invariant_of-self c =
     let w = writing d c.args.instance c.args.ops may in
     let mark : c.mark_in_hand-mark.result ≡ mark_now s = c.mark_in_hand-mark.ensures.mark
     ∙ ap (λ o. unwrap_or (option_and_then mark_of o) Erased) c.self.invariant.agrees.jobs.hand in
-    allowed_kept d _ _ _ (Wrote c.args.instance (mark_now s) c.args.ops) c.self.invariant may.allowed refl
+    allowed_kept d _ _ _ d.places (Wrote c.args.instance (mark_now s) c.args.ops) c.self.invariant may.allowed refl
     (sound_wrote d.config s c.args.instance (mark_now s) c.args.ops c.self.invariant.sound)
     (rw mark at c.add.ensures)
     (wrote_step d.config c.wrote.new.self s c.args.instance (mark_now s) c.args.ops w.job w.is
     (c.wrote.ensures d.config s w.job c.args.instance (mark_now s) c.self.invariant.agrees w.is refl))
     (omega (arith, c.mark_in_hand-mark.ensures.count)) c.mark_in_hand-mark.ensures.longest
+    (record { count = refl; ready = wrote_ready d.config s c.args.instance (mark_now s) d.places s.hand refl c.self.invariant.ready })
 
 pub returns : goal.returns
 returns c =

@@ -1,7 +1,7 @@
 -- What is kept of the entries.
 use Rattle.std.specs.Prelude.{◌≡◌, ◌≤◌, ◌-◌, ◌^◌, ℕ, List, Bool, true, false, Option, nat_lt, length, slice_get}
-use Rattle.block_machine.specs.nv_base.History.{Listed}
-use Rattle.block_machine.specs.Words.{Entry}
+use Rattle.nv_base.specs.History.{Listed}
+use Rattle.nv_base.specs.declared.entry.Entry.{Entry}
 
 -- the most entries that can be counted: so many are never kept
 abbrev pub endless : ℕ

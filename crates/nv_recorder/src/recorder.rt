@@ -1,15 +1,15 @@
-// The entries of the desk.
+// The entries of a history, or what is kept of them.
 ghost use Rattle.std.specs.Prelude.{◌≡◌, ◌≤◌, ◌<◌, ◌-◌, ◌++◌, ◌∷◌, [], true, length, slice_get, option_copied, OnOk, OnErr};
-ghost use Rattle.nv_desk.specs.Recorder.{keeps};
+ghost use Rattle.nv_recorder.specs.Recorder.{keeps};
 
-use block_machine::nv_base::{Entry, History, Trace};
+use nv_base::{Entry, History, Trace};
 use std::alloc::{AllocError, Global};
 use std::marker::Model;
 
 /// The most entries that can be counted. So many are never kept.
 pub const ENDLESS: u32 = u32::MAX;
 
-/// The entries of a desk in order, and how many there may be (its cap). A recorder of at most 2^32 - 2 entries keeps them all, in a
+/// The entries of a history in order, and how many there may be (its cap). A recorder of at most 2^32 - 2 entries keeps them all, in a
 /// history. One of 2^32 - 1 keeps their number and the last one: the others are there for proofs alone.
 /// Contracts see the entries, the cap, and for how many more entries memory is reserved.
 #[derive(Drop)]
@@ -24,8 +24,8 @@ pub struct Recorder {
 }
 
 impl Model for Recorder {
-    ghost use Rattle.block_machine.specs.nv_base.History.{Listed};
-    ghost use Rattle.nv_desk.specs.Recorder.{IsRecorded};
+    ghost use Rattle.nv_base.specs.History.{Listed};
+    ghost use Rattle.nv_recorder.specs.Recorder.{IsRecorded};
 
     ghost Value = { Listed };
 

@@ -1,0 +1,10 @@
+//! The recorder of a history: it keeps the entries that are added, or, where there may be 2^32 - 1 of them, their number and
+//! the last one.
+//!
+//! It promises that each entry is counted, and that the last one is what was added last; what is kept of the others is
+//! there to be read, and what isn't is there for proofs alone. What the entries say is left to who adds them.
+#![tactic(auto)]
+
+mod recorder;
+
+pub use recorder::{ENDLESS, Recorder};
