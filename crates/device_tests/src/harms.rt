@@ -110,8 +110,8 @@ fn finds<F: Flash + Drop>(alloc: Global, flash: F, content: Content) -> Option<(
     Some(())
 }
 
-// A flash whose power can be cut once.
-fn cutter(alloc: Global) -> Option<Cutter<MemFlash>> {
+/// A flash whose power can be cut once.
+pub(crate) fn cutter(alloc: Global) -> Option<Cutter<MemFlash>> {
     let flash = mem_flash(alloc, &[], 40).ok()?;
     Cutter::make(alloc, flash, 1).ok()
 }

@@ -90,8 +90,8 @@ fn makes<D: MemDevice>(device: &mut D, step: Step) -> bool {
     }
 }
 
-// How many turns work until nothing is open or the power is off.
-fn turns<D: MemDevice>(device: &mut D) -> u32 {
+/// How many turns work until nothing is open or the power is off.
+pub(crate) fn turns<D: MemDevice>(device: &mut D) -> u32 {
     let mut worked: u32 = 0;
     for _ in 0..20 {
         match device.turn() {

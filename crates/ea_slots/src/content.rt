@@ -60,11 +60,6 @@ fn part(bytes: &[u8], from: usize, count: usize) -> &[u8]
     &bytes[from..from + count]
 }
 
-// Tells proofs that bytes are below 256.
-fn tell_bytes(bytes: &Vec<u8>)
-    ensures { All (λ x. x < 256) bytes.now.items }
-{}
-
 impl Content {
     /// Of zeros, as many as a sector has.
     pub fn make(alloc: Global, sector: u32) -> Result<Content, AllocError>
@@ -156,3 +151,8 @@ impl Content {
         )
     }
 }
+
+// Tells proofs that bytes are below 256.
+fn tell_bytes(bytes: &Vec<u8>)
+    ensures { All (λ x. x < 256) bytes.now.items }
+{}

@@ -1,8 +1,7 @@
 -- A turn of the pair, of the device that has the open job.
 use Rattle.std.specs.Prelude.{not, ◌&&◌}
-use Rattle.std.proofs.Common.{◌≡◌, ◌⊎◌, ℕ, ◌+◌, ◌≤◌, Bool, true, false, List, refl, sym, ap, ◌∙◌, subst, inl, inr, arith, ◌++◌, ◌∷◌, []}
-use Rattle.std.proofs.lemmas.Bool.{cases_Bool, cases_lt}
-use Rattle.nv_base.specs.Count.{last_count, next_count}
+use Rattle.std.proofs.Common.{◌≡◌, ℕ, ◌+◌, Bool, true, false, List, refl, sym, ap, ◌∙◌, subst, inl, inr, arith}
+use Rattle.std.proofs.lemmas.Bool.{cases_Bool}
 use Rattle.memif.specs.declared.answer.DeviceTurn.{DeviceTurn}
 use Rattle.memif.specs.declared.answer.DeviceTurn.TheVariants.{Idle, Worked, Off}
 use Rattle.memif.specs.Told.{DeviceTold, Fixed, Part, First, Second, Stand, Job, Open, Ended, figures_at, is_open, nothing_open}
@@ -12,7 +11,7 @@ use Rattle.memif_pair.specs.Pair.{told_both, is_second, IsLast}
 use Rattle.memif_pair.specs.Laws.{Goes, pair_clock}
 use Rattle.memif_pair.specs.Together.{AreTogether, IsOwnJob, IsUp, PairTurns}
 use Rattle.memif_pair.proofs.Asked.{both_up}
-use Rattle.memif_pair.proofs.Resting.{closed_both, kept, own_alone, own_only, own_turns}
+use Rattle.memif_pair.proofs.Resting.{closed_both, kept, own_only, own_turns}
 use Rattle.memif_pair.proofs.SecondTurning.{course_behind, pair_behind, second_job, second_turns}
 use Rattle.memif_pair.proofs.Together.{LengthsStay, closed_first, own_same}
 use Rattle.memif_pair.proofs.Turned.{first_turns, fixed_is, job_is}
@@ -116,76 +115,47 @@ module _ (answer : DeviceTurn) (a : DeviceTold) (ca : Clock) (b : DeviceTold) (c
           together_first false t (record { first = λ first. refl; second = λ second. absurd (true_false (sym second ∙ other)) }) (job_is a ca anew ca_new b job.0 job.1 of answer turns),
         )
 
-    at_rest : (last : Bool) → AreTogether a b last course → IsUp (told_both a b last course) → b.switching ≡ false → is_open a.stand ≡ false
+    at_rest : (last : Bool) → AreTogether a b last course → IsUp (told_both a b last course) → is_open a.stand ≡ false
         → Turns answer (told_both a b last course) (pair_clock ca b cb course) (told_both anew b last next) (pair_clock ca_new b cb next) × AreTogether anew b last next
-    at_rest last t up rests closed =
+    at_rest last t up closed =
         let same = (kept answer a ca anew ca_new closed turns.0).1 in
         let nothing : nothing_open (told_both a b last course) ≡ nothing_open a =
-        own_alone (is_open (told_both a b last course).stand) a.switching b.switching (closed_both last a.stand b.stand closed other) rests ∙ sym (own_only (is_open a.stand) a.switching closed) in (
-          own_turns answer a ca anew ca_new b cb order turns course next last t.pair t.counted goes closed other (λ some. (both_up a.started b.started (up (nothing ∙ some))).1) rests,
+        own_only (is_open (told_both a b last course).stand) a.switching (closed_both last a.stand b.stand closed other) ∙ sym (own_only (is_open a.stand) a.switching closed) in (
+          own_turns answer a ca anew ca_new b cb order turns course next last t.pair t.counted goes closed other (λ some. (both_up a.started b.started (up (nothing ∙ some))).1),
           together_first last t (record { first = λ first. absurd (true_false (sym first ∙ (ap is_open same ∙ closed))); second = t.one.second }) (subst (IsOwnJob false b) (sym same) t.first_job),
         )
 
-    of_first : (last : Bool) → AreTogether a b last course → IsUp (told_both a b last course) → b.switching ≡ false
+    of_first : (last : Bool) → AreTogether a b last course → IsUp (told_both a b last course)
         → Turns answer (told_both a b last course) (pair_clock ca b cb course) (told_both anew b last next) (pair_clock ca_new b cb next) × AreTogether anew b last next
-    of_first last t up rests = elim (cases_Bool (is_open a.stand)) [ inl on ↦ at_job last t up on | inr closed ↦ at_rest last t up rests closed ]
+    of_first last t up = elim (cases_Bool (is_open a.stand)) [ inl on ↦ at_job last t up on | inr closed ↦ at_rest last t up closed ]
 
 pub turns_second : (answer : DeviceTurn) (last : Bool) (a : DeviceTold) (ca : Clock) (b : DeviceTold) (cb : Clock) (bnew : DeviceTold) (cb_new : Clock) → InOrder a ca → Turns answer b cb bnew cb_new → is_open b.stand ≡ true
     → PairTurns answer last a ca b cb a ca bnew cb_new
-turns_second answer last a ca b cb bnew cb_new order turns on course next t up rests goes =
+turns_second answer last a ca b cb bnew cb_new order turns on course next t up goes =
     let own = goes_right true a.ops b.ops bnew.ops course next (subst (λ (q : Bool). Goes q (a.ops + b.ops) (a.ops + bnew.ops) course next) on goes) in
     let both = of_second answer a ca b cb course next bnew cb_new order turns on own last t up in
     (both.0, both.1, stays_up answer (told_both a b last course) (pair_clock ca b cb course) (told_both a bnew last next) (pair_clock ca bnew cb_new next) both.0.0 up)
 
 pub turns_first : (answer : DeviceTurn) (last : Bool) (a : DeviceTold) (ca : Clock) (b : DeviceTold) (cb : Clock) (anew : DeviceTold) (ca_new : Clock) → InOrder b cb → Turns answer a ca anew ca_new → is_open b.stand ≡ false
     → PairTurns answer last a ca b cb anew ca_new b cb
-turns_first answer last a ca b cb anew ca_new order turns other course next t up rests goes =
+turns_first answer last a ca b cb anew ca_new order turns other course next t up goes =
     let own = goes_left false b.ops a.ops anew.ops course next (subst (λ (q : Bool). Goes q (a.ops + b.ops) (anew.ops + b.ops) course next) other goes) in
-    let both = of_first answer a ca b cb course next anew ca_new order turns other own last t up rests in
+    let both = of_first answer a ca b cb course next anew ca_new order turns other own last t up in
     (both.0, both.1, stays_up answer (told_both a b last course) (pair_clock ca b cb course) (told_both anew b last next) (pair_clock ca_new b cb next) both.0.0 up)
 
--- THE COURSE GOES ON
-one_goes : (ops ops_new : ℕ) → ops ≤ ops_new → (ops_new ≡ ops) ⊎ (ops_new ≡ next_count ops) → (second : Bool) (course : List Bool) → (next : List Bool) × Goes second ops ops_new course next
-one_goes ops ops_new later one second course = elim one [
-  | inl same ↦ (course, record { one = inl (same, refl) })
-  | inr more ↦ elim (cases_lt ops last_count) [
-    | inl small ↦ (let rose : ops_new ≡ ops + 1 = omega (arith, more, small) in (course ++ second ∷ [], record { one = inr (rose, refl) }))
-    | inr large ↦ (let same : ops_new ≡ ops = omega (arith, more, large, later) in (course, record { one = inl (same, refl) }))
-  ]
-]
+-- THE COURSE GOES ON, beside the operations of the other device
+pub goes_beside : (second is : Bool) (x y z : ℕ) (course next : List Bool) → is ≡ second → Goes second y z course next → Goes is (x + y) (x + z) course next
+goes_beside second is x y z course next same goes = subst (λ (q : Bool). Goes q (x + y) (x + z) course next) (sym same) (record {
+  one = elim goes.one [
+    | inl still ↦ (let e = still.0 in let stays : x + z ≡ x + y = omega (arith, e) in inl (stays, still.1))
+    | inr more ↦ (let e = more.0 in let rose : x + z ≡ x + y + 1 = omega (arith, e) in inr (rose, more.1))
+  ];
+})
 
-turn_goes : (answer : DeviceTurn) (old : DeviceTold) (c : Clock) (new : DeviceTold) (c_new : Clock) → TurnsAs answer old c new c_new → (second : Bool) (course : List Bool) → (next : List Bool) × Goes second old.ops new.ops course next
-turn_goes Idle old c new c_new turns second course = (course, record { one = inl (ap (λ (d : DeviceTold). d.ops) turns.1, refl) })
-turn_goes Worked old c new c_new turns second course = one_goes old.ops new.ops turns.1.1.part.later turns.1.1.part.one second course
-turn_goes Off old c new c_new turns second course = elim turns.1.1 [
-  | inl off ↦ (course, record { one = inl (ap (λ (d : DeviceTold). d.ops) off.2, refl) })
-  | inr cut ↦ one_goes old.ops new.ops cut.0.part.later cut.0.part.one second course
-]
-
-pub goes_second : (answer : DeviceTurn) (a : DeviceTold) (b : DeviceTold) (cb : Clock) (bnew : DeviceTold) (cb_new : Clock) → Turns answer b cb bnew cb_new → is_open b.stand ≡ true
-    → (course : List Bool) → (next : List Bool) × Goes (is_open b.stand) (a.ops + b.ops) (a.ops + bnew.ops) course next
-goes_second answer a b cb bnew cb_new turns on course =
-    let own = turn_goes answer b cb bnew cb_new turns.0 true course in
-    (own.0, subst (λ (q : Bool). Goes q (a.ops + b.ops) (a.ops + bnew.ops) course own.0) (sym on) (beside true b.ops bnew.ops own.0 own.1))
-  where
-    beside : (second : Bool) (y z : ℕ) (next : List Bool) → Goes second y z course next → Goes second (a.ops + y) (a.ops + z) course next
-    beside second y z next goes = record {
-      one = elim goes.one [
-        | inl still ↦ inl (ap (λ (n : ℕ). a.ops + n) still.0, still.1)
-        | inr more ↦ (let e = more.0 in let rose : a.ops + z ≡ a.ops + y + 1 = omega (arith, e) in inr (rose, more.1))
-      ];
-    }
-
-pub goes_first : (answer : DeviceTurn) (a : DeviceTold) (ca : Clock) (anew : DeviceTold) (ca_new : Clock) (b : DeviceTold) → Turns answer a ca anew ca_new → is_open b.stand ≡ false
-    → (course : List Bool) → (next : List Bool) × Goes (is_open b.stand) (a.ops + b.ops) (anew.ops + b.ops) course next
-goes_first answer a ca anew ca_new b turns other course =
-    let own = turn_goes answer a ca anew ca_new turns.0 false course in
-    (own.0, subst (λ (q : Bool). Goes q (a.ops + b.ops) (anew.ops + b.ops) course own.0) (sym other) (beside false a.ops anew.ops own.0 own.1))
-  where
-    beside : (second : Bool) (y z : ℕ) (next : List Bool) → Goes second y z course next → Goes second (y + b.ops) (z + b.ops) course next
-    beside second y z next goes = record {
-      one = elim goes.one [
-        | inl still ↦ inl (ap (λ (n : ℕ). n + b.ops) still.0, still.1)
-        | inr more ↦ (let e = more.0 in let rose : z + b.ops ≡ y + b.ops + 1 = omega (arith, e) in inr (rose, more.1))
-      ];
-    }
+pub goes_before : (second is : Bool) (x y z : ℕ) (course next : List Bool) → is ≡ second → Goes second y z course next → Goes is (y + x) (z + x) course next
+goes_before second is x y z course next same goes = subst (λ (q : Bool). Goes q (y + x) (z + x) course next) (sym same) (record {
+  one = elim goes.one [
+    | inl still ↦ (let e = still.0 in let stays : z + x ≡ y + x = omega (arith, e) in inl (stays, still.1))
+    | inr more ↦ (let e = more.0 in let rose : z + x ≡ y + x + 1 = omega (arith, e) in inr (rose, more.1))
+  ];
+})

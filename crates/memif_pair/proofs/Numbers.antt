@@ -65,7 +65,7 @@ first_by : (x y : DeviceNumber × ℕ) (ys : List (DeviceNumber × ℕ)) (n : �
 first_by x y ys n other more true = rw other refl
 first_by x y ys n other more false = elim (cases_Bool (y.0.0 == n)) [ inl here ↦ rw here refl | inr there ↦ rw there more ]
 
-first_with : (x : DeviceNumber × ℕ) (ys : List (DeviceNumber × ℕ)) (n : ℕ) → (x.0.0 == n) ≡ false → length_of (with_number x ys) n ≡ length_of ys n
+pub first_with : (x : DeviceNumber × ℕ) (ys : List (DeviceNumber × ℕ)) (n : ℕ) → (x.0.0 == n) ≡ false → length_of (with_number x ys) n ≡ length_of ys n
 first_with x [] n other = rw other refl
 first_with x (y ∷ ys) n other = first_by x y ys n other (first_with x ys n other) (nat_lt x.0.0 y.0.0)
 

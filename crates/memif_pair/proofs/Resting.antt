@@ -1,5 +1,5 @@
 -- A turn of the first device with no job open.
-use Rattle.std.specs.Prelude.{not, ◌&&◌, ◌||◌}
+use Rattle.std.specs.Prelude.{not, ◌&&◌}
 use Rattle.std.proofs.Common.{◌≡◌, ◌⊎◌, ◌≤◌, Bool, true, false, List, refl, sym, ap, ◌∙◌, subst, inl, inr, arith}
 use Rattle.memif.specs.declared.answer.DeviceTurn.{DeviceTurn}
 use Rattle.memif.specs.declared.answer.DeviceTurn.TheVariants.{Idle, Worked, Off}
@@ -37,12 +37,6 @@ job_rests : (p : Part) (s u : Stand) (old new : DeviceTold) (c : Clock) → is_o
 job_rests p (Open j) u old new c closed same keeps = cc closed
 job_rests p (Ended r given) u old new c closed same keeps = (same, keeps)
 
-pub own_alone : (o p q : Bool) → o ≡ false → q ≡ false → (not o && not (p || q)) ≡ not p
-own_alone true p q is rests = cc is
-own_alone false p true is rests = cc rests
-own_alone false true false is rests = refl
-own_alone false false false is rests = refl
-
 pub own_only : (o p : Bool) → o ≡ false → (not o && not p) ≡ not p
 own_only true p is = cc is
 own_only false p is = refl
@@ -53,7 +47,7 @@ closed_both false s u one two = one
 
 module _ (a : DeviceTold) (ca : Clock) (anew : DeviceTold) (ca_new : Clock) (b : DeviceTold) (cb : Clock) (course next : List Bool) (last : Bool)
     (pair : ArePair a b) (is : IsCourse a b course) (goes : Goes false a.ops anew.ops course next)
-    (closed : is_open a.stand ≡ false) (other : is_open b.stand ≡ false) (up : nothing_open a ≡ false → b.started ≡ true) (rests : b.switching ≡ false) where
+    (closed : is_open a.stand ≡ false) (other : is_open b.stand ≡ false) (up : nothing_open a ≡ false → b.started ≡ true) where
   abbrev old : DeviceTold
   old = told_both a b last course
 
@@ -64,7 +58,7 @@ module _ (a : DeviceTold) (ca : Clock) (anew : DeviceTold) (ca_new : Clock) (b :
   no_job = closed_both last a.stand b.stand closed other
 
   nothing_same : nothing_open old ≡ nothing_open a
-  nothing_same = own_alone (is_open old.stand) a.switching b.switching no_job rests ∙ sym (own_only (is_open a.stand) a.switching closed)
+  nothing_same = own_only (is_open old.stand) a.switching no_job ∙ sym (own_only (is_open a.stand) a.switching closed)
 
   stand_same : anew.stand ≡ a.stand → new.stand ≡ old.stand
   stand_same same = λ i. stand_both last (same i) b.stand
@@ -159,8 +153,8 @@ kept Off a ca anew ca_new closed turns = elim turns.1.1 [
 ]
 
 pub own_turns : (answer : DeviceTurn) (a : DeviceTold) (ca : Clock) (anew : DeviceTold) (ca_new : Clock) (b : DeviceTold) (cb : Clock) → InOrder b cb → Turns answer a ca anew ca_new → OwnTurns answer a ca anew ca_new b cb
-own_turns answer a ca anew ca_new b cb order turns course next last pair is goes closed other up rests =
+own_turns answer a ca anew ca_new b cb order turns course next last pair is goes closed other up =
     let same = kept answer a ca anew ca_new closed turns.0 in (
-      turns_rest a ca anew ca_new b cb course next last pair is goes closed other up rests answer order turns.0,
+      turns_rest a ca anew ca_new b cb course next last pair is goes closed other up answer order turns.0,
       order_rest anew ca_new b cb last next (pair_new a ca anew ca_new b cb course next pair is goes same.0) (course_new a ca anew ca_new b cb course next pair is goes same.0) (ap is_open same.1 ∙ closed) other turns.1 order,
     )

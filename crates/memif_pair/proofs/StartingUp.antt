@@ -1,5 +1,5 @@
 -- A start-up of both devices is one of the pair.
-use Rattle.std.specs.Prelude.{◌&&◌, ◌||◌}
+use Rattle.std.specs.Prelude.{◌&&◌}
 use Rattle.std.proofs.Common.{◌≡◌, ◌⊎◌, ℕ, ◌+◌, Bool, true, false, List, [], Result, Ok, Err, refl, sym, ap, ◌∙◌, subst, inl, inr, arith}
 use Rattle.nv_base.specs.Count.{Rose}
 use Rattle.memif.specs.declared.answer.JobResult.TheVariants.{JobOk}
@@ -81,7 +81,7 @@ module _ (one two : Result (Unit {0}) StartFault) (last last_new : Bool) (a : De
         fixed = fixed_both (fixed_a i) (fixed_b i);
         tells = (ap (λ (d : DeviceTold). d.tells) first.only) i && (ap (λ (d : DeviceTold). d.tells) second.only) i;
         stand = stand_is last_new i;
-        switching = (ap (λ (d : DeviceTold). d.switching) first.only) i || (ap (λ (d : DeviceTold). d.switching) second.only) i;
+        switching = (ap (λ (d : DeviceTold). d.switching) first.only) i;
         starts = (ap (λ (d : DeviceTold). d.starts) first.only) i;
         left = (ap (λ (d : DeviceTold). d.left) first.only) i + (ap (λ (d : DeviceTold). d.left) second.only) i;
       };

@@ -60,7 +60,7 @@ order_second a ca b cb course pair is of closed one two =
       told = told_before_any a ca b cb course is one two;
     }
 
-no_own : (second : Bool) (b : DeviceTold) (stand : Stand) → is_open stand ≡ false → IsOwnJob second b stand
+pub no_own : (second : Bool) (b : DeviceTold) (stand : Stand) → is_open stand ≡ false → IsOwnJob second b stand
 no_own second b (Open j) closed = cc closed
 no_own second b (Ended result given) closed = tt
 

@@ -28,11 +28,11 @@ FirstTurns answer a ca a_new ca_new b cb =
     → a.stand ≡ Open j → is_second b.fixed.numbers j.number ≡ false → is_open b.stand ≡ false → b.started ≡ true
     → Turns answer (told_both a b false course) (pair_clock ca b cb course) (told_both a_new b false next) (pair_clock ca_new b cb next)
 
--- a turn of the first device with no job open, of work of its own or of none, is a turn of the pair, where the second one rests
+-- a turn of the first device with no job open in either, of work of its own or of none, is a turn of the pair
 abbrev pub OwnTurns : DeviceTurn → DeviceTold → Clock → DeviceTold → Clock → DeviceTold → Clock → Type 0
 OwnTurns answer a ca a_new ca_new b cb =
     (course next : List Bool) (last : Bool) → ArePair a b → IsCourse a b course → Goes false a.ops a_new.ops course next
-    → is_open a.stand ≡ false → is_open b.stand ≡ false → (nothing_open a ≡ false → b.started ≡ true) → b.switching ≡ false
+    → is_open a.stand ≡ false → is_open b.stand ≡ false → (nothing_open a ≡ false → b.started ≡ true)
     → Turns answer (told_both a b last course) (pair_clock ca b cb course) (told_both a_new b last next) (pair_clock ca_new b cb next)
 
 -- a turn of the second device likewise, whose numbers stay: it is one of the second part

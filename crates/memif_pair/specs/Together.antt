@@ -45,11 +45,11 @@ IsUp d = nothing_open d ≡ false → d.started ≡ true
 abbrev pub PairGoes : (a b a_new b_new : DeviceTold) → (course next : List Bool) → Type 0
 PairGoes a b a_new b_new course next = Goes (is_open b.stand) (a.ops + b.ops) (a_new.ops + b_new.ops) course next
 
--- It is a turn of the second device where a job of that is open, else of the first one. So it is one of the pair, where the
--- second one has no work of its own, and behind it they are together again.
+-- It is a turn of the second device where a job of that is open, else of the first one. So it is one of the pair, and behind it they
+-- are together again.
 abbrev pub PairTurns : DeviceTurn → (last : Bool) → (a : DeviceTold) (ca : Clock) (b : DeviceTold) (cb : Clock) (a_new : DeviceTold) (ca_new : Clock) (b_new : DeviceTold) (cb_new : Clock) → Type 0
 PairTurns answer last a ca b cb a_new ca_new b_new cb_new =
-    (course next : List Bool) → AreTogether a b last course → IsUp (told_both a b last course) → b.switching ≡ false
+    (course next : List Bool) → AreTogether a b last course → IsUp (told_both a b last course)
     → PairGoes a b a_new b_new course next
     → Turns answer (told_both a b last course) (pair_clock ca b cb course) (told_both a_new b_new last next) (pair_clock ca_new b_new cb_new next)
     × AreTogether a_new b_new last next × IsUp (told_both a_new b_new last next)
@@ -81,11 +81,11 @@ abbrev pub answer_both : Result (Unit {0}) StartFault → Result (Unit {0}) Star
 answer_both (Err why) two = Err why
 answer_both (Ok done) two = two
 
--- THE STATUS OF BOTH
+-- THE STATUS OF BOTH: own work is the first one's
 abbrev pub status_both : MemStatus → MemStatus → MemStatus
 status_both Uninit two = Uninit
 status_both one Uninit = Uninit
 status_both Busy two = Busy
 status_both one Busy = Busy
 status_both BusyInternal two = BusyInternal
-status_both Idle two = two
+status_both Idle two = Idle

@@ -10,7 +10,7 @@ ghost use Rattle.memif_pair.specs.Together.{AreTogether, Looks, OfPair, answer_b
 use memif::{DeviceRefusal, JobResult, MemDevice, MemStatus, StartFault};
 use nv_base::DeviceNumber;
 
-/// What the pair is at: not started unless both are, at a job or at work of its own where one of them is.
+/// What the pair is at: not started unless both are, at a job where one of them is, and at work of its own where the first one is.
 pub fn status<A: MemDevice, B: MemDevice>(first: &A, second: &B) -> MemStatus
     ensures status { (last : Bool) (course : List Bool) → AreTogether (A.told first.now) (B.told second.now) last course → result ≡ status_of (told_both (A.told first.now) (B.told second.now) last course) }
     ensures order { (last : Bool) (course : List Bool) → AreTogether (A.told first.now) (B.told second.now) last course → InOrder (told_both (A.told first.now) (B.told second.now) last course) (pair_clock (A.clock first.now) (B.told second.now) (B.clock second.now) course) }
@@ -26,8 +26,7 @@ fn status_both(one: MemStatus, two: MemStatus) -> MemStatus
     match (one, two) {
         (MemStatus::Uninit, _) | (_, MemStatus::Uninit) => MemStatus::Uninit,
         (MemStatus::Busy, _) | (_, MemStatus::Busy) => MemStatus::Busy,
-        (MemStatus::BusyInternal, _) => MemStatus::BusyInternal,
-        (MemStatus::Idle, two) => two,
+        (one, _) => one,
     }
 }
 

@@ -1,0 +1,17 @@
+use Rattle.std.proofs.Common.{None, Some, false}
+use Rattle.nv_base.specs.declared.mark.Mark.TheVariants as mark
+use Rattle.memif.specs.Calls.{Accepts, Wish}
+use Rattle.memif_pair.proofs.BothCalls.{called, kept}
+use Rattle.memif_pair.proofs.Started.{up_accepted}
+use Rattle.memif_pair.proofs.both.BothMemDevice.start_invalidate.Goals as goal
+
+pub invariant_of-self : goal.invariant_of-self
+invariant_of-self g c =
+    let w : Wish = record { job = record { number = c.args.number.0; mark = Some mark.Invalid; urgent = false }; length = None } in
+    kept g.A.MemDevice.told g.A.MemDevice.clock g.B.MemDevice.told g.B.MemDevice.clock _ _ c.self.view_is c.self.invariant (Accepts w c.start_invalidate.result) c.start_invalidate.new.first c.start_invalidate.new.second c.start_invalidate.new.last c.start_invalidate.ensures
+    (λ old clock new clock_new accepts up. up_accepted w c.start_invalidate.result old clock new clock_new accepts up)
+
+pub returns : goal.returns
+returns g c =
+    let w : Wish = record { job = record { number = c.args.number.0; mark = Some mark.Invalid; urgent = false }; length = None } in
+    called g.A.MemDevice.told g.A.MemDevice.clock g.B.MemDevice.told g.B.MemDevice.clock _ _ c.self.view_is c.self.invariant (Accepts w c.start_invalidate.result) c.start_invalidate.new.first c.start_invalidate.new.second c.start_invalidate.new.last c.start_invalidate.ensures
