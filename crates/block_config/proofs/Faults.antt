@@ -1,5 +1,5 @@
 -- The first fault of a configuration's items.
-use Rattle.std.proofs.Common.{◌≡◌, ◌<◌, ℕ, zero, suc, ◌+◌, ◌-◌, Bool, true, false, if◌then◌else◌, List, [], ◌∷◌, length, map, get_or, slice_index, Option, Some, None, refl, subst, arith, All}
+use Rattle.std.proofs.Common.{◌≡◌, ◌<◌, ℕ, zero, suc, ◌+◌, ◌-◌, Bool, true, false, if◌then◌else◌, List, [], ◌∷◌, length, map, get_or, slice_index, ◌≤◌, Option, Some, None, refl, subst, arith, All}
 use Rattle.std.proofs.Math.ListN.{get_or-map}
 use Rattle.std.proofs.lemmas.List.{length-map}
 use Rattle.std.specs.List.{range_with_len, AllPass}
@@ -7,11 +7,12 @@ use Rattle.std.proofs.lemmas.List.Elements.{All-nil, All-cons, All-map}
 use Rattle.serde_json.specs.Data.{Data}
 use Rattle.serde_json.specs.View.{view}
 use Rattle.serde_json.specs.declared.value.Value.{Value}
+use Rattle.block_config.specs.declared.block.BlockDesc.{BlockDesc}
 use Rattle.block_config.specs.declared.fault.ConfigFault.{ConfigFault}
 use Rattle.block_config.specs.Item.{keeps, block_of}
 use Rattle.block_config.specs.Reading.{breaker, fault_or, first_fault, item_rules}
 use Rattle.block_config.specs.Rules.{IsLegalBlock}
-use Rattle.block_config.proofs.LegalItem.{block_legal}
+use Rattle.block_config.proofs.LegalItem.{block_legal, device_legal}
 
 -- a rule that is kept leaves the fault to the rules behind it
 pub first_fault-kept : (r : ℕ) (ds : List Data) → r < 23 → breaker r 2 ds ≡ None → first_fault (range_with_len r (23 - r)) ds ≡ first_fault (range_with_len (r + 1) (23 - (r + 1))) ds
@@ -19,7 +20,7 @@ first_fault-kept r ds below kept =
     let more : 23 - r ≡ suc (23 - (r + 1)) = omega arith in
     rw (more, kept) refl
 
-kept_and_later : (b : Bool) (o : Option ℕ) (id : ℕ) → (if b then o else Some id) ≡ None → (b ≡ true) × (o ≡ None)
+pub kept_and_later : (b : Bool) (o : Option ℕ) (id : ℕ) → (if b then o else Some id) ≡ None → (b ≡ true) × (o ≡ None)
 kept_and_later true o id h = (refl, h)
 kept_and_later false o id h = cc h
 
@@ -51,3 +52,8 @@ pub blocks_legal : (ds : List Data) → first_fault item_rules ds ≡ None → A
 blocks_legal ds h =
     All-map IsLegalBlock block_of ds
     (λ k d lt. block_legal (get_or ds k d) (kept ds h 2 (omega arith) k d lt) (kept ds h 3 (omega arith) k d lt) (kept ds h 5 (omega arith) k d lt) (kept ds h 6 (omega arith) k d lt) (kept ds h 7 (omega arith) k d lt) (kept ds h 9 (omega arith) k d lt) (kept ds h 10 (omega arith) k d lt) (kept ds h 11 (omega arith) k d lt))
+
+pub devices_legal : (ds : List Data) → first_fault (25 ∷ []) ds ≡ None → All (λ (b : BlockDesc). b.device ≤ 1) (map block_of ds)
+devices_legal ds named =
+    let each = kept_by_each 25 2 ds (no_fault 25 (breaker 25 2 ds) None named).0 in
+    All-map (λ (b : BlockDesc). b.device ≤ 1) block_of ds (λ k d lt. device_legal (get_or ds k d) (each k d lt))

@@ -20,7 +20,7 @@ pub both_true : (a b : Bool) → (a && b) ≡ true → (a ≡ true) × (b ≡ tr
 both_true true b h = (refl, h)
 both_true false b h = cc h
 
-equal_from_test : (a b : ℕ) → (a == b) ≡ true → a ≡ b
+pub equal_from_test : (a b : ℕ) → (a == b) ≡ true → a ≡ b
 equal_from_test a b h = grind (arith, nat_tests)
 
 pub le_from_test : (a b : ℕ) → nat_le a b ≡ true → a ≤ b
@@ -108,6 +108,10 @@ once_legal Native once h = tt
 once_legal Redundant once h = tt
 once_legal Dataset true h = cc h
 once_legal Dataset false h = refl
+
+-- 25
+pub device_legal : (d : Data) → keeps 25 d ≡ true → (block_of d).device ≤ 1
+device_legal d named = (given_in_bounds 0 1 0 1 (get (codes "device") d) (omega arith, omega arith) named).1
 
 pub block_legal : (d : Data) → keeps 13 d ≡ true → keeps 14 d ≡ true → keeps 16 d ≡ true → keeps 17 d ≡ true → keeps 18 d ≡ true → keeps 20 d ≡ true → keeps 21 d ≡ true → keeps 22 d ≡ true → IsLegalBlock (block_of d)
 block_legal d size priority defaults count rom member once tries =

@@ -1,6 +1,7 @@
 pub mod Bounds
 pub mod Contents
 pub mod Descriptions
+pub mod Devices
 pub mod Faults
 pub mod LegalItem
 pub mod Lines

@@ -35,6 +35,7 @@ plain_block n = record {
   reads = 0;
   writes = 0;
   repeats = 0;
+  device = 0;
 }
 
 -- a configuration id as the content of block 1: two bytes, the high one first

@@ -1,5 +1,5 @@
 -- The configuration that comes with the product.
-use Rattle.std.specs.Prelude.{true, [], ◌∷◌, Some, replicate}
+use Rattle.std.specs.Prelude.{true, [], ◌∷◌, Some, None, replicate}
 use Rattle.block_config.specs.declared.block.BlockDesc.{BlockDesc}
 use Rattle.block_config.specs.declared.block.RamKind.TheVariants.{Permanent}
 use Rattle.block_config.specs.Block.{plain_block, manager_block}
@@ -19,6 +19,7 @@ demo_config = record {
   id = 1;
   geometry = record { page = 16; sector = 256; sectors = 8 };
   banks = 2;
+  eeprom = None;
   standard = 8;
   immediate = 4;
   blocks = manager_block 1 ∷ demo_block_2 ∷ demo_block_3 ∷ [];

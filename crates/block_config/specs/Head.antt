@@ -24,9 +24,9 @@ abbrev pub ◌>>=◌ : {A B : Type 0} → Result A ConfigFault → (A → Result
 Ok a >>= f = f a
 Err e >>= f = Err e
 
--- 2: the value is an object whose keys are all among the eight
+-- 2: the value is an object whose keys are all among the nine
 abbrev pub is_head_key : List ℕ → Bool
-is_head_key k = bytes_eq k (codes "id") || bytes_eq k (codes "page") || bytes_eq k (codes "sector") || bytes_eq k (codes "sectors") || bytes_eq k (codes "standard") || bytes_eq k (codes "immediate") || bytes_eq k (codes "blocks") || bytes_eq k (codes "banks")
+is_head_key k = bytes_eq k (codes "id") || bytes_eq k (codes "page") || bytes_eq k (codes "sector") || bytes_eq k (codes "sectors") || bytes_eq k (codes "standard") || bytes_eq k (codes "immediate") || bytes_eq k (codes "blocks") || bytes_eq k (codes "eeprom") || bytes_eq k (codes "banks")
 
 -- 4: a page has 16, 32, 64, 128 or 256 bytes
 abbrev pub page_of : ℕ → Option ℕ

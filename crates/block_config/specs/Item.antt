@@ -1,4 +1,4 @@
--- One item of a configuration's blocks: its rules, 11 to 22, and the block that it describes.
+-- One item of a configuration's blocks: its rules, 11 to 22 and 25, and the block that it describes.
 use Rattle.std.specs.Prelude.{ℕ, ◌==◌, ◌&&◌, ◌||◌, nat_le, Bool, true, false, not, if◌then◌else◌, List, [], length, map, codes, Option, Some, None, is_some, unwrap_or, option_and_then, option_map}
 use Rattle.std.specs.List.{list_all}
 use Rattle.std.specs.Str.{bytes_eq}
@@ -21,7 +21,7 @@ abbrev pub is_flag_key : List ℕ → Bool
 is_flag_key k = bytes_eq k (codes "ram") || bytes_eq k (codes "readall") || bytes_eq k (codes "writeall") || bytes_eq k (codes "once") || bytes_eq k (codes "protected") || bytes_eq k (codes "resistant")
 
 abbrev pub is_number_key : List ℕ → Bool
-is_number_key k = bytes_eq k (codes "priority") || bytes_eq k (codes "reads") || bytes_eq k (codes "writes") || bytes_eq k (codes "repeats")
+is_number_key k = bytes_eq k (codes "priority") || bytes_eq k (codes "reads") || bytes_eq k (codes "writes") || bytes_eq k (codes "repeats") || bytes_eq k (codes "device")
 
 -- 11: an item is an object whose keys are all among these
 abbrev pub is_item_key : List ℕ → Bool
@@ -127,6 +127,10 @@ tries_at key d = optional key 0 (number_in 0 7) d
 abbrev pub are_tries : Data → Bool
 are_tries d = is_some (tries_at (codes "reads") d) && is_some (tries_at (codes "writes") d) && is_some (tries_at (codes "repeats") d)
 
+-- 25: a block is the first device's where it names none
+abbrev pub device_at : Data → Option ℕ
+device_at d = optional (codes "device") 0 (number_in 0 1) d
+
 -- whether an item keeps the rule with this number
 abbrev pub keeps : ℕ → Data → Bool
 keeps number d =
@@ -141,9 +145,10 @@ keeps number d =
     else (if number == 19 then are_truths d
     else (if number == 20 then may_be_member d
     else (if number == 21 then may_be_once d
-    else are_tries d))))))))))
+    else (if number == 22 then are_tries d
+    else is_some (device_at d))))))))))))
 
--- THE BLOCK THAT AN ITEM DESCRIBES
+-- THE BLOCK THAT AN ITEM DESCRIBES: where its device isn't one, it isn't the first
 abbrev pub contents_of : Option (List Data) → List (List ℕ)
 contents_of None = []
 contents_of (Some ds) = map (λ d. unwrap_or (content_in d) []) ds
@@ -165,4 +170,5 @@ block_of d = record {
   reads = unwrap_or (tries_at (codes "reads") d) 0;
   writes = unwrap_or (tries_at (codes "writes") d) 0;
   repeats = unwrap_or (tries_at (codes "repeats") d) 0;
+  device = unwrap_or (device_at d) 1;
 }

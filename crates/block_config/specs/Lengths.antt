@@ -1,5 +1,5 @@
 -- The device numbers of a configuration with their lengths.
-use Rattle.std.specs.Prelude.{ℕ, ◌+◌, ◌*◌, List, [], ◌∷◌, ◌++◌, map}
+use Rattle.std.specs.Prelude.{ℕ, ◌+◌, ◌*◌, ◌==◌, if◌then◌else◌, List, [], ◌∷◌, ◌++◌, map, Option, Some, None}
 use Rattle.std.specs.List.{range_with_len}
 use Rattle.nv_base.specs.declared.instance.DeviceNumber.{DeviceNumber}
 use Rattle.block_config.specs.declared.block.BlockDesc.{BlockDesc}
@@ -21,3 +21,16 @@ lengths_from id (b ∷ bs) = block_lengths id b ++ lengths_from (id + 1) bs
 
 abbrev pub lengths_of : Configuration → List (DeviceNumber × ℕ)
 lengths_of c = lengths_from 1 c.blocks
+
+-- the instances of a block where this device stores it, or whatever device does
+abbrev pub stored_lengths : Option ℕ → ℕ → BlockDesc → List (DeviceNumber × ℕ)
+stored_lengths None id b = block_lengths id b
+stored_lengths (Some device) id b = if b.device == device then block_lengths id b else []
+
+abbrev pub lengths_by : Option ℕ → ℕ → List BlockDesc → List (DeviceNumber × ℕ)
+lengths_by device id [] = []
+lengths_by device id (b ∷ bs) = stored_lengths device id b ++ lengths_by device (id + 1) bs
+
+-- the instances that a device stores
+abbrev pub device_lengths : ℕ → Configuration → List (DeviceNumber × ℕ)
+device_lengths device c = lengths_by (Some device) 1 c.blocks

@@ -7,7 +7,9 @@ pub mod Field
 pub mod Head
 pub mod Inside
 pub mod Item
+pub mod Laws
 pub mod Lengths
 pub mod Reading
 pub mod Rules
+pub mod Second
 pub mod Sizes

@@ -1,10 +1,12 @@
 -- What a configuration line means.
-use Rattle.std.specs.Prelude.{ℕ, ◌+◌, nat_le, if◌then◌else◌, List, [], ◌∷◌, map, codes, Option, Some, None, Result, Ok, Err, ⊤}
+use Rattle.std.specs.Prelude.{ℕ, ◌+◌, ◌*◌, nat_le, Bool, true, if◌then◌else◌, List, [], ◌∷◌, map, codes, Option, Some, None, Result, Ok, Err, ⊤}
 use Rattle.std.specs.List.{range_with_len}
 use Rattle.std.specs.Str.{bytes_eq, is_utf8}
 use Rattle.serde_json.specs.Data.{Data}
+use Rattle.serde_json.specs.Find.{get}
 use Rattle.serde_json.specs.Read.{read as json_value}
-use Rattle.block_config.specs.Banks.{bank_pages_of}
+use Rattle.nv_base.specs.Geometry.{pages_of_bank}
+use Rattle.nv_base.specs.declared.geometry.Geometry.{Geometry}
 use Rattle.block_config.specs.declared.block.BlockDesc.{BlockDesc}
 use Rattle.block_config.specs.declared.fault.ConfigFault.{ConfigFault}
 use Rattle.block_config.specs.declared.fault.ConfigFault.TheVariants.{Broken}
@@ -14,8 +16,9 @@ use Rattle.block_config.specs.Config.{Configuration}
 use Rattle.block_config.specs.DemoConfig.{demo_config}
 use Rattle.block_config.specs.Head.{◌>>=◌, rule, holds, head_of, blocks_at, banks_at}
 use Rattle.block_config.specs.Item.{keeps, block_of}
-use Rattle.block_config.specs.Rules.{need_pages_of}
-use Rattle.block_config.specs.Sizes.{measures_of}
+use Rattle.block_config.specs.Second.{are_first, eeprom_for, too_long}
+use Rattle.block_config.specs.Sizes.{measures_of, second_instances, need_of}
+use Rattle.block_config.specs.declared.sizes.Measures.{Measures}
 
 -- the first block that breaks a rule, of blocks whose ids count from this one on
 abbrev pub breaker : ℕ → ℕ → List Data → Option ℕ
@@ -39,30 +42,52 @@ abbrev pub unless_fault : Option ConfigFault → Result ⊤ ConfigFault
 unless_fault None = Ok tt
 unless_fault (Some fault) = Err fault
 
--- of a head, so many banks and these blocks
-abbrev pub configuration : Head → ℕ → List BlockDesc → Configuration
-configuration h banks blocks = record { id = h.id; geometry = h.geometry; banks = banks; standard = h.standard; immediate = h.immediate; blocks = blocks }
+-- 24, where rule 29 holds: the pages that are needed have room in a bank
+abbrev pub has_room : Geometry → Measures → Option ℕ → Bool
+has_room g m None = true
+has_room g m (Some banks) = nat_le (need_of m) (pages_of_bank g banks)
 
--- 24: the pages that are needed have room in a bank
-abbrev pub roomy : Configuration → Result Configuration ConfigFault
-roomy c = do
-  _ ← holds 24 (nat_le (need_pages_of c) (bank_pages_of c))
-  Ok c
+-- 23: there are at most 4,096 instances; 24
+abbrev pub sized : Geometry → Option ℕ → Measures → Result ⊤ ConfigFault
+sized g shared m = do
+  _ ← holds 23 (nat_le m.instances 4096)
+  holds 24 (has_room g m shared)
 
--- 23: there are at most 4,096 instances; 29, and 24 where that holds
-abbrev pub sized : Head → Option ℕ → List BlockDesc → Result Configuration ConfigFault
-sized h shared blocks = do
-  _ ← holds 23 (nat_le (measures_of h.geometry.page blocks).instances 4096)
-  banks ← rule 29 shared
-  roomy (configuration h banks blocks)
+-- 27; 28: two slots of two sectors for each instance
+abbrev pub second_fits : List BlockDesc → Option Geometry → Result ⊤ ConfigFault
+second_fits blocks None = Ok tt
+second_fits blocks (Some g) = do
+  _ ← unless_fault (fault_or 27 (too_long g.sector 1 blocks) None)
+  holds 28 (nat_le (4 * second_instances blocks) g.sectors)
 
--- 2 to 24, and 29; block 1 stands before those that the items describe
+-- 26 to 28
+abbrev pub second_of : Option Data → List BlockDesc → Result (Option Geometry) ConfigFault
+second_of shape blocks = do
+  second ← rule 26 (eeprom_for (are_first blocks) shape)
+  _ ← second_fits blocks second
+  Ok second
+
+-- of a head, so many banks, a second device and these blocks
+abbrev pub configuration : Head → ℕ → Option Geometry → List BlockDesc → Configuration
+configuration h banks second blocks =
+    record { id = h.id; geometry = h.geometry; banks = banks; eeprom = second; standard = h.standard; immediate = h.immediate; blocks = blocks }
+
+-- 23 to 29
+abbrev pub described : Head → Data → List Data → List BlockDesc → Result Configuration ConfigFault
+described h d items blocks = do
+  _ ← sized h.geometry (banks_at h.geometry d) (measures_of h.geometry.page blocks)
+  _ ← unless_fault (first_fault (25 ∷ []) items)
+  second ← second_of (get (codes "eeprom") d) blocks
+  banks ← rule 29 (banks_at h.geometry d)
+  Ok (configuration h banks second blocks)
+
+-- 2 to 29; block 1 stands before those that the items describe
 abbrev pub config_of : Data → Result Configuration ConfigFault
 config_of d = do
   head ← head_of d
   items ← rule 10 (blocks_at d)
   _ ← unless_fault (first_fault item_rules items)
-  sized head (banks_at head.geometry d) (manager_block head.id ∷ map block_of items)
+  described head d items (manager_block head.id ∷ map block_of items)
 
 -- 1: the line is UTF-8 and a JSON text of nesting at most 127. Where a key stands twice, the last value counts.
 abbrev pub value_of : List ℕ → Option Data

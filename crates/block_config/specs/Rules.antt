@@ -1,6 +1,6 @@
 -- The rules of a configuration, by their numbers, as facts on its numbers and blocks. The rules on the text that it is
--- read from stand in Reading (1, 23, 24 and 29), Head (2 to 10) and Item (11 to 22).
-use Rattle.std.specs.Prelude.{◌≡◌, ℕ, ◌+◌, ◌*◌, ◌≤◌, Bool, false, List, [], ◌∷◌, length, Option, Some, None, All}
+-- read from stand in Reading (1, 23, 24 and 29), Head (2 to 10), Item (11 to 22 and 25) and Second (26 to 28).
+use Rattle.std.specs.Prelude.{◌≡◌, ℕ, ◌≤◌, Bool, false, List, [], ◌∷◌, length, Option, Some, None, is_none, IfSome, All}
 use Rattle.nv_base.specs.Geometry.{IsLegal, HasBanks}
 use Rattle.block_config.specs.Banks.{bank_pages_of}
 use Rattle.block_config.specs.declared.block.BlockDesc.{BlockDesc}
@@ -11,7 +11,8 @@ use Rattle.block_config.specs.declared.block.RamKind.TheVariants.{Permanent, Syn
 use Rattle.block_config.specs.declared.block.RamKind.TheVariants as ram
 use Rattle.block_config.specs.Block.{manager_block}
 use Rattle.block_config.specs.Config.{Configuration}
-use Rattle.block_config.specs.Sizes.{measures_of}
+use Rattle.block_config.specs.Second.{are_first, IsSecond}
+use Rattle.block_config.specs.Sizes.{measures_of, need_of}
 
 -- 8 and 9: a queue has room for 1 to 256 jobs
 pub record IsQueueSize (n : ℕ) : Type 0 where
@@ -75,13 +76,9 @@ abbrev pub AreBlocks : ℕ → List BlockDesc → Type 0
 AreBlocks id [] = ⊥
 AreBlocks id (b ∷ bs) = (b ≡ manager_block id) × All IsLegalBlock bs
 
--- S + 2 M + 2 R + 1: the pages that a bank needs, for a copy of each instance, for the instances that were copied
--- again, and for the record that waits. S are the pages of all instances, M those of the greatest, and R the most
--- pages of one immediate write.
+-- the pages that a bank needs
 abbrev pub need_pages_of : Configuration → ℕ
-need_pages_of c =
-    let m = measures_of c.geometry.page c.blocks in
-    m.all + 2 * m.greatest + 2 * m.urgent + 1
+need_pages_of c = need_of (measures_of c.geometry.page c.blocks)
 
 -- the rules of a configuration
 pub record IsLegalConfig (c : Configuration) : Type 0 where
@@ -100,5 +97,11 @@ pub record IsLegalConfig (c : Configuration) : Type 0 where
   pub instances : (measures_of c.geometry.page c.blocks).instances ≤ 4096
   -- 24: the pages that are needed have room in a bank
   pub room : need_pages_of c ≤ bank_pages_of c
+  -- 25
+  pub devices : All (λ b. b.device ≤ 1) c.blocks
+  -- 26: a second device is there exactly where a block isn't the first's
+  pub one_device : are_first c.blocks ≡ is_none c.eeprom
+  -- 26 to 28
+  pub second : IfSome c.eeprom (IsSecond c.blocks)
   -- 29
   pub shared : HasBanks c.geometry c.banks

@@ -53,6 +53,8 @@ pub struct BlockDesc {
     pub reads: u8,
     pub writes: u8,
     pub repeats: u8,
+    /// The device that stores it: 0, or 1 for the second one.
+    pub device: u8,
 }
 
 impl BlockKind {
@@ -95,6 +97,7 @@ pub(crate) fn plain_block(alloc: Global, length: u16) -> BlockDesc
         reads: 0,
         writes: 0,
         repeats: 0,
+        device: 0,
     }
 }
 

@@ -1,18 +1,17 @@
 // The configuration.
 ghost use Rattle.std.specs.Prelude.{◌≡◌, ◌≤◌, ◌<◌, ◌⊎◌, ◌↔◌, length, IsNone, IfOk, IfSome, option_copied};
-ghost use Rattle.nv_base.specs.Geometry.{IsLegal, HasBanks};
 ghost use Rattle.block_config.specs.Banks.{bank_pages_of};
 ghost use Rattle.block_config.specs.Block.{manager_block};
 ghost use Rattle.block_config.specs.Config.{block_of};
 ghost use Rattle.block_config.specs.Sizes.{measures_of};
-ghost use Rattle.block_config.specs.Rules.{IsQueueSize, AreBlocks, IsLegalBlock, IsLegalConfig, need_pages_of};
-ghost use Rattle.block_config.specs.Reading.{sized};
-ghost use Rattle.block_config.specs.Lengths.{lengths_of};
+ghost use Rattle.block_config.specs.Rules.{IsLegalBlock, IsLegalConfig, need_pages_of};
+ghost use Rattle.block_config.specs.Reading.{configuration};
+ghost use Rattle.block_config.specs.Lengths.{lengths_of, device_lengths, lengths_by};
 
-use crate::head::{Head, broken};
-use crate::lengths::add_block;
+use crate::BlockDesc;
+use crate::head::Head;
+use crate::lengths::add_stored;
 use crate::sizes::{Measures, measures_of};
-use crate::{BlockDesc, ConfigFault};
 use nv_base::{Geometry, Lengths};
 use std::alloc::{AllocError, Global};
 use std::marker::Model;
@@ -24,6 +23,7 @@ pub struct Config {
     id: u16,
     geometry: Geometry,
     banks: u32,
+    eeprom: Option<Geometry>,
     standard: u16,
     immediate: u16,
     blocks: Vec<BlockDesc>,
@@ -43,65 +43,27 @@ impl Model for Config {
 }
 
 impl Config {
-    /// The configuration of these blocks, block 1 among them.
+    /// The configuration of a head, so many banks, a second device and these blocks, block 1 among them.
     pub(crate) fn make(
-        id: u16,
-        geometry: Geometry,
+        head: Head,
         banks: u32,
-        standard: u16,
-        immediate: u16,
+        second: Option<Geometry>,
         blocks: Vec<BlockDesc>,
     ) -> Config
-        requires { IsLegalConfig (record { id = id; geometry = geometry; banks = banks; standard = standard; immediate = immediate; blocks = blocks.items }) }
-        ensures { result ≡ record { id = id; geometry = geometry; banks = banks; standard = standard; immediate = immediate; blocks = blocks.items } }
+        requires { IsLegalConfig (configuration head banks second blocks.items) }
+        ensures { result ≡ configuration head banks second blocks.items }
     {
-        let measures = measures_of(&blocks, geometry.page);
+        let measures = measures_of(&blocks, head.geometry.page);
         Config {
-            id,
-            geometry,
-            banks,
-            standard,
-            immediate,
-            blocks,
-            measures,
-        }
-    }
-
-    /// The configuration of a head and blocks that keep their rules, where all of them have room.
-    pub(crate) fn sized(
-        head: Head,
-        shared: Option<u32>,
-        blocks: Vec<BlockDesc>,
-    ) -> Result<Config, ConfigFault>
-        requires geometry { IsLegal head.geometry }
-        requires shared { IfSome shared (HasBanks head.geometry) }
-        requires standard { IsQueueSize head.standard }
-        requires immediate { IsQueueSize head.immediate }
-        requires low { 2 ≤ length blocks.items }
-        requires high { length blocks.items ≤ 512 }
-        requires legal { AreBlocks head.id blocks.items }
-        ensures { result ≡ sized head shared blocks.items }
-    {
-        let geometry = head.geometry;
-        let measures = measures_of(&blocks, geometry.page);
-        if measures.instances > 4096 {
-            return Err(broken(23));
-        }
-        let Some(banks) = shared else {
-            return Err(broken(29));
-        };
-        if measures.need() > u64::from(geometry.bank_pages(banks)) {
-            return Err(broken(24));
-        }
-        Ok(Config {
             id: head.id,
-            geometry,
+            geometry: head.geometry,
             banks,
+            eeprom: second,
             standard: head.standard,
             immediate: head.immediate,
             blocks,
             measures,
-        })
+        }
     }
 
     /// The shape of the flash.
@@ -118,6 +80,15 @@ impl Config {
         ensures legal { IsLegalConfig self.now }
     {
         self.banks
+    }
+
+    /// The shape of the second device's flash. None exactly where the configuration names none; then all blocks are the
+    /// first device's.
+    pub fn second(&self) -> Option<Geometry>
+        ensures value { result ≡ self.now.eeprom }
+        ensures legal { IsLegalConfig self.now }
+    {
+        self.eeprom
     }
 
     /// The configuration id, which block 1 holds.
@@ -190,14 +161,35 @@ impl Config {
     }
 
     /// The device numbers of all instances with their lengths in bytes, ascending.
-    pub fn lengths(&self, alloc: Global) -> Result<Lengths, AllocError>
+    pub fn all_lengths(&self, alloc: Global) -> Result<Lengths, AllocError>
         ensures { IfOk result (λ l. l ≡ lengths_of self.now) }
+    {
+        self.lengths_by(alloc, None)
+    }
+
+    /// The device numbers of those that the first device stores, likewise.
+    pub fn lengths(&self, alloc: Global) -> Result<Lengths, AllocError>
+        ensures { IfOk result (λ l. l ≡ device_lengths 0 self.now) }
+    {
+        self.lengths_by(alloc, Some(0))
+    }
+
+    /// The device numbers of those that the second device stores, likewise: none without one.
+    pub fn lengths_second(&self, alloc: Global) -> Result<Lengths, AllocError>
+        ensures { IfOk result (λ l. l ≡ device_lengths 1 self.now) }
+    {
+        self.lengths_by(alloc, Some(1))
+    }
+
+    /// The device numbers of the instances that this device stores, or of all.
+    fn lengths_by(&self, alloc: Global, device: Option<u8>) -> Result<Lengths, AllocError>
+        ensures { IfOk result (λ l. l ≡ lengths_by device 1 self.now.blocks) }
     {
         let mut lengths = Lengths::new(alloc);
         let mut id = 0;
         for block in &self.blocks {
             id += 1;
-            add_block(&mut lengths, id, block)?;
+            add_stored(&mut lengths, id, block, device)?;
         }
         Ok(lengths)
     }

@@ -3,6 +3,7 @@ ghost use Rattle.std.specs.Prelude.{◌≡◌, IfOk};
 ghost use Rattle.block_config.specs.DemoConfig.{demo_config, demo_block_2, demo_block_3};
 
 use crate::block::{manager_block, plain_block};
+use crate::head::Head;
 use crate::{BlockDesc, Config, RamKind};
 use nv_base::{Geometry, bytes_of};
 use std::alloc::{AllocError, Global};
@@ -21,7 +22,13 @@ pub fn demo(alloc: Global) -> Result<Config, AllocError>
         sector: 256,
         sectors: 8,
     };
-    Ok(Config::make(1, geometry, 2, 8, 4, blocks))
+    let head = Head {
+        id: 1,
+        geometry,
+        standard: 8,
+        immediate: 4,
+    };
+    Ok(Config::make(head, 2, None, blocks))
 }
 
 fn demo_block_2(alloc: Global) -> BlockDesc

@@ -6,7 +6,7 @@ ghost use Rattle.block_config.specs.Item.{keeps, block_of, content_in, items_in,
 
 use crate::content::read_content;
 use crate::field::number_or;
-use crate::item::{count_at, items_in, kind_of, length_of, ram_of, truth_of};
+use crate::item::{count_at, device_at, items_in, kind_of, length_of, ram_of, truth_of};
 use crate::{BlockDesc, RomList};
 use nv_base::{Bytes, bytes_of};
 use serde_json::Value;
@@ -33,6 +33,7 @@ pub fn block_of(alloc: Global, item: &Value) -> Result<BlockDesc, AllocError>
         reads: number_or(item, "reads", 0, 7).unwrap_or(0),
         writes: number_or(item, "writes", 0, 7).unwrap_or(0),
         repeats: number_or(item, "repeats", 0, 7).unwrap_or(0),
+        device: device_at(item).unwrap_or(1),
     })
 }
 

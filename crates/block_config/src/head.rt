@@ -80,7 +80,8 @@ pub fn broken(rule: u8) -> ConfigFault
     ConfigFault::Broken { rule, block: 0 }
 }
 
-fn geometry_of(value: &Value) -> Result<Geometry, ConfigFault>
+/// The shape of a flash, or the first broken rule.
+pub fn geometry_of(value: &Value) -> Result<Geometry, ConfigFault>
     ensures value { result ≡ geometry_of (view value.now) }
     ensures legal { IfOk result IsLegal }
 {
@@ -165,5 +166,6 @@ fn is_head_key(key: &str) -> bool
         || key == "standard"
         || key == "immediate"
         || key == "blocks"
+        || key == "eeprom"
         || key == "banks"
 }

@@ -5,14 +5,14 @@ ghost use Rattle.std.specs.BTreeMap.{keys};
 ghost use Rattle.serde_json.specs.View.{view};
 ghost use Rattle.serde_json.specs.Find.{get, as_object};
 ghost use Rattle.block_config.specs.Field.{has_keys};
-ghost use Rattle.block_config.specs.Item.{is_content_key, is_flag_key, is_number_key, is_item_key, kind_named, kind_at, kind_of, is_dataset, length_at, length_of, ram_named, ram_at, ram_of, has_ram, content_in, has_length, are_defaults, count_at, are_contents, items_in, are_rom_datasets, are_truths, truth_of, may_be_member, may_be_once, are_tries, keeps};
+ghost use Rattle.block_config.specs.Item.{is_content_key, is_flag_key, is_number_key, is_item_key, kind_named, kind_at, kind_of, is_dataset, length_at, length_of, ram_named, ram_at, ram_of, has_ram, content_in, has_length, are_defaults, count_at, are_contents, items_in, are_rom_datasets, are_truths, truth_of, may_be_member, may_be_once, are_tries, device_at, keeps};
 
 use crate::content::content_len;
 use crate::field::{number_at, number_in, number_or, truth_at};
 use crate::{BlockKind, RamKind};
 use serde_json::{Map, Value};
 
-/// Whether an item keeps the rule with this number, 11 to 22.
+/// Whether an item keeps the rule with this number, 11 to 22 or 25.
 pub fn keeps(rule: u8, item: &Value) -> bool
     ensures { result ≡ keeps rule (view item.now) }
 {
@@ -28,7 +28,8 @@ pub fn keeps(rule: u8, item: &Value) -> bool
         19 => has_truths(item),
         20 => may_be_member(item),
         21 => may_be_once(item),
-        _ => has_tries(item),
+        22 => has_tries(item),
+        _ => device_at(item).is_some(),
     }
 }
 
@@ -73,7 +74,7 @@ fn is_flag_key(key: &str) -> bool
 fn is_number_key(key: &str) -> bool
     ensures { result ≡ is_number_key key.now }
 {
-    key == "priority" || key == "reads" || key == "writes" || key == "repeats"
+    key == "priority" || key == "reads" || key == "writes" || key == "repeats" || key == "device"
 }
 
 fn kind_at(item: &Value) -> Option<BlockKind>
@@ -247,4 +248,11 @@ fn has_tries(item: &Value) -> bool
     number_or(item, "reads", 0, 7).is_some()
         && number_or(item, "writes", 0, 7).is_some()
         && number_or(item, "repeats", 0, 7).is_some()
+}
+
+/// The device that stores the block, the first where the item names none, or None where it names no device.
+pub fn device_at(item: &Value) -> Option<u8>
+    ensures value { result ≡ device_at (view item.now) }
+{
+    number_or(item, "device", 0, 1)
 }

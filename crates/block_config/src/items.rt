@@ -1,5 +1,5 @@
 // The items of a configuration's blocks.
-ghost use Rattle.std.specs.Prelude.{◌≡◌, ◌≤◌, ◌∷◌, map, length, true, All, IfOk};
+ghost use Rattle.std.specs.Prelude.{◌≡◌, ◌≤◌, ◌∷◌, [], map, length, true, All, IfOk};
 ghost use Rattle.serde_json.specs.View.{view};
 ghost use Rattle.block_config.specs.Block.{manager_block};
 ghost use Rattle.block_config.specs.Item.{keeps, block_of};
@@ -23,6 +23,17 @@ pub fn first_fault(items: &[Value]) -> Option<ConfigFault>
         }
     }
     None
+}
+
+/// The fault of the first item that names no device.
+pub fn device_fault(items: &[Value]) -> Option<ConfigFault>
+    requires { length items.now ≤ 511 }
+    ensures { result ≡ first_fault (25 ∷ []) (map view items.now) }
+{
+    match breaker(25, items) {
+        Some(block) => Some(ConfigFault::Broken { rule: 25, block }),
+        None => None,
+    }
 }
 
 /// The first block that breaks a rule; the items begin at block 2.

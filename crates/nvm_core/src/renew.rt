@@ -75,6 +75,6 @@ impl<D: MemDevice, C: SyncCalls + Drop> Stack<D, C> {
 fn found_room(alloc: Global, config: &Config) -> Result<FoundRoom, AllocError>
     ensures { IfOk result (λ room. room ≡ lengths_of config.now) }
 {
-    let lengths = config.lengths(alloc)?;
+    let lengths = config.all_lengths(alloc)?;
     FoundRoom::make(alloc, &lengths)
 }
