@@ -66,17 +66,19 @@ asks_told : (asks : List Entry) (s : Seen) → AreAsks asks → AreReplied s.des
     → TellsReady s.device s.clock → ArePending true s.begun (at s s.desk) → HasMoved true (at s s.desk) (at s (with_more s.desk asks))
 asks_told asks s are replied kept tied ready pending =
     asks_moved true asks (at s s.desk) (at s (with_more s.desk asks)) (record {
-      are = are_asked asks are;
+      made = record {
+        are = are_asked asks are;
+        adds = refl;
+        hand = refl;
+        device = refl;
+        begun = refl;
+        lasts = lasts_still s.device s.clock;
+        stays = record { told = kept.told; kept = kept.kept };
+        uncut = asks_uncut s.desk s.device asks are;
+        seals = λ since sealed. sealed;
+      };
       replied = replied;
-      adds = refl;
-      hand = refl;
-      device = refl;
-      begun = refl;
-      lasts = lasts_still s.device s.clock;
-      stays = record { told = kept.told; kept = kept.kept };
-      uncut = asks_uncut s.desk s.device asks are;
       on = is_on s.desk s.device;
-      seals = λ since sealed. sealed;
       tied = tied;
       order = ready.order;
       frees = ready.frees;
@@ -190,19 +192,3 @@ module _ {D C : Type 0} (told : D → DeviceTold) (clock : D → Clock) where
     pub driver_moved : TurnsBehind told clock copies is_store looked answer desk desk_new old new → HasMoved true (At desk old) (At desk_new new)
     driver_moved (inl begins) = ended_moved begins
     driver_moved (inr (desk_between, between, begins, cuts, ends)) = device_moved desk_between between begins ends
-
--- A STACK OF ONE'S OWN
-module _ {D C : Type 0} (told : D → DeviceTold) (clock : D → Clock) (copies : C → List Told) (is_store : C → ℕ → ℕ → List ℕ → Type 0) (looked : C → C → ℕ → ℕ → Type 0) where
-  pub turned_ready : (answer : Turned) (old new : StackState D C) → core.Turns told clock copies is_store looked answer old new → new.ready ≡ old.ready
-  turned_ready answer old new (inl half) = half.ready
-  turned_ready answer old new (inr (between, half, rest)) = rest.ready ∙ half.ready
-
-  pub stack_fixed : (answer : Turned) (old new : StackState D C) → core.Turns told clock copies is_store looked answer old new → (told new.device).fixed ≡ (told old.device).fixed
-  stack_fixed answer old new (inl half) = ap (λ (d : DeviceTold). d.fixed) half.device
-  stack_fixed answer old new (inr (between, half, rest)) = fixed_stays answer (told between.device) (told new.device) (clock between.device) (clock new.device) rest.turns ∙ ap (λ (d : DeviceTold). d.fixed) half.device
-
-module _ {D C : Type 0} (told : D → DeviceTold) (copies : C → List Told) (is_store : C → ℕ → ℕ → List ℕ → Type 0) (looked : C → C → ℕ → ℕ → Type 0) where
-  pub went_off : (answer : Turned) (old new : StackState D C) → answer ≡ turned.Off → IsFirstHalf told copies is_store looked (Ended answer) old new → PowersOff new.desk (told new.device) → (state_of old.desk).off ≡ true
-  went_off answer old new is half power =
-      let off = (subst (λ (a : Turned). IsFirstHalf told copies is_store looked (Ended a) old new) is half).half in
-      ap (λ (d : DeskState). (state_of d).off) (sym off.0.0) ∙ power off.1

@@ -5,7 +5,6 @@ use Rattle.nvm_moves.specs.memif.Clock.{Clock}
 use Rattle.nvm_moves.specs.nv_desk.Desk.{DeskState, state_of}
 use Rattle.nvm_moves.specs.job_progress.Hand.{HandState}
 use Rattle.nvm_moves.specs.nvm_laws.Keeps.{StackKeepsAsTold}
-use Rattle.nvm_moves.specs.nvm_core.Stack.{StackState}
 use Rattle.nvm_shared.specs.Driving.{DriverState}
 use Rattle.nvm_shared.specs.Unplanned.{IsUnplanned}
 use Rattle.nvm_moves.specs.Seen.{IsOn, Seen}
@@ -23,8 +22,3 @@ seen_at desk hand d clock = record { begun = None; desk = desk; hand = hand; dev
 
 abbrev pub seen_of : {D C : Type 0} → (told : D → DeviceTold) → (clock : D → Clock) → DeskState → DriverState D C → Seen
 seen_of told clock desk s = seen_at desk s.hand (told s.device) (clock s.device)
-
--- a stack that is up
-abbrev pub seen_in : {D C : Type 0} → (told : D → DeviceTold) → (clock : D → Clock) → StackState D C → Seen
-seen_in told clock s =
-    record { begun = None; desk = s.desk; hand = s.hand; device = told s.device; clock = clock s.device; kept = λ before. StackKeepsAsTold before s.desk s.hand (told s.device) (clock s.device); uncut = IsOn s.desk (told s.device) }

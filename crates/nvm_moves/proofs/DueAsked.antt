@@ -203,3 +203,33 @@ module _ (hand : Option HandState) (d : DeviceTold) (first : AreFirst d.fixed) (
   pub within_served : 5 ≤ more → post_first hand ≡ 0 → Served_by (IsDueWithin hand d)
   within_served least none =
       asks_served hand d first more free since now (IsDueWithin hand d) (within_on hand d) (λ x id turns due. takes_within none x id turns (at_least more least) due) desk es replied started roomy
+
+-- one request, where what is due is told to stay so
+pub one_served : (hand : Option HandState) (d : DeviceTold) → AreFirst d.fixed → (more : ℕ) (free : ℕ → ℕ → ℕ → Type 0) (since : ℕ) (now : Moment) (desk : DeskState) (caller : ℕ) (r : Request) (reply : Reply) → IsTrue (state_of desk).started
+    → IsRoomy (free since now.ops) desk.config (state_of desk) d → 4 ≤ more
+    → ((number turns : ℕ) → IsDue number turns (record { desk = desk; hand = hand; device = d }) → IsDue number turns (record { desk = with_entries desk (Ask caller r reply ∷ []); hand = hand; device = d }))
+    → AreServed more desk.config (pages_in d.fixed desk.config) free (λ one id turns. IsDueFor id one turns (record { desk = desk; hand = hand; device = d })) (λ one id turns. IsDueFor id one turns (record { desk = with_entries desk (Ask caller r reply ∷ []); hand = hand; device = d })) since now
+    (state_of desk) (asked_moves now (Ask caller r reply ∷ []))
+one_served hand d first more free since now desk caller r reply started roomy least keeps =
+    let c = desk.config in
+    let s = state_of desk in
+    let e = Ask caller r reply in
+    let behind = state_more desk e in
+    record {
+      dues = λ one id turns was. inr (inl (
+        refl,
+        record {
+          number = was.number;
+          due = keeps was.number (turns + free_turns one hand) was.due;
+          block = subst (IsOfBlock was.number id) (sym behind) (stays_of_block c s (Some e) was.number id was.block);
+          on = ap (λ (x : State). x.off) behind ∙ (ask_leaves_power c s caller r reply).1 ∙ was.on;
+        },
+      ));
+      urgent = (
+        λ id urgent room.
+            let pages = pages_in d.fixed c s id in
+            let due = more_asked id (pages + 4 + post_first hand) (pages + more + post_first hand) (with_entries desk (e ∷ [])) hand d (omega (arith, least)) (asked_due hand d first (free since now.ops) desk caller r reply id started roomy urgent room) in
+            record { number = due.number; due = due.due; block = due.block; on = due.on },
+        tt,
+      );
+    }

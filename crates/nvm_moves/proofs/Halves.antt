@@ -71,7 +71,7 @@ use Rattle.nvm_moves.proofs.TurnServed.{ended_soon, turn_soon}
 use Rattle.nvm_moves.proofs.Resting.{at_rest, due_hand, due_off, due_rest, rests_next}
 use Rattle.nvm_moves.proofs.TurnEntries.{AddsOne, IsOfTurn, asked_posts, device_adds_one, isnt_asked, isnt_found, none_more}
 
-as_turn : (answer : Turned) (old : DeviceTold) (clock : Clock) (new : DeviceTold) (clock_new : Clock) → TurnsDevice answer old clock new clock_new → (a : DeviceTurn) × Turns a old clock new clock_new
+pub as_turn : (answer : Turned) (old : DeviceTold) (clock : Clock) (new : DeviceTold) (clock_new : Clock) → TurnsDevice answer old clock new clock_new → (a : DeviceTurn) × Turns a old clock new clock_new
 as_turn turned.Idle old clock new clock_new turns = (turn.Idle, turns)
 as_turn turned.Worked old clock new clock_new turns = (turn.Worked, turns)
 as_turn turned.Off old clock new clock_new turns = (turn.Off, turns)

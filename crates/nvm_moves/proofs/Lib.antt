@@ -17,6 +17,7 @@ mod Canceled
 pub mod Most
 pub mod Halves
 pub mod Posted
+pub mod StackMoves
 pub use Rattle.nvm_core.proofs.Paying as Paying
 pub use Rattle.nvm_core.proofs.TurnedBehind as TurnedBehind
 pub use Rattle.nvm_core.proofs.block_laws.HistoryLaws as HistoryLaws
@@ -25,3 +26,22 @@ pub use Rattle.nvm_core.proofs.job_progress.Powering as Powering
 pub use Rattle.nvm_core.proofs.memif.Turning as Turning
 pub use Rattle.nvm_core.proofs.nv_desk_copies.Sizes as Sizes
 pub use Rattle.nvm_core.proofs.nvm_laws.Keeping as Keeping
+pub use Rattle.nvm_core.proofs.DeviceWork as DeviceWork
+pub use Rattle.nvm_core.proofs.TurnWork as TurnWork
+pub use Rattle.nvm_core.proofs.block_laws.Along as HistoryAlong
+pub use Rattle.nvm_core.proofs.block_laws.BlockFields as BlockFields
+pub use Rattle.nvm_core.proofs.block_laws.WholeContents as WholeContents
+pub use Rattle.nvm_core.proofs.block_laws.WholeSteps as WholeSteps
+pub use Rattle.nvm_core.proofs.ram_blocks.FreshCopies as FreshCopies
+pub use Rattle.script_walks.proofs.First as FirstStores
+pub use Rattle.script_walks.proofs.Jobs as WalkedJobs
+pub use Rattle.script_walks.proofs.Newest as NewestStores
+pub use Rattle.script_walks.proofs.Turns as WalkedTurns
+pub use Rattle.script_walks.proofs.Walks as Walks
+pub use Rattle.promise_run.proofs.Counted as Counted
+pub use Rattle.promise_run.proofs.Paid as Paid
+pub use Rattle.promise_run.proofs.PlannedCuts as PlannedCuts
+pub use Rattle.promise_run.proofs.StartUps as StartUps
+pub use Rattle.promise_run.proofs.TakenPages as TakenPages
+pub use Rattle.promise_run.proofs.UrgentPosts as UrgentPosts
+pub use Rattle.promise_run.proofs.WorkedMoves as WorkedBy

@@ -7,7 +7,7 @@ use Rattle.nvm_core.specs.nv_base.Count.{Rose, WereCounted}
 use Rattle.nvm_core.specs.memif.Told.{DeviceTold, faults_of, nothing_open}
 use Rattle.nvm_core.specs.memif.Clock.{Clock, TakesKept}
 use Rattle.nvm_core.specs.memif.Trials.{Lasts}
-use Rattle.nvm_core.proofs.memif.Turning.{lasts_more}
+use Rattle.nvm_core.proofs.memif.Turning.{lasts_more, same_clock, same_told}
 use Rattle.nvm_core.specs.block_machine.Words.{Entry, Ask, Pick, Wrote, Post, Off, Found, Configuration}
 use Rattle.nvm_core.specs.block_machine.State.{State, Job}
 use Rattle.nvm_core.specs.block_machine.Blocks.{rank_of}
@@ -43,7 +43,7 @@ use Rattle.nvm_moves.proofs.Along.{along_by, along_more, along_to, cursor_more, 
 use Rattle.nvm_moves.specs.Seen.{Begun, Seen, device_begun, frame_in, frame_of, hand_begun, left_seen, moment_by, moment_seen, work_seen}
 use Rattle.nvm_moves.specs.Served.{AreServed, DueAt, IsServable, MayGoOn, ServesBy, due_by, turns_beside}
 use Rattle.nvm_moves.specs.Worked.{HadPages, KeepToWork}
-use Rattle.nvm_moves.specs.Moved.{FitsHand, IsLawful, IsPaidAt, IsTurnTold, IsAt, IsHalfTold, IsStartTold, IsStillTold, ArePending, AreAsked, AreAsksTold, Owes, HasMoved}
+use Rattle.nvm_moves.specs.Moved.{FitsHand, IsLawful, IsPaidAt, IsTurnTold, IsAt, IsHalfTold, IsStartTold, IsStillTold, GrowsBy, ArePending, AreAsked, AreAsksMade, AreAsksTold, Owes, HasMoved, MovesBy}
 use Rattle.nvm_moves.proofs.Consequences.{count_failed}
 use Rattle.nvm_moves.proofs.Served.{served_as, served_more, served_on}
 use Rattle.nvm_moves.proofs.WorkedMoves.{asks_worked, worked_on, worn_on}
@@ -80,6 +80,9 @@ is_at s = record { now = refl; state = refl; here = inl refl; begun = among s.be
     among : (o : Option Begun) → IfSome o (λ b. Among b.state (state_of s.desk ∷ begun_states o))
     among None = tt
     among (Some b) = inr (inl refl)
+
+grows : (old new : DeskState) (more : List Entry) → new ≡ with_entries old more → GrowsBy more old new
+grows old new more is = ap (λ (d : DeskState). record d { prepared = new.prepared }) is
 
 module _ (within : Bool) (x y : Seen) (is : HasMoved within x y) where
   pub moment_then : moment_behind (moment_seen x) is.moves ≡ moment_seen y
@@ -132,8 +135,8 @@ has_moved_more within x y z one two =
     let same : frame_of within y ≡ f = ap (λ (d : DeskState). frame_in within d.config y.device.fixed) one.tell ∙ ap (frame_in within c) one.fixed in
     record {
       moves = one.moves ++ two.moves;
-      tell = two.tell ∙ ap (λ (d : DeskState). with_entries d (entries_of two.moves)) one.tell ∙ ap (λ (h : List Entry). record x.desk { entries = h }) (append_assoc x.desk.entries (entries_of one.moves) (entries_of two.moves))
-          ∙ ap (with_entries x.desk) (sym (entries_more one.moves two.moves));
+      tell = two.tell ∙ ap (λ (d : DeskState). record d { entries = d.entries ++ entries_of two.moves; prepared = z.desk.prepared }) one.tell
+          ∙ ap (λ (h : List Entry). record x.desk { entries = h; prepared = z.desk.prepared }) (append_assoc x.desk.entries (entries_of one.moves) (entries_of two.moves) ∙ ap (λ (es : List Entry). x.desk.entries ++ es) (sym (entries_more one.moves two.moves)));
       fixed = two.fixed ∙ one.fixed;
       lasts = lasts_more _ _ _ _ _ _ one.lasts two.lasts;
       stays = record { told = λ tells. one.stays.told (two.stays.told tells); kept = λ before kept. two.stays.kept before (one.stays.kept before kept) };
@@ -159,6 +162,11 @@ has_moved_more within x y z one two =
             subst (λ (j : Cursor). Owes j.picked z) (sym (cursor_more f k one.moves two.moves)) last,
           );
     }
+
+pub moves_more : (within : Bool) (xs ys : List Move) (x y z : Seen) → MovesBy within xs x y → MovesBy within ys y z → MovesBy within (xs ++ ys) x z
+unfolding has_moved_more
+moves_more within xs ys x y z one two =
+    record { moved = has_moved_more within x y z one.moved two.moved; are = ap (λ (l : List Move). l ++ two.moved.moves) one.are ∙ ap (λ (l : List Move). xs ++ l) two.are }
 
 -- ONE CALL
 -- the job in hand, as the promise has it
@@ -258,7 +266,7 @@ module _ (old new : Seen) where
       let m = of_turn is.entry in
       record {
         moves = m ∷ [];
-        tell = is.adds ∙ ap (with_entries old.desk) (sym (append-nil (entry_list is.entry)));
+        tell = grows old.desk new.desk (entry_list is.entry ++ []) (is.adds ∙ ap (with_entries old.desk) (sym (append-nil (entry_list is.entry))));
         fixed = is.fixed;
         lasts = is.lasts;
         stays = is.stays;
@@ -307,6 +315,10 @@ module _ (old new : Seen) where
         paid = λ tells before kept k at owes.
             let by = by_entry k at (is.pays before k.picked (is.all before kept (is.stays.told tells)) owes) is.entry (ap (λ (d : DeskState). d.entries) is.adds) in ((by.0, tt), by.1);
       }
+
+  pub turn_moves : (within : Bool) (is : IsTurnTold old new) → MovesBy within (of_turn is.entry ∷ []) old new
+  unfolding turn_moved
+  turn_moves within is = record { moved = turn_moved within is; are = refl }
 
 true_false : {t : Bool} → t ≡ true → t ≡ false → ⊥
 true_false {t} on off = let P : true ≡ false = sym on ∙ off in cc P
@@ -408,17 +420,21 @@ module _ (c : Configuration) where
   asks_urgency h (Off ops ∷ es) (one, rest) = absurd (let P : false ≡ true = one in cc P)
   asks_urgency h (Found marks ops ∷ es) (one, rest) = absurd (let P : false ≡ true = one in cc P)
 
-begun_on : (f : Frame) (s : Seen) (now : Moment) (k : Cursor) (es : List Entry) → AreAsked es → (o : Option Begun) → ArePending f.within o s → IfSome o (λ b. Among b.state k.since)
+begun_on : (f : Frame) (now : Moment) (k : Cursor) (es : List Entry) → AreAsked es → (o : Option Begun) → IfSome o (λ b. f.within ≡ true) → IfSome o (λ b. Among b.state k.since)
     → IfSome o (λ b. Among b.state (cursor_behind f k (asked_moves now es)).since)
-begun_on f s now k es are None pending among = tt
-begun_on f s now k es are (Some b) pending among = asks_since f pending.0 now k es are b.state among
+begun_on f now k es are None within among = tt
+begun_on f now k es are (Some b) within among = asks_since f within now k es are b.state among
 
 few_beside : (within : Bool) → 4 ≤ turns_beside within
 few_beside true = omega arith
 few_beside false = omega arith
 
-pub asks_moved : (within : Bool) (asks : List Entry) (old new : Seen) → AreAsksTold within asks old new → HasMoved within old new
-asks_moved within asks old new is =
+-- by what they make due
+pub asks_moved_by : (within : Bool) (asks : List Entry) (old new : Seen) → AreAsksMade asks old new → IfSome old.begun (λ b. within ≡ true)
+    → ((since : ℕ) → IsServable since old
+    → AreServed (turns_beside within) old.desk.config (pages_in old.device.fixed old.desk.config) (MayGoOn new.clock old.device.fixed.reserve) (DueAt old) (due_by old.begun old.hand old.device (with_entries old.desk asks)) since (moment_seen old) (state_of old.desk)
+    (asked_moves (moment_seen old) asks)) → HasMoved within old new
+asks_moved_by within asks old new is in_turn serves =
     let c = old.desk.config in
     let f = frame_of within old in
     let now = moment_seen old in
@@ -429,7 +445,7 @@ asks_moved within asks old new is =
     let fixed : new.device.fixed ≡ old.device.fixed = ap (λ (d : DeviceTold). d.fixed) is.device in
     record {
       moves = asked_moves now asks;
-      tell = is.adds ∙ ap (with_entries old.desk) (sym (asks_told now asks));
+      tell = grows old.desk new.desk (entries_of (asked_moves now asks)) (is.adds ∙ ap (with_entries old.desk) (sym (asks_told now asks)));
       fixed = fixed;
       lasts = is.lasts;
       stays = is.stays;
@@ -437,7 +453,7 @@ asks_moved within asks old new is =
       servable = λ since s. subst (λ (n : ℕ). IsServable n new) (asks_found now since asks is.are) (record { uncut = is.uncut s.uncut; first = subst AreFirst (sym fixed) s.first; sealed = is.seals since s.sealed });
       served = λ since s.
           served_as (turns_beside within) c (pages_in old.device.fixed c) (MayGoOn new.clock old.device.fixed.reserve) (DueAt old) (DueAt old) (due_by old.begun old.hand old.device (with_entries old.desk asks)) (DueAt new) since now (state_of old.desk) (asked_moves now asks)
-          (λ one id turns due. due) due_then (serves since s old.begun is.pending);
+          (λ one id turns due. due) due_then (serves since s);
       work = λ uncut simple. subst (λ (w : Work). KeepToWork (worn_so_far new.device new.clock) new.clock old w (asked_moves now asks)) same_work
           (asks_worked (costs_in old.device.fixed) (HadPages new.clock) (worn_so_far new.device new.clock) c now (state_of old.desk) (work_seen old) asks is.are);
       lawful = λ k at.
@@ -448,7 +464,7 @@ asks_moved within asks old new is =
               now = cursor_now f k (asked_moves now asks) ∙ ap (λ (m : Moment). moment_behind m (asked_moves now asks)) at.now ∙ asks_behind now asks ∙ same;
               state = state;
               here = subst (λ (s : State). Among s (cursor_behind f k (asked_moves now asks)).since) state (asks_here f now k asks is.are (subst (λ (s : State). Among s k.since) (sym at.state) at.here));
-              begun = subst (λ (o : Option Begun). IfSome o (λ b. Among b.state (cursor_behind f k (asked_moves now asks)).since)) (sym is.begun) (begun_on f old now k asks is.are old.begun is.pending at.begun);
+              begun = subst (λ (o : Option Begun). IfSome o (λ b. Among b.state (cursor_behind f k (asked_moves now asks)).since)) (sym is.begun) (begun_on f now k asks is.are old.begun in_turn at.begun);
               left = subst (λ (o : Option ℕ). IfSome o (λ n. left_seen new ≤ n)) (sym (asks_left f now k asks is.are)) (subst (λ (l : ℕ). IfSome k.left (λ n. l ≤ n)) same_left at.left);
             },
           );
@@ -473,15 +489,30 @@ asks_moved within asks old new is =
         (subst (λ (h : Option HandState). due_by old.begun h new.device new.desk one id turns) (sym is.hand)
         (subst (λ (d : DeviceTold). due_by old.begun old.hand d new.desk one id turns) (sym is.device) (subst (λ (x : DeskState). due_by old.begun old.hand old.device x one id turns) (sym is.adds) due)))
 
+pub asks_moved : (within : Bool) (asks : List Entry) (old new : Seen) → AreAsksTold within asks old new → HasMoved within old new
+asks_moved within asks old new is = asks_moved_by within asks old new is.made (in_turn old.begun is.pending) (λ since s. serves since s old.begun is.pending)
+  where
+    in_turn : (o : Option Begun) → ArePending within o old → IfSome o (λ b. within ≡ true)
+    in_turn None pending = tt
+    in_turn (Some b) pending = pending.0
+
     serves : (since : ℕ) → IsServable since old → (o : Option Begun) → ArePending within o old
         → AreServed (turns_beside within) old.desk.config (pages_in old.device.fixed old.desk.config) (MayGoOn new.clock old.device.fixed.reserve) (due_by o old.hand old.device old.desk) (due_by o old.hand old.device (with_entries old.desk asks)) since (moment_seen old) (state_of old.desk)
         (asked_moves (moment_seen old) asks)
     serves since s None pending =
         between_served old.hand old.device s.first (turns_beside within) (MayGoOn new.clock old.device.fixed.reserve) since (moment_seen old) old.desk asks is.replied is.tied.started
-        (roomy since old.desk old.hand old.device new.device old.clock new.clock (is.on s.uncut) s.sealed is.order is.frees is.tied.paired is.tied.up is.lasts) (few_beside within) pending.0 pending.1
+        (roomy since old.desk old.hand old.device new.device old.clock new.clock (is.on s.uncut) s.sealed is.order is.frees is.tied.paired is.tied.up is.made.lasts) (few_beside within) pending.0 pending.1
     serves since s (Some b) pending =
         within_served old.hand old.device s.first (turns_beside within) (MayGoOn new.clock old.device.fixed.reserve) since (moment_seen old) old.desk asks is.replied is.tied.started
-        (roomy since old.desk old.hand old.device new.device old.clock new.clock (is.on s.uncut) s.sealed is.order is.frees is.tied.paired is.tied.up is.lasts) (subst (λ (b : Bool). 5 ≤ turns_beside b) (sym pending.0) (omega arith)) pending.1
+        (roomy since old.desk old.hand old.device new.device old.clock new.clock (is.on s.uncut) s.sealed is.order is.frees is.tied.paired is.tied.up is.made.lasts) (subst (λ (b : Bool). 5 ≤ turns_beside b) (sym pending.0) (omega arith)) pending.1
+
+-- one request
+pub ask_moves : (within : Bool) (e : Entry) (old new : Seen) → AreAsksMade (e ∷ []) old new → IfSome old.begun (λ b. within ≡ true)
+    → ((since : ℕ) → IsServable since old
+    → AreServed (turns_beside within) old.desk.config (pages_in old.device.fixed old.desk.config) (MayGoOn new.clock old.device.fixed.reserve) (DueAt old) (due_by old.begun old.hand old.device (with_entries old.desk (e ∷ []))) since (moment_seen old) (state_of old.desk)
+    (asked_moves (moment_seen old) (e ∷ []))) → MovesBy within (record { entry = Some e; behind = moment_seen old } ∷ []) old new
+unfolding asks_moved_by
+ask_moves within e old new is in_turn serves = record { moved = asks_moved_by within (e ∷ []) old new is in_turn serves; are = refl }
 
 -- a half that goes to the device makes no move
 pub half_moved : (within : Bool) (old new : Seen) → IsHalfTold old new → HasMoved within old new
@@ -499,7 +530,7 @@ half_moved within old new is =
     let same_work : work_seen old ≡ work_seen new = ap (λ (o : Option Begun). work_in (device_begun o old.device)) is.between ∙ ap (λ (o : Option Begun). work_in (device_begun o new.device)) (sym is.begun) in
     record {
       moves = [];
-      tell = is.desk ∙ none_more old.desk;
+      tell = grows old.desk new.desk [] (is.desk ∙ none_more old.desk);
       fixed = fixed;
       lasts = half_lasts old.device new.device old.clock new.clock is.leaves is.clock;
       stays = is.on;
@@ -607,6 +638,10 @@ start_moved within old new is =
     picked_stays : (k : Cursor) (m : Move) → is_picked m.entry ≡ false → (if is_picked m.entry then k.now.faults else k.picked) ≡ k.picked
     picked_stays k m none = rw none refl
 
+pub start_moves : (within : Bool) (old new : Seen) (is : IsStartTold old new) → MovesBy within (record { entry = Some is.entry; behind = moment_seen new } ∷ []) old new
+unfolding start_moved
+start_moves within old new is = record { moved = start_moved within old new is; are = refl }
+
 -- NOTHING
 pub still_moved : (within : Bool) (old new : Seen) → IsStillTold old new → HasMoved within old new
 still_moved within old new is =
@@ -614,7 +649,7 @@ still_moved within old new is =
     let faults : faults_of new.device ≡ faults_of old.device = ap (λ (m : Moment). m.faults) is.moment in
     record {
       moves = [];
-      tell = is.desk ∙ none_more old.desk;
+      tell = grows old.desk new.desk [] (is.desk ∙ none_more old.desk);
       fixed = is.fixed;
       lasts = is.lasts;
       stays = is.stays;
@@ -637,3 +672,24 @@ still_moved within old new is =
           let on = since_stays old.desk.config k.picked (has_urgent old.desk) old.device old.clock new.device new.clock is.lasts.ops (omega (arith, faults)) is.lasts.past.worn old.hand owes in
           (tt, subst (λ (b : Bool). OwesSince b k.picked new.hand new.device new.clock) urgent (subst (λ (h : Option HandState). OwesSince (has_urgent old.desk) k.picked h new.device new.clock) (sym is.hand) on));
     }
+
+pub still_moves : (within : Bool) (old new : Seen) → IsStillTold old new → MovesBy within [] old new
+unfolding still_moved
+still_moves within old new is = record { moved = still_moved within old new is; are = refl }
+
+pub none_moves : (within : Bool) (s : Seen) → MovesBy within [] s s
+none_moves within s =
+    still_moves within s s (record {
+      desk = refl;
+      hand = refl;
+      begun = refl;
+      moment = refl;
+      left = refl;
+      work = refl;
+      fixed = refl;
+      lasts = same_told s.device s.clock s.device s.clock refl (same_clock s.clock);
+      stays = record { told = λ tells. tells; kept = λ before kept. kept };
+      uncut = λ uncut. uncut;
+      seals = λ since sealed. sealed;
+      dues = λ one id turns due. due;
+    })

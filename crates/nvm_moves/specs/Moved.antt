@@ -1,5 +1,5 @@
 -- What moves do to a stack.
-use Rattle.std.specs.Prelude.{◌≡◌, ◌⊎◌, ◌≤◌, ◌<◌, ◌+◌, ℕ, Bool, true, false, IsTrue, is_none, not, ◌||◌, List, [], ◌∷◌, Option, Some, None, IfSome}
+use Rattle.std.specs.Prelude.{◌≡◌, ◌⊎◌, ◌≤◌, ◌<◌, ◌+◌, ℕ, Bool, true, false, IsTrue, is_none, not, ◌||◌, List, [], ◌∷◌, ◌++◌, Option, Some, None, IfSome}
 use Rattle.nvm_core.specs.nv_base.Count.{Rose}
 use Rattle.nvm_core.specs.nv_base.Entry.{ops_of}
 use Rattle.nvm_core.specs.memif.Told.{Part, PartTold, faults_of}
@@ -12,7 +12,7 @@ use Rattle.nvm_core.specs.block_machine.Blocks.{is_pending, job_block, status_of
 use Rattle.nvm_core.specs.block_machine.Steps.{after_from}
 use Rattle.nvm_core.specs.promise_blocks.Payment.{Worn}
 use Rattle.nvm_core.specs.promise_blocks.Work.{has_risen}
-use Rattle.nvm_core.specs.nv_desk.Desk.{state_of}
+use Rattle.nvm_core.specs.nv_desk.Desk.{DeskState, state_of}
 use Rattle.nvm_core.specs.job_progress.JobInHand.{IsPaired, program_for}
 use Rattle.nvm_core.specs.nvm_figures.Left.{most_turns}
 use Rattle.nvm_core.specs.nvm_device_laws.Turn.{TellsSlots}
@@ -88,12 +88,16 @@ pub record KeepsOn (old new : Seen) : Type 0 where
 abbrev pub Owes : ℕ → Seen → Type 0
 Owes since s = OwesSince (has_urgent s.desk) since s.hand s.device s.clock
 
+-- a desk has these entries more; what memory was taken for isn't told
+abbrev pub GrowsBy : List Entry → DeskState → DeskState → Type 0
+GrowsBy more old new = new ≡ record old { entries = old.entries ++ more; prepared = new.prepared }
+
 -- The list of the desk grew by the entries of moves, each of which keeps the law; where the device tells what it holds each Post is paid
 -- since its Pick. Where no power cut stands in the way urgent writes are posted soon, and over a simple device the moves keep to what is
 -- open at it. Requests come between turns alone, or within them too.
 pub record HasMoved (within : Bool) (old new : Seen) : Type 0 where
   pub moves : List Move
-  pub tell : new.desk ≡ with_entries old.desk (entries_of moves)
+  pub tell : GrowsBy (entries_of moves) old.desk new.desk
   pub fixed : new.device.fixed ≡ old.device.fixed
   pub lasts : Lasts old.device old.clock new.device new.clock
   pub stays : KeepsOn old new
@@ -104,6 +108,11 @@ pub record HasMoved (within : Bool) (old new : Seen) : Type 0 where
   pub servable : (since : ℕ) → IsServable since old → IsServable (found_behind since moves) new
   pub served : (since : ℕ) → IsServable since old → ServesBy within new.clock (DueAt old) (DueAt new) since old moves
   pub work : old.uncut → IsSimple old.device.fixed → KeepToWork (worn_so_far new.device new.clock) new.clock old (work_seen new) moves
+
+-- by these moves
+pub record MovesBy (within : Bool) (moves : List Move) (old new : Seen) : Type 0 where
+  pub moved : HasMoved within old new
+  pub are : moved.moves ≡ moves
 
 -- WHAT A CALL TELLS
 -- A turn, where nothing came within it: it adds one entry at most, and makes one operation at most.
@@ -145,9 +154,9 @@ abbrev pub ArePending : (within : Bool) → Option Begun → Seen → Type 0
 ArePending within None s = NextIsPending s.desk.config (state_of s.desk) × IfSome (state_of s.desk).hand (λ j. is_pending (status_of (state_of s.desk) (job_block j)) ≡ true)
 ArePending within (Some b) s = (within ≡ true) × (post_first s.hand ≡ 0)
 
-pub record AreAsksTold (within : Bool) (asks : List Entry) (old new : Seen) : Type 0 where
+-- They leave all but the desk as it is.
+pub record AreAsksMade (asks : List Entry) (old new : Seen) : Type 0 where
   pub are : AreAsked asks
-  pub replied : AreReplied old.desk.config old.desk.cap (state_of old.desk) asks
   pub adds : new.desk ≡ with_entries old.desk asks
   pub hand : new.hand ≡ old.hand
   pub device : new.device ≡ old.device
@@ -155,8 +164,13 @@ pub record AreAsksTold (within : Bool) (asks : List Entry) (old new : Seen) : Ty
   pub lasts : Lasts old.device old.clock new.device new.clock
   pub stays : KeepsOn old new
   pub uncut : old.uncut → new.uncut
-  pub on : old.uncut → IsOn old.desk old.device
   pub seals : KeepsSeal old.device old.clock new.device new.clock
+
+-- And what serves urgent writes is known before them.
+pub record AreAsksTold (within : Bool) (asks : List Entry) (old new : Seen) : Type 0 where
+  pub made : AreAsksMade asks old new
+  pub replied : AreReplied old.desk.config old.desk.cap (state_of old.desk) asks
+  pub on : old.uncut → IsOn old.desk old.device
   pub tied : IsTied old.desk old.hand old.device
   pub order : InOrder old.device old.clock
   pub frees : FreesReady old.device old.clock
@@ -182,7 +196,7 @@ pub record IsHalfTold (old new : Seen) : Type 0 where
 pub record IsStartTold (old new : Seen) : Type 0 where
   pub entry : Entry
   pub found : is_found (Some entry) ≡ true
-  pub adds : new.desk ≡ with_entries old.desk (entry ∷ [])
+  pub adds : GrowsBy (entry ∷ []) old.desk new.desk
   pub told : ops_of entry ≡ Some new.device.ops
   pub hand : new.hand ≡ None
   pub begun : new.begun ≡ None

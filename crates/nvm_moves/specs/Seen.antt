@@ -1,5 +1,5 @@
 -- A stack at a moment, all told.
-use Rattle.std.specs.Prelude.{◌≡◌, ℕ, Bool, true, false, not, Option}
+use Rattle.std.specs.Prelude.{◌≡◌, ℕ, Bool, true, false, not, Option, None}
 use Rattle.std.specs.Option.{option_map_or}
 use Rattle.nvm_core.specs.memif.Told.{DeviceTold, Part, PartTold, Fixed, faults_of, nothing_open}
 use Rattle.nvm_core.specs.memif.Clock.{Clock}
@@ -9,6 +9,8 @@ use Rattle.nvm_core.specs.nv_desk.Desk.{DeskState, state_of}
 use Rattle.nvm_core.specs.job_progress.Hand.{HandState}
 use Rattle.nvm_core.specs.job_progress.JobInHand.{program_for}
 use Rattle.nvm_core.specs.nvm_figures.Left.{most_turns}
+use Rattle.nvm_core.specs.nvm_laws.Keeps.{StackKeepsAsTold}
+use Rattle.nvm_core.specs.Stack.{StackState}
 use Rattle.nvm_core.specs.Work.{left_with}
 use Rattle.nvm_core.specs.DeviceWork.{work_in}
 use Rattle.nvm_core.specs.promise_blocks.Work.{Work}
@@ -64,3 +66,12 @@ frame_in within c f = record { config = c; most = λ t j. most_turns f (program_
 
 abbrev pub frame_of : (within : Bool) → Seen → Frame
 frame_of within s = frame_in within s.desk.config s.device.fixed
+
+-- A STACK OF ONE'S OWN
+-- between its turns, by what is kept of it
+abbrev pub seen_as : {D C : Type 0} → (told : D → DeviceTold) → (clock : D → Clock) → ((Part → PartTold) → Type 0) → StackState D C → Seen
+seen_as told clock kept s = record { begun = None; desk = s.desk; hand = s.hand; device = told s.device; clock = clock s.device; kept = kept; uncut = IsOn s.desk (told s.device) }
+
+-- while it is up
+abbrev pub seen_in : {D C : Type 0} → (told : D → DeviceTold) → (clock : D → Clock) → StackState D C → Seen
+seen_in told clock s = seen_as told clock (λ before. StackKeepsAsTold before s.desk s.hand (told s.device) (clock s.device)) s

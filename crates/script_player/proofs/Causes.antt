@@ -8,10 +8,10 @@ use Rattle.uds_gateway.specs.block_machine.Words.{Instance, Mark, Entry, Found, 
 use Rattle.uds_gateway.specs.block_machine.State.{State}
 use Rattle.uds_gateway.specs.block_machine.Steps.{after_from}
 use Rattle.uds_gateway.proofs.HistoryLaws.{histories_go_on}
-use Rattle.script_walks.specs.Words.{Step}
-use Rattle.script_walks.specs.Walk.{joined}
-use Rattle.promise_run.specs.Run.{Event, Made, Added, events_of}
-use Rattle.promise_run.specs.Refusals.{AreAsAsked, StepsRefuse, asked_by}
+use Rattle.uds_gateway.specs.script_walks.Words.{Step}
+use Rattle.uds_gateway.specs.script_walks.Walk.{joined}
+use Rattle.uds_gateway.specs.promise_run.Run.{Event, Made, Added, events_of}
+use Rattle.uds_gateway.specs.promise_run.Refusals.{AreAsAsked, StepsRefuse, asked_by}
 use Rattle.script_player.specs.Told.{ops_at}
 
 -- OPERATIONS

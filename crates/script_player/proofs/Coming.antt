@@ -4,10 +4,10 @@ use Rattle.uds_gateway.specs.block_machine.Words.{Request, Reply, Entry, Ask, Pi
 use Rattle.uds_gateway.specs.block_machine.State.{State}
 use Rattle.uds_gateway.specs.block_machine.Steps.{step, after_from}
 use Rattle.uds_gateway.proofs.HistoryLaws.{histories_step}
-use Rattle.script_walks.specs.Words.{Step, StepKind, AskStep, Refuse}
-use Rattle.script_walks.specs.Turn.{IsTurn}
-use Rattle.promise_run.specs.Turns.{Moment, Move, Planned, entry_list, entries_of, moment_behind, moment_after, planned_by, IsInTime, AreInTime, CutsCome, AreMoves, all_moves}
-use Rattle.promise_run.proofs.PlannedCuts.{none_in_time, from_more}
+use Rattle.uds_gateway.specs.script_walks.Words.{Step, StepKind, AskStep, Refuse}
+use Rattle.uds_gateway.specs.script_walks.Turn.{IsTurn}
+use Rattle.uds_gateway.specs.promise_run.Turns.{Moment, Move, Planned, entry_list, entries_of, moment_behind, moment_after, planned_by, IsInTime, AreInTime, CutsCome, AreMoves, all_moves}
+use Rattle.uds_gateway.proofs.PlannedCuts.{none_in_time, from_more}
 use Rattle.script_player.specs.Told.{StackTold, state_of, moment_of}
 use Rattle.script_player.specs.Coming.{Stands, IsComing, IsPending, CarriesCuts, PlansCuts}
 use Rattle.script_player.specs.Calls.{AddsAsk, MakesTurn, Refuses}

@@ -3,9 +3,9 @@ use Rattle.std.proofs.Common.{◌≡◌, List, [], ◌∷◌, ◌++◌, length, 
 use Rattle.uds_gateway.specs.block_machine.Words.{Entry, Configuration}
 use Rattle.uds_gateway.specs.block_machine.State.{State}
 use Rattle.uds_gateway.specs.block_machine.Steps.{after_from}
-use Rattle.script_walks.specs.Words.{Step}
-use Rattle.script_walks.specs.Walk.{joined}
-use Rattle.promise_run.specs.Run.{EachPiece}
+use Rattle.uds_gateway.specs.script_walks.Words.{Step}
+use Rattle.uds_gateway.specs.script_walks.Walk.{joined}
+use Rattle.uds_gateway.specs.promise_run.Run.{EachPiece}
 use Rattle.uds_gateway.proofs.HistoryLaws.{histories_go_on}
 
 -- a fact of each place and one of a place more

@@ -7,9 +7,9 @@ use Rattle.uds_gateway.specs.block_machine.Words.{Entry, Configuration}
 use Rattle.uds_gateway.specs.block_machine.State.{State}
 use Rattle.uds_gateway.specs.block_machine.Blocks.{desc_of}
 use Rattle.uds_gateway.specs.block_machine.Steps.{step, after_from}
-use Rattle.script_walks.specs.Words.{StepKind, Cut, Refuse, Restart}
-use Rattle.promise_run.specs.Run.{DueCut, Event, Added, plan_after}
-use Rattle.promise_run.specs.Refusals.{copy_told, left_by, AreAsAsked, asked_by}
+use Rattle.uds_gateway.specs.script_walks.Words.{StepKind, Cut, Refuse, Restart}
+use Rattle.uds_gateway.specs.promise_run.Run.{DueCut, Event, Added, plan_after}
+use Rattle.uds_gateway.specs.promise_run.Refusals.{copy_told, left_by, AreAsAsked, asked_by}
 use Rattle.script_player.specs.Told.{StackTold, state_of, IsGrown, IsNoEarlier, AreCut, plan_behind, ops_at}
 use Rattle.script_player.specs.Calls.{AreExplained, Arms, Refuses}
 use Rattle.script_player.specs.Made.{IsExplained}

@@ -3,16 +3,13 @@ pub mod Offs
 pub mod Explained
 pub mod Making
 pub mod Turned
-pub mod Canceled
 pub mod Causes
 pub mod Walking
 pub mod Served
 pub mod Grown
-pub mod Working
 pub mod Paying
 pub mod Moves
 pub mod Coming
-pub mod Chain
 pub mod InHand
 pub mod Serving
 pub mod EachPiece
@@ -28,8 +25,8 @@ pub mod PlainHalves
 pub mod PlainBehind
 pub mod PlainMostTurns
 pub mod PlainServing
-pub mod PlainDue
 pub mod PlainSeals
+pub mod PlainStarts
 pub mod PlainTurnWork
 pub mod PlainPaying
 pub mod PlannedCuts

@@ -9,28 +9,28 @@ use Rattle.uds_gateway.specs.block_machine.Next.{next_of}
 use Rattle.uds_gateway.specs.block_machine.Reply.{fits}
 use Rattle.uds_gateway.specs.block_machine.Steps.{step, after}
 use Rattle.uds_gateway.specs.ram_blocks.Copies.{next_number}
-use Rattle.script_walks.specs.Words.{Step, StepKind, AskStep, Store, Turn, Drain, Restart, Cut, Refuse}
-use Rattle.promise_run.specs.Run.{HasNoRoom, DueCut, plan_after}
-use Rattle.promise_run.specs.InRoom.{is_drain}
-use Rattle.script_walks.specs.Walk.{stores_of, request_after, copies_by, TakesStore, IsPieceBy}
+use Rattle.uds_gateway.specs.script_walks.Words.{Step, StepKind, AskStep, Store, Turn, Drain, Restart, Cut, Refuse}
+use Rattle.uds_gateway.specs.promise_run.Run.{HasNoRoom, DueCut, plan_after}
+use Rattle.uds_gateway.specs.promise_run.InRoom.{is_drain}
+use Rattle.uds_gateway.specs.script_walks.Walk.{stores_of, request_after, copies_by, TakesStore, IsPieceBy}
 use Rattle.nvm_script.specs.Played.{CanBePlayed}
-use Rattle.script_walks.specs.Stores.{AreNewest, JobsTookStored}
-use Rattle.script_walks.specs.StoreLaws.{is_store}
+use Rattle.uds_gateway.specs.script_walks.Stores.{AreNewest, JobsTookStored}
+use Rattle.uds_gateway.specs.script_walks.StoreLaws.{is_store}
 use Rattle.uds_gateway.proofs.HistoryLaws.{histories_step}
-use Rattle.script_walks.proofs.Newest.{others_keep_newest, stores_are_newest, stores_are_few}
-use Rattle.script_walks.proofs.Jobs.{steps_keep_stored, asks_keep_stored, starts_keep_stored}
+use Rattle.uds_gateway.proofs.NewestStores.{others_keep_newest, stores_are_newest, stores_are_few}
+use Rattle.uds_gateway.proofs.WalkedJobs.{steps_keep_stored, asks_keep_stored, starts_keep_stored}
 use Rattle.script_player.specs.Told.{StackTold, state_of, moment_of}
 use Rattle.script_player.specs.Calls.{StartsAgain, Arms, Stores, Refuses}
 use Rattle.script_player.specs.Kept.{IsKept, StaysCalm, HasTurned, AreMade, MakesTurns, Drains}
 use Rattle.script_player.specs.Coming.{PlansCuts}
 use Rattle.script_player.specs.Made.{cuts_in, IsMade, Makes, IsAsked, IsExplained}
-use Rattle.promise_run.specs.Turns.{Moment, Move, Planned, planned_by, AreMovesOf}
+use Rattle.uds_gateway.specs.promise_run.Turns.{Moment, Move, Planned, planned_by, AreMovesOf}
 use Rattle.script_player.proofs.Coming.{pending_same, refuse_cuts, ask_cuts, turns_cuts}
-use Rattle.script_player.proofs.Moves.{move_to, ask_chain, start_chain}
-use Rattle.script_player.specs.Chain.{shown_of}
-use Rattle.script_player.specs.Paying.{Payer, PaysNothing, StartsAnew, AskPays}
-use Rattle.script_player.proofs.Paying.{nothing_pays, ask_pays, found_pays}
-use Rattle.promise_run.specs.Refusals.{asked_by}
+use Rattle.script_player.proofs.Moves.{move_to}
+use Rattle.uds_gateway.specs.nvm_moves.Seen.{Seen}
+use Rattle.uds_gateway.specs.nvm_moves.Moved.{MovesBy}
+use Rattle.script_player.specs.Paying.{AskMoves, StartsAnew}
+use Rattle.uds_gateway.specs.promise_run.Refusals.{asked_by}
 use Rattle.script_player.proofs.Explained.{by_cut, by_entries, by_nothing, by_refuse, by_restart}
 use Rattle.uds_gateway.specs.nv_base.Count.{Rose}
 use Rattle.script_player.proofs.InHand.{power_on}
@@ -42,7 +42,7 @@ pub at_kind : (P : Step → Type 0) (x : Step) (kind : StepKind) → x.kind ≡ 
 at_kind P x kind is at = subst (λ (k : StepKind). P (record { line = x.line; caller = x.caller; kind = k })) (sym is) at
 
 -- a step of this kind that stores nothing is made, and the table stays
-pub step_made : (p q : Payer) (x : Step) (kind : StepKind) (table : List ℕ) (old new : StackTold) → x.kind ≡ kind → is_store kind ≡ false
+pub step_made : (p q : Seen) (x : Step) (kind : StepKind) (table : List ℕ) (old new : StackTold) → x.kind ≡ kind → is_store kind ≡ false
     → ((before : List Step) → HasLastStores old.configuration before table → IsKept before old → IsMade p q before (record { line = x.line; caller = x.caller; kind = kind }) old new) → Makes p q x table table old new
 step_made p q x kind table old new is none made =
     at_kind (λ (y : Step). Makes p q y table table old new) x kind is
@@ -58,10 +58,10 @@ kept_more before x t none kept = record {
 }
 
 -- a step that adds nothing, and changes the causes at most
-nothing_made : (p q : Payer) (before : List Step) (line caller : ℕ) (kind : StepKind) (old new : StackTold) → is_store kind ≡ false → ¬ HasNoRoom old.configuration old.cap (state_of old) kind → is_drain kind ≡ false → AreMovesOf kind (moment_of old) [] → IsPieceBy old.configuration before (state_of old) caller kind []
-    → new ≡ record old { causes = new.causes } → IsExplained kind [] old new → PaysNothing p q new → (cuts_in kind ≤ old.causes.takes → PlansCuts kind [] old new) → IsKept before old
+nothing_made : (p q : Seen) (before : List Step) (line caller : ℕ) (kind : StepKind) (old new : StackTold) → is_store kind ≡ false → ¬ HasNoRoom old.configuration old.cap (state_of old) kind → is_drain kind ≡ false → AreMovesOf kind (moment_of old) [] → IsPieceBy old.configuration before (state_of old) caller kind []
+    → new ≡ record old { causes = new.causes } → IsExplained kind [] old new → MovesBy false [] p q → (cuts_in kind ≤ old.causes.takes → PlansCuts kind [] old new) → IsKept before old
     → IsMade p q before (record { line = line; caller = caller; kind = kind }) old new
-nothing_made p q before line caller kind old new none room no_drain rests is same explained pays cuts kept =
+nothing_made p q before line caller kind old new none room no_drain rests is same explained moves cuts kept =
     let x : Step = record { line = line; caller = caller; kind = kind } in
     record {
       piece = [];
@@ -78,8 +78,7 @@ nothing_made p q before line caller kind old new none room no_drain rests is sam
       moved = rests;
       tell = refl;
       behind = sym (ap moment_of same);
-      chain = ap shown_of same;
-      pays = nothing_pays p q old new pays;
+      by_law = moves;
       one = ap (λ t. t.one) same;
       cuts = cuts;
       kept = subst (λ (t : StackTold). IsKept (before ++ x ∷ []) t) (sym same) (moved (kept_more before x old none kept));
@@ -89,20 +88,20 @@ nothing_made p q before line caller kind old new none room no_drain rests is sam
     moved kept = record { ready = kept.ready; places = kept.places; stores = kept.stores; jobs = kept.jobs }
 
 -- a step that adds nothing, where the causes alone change
-causes_made : (p q : Payer) (x : Step) (kind : StepKind) (table : List ℕ) (old new : StackTold) → x.kind ≡ kind → is_store kind ≡ false → ¬ HasNoRoom old.configuration old.cap (state_of old) kind → is_drain kind ≡ false → AreMovesOf kind (moment_of old) []
-    → ((before : List Step) → IsPieceBy old.configuration before (state_of old) x.caller kind []) → new ≡ record old { causes = new.causes } → IsExplained kind [] old new → PaysNothing p q new → (cuts_in kind ≤ old.causes.takes → PlansCuts kind [] old new)
+causes_made : (p q : Seen) (x : Step) (kind : StepKind) (table : List ℕ) (old new : StackTold) → x.kind ≡ kind → is_store kind ≡ false → ¬ HasNoRoom old.configuration old.cap (state_of old) kind → is_drain kind ≡ false → AreMovesOf kind (moment_of old) []
+    → ((before : List Step) → IsPieceBy old.configuration before (state_of old) x.caller kind []) → new ≡ record old { causes = new.causes } → IsExplained kind [] old new → MovesBy false [] p q → (cuts_in kind ≤ old.causes.takes → PlansCuts kind [] old new)
     → Makes p q x table table old new
-causes_made p q x kind table old new is none room no_drain rests piece same explained pays cuts =
-    step_made p q x kind table old new is none (λ before has kept. nothing_made p q before x.line x.caller kind old new none room no_drain rests (piece before) same explained pays cuts kept)
+causes_made p q x kind table old new is none room no_drain rests piece same explained moves cuts =
+    step_made p q x kind table old new is none (λ before has kept. nothing_made p q before x.line x.caller kind old new none room no_drain rests (piece before) same explained moves cuts kept)
 
 -- an arm, and a refusal
-pub arm_made : (p q : Payer) (x : Step) (nth keep : ℕ) (table : List ℕ) (old new : StackTold) → x.kind ≡ Cut nth keep → Arms nth keep old new → PaysNothing p q new → Makes p q x table table old new
-arm_made p q x nth keep table old new is arms pays =
-    causes_made p q x (Cut nth keep) table old new is refl (λ no. no) refl refl (λ before. refl) (arms.only ∙ ap (λ y. record old { causes = y }) (sym (ap (λ t. t.causes) arms.only))) (by_cut nth keep old new arms) pays arms.comes
+pub arm_made : (p q : Seen) (x : Step) (nth keep : ℕ) (table : List ℕ) (old new : StackTold) → x.kind ≡ Cut nth keep → Arms nth keep old new → MovesBy false [] p q → Makes p q x table table old new
+arm_made p q x nth keep table old new is arms moves =
+    causes_made p q x (Cut nth keep) table old new is refl (λ no. no) refl refl (λ before. refl) (arms.only ∙ ap (λ y. record old { causes = y }) (sym (ap (λ t. t.causes) arms.only))) (by_cut nth keep old new arms) moves arms.comes
 
-pub refuse_made : (p q : Payer) (x : Step) (block count : ℕ) (table : List ℕ) (old new : StackTold) → x.kind ≡ Refuse block count → Refuses block count old new → PaysNothing p q new → Makes p q x table table old new
-refuse_made p q x block count table old new is refuses pays =
-    causes_made p q x (Refuse block count) table old new is refl (λ no. no) refl refl (λ before. refl) (refuses.only ∙ ap (λ y. record old { causes = y }) (sym (ap (λ t. t.causes) refuses.only))) (by_refuse block count old new refuses) pays (λ few. refuse_cuts block count old new refuses)
+pub refuse_made : (p q : Seen) (x : Step) (block count : ℕ) (table : List ℕ) (old new : StackTold) → x.kind ≡ Refuse block count → Refuses block count old new → MovesBy false [] p q → Makes p q x table table old new
+refuse_made p q x block count table old new is refuses moves =
+    causes_made p q x (Refuse block count) table old new is refl (λ no. no) refl refl (λ before. refl) (refuses.only ∙ ap (λ y. record old { causes = y }) (sym (ap (λ t. t.causes) refuses.only))) (by_refuse block count old new refuses) moves (λ few. refuse_cuts block count old new refuses)
 
 ask_takes : (c : Configuration) (before : List Step) (copies : Bool) (e : Entry) (caller : ℕ) (r : Request) (reply : Reply) → TakesStore c before copies (Ask caller r reply)
 ask_takes c before true e caller r reply = tt
@@ -117,9 +116,9 @@ not_both true is none = cc none
 not_both false is none = cc is
 
 -- a request
-pub ask_made : (p q : Payer) (before : List Step) (line caller : ℕ) (r : Request) (table : List ℕ) (old new : StackTold) → CanBePlayed old.configuration (AskStep r)
-    → IsAsked caller r table old new → AskPays p q old new → HasLastStores old.configuration before table → IsKept before old → IsMade p q before (record { line = line; caller = caller; kind = AskStep r }) old new
-ask_made p q before line caller r table old new can asked pays has kept =
+pub ask_made : (p q : Seen) (before : List Step) (line caller : ℕ) (r : Request) (table : List ℕ) (old new : StackTold) → CanBePlayed old.configuration (AskStep r)
+    → IsAsked caller r table old new → AskMoves p q old new → HasLastStores old.configuration before table → IsKept before old → IsMade p q before (record { line = line; caller = caller; kind = AskStep r }) old new
+ask_made p q before line caller r table old new can asked moves has kept =
     let x : Step = record { line = line; caller = caller; kind = AskStep r } in
     let (reply, adds) = asked before has in
     let e : Entry = Ask caller (request_after old.configuration before caller r) reply in
@@ -137,8 +136,7 @@ ask_made p q before line caller r table old new can asked pays has kept =
       moved = refl;
       tell = refl;
       behind = sym (ap moment_of adds.adds);
-      chain = ask_chain caller (request_after old.configuration before caller r) reply old new adds;
-      pays = ask_pays p q caller (request_after old.configuration before caller r) reply old new (ap (λ t. t.faults) adds.adds) (ap (λ t. t.entries) adds.adds) pays.0 pays.1;
+      by_law = moves e (ap (λ t. t.entries) adds.adds);
       one = ap (λ t. t.one) adds.adds;
       cuts = λ few. ask_cuts caller r (request_after old.configuration before caller r) reply old new adds;
       is = ((refl, refl), (ask_takes old.configuration before (copies_by old.configuration (next_of old.configuration (state_of old))) e caller (request_after old.configuration before caller r) reply, tt));
@@ -152,9 +150,9 @@ ask_made p q before line caller r table old new can asked pays has kept =
     }
 
 -- a start-up
-pub restart_made : (p q : Payer) (before : List Step) (line caller : ℕ) (old new : StackTold)
+pub restart_made : (p q : Seen) (before : List Step) (line caller : ℕ) (old new : StackTold)
     → StartsAgain old new → StartsAnew p q old new → IsKept before old → IsMade p q before (record { line = line; caller = caller; kind = Restart }) old new
-restart_made p q before line caller old new starts_again pays kept =
+restart_made p q before line caller old new starts_again moves kept =
     let x : Step = record { line = line; caller = caller; kind = Restart } in
     let marks = starts_again.marks in
     let ops = starts_again.ops in
@@ -175,8 +173,7 @@ restart_made p q before line caller old new starts_again pays kept =
       moved = (starts_again.counted, starts_again.operations);
       tell = refl;
       behind = refl;
-      chain = start_chain marks ops old new (ap (λ t. t.configuration) same) (ap (λ t. t.most) same) (ap (λ t. t.entries) same);
-      pays = found_pays p q marks ops old new starts_again.operations pays;
+      by_law = moves e (ap (λ t. t.entries) same);
       one = ap (λ t. t.one) same;
       cuts = λ few one plan pending. ((tt, tt), tt);
       is = (tt, (found_takes old.configuration before (copies_by old.configuration (next_of old.configuration (state_of old))) marks ops, tt));
@@ -190,7 +187,7 @@ restart_made p q before line caller old new starts_again pays kept =
     }
 
 -- turns, with the piece that they added
-turned_made : (p q : Payer) (before : List Step) (line caller : ℕ) (kind : StepKind) (old new : StackTold) (es : List Entry) (ms : List Move) → AreMovesOf kind (moment_of old) ms → AreMade p q es ms old new → is_store kind ≡ false → ¬ HasNoRoom old.configuration old.cap (state_of old) kind → ((plan : Option DueCut) (ops : ℕ) → plan_after kind plan ops ≡ plan) → ((id left : ℕ) → asked_by id kind left ≡ left)
+turned_made : (p q : Seen) (before : List Step) (line caller : ℕ) (kind : StepKind) (old new : StackTold) (es : List Entry) (ms : List Move) → AreMovesOf kind (moment_of old) ms → AreMade p q es ms old new → is_store kind ≡ false → ¬ HasNoRoom old.configuration old.cap (state_of old) kind → ((plan : Option DueCut) (ops : ℕ) → plan_after kind plan ops ≡ plan) → ((id left : ℕ) → asked_by id kind left ≡ left)
     → ((plan : Option Planned) (now : Moment) → planned_by kind now plan ≡ plan) → HasTurned before old new es → (StaysCalm old new → is_drain kind ≡ true → new.busy ≡ false) → IsPieceBy old.configuration before (state_of old) caller kind es → IsKept before new → IsMade p q before (record { line = line; caller = caller; kind = kind }) old new
 turned_made p q before line caller kind old new es ms own moved none room plans asks planned turned closes is kept =
     let x : Step = record { line = line; caller = caller; kind = kind } in
@@ -208,20 +205,19 @@ turned_made p q before line caller kind old new es ms own moved none room plans 
       moved = own;
       tell = moved.tell;
       behind = moved.behind;
-      chain = moved.chain;
-      pays = moved.pays;
+      by_law = moved.moved;
       one = ap (λ t. t.one) turned.grows;
       cuts = λ few. turns_cuts kind ms old new planned moved.cuts;
       is = (is, turned.keeps.stores);
       kept = kept_more before x new none kept;
     }
 
-pub turns_made : (p q : Payer) (before : List Step) (line caller count : ℕ) (old new : StackTold) → 1 ≤ count → MakesTurns p q count before old new → IsKept before new
+pub turns_made : (p q : Seen) (before : List Step) (line caller count : ℕ) (old new : StackTold) → 1 ≤ count → MakesTurns p q count before old new → IsKept before new
     → IsMade p q before (record { line = line; caller = caller; kind = Turn count }) old new
 turns_made p q before line caller zero old new some made kept = absurd (let none : 1 ≤ 0 = some in omega (arith, none))
 turns_made p q before line caller (suc n) old new some (es, turned, is, (ms, many, moved)) kept = turned_made p q before line caller (Turn (suc n)) old new es ms (many, moved.turns) moved refl (λ no. no) (λ plan ops. refl) (λ id left. refl) (λ plan now. refl) turned (λ calm no_. absurd (cc no_)) is kept
 
-pub drain_made : (p q : Payer) (before : List Step) (line caller : ℕ) (old new : StackTold) → Drains p q before old new → (¬ Rose old.faults new.faults → (state_of new).off ≡ false → new.busy ≡ false) → IsKept before new
+pub drain_made : (p q : Seen) (before : List Step) (line caller : ℕ) (old new : StackTold) → Drains p q before old new → (¬ Rose old.faults new.faults → (state_of new).off ≡ false → new.busy ≡ false) → IsKept before new
     → IsMade p q before (record { line = line; caller = caller; kind = Drain }) old new
 drain_made p q before line caller old new (es, turned, is, (ms, moved)) closes kept =
     turned_made p q before line caller Drain old new es ms moved.turns moved refl (λ no. no) (λ plan ops. refl) (λ id left. refl) (λ plan now. refl) turned
@@ -234,9 +230,9 @@ next_store c before block n small is =
     let less : n + 1 ≤ 2 ^ 60 = omega (arith, fewer, small, is) in
     min-eq_left less ∙ ap (λ m. m + 1) is
 
-pub store_made : (p q : Payer) (before : List Step) (line caller block number : ℕ) (content : List ℕ) (old new : StackTold) → is_synchronized (desc_of old.configuration block).ram ≡ true
-    → block < length old.configuration.blocks + 1 → length before < 2 ^ 32 → Stores block content number old new → PaysNothing p q new → IsKept before old → IsMade p q before (record { line = line; caller = caller; kind = Store block content }) old new
-store_made p q before line caller block number content old new sync within small stored pays kept =
+pub store_made : (p q : Seen) (before : List Step) (line caller block number : ℕ) (content : List ℕ) (old new : StackTold) → is_synchronized (desc_of old.configuration block).ram ≡ true
+    → block < length old.configuration.blocks + 1 → length before < 2 ^ 32 → Stores block content number old new → MovesBy false [] p q → IsKept before old → IsMade p q before (record { line = line; caller = caller; kind = Store block content }) old new
+store_made p q before line caller block number content old new sync within small stored moves kept =
     let x : Step = record { line = line; caller = caller; kind = Store block content } in
     let inside : block < length old.stores = let places = kept.places in omega (arith, places, within) in
     let is : number ≡ length (stores_of block before) + 1 = stored.numbered ∙ next_store old.configuration before block (get_or old.stores block (0, [])).0 small (kept.stores block sync).number in
@@ -254,8 +250,7 @@ store_made p q before line caller block number content old new sync within small
       moved = refl;
       tell = refl;
       behind = refl;
-      chain = refl;
-      pays = nothing_pays p q old new pays;
+      by_law = moves;
       one = refl;
       cuts = λ few one plan pending. (tt, pending_same plan old (record old { stores = slice_set old.stores block (number, content) }) refl refl refl (λ off. off) pending);
       is = (refl, tt);

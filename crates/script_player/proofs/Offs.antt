@@ -5,8 +5,8 @@ use Rattle.uds_gateway.specs.nv_base.Count.{WereCounted, last_count}
 use Rattle.uds_gateway.specs.nv_base.Entry.{ops_behind}
 use Rattle.uds_gateway.specs.block_machine.Words.{Entry, Ask, Pick, Wrote, Post, Off, Found}
 use Rattle.uds_gateway.specs.block_machine.State.{State}
-use Rattle.script_walks.specs.Words.{StepKind}
-use Rattle.promise_run.specs.Run.{DueCut, Event, Made, Added, plan_after, CutsAre}
+use Rattle.uds_gateway.specs.script_walks.Words.{StepKind}
+use Rattle.uds_gateway.specs.promise_run.Run.{DueCut, Event, Made, Added, plan_after, CutsAre}
 use Rattle.script_player.specs.Told.{StackTold, state_of, TellsOff, IsNoEarlier, AreCut, plan_behind, ops_at}
 
 -- COUNTS

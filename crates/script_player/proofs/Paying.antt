@@ -1,177 +1,157 @@
--- Moves pay, one after another.
-use Rattle.std.proofs.Common.{◌≡◌, ◌≤◌, ◌+◌, ℕ, true, Some, None, List, [], ◌∷◌, ◌++◌, if◌then◌else◌, refl, sym, subst, ◌∙◌, inl, inr, arith}
-use Rattle.uds_gateway.specs.block_machine.Words.{Instance, Mark, Request, Reply, Entry, Ask, Found, Configuration}
+-- What moves by the one law come to for the promise.
+use Rattle.std.specs.Prelude.{IfSome, min}
+use Rattle.std.proofs.Common.{◌≡◌, ◌<◌, ◌≤◌, ◌+◌, ℕ, Bool, true, false, Option, Some, None, List, [], ◌∷◌, if◌then◌else◌, refl, sym, ap, subst, ◌∙◌, inl, inr, arith}
+use Rattle.uds_gateway.specs.memif.Told.{Fixed}
+use Rattle.uds_gateway.specs.memif.Clock.{Seals, TakesKept}
+use Rattle.uds_gateway.proofs.Turning.{same_clock, same_told}
+use Rattle.uds_gateway.specs.block_machine.Words.{Configuration}
 use Rattle.uds_gateway.specs.block_machine.State.{State}
 use Rattle.uds_gateway.specs.block_machine.Steps.{after_from}
-use Rattle.uds_gateway.specs.promise_blocks.Payment.{Worn}
-use Rattle.promise_run.specs.Turns.{Moment, Move, entry_list, entries_of, moment_behind, is_picked, urgent_block, found_behind, EachMoveSince, PostsUrgent, ArePaidSince}
-use Rattle.promise_run.proofs.Paid.{since_too}
-use Rattle.promise_run.proofs.UrgentPosts.{soon_more, urgent_more, urgent_by}
-use Rattle.promise_run.proofs.TakenPages.{found_more, taken_by, taken_more}
-use Rattle.promise_run.proofs.Counted.{behind_later, counted_by, counted_more}
-use Rattle.uds_gateway.proofs.HistoryLaws.{histories_go_on}
+use Rattle.uds_gateway.specs.nv_desk.Desk.{DeskState, state_of as state_at}
+use Rattle.uds_gateway.specs.nvm_device_laws.Turn.{TellsSlots}
+use Rattle.uds_gateway.specs.nvm_core.DeviceWork.{costs_in, work_in}
+use Rattle.uds_gateway.specs.nvm_core.DueWrites.{AreFirst, pages_in}
+use Rattle.uds_gateway.specs.nvm_core.Paying.{worn_so_far}
+use Rattle.uds_gateway.specs.promise_blocks.Work.{Costs, Work, AreWorked, Effort}
+use Rattle.uds_gateway.specs.promise_run.Turns.{Moment, Move, entry_list, moment_behind, is_found, EachMove, EachMoveSince, ServesTurn, StaysAtRest, PostsUrgent, ArePaidSince, CountFailed, TakeKept}
+use Rattle.uds_gateway.proofs.Counted.{counted_by}
+use Rattle.uds_gateway.proofs.Paid.{since_too}
+use Rattle.uds_gateway.proofs.TakenPages.{taken_by}
+use Rattle.uds_gateway.proofs.UrgentPosts.{urgent_by}
+use Rattle.uds_gateway.proofs.WorkedBy.{worked_by}
+use Rattle.uds_gateway.specs.nvm_moves.Along.{Among, Along, Cursor, Frame}
+use Rattle.uds_gateway.specs.nvm_moves.Seen.{Begun, Seen, device_begun, frame_of, moment_seen, work_seen}
+use Rattle.uds_gateway.specs.nvm_moves.Served.{DueAt, IsServable, MayGoOn}
+use Rattle.uds_gateway.specs.nvm_moves.Worked.{HadPages}
+use Rattle.uds_gateway.specs.nvm_moves.Moved.{HasMoved, IsAt, IsLawful, MovesBy}
+use Rattle.uds_gateway.proofs.Consequences.{are_paid, serves_turns, stays_at_rest, take_kept}
+use Rattle.uds_gateway.proofs.Moved.{counts_then, moment_then}
 use Rattle.script_player.specs.Told.{StackTold, state_of, moment_of}
-use Rattle.script_player.proofs.Working.{along_more, along_none, along_ask, along_found}
-use Rattle.script_player.specs.Paying.{Payer, SparesNoMore, TraitsNoMore, IsAtSeal, FreeBy, AcceptsUrgent, OwesNothing, PaysNothing, StartsAnew, since_behind, Pays, PaysBy}
+use Rattle.script_player.specs.Paying.{FreeBy, IsSeen, LastsOn, PaysBy, payer_at}
 
--- what is left at a seal was known to be
-at_seal_before : (p q : Payer) (ops k : ℕ) → TraitsNoMore ops p q → k ≤ ops → (since wanted : ℕ) → IsAtSeal q since k wanted → IsAtSeal p since k wanted
-at_seal_before p q ops k traits few since wanted seal = record {
-  counted = seal.counted;
-  last = seal.last;
-  is_last = seal.is_last;
-  later = seal.later;
-  seals = traits.seals seal.last wanted (let last = seal.is_last in omega (arith, few, last)) seal.seals;
-}
+-- nothing more is told
+pub none_last : (s : Seen) → LastsOn s s
+none_last s = record { lasts = same_told s.device s.clock s.device s.clock refl (same_clock s.clock); fixed = refl; config = refl; ops = refl; told = λ tells. tells }
 
--- once any of these operations were made no more was free than was known
-pub frees_no_more : (p q : Payer) (ops : ℕ) → SparesNoMore ops p q → TraitsNoMore ops p q → (since k wanted : ℕ) → k ≤ ops → FreeBy q since k wanted → FreeBy p since k wanted
-frees_no_more p q ops spares traits since k wanted few (inl free) = inl (spares k wanted few free)
-frees_no_more p q ops spares traits since k wanted few (inr seal) = inr (at_seal_before p q ops k traits few since wanted seal)
+-- where what is free tells this it is known before
+urgent_where : {A : Type 0} (c : Configuration) (more : ℕ) (pages : State → ℕ → ℕ) (free : ℕ → ℕ → ℕ → Type 0) (still : ℕ → Bool → ℕ → Type 0) (since : ℕ) (s : State) (ms : List Move) → ((since k wanted : ℕ) → free since k wanted → A)
+    → (A → EachMoveSince c (PostsUrgent c more pages free still) since s ms) → EachMoveSince c (PostsUrgent c more pages free still) since s ms
+urgent_where c more pages free still since s [] tells all = tt
+urgent_where c more pages free still since s (m ∷ ms) tells all = (
+  λ id is has. (all (tells since m.behind.ops (pages s id) has)).0 id is has,
+  urgent_where c more pages free still (if is_found m.entry then m.behind.ops else since) (after_from c s (entry_list m.entry)) ms tells (λ a. (all a).1),
+)
 
--- what is free was known to be
-pub frees_before : (p q : Payer) (ops : ℕ) → ((k n : ℕ) → q.spare k n → p.spare k n) → TraitsNoMore ops p q → (since wanted : ℕ) → FreeBy q since ops wanted → FreeBy p since ops wanted
-frees_before p q ops spares traits since wanted (inl free) = inl (spares ops wanted free)
-frees_before p q ops spares traits since wanted (inr seal) = inr (at_seal_before p q ops ops traits (omega arith) since wanted seal)
+-- FROM ONE MOMENT TO ANOTHER
+module _ (old : StackTold) (p w : Seen) (seen : IsSeen old p) (m : HasMoved false p w) where
+  -- by what is told of the first
+  as_told : (P : Frame → Moment → State → Type 0) → P (frame_of false p) (moment_seen p) (state_at p.desk) → P (record { config = old.configuration; most = old.most; within = false }) (moment_of old) (state_of old)
+  as_told P is =
+      subst (λ (s : State). P (record { config = old.configuration; most = old.most; within = false }) (moment_of old) s) seen.state
+      (subst (λ (b : Moment). P (record { config = old.configuration; most = old.most; within = false }) b (state_at p.desk)) seen.moment (subst (λ (f : Frame). P f (moment_seen p) (state_at p.desk)) seen.frame is))
 
--- NONE
-pub none_pays : (p : Payer) (t : StackTold) → PaysBy p p t []
-none_pays p t = record {
-  tells = λ tells. tells;
-  worn = λ k n urgent is. is;
-  failed = λ k few is. is;
-  counts = tt;
-  spare = λ k n few is. is;
-  traits = record { kept = λ k few is. is; seals = λ k n few is. is; reserve = refl };
-  kept = tt;
-  sealing = λ since sealing. sealing;
-  pages = refl;
-  dues = λ id one turns due. due;
-  urgent = λ since sealing. tt;
-  pays = λ tells since owes. (tt, owes);
-  work = along_none p.worn p.work p.work t.configuration (moment_of t) (state_of t) (record { costs = refl; room = λ k n few is. is }) (λ w is. is);
-}
+  -- nothing is known of what came before, and faults are counted from here on
+  abbrev from_here : ℕ → Cursor
+  from_here since = record { now = moment_seen p; state = state_at p.desk; since = state_at p.desk ∷ []; found = 0; picked = since; left = None }
 
-pub nothing_pays : (p q : Payer) (old new : StackTold) → PaysNothing p q new → PaysBy p q old []
-nothing_pays p q old new nothing = record {
-  tells = nothing.own.tells;
-  worn = nothing.own.worn;
-  failed = λ k few. nothing.own.failed k;
-  counts = tt;
-  spare = λ k n few. nothing.own.spare k n;
-  traits = nothing.own.traits old.ops;
-  kept = tt;
-  sealing = nothing.sealing;
-  pages = nothing.own.pages;
-  dues = nothing.due;
-  urgent = λ since sealing. tt;
-  pays = λ tells since owes. (tt, (nothing.own.owes since owes).0);
-  work = along_none q.worn p.work q.work old.configuration (moment_of old) (state_of old) (nothing.own.work old.ops) nothing.works;
-}
+  is_here : (since : ℕ) → IsAt p (from_here since)
+  is_here since = record { now = refl; state = refl; here = inl refl; begun = subst (λ (o : Option Begun). IfSome o (λ b. Among b.state (state_at p.desk ∷ []))) (sym seen.between) tt; left = tt }
 
--- ONE THAT HAS NOTHING TO PAY
-nothing_due : (since now : ℕ) → since ≤ now → since + 0 ≤ now
-nothing_due since now less = omega (arith, less)
+  along : Along (frame_of false p) (IsLawful p.desk.config w.clock) (from_here 0) m.moves
+  along = (m.lawful (from_here 0) (is_here 0)).0
 
--- what a request makes due, with the pages of the payer behind it
-accepted : (p q : Payer) (old new : StackTold) (e : Entry) → new.entries ≡ old.entries ++ e ∷ [] → OwesNothing p q new → AcceptsUrgent p q old new
-    → (since : ℕ) → p.sealing since → (id : ℕ) → urgent_block old.configuration (state_of old) (Some e) ≡ Some id → FreeBy q since old.ops (q.pages (state_of old) id) → q.due id true (q.pages (state_of old) id + 4)
-accepted p q old new e adds own accepts since sealing =
-    subst (λ (f : State → ℕ → ℕ). (id : ℕ) → urgent_block old.configuration (state_of old) (Some e) ≡ Some id → FreeBy q since old.ops (f (state_of old) id) → q.due id true (f (state_of old) id + 4)) (sym own.pages)
-    (λ id is free. accepts e id since adds is sealing (frees_before p q old.ops own.spare (own.traits old.ops) since (p.pages (state_of old) id) free))
+  serves : EachMove old.configuration (ServesTurn old.configuration old.most) (state_of old) m.moves
+  serves = as_told (λ f b s. EachMove f.config (ServesTurn f.config f.most) s m.moves) (serves_turns (frame_of false p) w.clock refl (from_here 0) m.moves refl along)
 
-pub ask_pays : (p q : Payer) (caller : ℕ) (r : Request) (reply : Reply) (old new : StackTold) → new.faults ≡ old.faults → new.entries ≡ old.entries ++ Ask caller r reply ∷ [] → PaysNothing p q new → AcceptsUrgent p q old new
-    → PaysBy p q old (record { entry = Some (Ask caller r reply); behind = moment_of old } ∷ [])
-ask_pays p q caller r reply old new same adds nothing accepts = record {
-  tells = nothing.own.tells;
-  worn = nothing.own.worn;
-  failed = λ k few. nothing.own.failed k;
-  counts = (record { later = omega arith; own = λ k le lt failed. absurd (omega (arith, le, lt)) }, tt);
-  spare = λ k n few. nothing.own.spare k n;
-  traits = nothing.own.traits old.ops;
-  kept = (λ k le lt is. absurd (omega (arith, le, lt)), tt);
-  sealing = nothing.sealing;
-  pages = nothing.own.pages;
-  dues = λ id one turns due. inr (inl (refl, nothing.due id one turns due));
-  urgent = λ since sealing. (accepted p q old new (Ask caller r reply) adds nothing.own accepts since sealing, tt);
-  pays = λ tells since owes.
-      let (now, less) = nothing.own.owes since owes in ((inl (inl (nothing_due since old.faults (omega (arith, less, same)))), tt), now);
-  work = along_ask q.worn p.work q.work old.configuration (moment_of old) (state_of old) caller r reply (nothing.own.work old.ops) nothing.works;
-}
+  rests : StaysAtRest old.configuration (moment_of old) (state_of old) m.moves
+  rests = as_told (λ f b s. StaysAtRest f.config b s m.moves) (stays_at_rest (frame_of false p) w.clock (from_here 0) m.moves along)
 
-none_urgent : (id : ℕ) → None ≡ Some id → ⊥
-none_urgent id is = cc is
+  counts : CountFailed w.clock.failed (moment_of old) m.moves
+  counts = as_told (λ f b s. CountFailed w.clock.failed b m.moves) (counts_then false p w m)
 
-pub found_pays : (p q : Payer) (marks : List (Instance × Mark)) (ops : ℕ) (old new : StackTold) → new.ops ≡ old.ops → StartsAnew p q old new
-    → PaysBy p q old (record { entry = Some (Found marks ops); behind = moment_of new } ∷ [])
-found_pays p q marks ops old new none anew = record {
-  tells = anew.own.tells;
-  worn = anew.own.worn;
-  failed = λ k few. anew.own.failed k;
-  counts = (record { later = omega (arith, none); own = λ k le lt failed. absurd (omega (arith, none, le, lt)) }, tt);
-  spare = λ k n few. anew.own.spare k n;
-  traits = anew.own.traits old.ops;
-  kept = (λ k le lt is. absurd (omega (arith, none, le, lt)), tt);
-  sealing = λ since sealing. anew.own.sealing;
-  pages = anew.own.pages;
-  dues = λ id one turns due. inl refl;
-  urgent = λ since sealing. (λ id is free. absurd (none_urgent id is), tt);
-  pays = λ tells since owes.
-      let (now, less) = anew.own.owes since owes in ((inl (inl (nothing_due since new.faults less)), tt), now);
-  work = along_found q.worn p.work q.work old.configuration (moment_of old) (moment_of new) (state_of old) marks ops none anew.own.work anew.drops;
-}
+  within : (moment_behind (moment_of old) m.moves).ops ≤ w.device.ops
+  within = let ops = ap (λ (n : Moment). n.ops) (as_told (λ f b s. moment_behind b m.moves ≡ moment_seen w) (moment_then false p w m)) in omega (arith, ops)
 
--- MORE
-since_more : (since : ℕ) (before : Moment) (xs ys : List Move) → since_behind since before (xs ++ ys) ≡ since_behind (since_behind since before xs) (moment_behind before xs) ys
-since_more since before [] ys = refl
-since_more since before (m ∷ ms) ys = since_more (if is_picked m.entry then before.faults else since) m.behind ms ys
+  -- what is told behind a last call
+  module _ (new : StackTold) (q : Seen) (ready : old.ready ≡ true) (last : LastsOn w q) where
+    fixed : q.device.fixed ≡ p.device.fixed
+    fixed = last.fixed ∙ m.fixed
 
-are_more : (c : Configuration) (worn : Worn) (since : ℕ) (before : Moment) (s : State) (xs ys : List Move) → ArePaidSince c worn since before s xs
-    → ArePaidSince c worn (since_behind since before xs) (moment_behind before xs) (after_from c s (entries_of xs)) ys → ArePaidSince c worn since before s (xs ++ ys)
-are_more c worn since before s [] ys one two = two
-are_more c worn since before s (m ∷ ms) ys one two =
-    let from = if is_picked m.entry then before.faults else since in (
-      one.0,
-      are_more c worn from m.behind (after_from c s (entry_list m.entry)) ms ys one.1
-          (subst (λ (t : State). ArePaidSince c worn (since_behind from m.behind ms) (moment_behind m.behind ms) t ys) (histories_go_on c s (entry_list m.entry) (entries_of ms)) two),
-    )
+    pages : pages_in q.device.fixed q.desk.config ≡ pages_in p.device.fixed p.desk.config
+    pages = ap (λ (f : Fixed). pages_in f q.desk.config) fixed ∙ ap (pages_in p.device.fixed) (last.config ∙ ap (λ (d : DeskState). d.config) m.tell)
 
-pays_more : (c : Configuration) (p q r : Payer) (before : Moment) (s : State) (xs ys : List Move) → Pays c p q before s xs → Pays c q r (moment_behind before xs) (after_from c s (entries_of xs)) ys
-    → Pays c p r before s (xs ++ ys)
-pays_more c p q r before s xs ys one two = record {
-  tells = λ tells. one.tells (two.tells tells);
-  worn = λ k n urgent is. two.worn k n urgent (one.worn k n urgent is);
-  failed = λ k few is. one.failed k few (two.failed k (let later = behind_later q.failed before xs one.counts in omega (arith, few, later)) is);
-  spare = λ k n few is. one.spare k n few (two.spare k n (let later = behind_later q.failed before xs one.counts in omega (arith, few, later)) is);
-  traits = record {
-    kept = λ k few is. one.traits.kept k few (two.traits.kept k (let later = behind_later q.failed before xs one.counts in omega (arith, few, later)) is);
-    seals = λ k n few is. one.traits.seals k n few (two.traits.seals k n (let later = behind_later q.failed before xs one.counts in omega (arith, few, later)) is);
-    reserve = two.traits.reserve ∙ one.traits.reserve;
-  };
-  kept = taken_more c r.kept before s xs ys (taken_by c q.failed q.kept r.kept (moment_behind before xs).ops two.traits.kept before s xs (omega arith) one.counts one.kept) two.kept;
-  sealing = λ since sealing. subst (λ (n : ℕ). r.sealing n) (sym (found_more since xs ys)) (two.sealing (found_behind since xs) (one.sealing since sealing));
-  pages = two.pages ∙ one.pages;
-  dues = λ id free turns due. soon_more (q.due id) (r.due id) free id turns before xs ys (one.dues id free turns due) (two.dues id);
-  urgent = λ since sealing.
-      urgent_more c 4 r.pages (FreeBy r) q.due r.due since before s xs ys
-      (urgent_by c 4 r.pages q.failed (FreeBy q) (FreeBy r) q.due q.due (moment_behind before xs).ops (frees_no_more q r (moment_behind before xs).ops two.spare two.traits) (λ id free left due. due) since before s xs (omega arith) one.counts
-      (subst (λ (f : State → ℕ → ℕ). EachMoveSince c (PostsUrgent c 4 f (FreeBy q) q.due) since s xs) (sym two.pages) (one.urgent since sealing)))
-      two.dues (two.urgent (found_behind since xs) (one.sealing since sealing));
-  counts = counted_more r.failed before xs ys (counted_by q.failed r.failed (moment_behind before xs).ops two.failed before xs (omega arith) one.counts) two.counts;
-  pays = λ tells since owes.
-      let (paid, then_owes) = one.pays (two.tells tells) since owes in
-      let (more, now) = two.pays tells (since_behind since before xs) then_owes in (
-        are_more c r.worn since before s xs ys (since_too c q.worn r.worn two.worn since before s xs paid) more,
-        subst (λ (n : ℕ). r.owes n) (sym (since_more since before xs ys)) now,
-      );
-  work = along_more q.worn p.work q.work r.work r.worn q.failed c before s xs ys two.worn one.counts one.work two.work;
-}
+    worn_on : (k n : ℕ) (urgent : Bool) → worn_so_far w.device w.clock k n urgent → worn_so_far q.device q.clock k n urgent
+    worn_on k n urgent (few, is) = (let later = last.lasts.ops in omega (arith, few, later), last.lasts.past.worn k n urgent few is)
 
--- of a stack
-pub by_more : (p q r : Payer) (old mid : StackTold) (xs ys : List Move) → mid.configuration ≡ old.configuration → moment_behind (moment_of old) xs ≡ moment_of mid
-    → state_of mid ≡ after_from old.configuration (state_of old) (entries_of xs) → PaysBy p q old xs → PaysBy q r mid ys → PaysBy p r old (xs ++ ys)
-by_more p q r old mid xs ys same behind state one two =
-    pays_more old.configuration p q r (moment_of old) (state_of old) xs ys one
-    (subst (λ (m : Moment). Pays old.configuration q r m (after_from old.configuration (state_of old) (entries_of xs)) ys) (sym behind)
-    (subst (λ (s : State). Pays old.configuration q r (moment_of mid) s ys) state
-    (subst (λ (c : Configuration). Pays c q r (moment_of mid) (state_of mid) ys) same two)))
+    -- what is free was known to be, or is kept at a seal
+    frees : (since k wanted : ℕ) → k ≤ w.device.ops → FreeBy (payer_at new q) since k wanted → MayGoOn w.clock p.device.fixed.reserve since k wanted
+    frees since k wanted few (inl (made, (free, spare, fits, first))) = inl (free, last.lasts.past.spare k free few spare, subst (λ (f : Fixed). wanted ≤ min f.reserve free) fixed fits)
+    frees since k wanted few (inr seal) =
+        let (made, was, fits, first) = seal.seals in
+        let at = seal.is_last in
+        inr (
+          record { counted = seal.counted; last = seal.last; is_last = seal.is_last; later = seal.later; such = last.lasts.past.was Seals seal.last (omega (arith, at, few)) was },
+          subst (λ (f : Fixed). wanted ≤ f.reserve) fixed fits,
+        )
+
+    are_first : (since k wanted : ℕ) → FreeBy (payer_at new q) since k wanted → AreFirst p.device.fixed
+    are_first since k wanted (inl (made, (free, spare, fits, first))) = subst AreFirst fixed first
+    are_first since k wanted (inr seal) = let (made, was, fits, first) = seal.seals in subst AreFirst fixed first
+
+    abbrev Urgent : (State → ℕ → ℕ) → Configuration → ℕ → State → Type 0
+    Urgent f c since s = EachMoveSince c (PostsUrgent c 4 f (FreeBy (payer_at new q)) (λ id one left. Unit {0})) since s m.moves
+
+    urgent : old.one ≡ true → old.causes.off ≡ false → (since : ℕ) → (payer_at old p).sealing since → Urgent (pages_in q.device.fixed q.desk.config) old.configuration since (state_of old)
+    urgent one on since sealing =
+        subst (λ (f : State → ℕ → ℕ). Urgent f old.configuration since (state_of old)) (sym pages)
+        (as_told (λ f b s. Urgent (pages_in p.device.fixed p.desk.config) f.config since s)
+        (urgent_where p.desk.config 4 (pages_in p.device.fixed p.desk.config) (FreeBy (payer_at new q)) (λ id one left. Unit {0}) since (state_at p.desk) m.moves are_first (λ first.
+        let servable : IsServable since p = record { uncut = seen.uncut one on; first = first; sealed = sealing ready } in
+        urgent_by p.desk.config 4 (pages_in p.device.fixed p.desk.config) w.clock.failed (MayGoOn w.clock p.device.fixed.reserve) (FreeBy (payer_at new q)) (λ id one left. DueAt w one id left) (λ id one left. Unit {0}) w.device.ops frees (λ id one left due. tt) since (moment_seen p)
+        (state_at p.desk) m.moves (let ops = ap (λ (n : Moment). n.ops) (moment_then false p w m) in omega (arith, ops)) (counts_then false p w m) (m.served since servable).urgent)))
+
+    paid : TellsSlots q.device → (since : ℕ) → (payer_at old p).owes since → ArePaidSince old.configuration (worn_so_far q.device q.clock) since (moment_of old) (state_of old) m.moves
+    paid tells since owes =
+        as_told (λ f b s. ArePaidSince f.config (worn_so_far q.device q.clock) since b s m.moves)
+        (since_too p.desk.config (worn_so_far w.device w.clock) (worn_so_far q.device q.clock) worn_on since (moment_seen p) (state_at p.desk) m.moves
+        (are_paid (frame_of false p) (worn_so_far w.device w.clock) (from_here since) m.moves (m.paid (last.told tells) owes.0.0 owes.0.1 (from_here since) (is_here since) owes.1).0))
+
+    abbrev Worked : Costs → Configuration → Moment → State → Work → List Effort → Type 0
+    Worked f c b s x es = AreWorked f (payer_at new q).work.room (worn_so_far q.device q.clock) c b s x m.moves es
+
+    works : old.one ≡ true → old.causes.off ≡ false → (x : Work) → (payer_at old p).work.is x → (es : List Effort) × Worked (costs_in q.device.fixed) old.configuration (moment_of old) (state_of old) x es
+    works one on x (simple, is) =
+        let work = m.work (seen.uncut one on) simple in
+        let same : work_seen p ≡ x = ap (λ (o : Option Begun). work_in (device_begun o p.device)) seen.between ∙ sym (is ready) in (
+          work.efforts,
+          subst (λ (f : Costs). Worked f old.configuration (moment_of old) (state_of old) x work.efforts) (sym (ap costs_in fixed))
+              (as_told (λ f b s. Worked (costs_in p.device.fixed) f.config b s x work.efforts)
+              (subst (λ (y : Work). Worked (costs_in p.device.fixed) p.desk.config (moment_seen p) (state_at p.desk) y work.efforts) same
+              (worked_by (costs_in p.device.fixed) (HadPages w.clock) (payer_at new q).work.room (worn_so_far w.device w.clock) (worn_so_far q.device q.clock) w.clock.failed w.device.ops
+              (λ k n few (made, (free, spare, fits)). (free, last.lasts.past.spare k free few spare, fits)) worn_on p.desk.config (moment_seen p) (state_at p.desk) (work_seen p) m.moves work.efforts
+              (let ops = ap (λ (n : Moment). n.ops) (moment_then false p w m) in omega (arith, ops)) (counts_then false p w m) work.are))),
+        )
+
+    pays : PaysBy (payer_at old p) (payer_at new q) old m.moves
+    pays = record {
+      counts = counted_by w.clock.failed (payer_at new q).failed w.device.ops (λ k few is. (last.lasts.past.failed k few).0 is.1) (moment_of old) m.moves within counts;
+      kept = taken_by old.configuration w.clock.failed (w.clock.was TakesKept) (payer_at new q).kept w.device.ops (λ k few is. last.lasts.past.was TakesKept k few is.1) (moment_of old) (state_of old) m.moves within counts
+          (as_told (λ f b s. TakeKept f.config (w.clock.was TakesKept) b s m.moves) (take_kept (frame_of false p) w.clock (from_here 0) m.moves along));
+      pays = paid;
+      reserve = ap (λ (f : Fixed). f.reserve) fixed;
+      pages = pages;
+      urgent = urgent;
+      costs = ap costs_in fixed;
+      works = works;
+    }
+
+-- of these moves
+module _ (old : StackTold) (p w : Seen) (ms : List Move) (seen : IsSeen old p) (by : MovesBy false ms p w) where
+  pub serves_by : EachMove old.configuration (ServesTurn old.configuration old.most) (state_of old) ms
+  serves_by = subst (λ (l : List Move). EachMove old.configuration (ServesTurn old.configuration old.most) (state_of old) l) by.are (serves old p w seen by.moved)
+
+  pub rests_by : StaysAtRest old.configuration (moment_of old) (state_of old) ms
+  rests_by = subst (λ (l : List Move). StaysAtRest old.configuration (moment_of old) (state_of old) l) by.are (rests old p w seen by.moved)
+
+  pub pays_by : (new : StackTold) (q : Seen) → old.ready ≡ true → LastsOn w q → PaysBy (payer_at old p) (payer_at new q) old ms
+  pays_by new q ready last = subst (λ (l : List Move). PaysBy (payer_at old p) (payer_at new q) old l) by.are (pays old p w seen by.moved new q ready last)

@@ -24,15 +24,15 @@ use Rattle.uds_gateway.specs.nvm_laws.declared.turned.Turned.TheVariants as turn
 use Rattle.uds_gateway.specs.nvm_laws.declared.turned.Act.TheVariants.{Device}
 use Rattle.uds_gateway.specs.nvm_core.Stack.{StackState, PowersOff}
 use Rattle.uds_gateway.specs.nvm_core.Turns.{IsFirstHalf, IsSecondHalf}
-use Rattle.promise_run.specs.Run.{Added}
-use Rattle.promise_run.specs.Refusals.{copy_told}
-use Rattle.script_walks.specs.Walk.{is_due, is_at_rest}
+use Rattle.uds_gateway.specs.promise_run.Run.{Added}
+use Rattle.uds_gateway.specs.promise_run.Refusals.{copy_told}
+use Rattle.uds_gateway.specs.script_walks.Walk.{is_due, is_at_rest}
 use Rattle.script_player.specs.Told.{AreCut}
 use Rattle.script_player.specs.Calls.{Turns, IsAnswer, Lowers}
-use Rattle.promise_run.specs.Turns.{is_picked}
-use Rattle.script_walks.specs.Turn.{IsOfTurn}
+use Rattle.uds_gateway.specs.promise_run.Turns.{is_picked}
+use Rattle.uds_gateway.specs.script_walks.Turn.{IsOfTurn}
 use Rattle.script_player.specs.PlainTold.{told_by, to_refuse_in, plan_in, came_in}
-use Rattle.script_player.proofs.Canceled.{rests_next, some_none}
+use Rattle.uds_gateway.proofs.Resting.{rests_next, some_none}
 use Rattle.script_player.proofs.PlainDevices.{Goes, goes_from, came_same, turn_goes, turn_fixed, worked_came, off_cut, cut_from}
 use Rattle.script_player.proofs.PlainPicks.{due_hand, due_rest, at_rest}
 use Rattle.script_player.proofs.PlainRefused.{silent_asked}

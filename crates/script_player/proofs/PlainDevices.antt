@@ -10,7 +10,7 @@ use Rattle.uds_gateway.specs.block_machine.Words.{Off}
 use Rattle.uds_gateway.specs.nvm_core.BehindDevice.{TurnsDevice}
 use Rattle.uds_gateway.specs.nvm_laws.declared.turned.Turned.{Turned}
 use Rattle.uds_gateway.specs.nvm_laws.declared.turned.Turned.TheVariants as turned
-use Rattle.promise_run.specs.Run.{DueCut, Added, CutsAre}
+use Rattle.uds_gateway.specs.promise_run.Run.{DueCut, Added, CutsAre}
 use Rattle.script_player.specs.Told.{IsNoEarlier}
 use Rattle.script_player.specs.PlainTold.{plan_from, plan_in, takes_in, unplanned_in, came_in, ops_in}
 use Rattle.script_player.proofs.Offs.{no_earlier_same}

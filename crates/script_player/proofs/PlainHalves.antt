@@ -25,14 +25,14 @@ use Rattle.uds_gateway.specs.nvm_laws.declared.turned.Act.TheVariants.{Ended}
 use Rattle.uds_gateway.specs.nvm_core.Stack.{StackState, PowersOff}
 use Rattle.uds_gateway.specs.nvm_core.Turns.{IsFirstHalf}
 use Rattle.uds_gateway.specs.nvm_core.Work as work
-use Rattle.script_walks.specs.Walk.{is_due}
-use Rattle.script_walks.specs.Turn.{TakesNewest, copies_next}
-use Rattle.promise_run.specs.Refusals.{copied_in}
+use Rattle.uds_gateway.specs.script_walks.Walk.{is_due}
+use Rattle.uds_gateway.specs.script_walks.Turn.{TakesNewest, copies_next}
+use Rattle.uds_gateway.specs.promise_run.Refusals.{copied_in}
 use Rattle.script_player.specs.Calls.{Turns, IsAnswer, Lowers}
 use Rattle.script_player.specs.PlainTold.{told_by, shown, to_refuse_in}
 use Rattle.uds_gateway.specs.block_machine.Legal.{IsAllowed, MayPick, MayPost, MayPostNext}
 use Rattle.script_player.specs.Told.{moment_of}
-use Rattle.script_player.proofs.Canceled.{rests_next, some_none}
+use Rattle.uds_gateway.proofs.Resting.{rests_next, some_none}
 use Rattle.script_player.proofs.PlainDevices.{goes_same, came_same}
 use Rattle.script_player.proofs.PlainPicks.{newest, stored_so, due_off, due_rest, at_rest}
 use Rattle.script_player.proofs.PlainRefused.{IsOn, IsSpent, pick_spent, post_spent, entry_asked}

@@ -8,7 +8,7 @@ use Rattle.uds_gateway.specs.nv_base.declared.plan.Plan.{Plan}
 use Rattle.uds_gateway.specs.memif.Told.{PartTold}
 use Rattle.uds_gateway.specs.memif.Calls.{PartTurns, PlanStays}
 use Rattle.uds_gateway.specs.block_machine.Words.{Off}
-use Rattle.promise_run.specs.Run.{DueCut, Added, CutsAre}
+use Rattle.uds_gateway.specs.promise_run.Run.{DueCut, Added, CutsAre}
 use Rattle.script_player.specs.Told.{IsNoEarlier}
 use Rattle.script_player.specs.PlainTold.{due_cut, plan_from}
 use Rattle.script_player.proofs.PlainPlans.{plan_waits}

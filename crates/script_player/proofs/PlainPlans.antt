@@ -7,7 +7,7 @@ use Rattle.uds_gateway.specs.block_machine.Words.{Entry, Configuration}
 use Rattle.uds_gateway.specs.block_machine.State.{State}
 use Rattle.uds_gateway.specs.block_machine.Steps.{after, after_from, step}
 use Rattle.uds_gateway.specs.block_machine.StartUp.{at_first}
-use Rattle.promise_run.specs.Run.{DueCut}
+use Rattle.uds_gateway.specs.promise_run.Run.{DueCut}
 use Rattle.script_player.specs.Told.{IsNoEarlier}
 use Rattle.script_player.specs.PlainTold.{due_cut, plan_from}
 

@@ -16,7 +16,7 @@ use Rattle.uds_gateway.specs.ram_blocks.Tries.{Spends, OthersStay}
 use Rattle.uds_gateway.specs.nv_desk_copies.Front.{AreSynchronized}
 use Rattle.uds_gateway.specs.nv_desk_copies.Takes.{copies_out_by, copies_out_next, IsCopiedOut, IsCopied}
 use Rattle.uds_gateway.specs.nv_desk_copies.Posts.{goes_over, IsHandedOver}
-use Rattle.promise_run.specs.Refusals.{copied_out, copied_in, has_content, copy_told, IsAsAsked, left_by, AreAsAsked}
+use Rattle.uds_gateway.specs.promise_run.Refusals.{copied_out, copied_in, has_content, copy_told, IsAsAsked, left_by, AreAsAsked}
 use Rattle.script_player.specs.PlainTold.{to_refuse_in}
 
 -- A post is on the block of the job in hand, if there is one.

@@ -17,9 +17,9 @@ use Rattle.uds_gateway.specs.job_progress.Hand.{HandState}
 use Rattle.uds_gateway.specs.nvm_laws.Work.{stack_work}
 use Rattle.uds_gateway.specs.nvm_core.Work.{left_with}
 use Rattle.uds_gateway.specs.nvm_core.Stack.{PowersOff}
-use Rattle.script_walks.specs.Words.{Cut, Refuse}
-use Rattle.promise_run.specs.Run.{DueCut, plan_after}
-use Rattle.promise_run.specs.Refusals.{asked_by}
+use Rattle.uds_gateway.specs.script_walks.Words.{Cut, Refuse}
+use Rattle.uds_gateway.specs.promise_run.Run.{DueCut, plan_after}
+use Rattle.uds_gateway.specs.promise_run.Refusals.{asked_by}
 use Rattle.script_player.specs.Told.{IsNoEarlier}
 use Rattle.script_player.specs.Coming.{IsComing, PlansCuts}
 use Rattle.script_player.proofs.Coming.{pending_same}

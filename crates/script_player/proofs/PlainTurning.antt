@@ -10,14 +10,14 @@ use Rattle.uds_gateway.specs.ram_blocks.declared.plain_block.PlainBlock.{PlainBl
 use Rattle.uds_gateway.specs.ram_blocks.Told.{sizes_of}
 use Rattle.uds_gateway.specs.ram_blocks.Plain.{told_of, store_of}
 use Rattle.uds_gateway.specs.nv_desk.Desk.{DeskState, state_of}
-use Rattle.promise_run.specs.Run.{DueCut, Added, CutsAre}
-use Rattle.promise_run.specs.Refusals.{AreAsAsked}
+use Rattle.uds_gateway.specs.promise_run.Run.{DueCut, Added, CutsAre}
+use Rattle.uds_gateway.specs.promise_run.Refusals.{AreAsAsked}
 use Rattle.uds_gateway.specs.nvm_core.Stack.{StackState, PowersOff}
 use Rattle.uds_gateway.proofs.HistoryLaws.{histories_step}
 use Rattle.script_player.specs.Told.{IsGrown, IsNoEarlier, AreCut, plan_behind}
 use Rattle.script_player.specs.Coming.{MissesNone}
 use Rattle.script_player.specs.Calls.{AreExplained, AllTell, MakesOne}
-use Rattle.script_walks.specs.Walk.{is_due, begins_with_pick_or_post}
+use Rattle.uds_gateway.specs.script_walks.Walk.{is_due, begins_with_pick_or_post}
 use Rattle.script_player.specs.PlainTold.{told_by, most_in, to_refuse_in, plan_in, came_in, ops_in}
 use Rattle.script_player.proofs.PlainPlans.{none_earlier}
 use Rattle.script_player.proofs.PlainDevices.{Goes, DeviceCut}
@@ -95,7 +95,7 @@ pub makes_one : {D : Type 0} (device : D → DeviceTold) (old new : StackState D
 makes_one device old new es goes tell = record { later = goes.later; one = goes.one; told = tell }
 
 -- no planned cut is missed
-not_two : (two : Bool) → not two ≡ true → two ≡ false
+pub not_two : (two : Bool) → not two ≡ true → two ≡ false
 not_two true is = absurd (cc is)
 not_two false is = refl
 

@@ -21,19 +21,21 @@ use Rattle.uds_gateway.specs.Jobs.{HasNone, HasOne, IsOwn}
 use Rattle.uds_gateway.specs.Turning.{Goes, ComesToPost, ComesToOff, is_on_way}
 use Rattle.uds_gateway.proofs.Served.{served_more}
 use Rattle.uds_gateway.proofs.Jobs.{accepted_one, refused_none, own_cases, own_reply, IsYesOrNo}
-use Rattle.script_walks.specs.Words.{Step, AskStep, Turn}
-use Rattle.script_walks.specs.Walk.{request_after, is_at_rest, joined}
+use Rattle.uds_gateway.specs.script_walks.Words.{Step, AskStep, Turn}
+use Rattle.uds_gateway.specs.script_walks.Walk.{request_after, is_at_rest, joined}
 use Rattle.nvm_script.specs.Played.{CanBePlayed}
 use Rattle.script_player.specs.Told.{StackTold, state_of, desk_of}
 use Rattle.script_player.specs.Calls.{AddsAsk, Turns}
 use Rattle.script_player.specs.Kept.{IsKept, MakesTurns}
 use Rattle.script_player.specs.Made.{IsAsked, IsFresh, HasWalked}
-use Rattle.script_player.specs.Paying.{Payer, PaysTurn, PaysNothing, AskPays}
+use Rattle.uds_gateway.specs.nvm_moves.Seen.{Seen}
+use Rattle.uds_gateway.proofs.Moved.{none_moves}
+use Rattle.script_player.specs.Paying.{AskMoves, IsSeen, LastsOn, TurnMoves, payer_at}
 use Rattle.script_player.specs.Requests.{is_of_request, AreOfRequests, no_stores, IsServing, ServesNoMore, EndsJob, EndsRequest, AreServedSoFar, HasServed}
 use Rattle.script_player.proofs.Causes.{joined_more}
 use Rattle.script_player.proofs.Making.{ask_made, turns_made}
 use Rattle.script_player.proofs.Offs.{none_counted}
-use Rattle.script_player.proofs.Paying.{none_pays, nothing_pays}
+use Rattle.script_player.proofs.Paying.{none_last}
 use Rattle.script_player.proofs.Table.{same_table}
 use Rattle.script_player.proofs.Turned.{one_turn_more}
 use Rattle.script_player.proofs.Walking.{begin, walk_on, has_walked}
@@ -81,15 +83,15 @@ turn_nears asked turned.Picked old new one turns goes way = turns.lowers
 turn_nears asked turned.Posted old new one turns goes way = absurd (cc way)
 turn_nears asked turned.Off old new one turns goes way = absurd (cc way)
 
-abbrev pub TurnsSome : Payer → Payer → List Step → StackTold → StackTold → Type 0
+abbrev pub TurnsSome : Seen → Seen → List Step → StackTold → StackTold → Type 0
 TurnsSome p q before old new = (n : ℕ) × (1 ≤ n) × MakesTurns p q n before old new × IsKept before new
 
 -- the first turn, and one more
-pub first_turn : (p q : Payer) (answer : Turned) (before : List Step) (old new : StackTold) → Turns answer old new → PaysTurn p q old new → IsKept before old → TurnsSome p q before old new
+pub first_turn : (p q : Seen) (answer : Turned) (before : List Step) (old new : StackTold) → Turns answer old new → TurnMoves p q old new → IsKept before old → TurnsSome p q before old new
 first_turn p q answer before old new turns pays kept =
-    let (made, now) = one_turn_more p p q 0 before old old new (refl, none_pays p old) kept turns.made pays in (0 + 1, omega arith, made, now)
+    let (made, now) = one_turn_more p p q 0 before old old new (refl, none_moves false p) kept turns.made pays in (0 + 1, omega arith, made, now)
 
-pub more_turns : (p q r : Payer) (answer : Turned) (before : List Step) (old mid new : StackTold) → TurnsSome p q before old mid → Turns answer mid new → PaysTurn q r mid new → TurnsSome p r before old new
+pub more_turns : (p q r : Seen) (answer : Turned) (before : List Step) (old mid new : StackTold) → TurnsSome p q before old mid → Turns answer mid new → TurnMoves q r mid new → TurnsSome p r before old new
 more_turns p q r answer before old mid new (n, some, made, kept) turns pays =
     let (more, now) = one_turn_more p q r n before old mid new made kept turns.made pays in (n + 1, omega (arith, some), more, now)
 
@@ -114,7 +116,7 @@ pub only_more : (made more : List Step) → AreOfRequests made → AreOfRequests
 only_more made more one two = list_all-append (λ (y : Step). is_of_request y.kind) made more ∙ rw (one, two) refl
 
 -- it is asked
-pub asks_on : (p q r : Payer) (asked : Request) (reply : Reply) (old mid new : StackTold) → IsOwn asked → IsServing p q old mid → AddsAsk (Ask 0 asked reply) mid new → AskPays q r mid new → IsServing p r old new
+pub asks_on : (p q r : Seen) (asked : Request) (reply : Reply) (old mid new : StackTold) → IsOwn asked → IsServing p q old mid → AddsAsk (Ask 0 asked reply) mid new → AskMoves q r mid new → IsServing p r old new
 unfolding ask_step
 asks_on p q r asked reply old mid new own serving adds pays = record {
   made = serving.made ++ ask_step asked ∷ [];
@@ -129,7 +131,7 @@ asks_on p q r asked reply old mid new own serving adds pays = record {
     is before has = (reply, subst (λ (x : Request). AddsAsk (Ask 0 x reply) mid new) (sym (own_request mid.configuration before asked own)) adds)
 
 -- and its turns are made
-pub turns_on : (p q r : Payer) (old mid new : StackTold) → (serving : IsServing p q old mid) → TurnsSome q r serving.made mid new → IsServing p r old new
+pub turns_on : (p q r : Seen) (old mid new : StackTold) → (serving : IsServing p q old mid) → TurnsSome q r serving.made mid new → IsServing p r old new
 unfolding turn_step
 turns_on p q r old mid new serving (n, some, made, kept) = record {
   made = serving.made ++ turn_step n ∷ [];
@@ -141,11 +143,12 @@ turns_on p q r old mid new serving (n, some, made, kept) = record {
 }
 
 -- nothing more is made
-pub no_more : (p q r : Payer) (old mid new : StackTold) → new ≡ mid → PaysNothing q r new → IsServing p q old mid → ServesNoMore p r old mid new
-no_more p q r old mid new same pays serving = record {
+pub no_more : (p q r : Seen) (old mid new : StackTold) → new ≡ mid → LastsOn q r → IsServing p q old mid → ServesNoMore p r old mid new
+no_more p q r old mid new same last serving = record {
   made = serving.made;
   only = serving.only;
-  walked = subst (λ (t : StackTold). PaysNothing q r t → HasWalked p r serving.made old t) (sym same) (λ pays. has_walked p q r serving.made old mid mid refl (omega arith) refl (none_counted mid.causes.unplanned) refl (λ tells. tells) (nothing_pays q r mid mid pays) serving.way.walking) pays;
+  walked = subst (λ (t : StackTold). HasWalked (payer_at old p) (payer_at t r) serving.made old t) (sym same)
+      (has_walked p q r serving.made old mid mid serving.way.ready serving.way.seen refl (omega arith) refl (none_counted mid.causes.unplanned) refl (λ tells. tells) last serving.way.walking);
   adds = ap (λ (t : StackTold). t.entries) same;
   configuration = ap (λ (t : StackTold). t.configuration) same;
   cap = ap (λ (t : StackTold). t.cap) same;
@@ -169,7 +172,7 @@ entries_asked asked reply old new adds = ap (λ (t : StackTold). t.entries) adds
 more_entries : (a b d : List Entry) (e : Entry) (es : List Entry) → b ≡ a ++ e ∷ [] → d ≡ b ++ es → d ≡ a ++ e ∷ es
 more_entries a b d e es one two = two ∙ ap (λ (h : List Entry). h ++ es) one ∙ append_assoc a (e ∷ []) es
 
-pub job_posted : (p q r s : Payer) (asked : Request) (old mid between new : StackTold) → IsOwn asked → (serving : IsServing p q old mid) → AddsAsk (Ask 0 asked Accepted) mid between → AskPays q r mid between
+pub job_posted : (p q r s : Seen) (asked : Request) (old mid between new : StackTold) → IsOwn asked → (serving : IsServing p q old mid) → AddsAsk (Ask 0 asked Accepted) mid between → AskMoves q r mid between
     → ((before : List Step) → IsKept before between → TurnsSome r s before between new) → ComesToPost asked (desk_of between) (desk_of new) → EndsJob asked p s (Ok tt) old mid new
 job_posted p q r s asked old mid between new own serving adds pays turns comes =
     let asks = asks_on p q r asked Accepted old mid between own serving adds pays in (
@@ -182,7 +185,7 @@ job_posted p q r s asked old mid between new own serving adds pays turns comes =
       comes.none,
     )
 
-pub job_off : (p q r s : Payer) (asked : Request) (old mid between new : StackTold) → IsOwn asked → (serving : IsServing p q old mid) → AddsAsk (Ask 0 asked Accepted) mid between → AskPays q r mid between
+pub job_off : (p q r s : Seen) (asked : Request) (old mid between new : StackTold) → IsOwn asked → (serving : IsServing p q old mid) → AddsAsk (Ask 0 asked Accepted) mid between → AskMoves q r mid between
     → ((before : List Step) → IsKept before between → TurnsSome r s before between new) → ComesToOff (desk_of between) (desk_of new) → EndsJob asked p s (Err stop.Off) old mid new
 job_off p q r s asked old mid between new own serving adds pays turns comes =
     let asks = asks_on p q r asked Accepted old mid between own serving adds pays in (
@@ -195,7 +198,7 @@ job_off p q r s asked old mid between new own serving adds pays turns comes =
     )
 
 -- a reply that doesn't accept refuses
-pub job_refused : (p q r : Payer) (asked : Request) (reply : Reply) (old mid new : StackTold) → IsOwn asked → HasNone (state_of mid) → reply ≢ Accepted → reply ≡ reply_of mid.configuration mid.cap (state_of mid) asked → IsServing p q old mid → AddsAsk (Ask 0 asked reply) mid new → AskPays q r mid new
+pub job_refused : (p q r : Seen) (asked : Request) (reply : Reply) (old mid new : StackTold) → IsOwn asked → HasNone (state_of mid) → reply ≢ Accepted → reply ≡ reply_of mid.configuration mid.cap (state_of mid) asked → IsServing p q old mid → AddsAsk (Ask 0 asked reply) mid new → AskMoves q r mid new
     → EndsJob asked p r (Ok tt) old mid new
 job_refused p q r asked reply old mid new own none other replies serving adds pays =
     by reply other (subst (λ (x : Reply). IsYesOrNo x) (sym replies) (own_reply mid.configuration mid.cap (state_of mid) asked own)) adds
@@ -220,21 +223,21 @@ went_off asked turned.Picked old new other ends goes = absurd (cc ends)
 
 -- A REQUEST OF THE GATEWAY
 
-pub request_asks : (c : Configuration) (request : List ℕ) (asked : Request) (p q : Payer) (result : Result (Unit {0}) ServeStop) (old mid new : StackTold) → asked_by c request ≡ Ok asked → EndsJob asked p q result old mid new → EndsRequest c request p q result old mid new
+pub request_asks : (c : Configuration) (request : List ℕ) (asked : Request) (p q : Seen) (result : Result (Unit {0}) ServeStop) (old mid new : StackTold) → asked_by c request ≡ Ok asked → EndsJob asked p q result old mid new → EndsRequest c request p q result old mid new
 request_asks c request asked p q (Ok done) old mid new is (piece, more, has, none) = (piece, more, rw is has, none)
 request_asks c request asked p q (Err stop.Off) old mid new is (piece, more, off) = (piece, more, (asked, is, off))
 request_asks c request asked p q (Err stop.NoRoom) old mid new is (none, full) = (none, (asked, is, full))
 request_asks c request asked p q (Err stop.Memory) old mid new is none = none
 
-pub request_refused : (c : Configuration) (request : List ℕ) (code : NegativeCode) (p q : Payer) (old now : StackTold) → asked_by c request ≡ Err code → HasNone (state_of now) → IsServing p q old now → EndsRequest c request p q (Ok tt) old now now
+pub request_refused : (c : Configuration) (request : List ℕ) (code : NegativeCode) (p q : Seen) (old now : StackTold) → asked_by c request ≡ Err code → HasNone (state_of now) → IsServing p q old now → EndsRequest c request p q (Ok tt) old now now
 request_refused c request code p q old now is none serving = ([], record { serving = serving; adds = sym (append-nil now.entries) }, rw is refl, none)
 
 -- nothing was done
-pub stays : (p q : Payer) (old now : StackTold) → IsServing p q old now → ServesNoMore p q old now now
+pub stays : (p q : Seen) (old now : StackTold) → IsServing p q old now → ServesNoMore p q old now now
 stays p q old now serving = record {
   made = serving.made;
   only = serving.only;
-  walked = has_walked p q q serving.made old now now refl (omega arith) refl (none_counted now.causes.unplanned) refl (λ tells. tells) (none_pays q now) serving.way.walking;
+  walked = has_walked p q q serving.made old now now serving.way.ready serving.way.seen refl (omega arith) refl (none_counted now.causes.unplanned) refl (λ tells. tells) (none_last q) serving.way.walking;
   adds = refl;
   configuration = refl;
   cap = refl;
@@ -247,9 +250,9 @@ found_none : (c : Configuration) (marks : List (Instance × Mark)) (ops : ℕ) �
 found_none c marks ops = record { hand = refl; waiting = refl; sweep = refl }
 
 -- none yet
-pub serves_none : (p : Payer) (t : StackTold) → IsFresh t → AreServedSoFar p p [] [] t t
-serves_none p t fresh = record {
-  serving = record { made = []; only = refl; way = begin p (length t.configuration.blocks) (no_stores t.configuration) t fresh refl refl };
+pub serves_none : (p : Seen) (t : StackTold) → IsSeen t p → IsFresh t → AreServedSoFar p p [] [] t t
+serves_none p t seen fresh = record {
+  serving = record { made = []; only = refl; way = begin p (length t.configuration.blocks) (no_stores t.configuration) t seen fresh refl refl };
   pieces = [];
   more = sym (append-nil t.entries);
   counts = refl;
@@ -261,7 +264,7 @@ length_added : (a b p : List Entry) → b ≡ a ++ p → length b - length a ≡
 length_added a b p is = let all = ap length is ∙ length-append a p in omega (arith, all)
 
 -- one more
-pub serves_one : (p q r : Payer) (requests : List (List ℕ)) (request : List ℕ) (counts : List ℕ) (old mid new : StackTold) → AreServedSoFar p q requests counts old mid → EndsRequest old.configuration request p r (Ok tt) old mid new
+pub serves_one : (p q r : Seen) (requests : List (List ℕ)) (request : List ℕ) (counts : List ℕ) (old mid new : StackTold) → AreServedSoFar p q requests counts old mid → EndsRequest old.configuration request p r (Ok tt) old mid new
     → AreServedSoFar p r (requests ++ request ∷ []) (counts ++ (length new.entries - length mid.entries) ∷ []) old new
 serves_one p q r requests request counts old mid new so_far (piece, more, has, none) = record {
   serving = more.serving;
@@ -275,7 +278,7 @@ serves_one p q r requests request counts old mid new so_far (piece, more, has, n
 }
 
 -- all
-pub serves_all : (p q : Payer) (requests : List (List ℕ)) (counts : List ℕ) (old now : StackTold) → AreServedSoFar p q requests counts old now → HasServed p q requests counts (Ok tt) old now
+pub serves_all : (p q : Seen) (requests : List (List ℕ)) (counts : List ℕ) (old now : StackTold) → AreServedSoFar p q requests counts old now → HasServed (payer_at old p) (payer_at now q) requests counts (Ok tt) old now
 serves_all p q requests counts old now so_far =
     let none = stays p q old now so_far.serving in
     record {
@@ -289,8 +292,8 @@ serves_all p q requests counts old now so_far =
     }
 
 -- or not all
-pub serves_first : (p q r : Payer) (why : ServeStop) (requests first left : List (List ℕ)) (request : List ℕ) (counts : List ℕ) (old mid new : StackTold) → requests ≡ first ++ request ∷ left → AreServedSoFar p q first counts old mid → EndsRequest old.configuration request p r (Err why) old mid new
-    → HasServed p r requests counts (Err why) old new
+pub serves_first : (p q r : Seen) (why : ServeStop) (requests first left : List (List ℕ)) (request : List ℕ) (counts : List ℕ) (old mid new : StackTold) → requests ≡ first ++ request ∷ left → AreServedSoFar p q first counts old mid → EndsRequest old.configuration request p r (Err why) old mid new
+    → HasServed (payer_at old p) (payer_at new r) requests counts (Err why) old new
 serves_first p q r stop.Off requests first left request counts old mid new order so_far (piece, more, off) =
     let none = stays p r old new more.serving in
     record {
@@ -329,7 +332,7 @@ serves_first p q r stop.Memory requests first left request counts old mid new or
 }
 
 -- memory was wanting before the next one
-pub serves_some : (p q : Payer) (requests first left : List (List ℕ)) (counts : List ℕ) (old now : StackTold) → requests ≡ first ++ left → AreServedSoFar p q first counts old now → HasServed p q requests counts (Err stop.Memory) old now
+pub serves_some : (p q : Seen) (requests first left : List (List ℕ)) (counts : List ℕ) (old now : StackTold) → requests ≡ first ++ left → AreServedSoFar p q first counts old now → HasServed (payer_at old p) (payer_at now q) requests counts (Err stop.Memory) old now
 serves_some p q requests first left counts old now order so_far =
     let none = stays p q old now so_far.serving in
     record {

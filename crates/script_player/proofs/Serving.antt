@@ -5,7 +5,7 @@ use Rattle.std.proofs.lemmas.Bool.{and_parts}
 use Rattle.std.proofs.lemmas.List.Folds.{list_all-append}
 use Rattle.uds_gateway.specs.block_machine.Words.{Entry}
 use Rattle.uds_gateway.proofs.Turning.{rose_before, rose_since}
-use Rattle.promise_run.specs.Completeness.{is_calm_entry}
+use Rattle.uds_gateway.specs.promise_run.Completeness.{is_calm_entry}
 use Rattle.script_player.specs.Told.{StackTold}
 use Rattle.script_player.specs.Kept.{StaysCalm}
 

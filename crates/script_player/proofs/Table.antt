@@ -11,10 +11,10 @@ use Rattle.uds_gateway.specs.block_config.declared.block.RamKind.TheVariants as 
 use Rattle.uds_gateway.specs.block_config.declared.block.RamKind.{RamKind}
 use Rattle.nvm_script.specs.Rules.{length_where_sync, sync_length_of}
 use Rattle.uds_gateway.specs.block_machine.Blocks.{desc_of, is_synchronized}
-use Rattle.script_walks.specs.Words.{Step, Store}
-use Rattle.script_walks.specs.Walk.{stores_of, last_store}
-use Rattle.script_walks.specs.StoreLaws.{is_store}
-use Rattle.script_walks.proofs.Newest.{last_stores_grow}
+use Rattle.uds_gateway.specs.script_walks.Words.{Step, Store}
+use Rattle.uds_gateway.specs.script_walks.Walk.{stores_of, last_store}
+use Rattle.uds_gateway.specs.script_walks.StoreLaws.{is_store}
+use Rattle.uds_gateway.proofs.NewestStores.{last_stores_grow}
 use Rattle.script_player.specs.Table.{place_of, store_asked, HasLastStores, HoldsSynchronized}
 
 -- SYNCHRONIZED BLOCKS

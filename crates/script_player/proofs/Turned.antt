@@ -9,21 +9,22 @@ use Rattle.uds_gateway.specs.nvm_laws.declared.turned.Turned.TheVariants as turn
 use Rattle.uds_gateway.specs.block_machine.Words.{Entry, Configuration}
 use Rattle.uds_gateway.specs.block_machine.State.{State, Job}
 use Rattle.uds_gateway.specs.block_machine.Steps.{after, after_from}
-use Rattle.script_walks.specs.Words.{Step}
-use Rattle.script_walks.specs.Walk.{is_played, is_at_rest, AreTurns}
-use Rattle.script_walks.specs.Turn.{IsTurn}
-use Rattle.script_walks.specs.Stores.{JobsTookStored}
-use Rattle.script_walks.specs.StoreLaws.{KeepsStored}
-use Rattle.script_walks.proofs.Turns.{turns_keep_stored, keeping_goes_on, turns_grow}
+use Rattle.uds_gateway.specs.script_walks.Words.{Step}
+use Rattle.uds_gateway.specs.script_walks.Walk.{is_played, is_at_rest, AreTurns}
+use Rattle.uds_gateway.specs.script_walks.Turn.{IsTurn}
+use Rattle.uds_gateway.specs.script_walks.Stores.{JobsTookStored}
+use Rattle.uds_gateway.specs.script_walks.StoreLaws.{KeepsStored}
+use Rattle.uds_gateway.proofs.WalkedTurns.{turns_keep_stored, keeping_goes_on, turns_grow}
 use Rattle.script_player.specs.Told.{StackTold, state_of, IsGrown}
 use Rattle.script_player.specs.Calls.{MakesTurn, Turns, is_last}
 use Rattle.script_player.specs.Kept.{IsKept, HasTurned, AreMade, MakesTurns, Drains}
 use Rattle.script_player.proofs.Explained.{explained_more, none_explained}
 use Rattle.script_player.proofs.Grown.{state_more, state_grown, grown_more}
 use Rattle.script_player.proofs.Moves.{made_more, move_to, turn_moved}
-use Rattle.script_player.specs.Paying.{Payer, PaysTurn, PaysBy}
-use Rattle.script_player.proofs.Paying.{by_more}
-use Rattle.promise_run.specs.Turns.{Move}
+use Rattle.script_player.specs.Paying.{TurnMoves}
+use Rattle.uds_gateway.specs.nvm_moves.Seen.{Seen}
+use Rattle.uds_gateway.proofs.Moved.{moves_more}
+use Rattle.uds_gateway.specs.promise_run.Turns.{Move}
 
 -- what a turn adds keeps what is kept
 pub turn_kept : (before : List Step) (old new : StackTold) (turn : MakesTurn old new) → IsKept before old → HasTurned before old new turn.entries × IsKept before new
@@ -75,7 +76,7 @@ later_turn old mid es more grows turn =
 one_longer : (n : ℕ) (ms : List Move) (m : Move) → length ms ≡ n → length (ms ++ m ∷ []) ≡ suc n
 one_longer n ms m is = let all = length-append ms (m ∷ []) in omega (arith, all, is)
 
-pub one_turn_more : (p q r : Payer) (n : ℕ) (before : List Step) (old mid new : StackTold) → MakesTurns p q n before old mid → IsKept before mid → MakesTurn mid new → PaysTurn q r mid new
+pub one_turn_more : (p q r : Seen) (n : ℕ) (before : List Step) (old mid new : StackTold) → MakesTurns p q n before old mid → IsKept before mid → MakesTurn mid new → TurnMoves q r mid new
     → MakesTurns p r (n + 1) before old new × IsKept before new
 one_turn_more p q r zero before old mid new (made, paid) kept turn pays =
     let (turned, after) = turn_kept before mid new turn kept in
@@ -92,8 +93,7 @@ one_turn_more p q r zero before old mid new (made, paid) kept turn pays =
             turns = here.turns;
             tell = here.tell;
             behind = here.behind;
-            chain = here.chain;
-            pays = by_more p q r mid mid [] (move_to turn.entries new ∷ []) refl refl refl (subst (λ (t : StackTold). PaysBy p q t []) (sym made) paid) here.pays;
+            moved = moves_more false [] (move_to turn.entries new ∷ []) p q r paid here.moved;
             cuts = here.cuts;
           },
         ),
@@ -116,7 +116,7 @@ one_turn_more p q r (suc n) before old mid new (es, was, are, (ms, many, moved))
 -- A DRAIN
 
 -- it ends
-pub drained : (p q : Payer) (before : List Step) (old new : StackTold) (es : List Entry) (ms : List Move) → HasTurned before old new es → AreMade p q es ms old new → IsTrue (is_at_rest (state_of new) || (state_of new).off) → Drains p q before old new
+pub drained : (p q : Seen) (before : List Step) (old new : StackTold) (es : List Entry) (ms : List Move) → HasTurned before old new es → AreMade p q es ms old new → IsTrue (is_at_rest (state_of new) || (state_of new).off) → Drains p q before old new
 drained p q before old new es ms turned moved ends =
     (es, turned, record { played = turned.keeps.played; ends = subst (λ (s : State). IsTrue (is_at_rest s || s.off)) (state_grown old new es turned.grows) ends }, (ms, moved))
 

@@ -1,6 +1,6 @@
 -- Step after step.
 use Rattle.std.specs.Prelude.{take}
-use Rattle.std.proofs.Common.{◌≡◌, ◌<◌, ◌≤◌, ◌+◌, ◌*◌, ◌^◌, ℕ, List, [], ◌∷◌, ◌++◌, Option, None, length, map, replicate, refl, sym, ap, ◌∙◌, subst, arith, add-one, length-append, append_assoc, append-nil}
+use Rattle.std.proofs.Common.{◌≡◌, ◌<◌, ◌≤◌, ◌+◌, ◌*◌, ◌^◌, ℕ, true, false, List, [], ◌∷◌, ◌++◌, Option, None, length, map, replicate, refl, sym, ap, ◌∙◌, subst, arith, add-one, length-append, append_assoc, append-nil}
 use Rattle.std.proofs.lemmas.List.{length-map}
 use Rattle.std.proofs.lemmas.List.Sums.{sum_by_push, sum_by-append, sum_by-cons}
 use Rattle.std.proofs.Math.Seq.{get_or-append_seam}
@@ -10,17 +10,17 @@ use Rattle.uds_gateway.specs.block_machine.Words.{Entry, Found, Configuration}
 use Rattle.uds_gateway.specs.block_machine.State.{State}
 use Rattle.uds_gateway.specs.block_machine.StartUp.{at_first}
 use Rattle.uds_gateway.specs.block_machine.Steps.{after, after_from}
-use Rattle.script_walks.specs.Words.{Step}
-use Rattle.script_walks.specs.Walk.{IsPiece, IsWalkOf, joined}
+use Rattle.uds_gateway.specs.script_walks.Words.{Step}
+use Rattle.uds_gateway.specs.script_walks.Walk.{IsPiece, IsWalkOf, joined}
 use Rattle.nvm_script.specs.Played.{IsPlayed, ArePlayed}
-use Rattle.script_walks.specs.Stores.{AreNewest, JobsTookStored}
+use Rattle.uds_gateway.specs.script_walks.Stores.{AreNewest, JobsTookStored}
 use Rattle.uds_gateway.specs.ram_blocks.Plain.{store_of, plain_blocks_of}
-use Rattle.promise_run.specs.Run.{Played, EachPiece, HasNoRoom, HadRoom, DueCut, Event, Made, Added, events_of}
-use Rattle.promise_run.specs.Refusals.{AreAsAsked, RefusesAsAsked, asked_by}
-use Rattle.promise_run.specs.InRoom.{is_drain}
-use Rattle.script_walks.proofs.Jobs.{starts_keep_stored}
-use Rattle.script_walks.proofs.First.{first_are_newest}
-use Rattle.script_walks.proofs.Walks.{walks_grow}
+use Rattle.uds_gateway.specs.promise_run.Run.{Played, EachPiece, HasNoRoom, HadRoom, DueCut, Event, Made, Added, events_of}
+use Rattle.uds_gateway.specs.promise_run.Refusals.{AreAsAsked, RefusesAsAsked, asked_by}
+use Rattle.uds_gateway.specs.promise_run.InRoom.{is_drain}
+use Rattle.uds_gateway.proofs.WalkedJobs.{starts_keep_stored}
+use Rattle.uds_gateway.proofs.FirstStores.{first_are_newest}
+use Rattle.uds_gateway.proofs.Walks.{walks_grow}
 use Rattle.script_player.specs.declared.steps.StepFault.{StepFault}
 use Rattle.script_player.specs.declared.steps.StepFault.TheVariants.{Flash, HistoryFull, Memory}
 use Rattle.script_player.specs.Told.{StackTold, state_of, moment_of, IsNoEarlier, AreCut, TellsOff, plan_behind, ops_at}
@@ -28,19 +28,15 @@ use Rattle.script_player.specs.Kept.{IsKept}
 use Rattle.script_player.specs.Made.{cuts_in, cuts_of, IsExplained, IsMade, IsLeft, IsFresh, Makes, HasWalked, WereLeft, WasBroken}
 use Rattle.script_player.specs.Walking.{IsWalking, AreUnderWay, planned_behind}
 use Rattle.script_player.specs.Table.{HasLastStores}
-use Rattle.promise_run.specs.Turns.{Moment, Move, entries_of, moment_behind, moment_after, Planned, planned_by, AreInTime, found_behind, EachMoveSince, PostsUrgent, all_moves}
-use Rattle.promise_run.proofs.Paid.{since_too}
-use Rattle.promise_run.proofs.UrgentPosts.{soon_by, urgent_by}
-use Rattle.promise_run.proofs.TakenPages.{taken_by}
-use Rattle.promise_run.proofs.Counted.{all_behind, behind_later, counted_by}
-use Rattle.script_player.specs.Paying.{Payer, FreeBy, PaysBy, since_behind}
-use Rattle.script_player.proofs.Working.{along_end, along_nothing}
-use Rattle.script_player.proofs.Paying.{none_pays, by_more, frees_no_more}
+use Rattle.uds_gateway.specs.promise_run.Turns.{Moment, Move, entries_of, moment_behind, moment_after, Planned, planned_by, AreInTime, all_moves}
+use Rattle.uds_gateway.specs.nvm_moves.Seen.{Seen}
+use Rattle.uds_gateway.specs.nvm_moves.Moved.{MovesBy}
+use Rattle.uds_gateway.proofs.Moved.{moves_more, none_moves}
+use Rattle.script_player.specs.Paying.{IsSeen, LastsOn, payer_at}
+use Rattle.script_player.proofs.Paying.{none_last, pays_by, rests_by, serves_by}
 use Rattle.script_player.specs.Coming.{IsPending}
-use Rattle.script_player.proofs.Coming.{planned_more, come_more}
-use Rattle.script_player.specs.Chain.{shown_of}
-use Rattle.script_player.proofs.Chain.{each_posted, each_rests, all_more}
-use Rattle.script_player.proofs.Moves.{has_more, chain_more, closes_more, moved_entries}
+use Rattle.script_player.proofs.Coming.{come_more, entries_more, planned_more}
+use Rattle.script_player.proofs.Moves.{all_more, closes_more, has_more}
 use Rattle.script_player.proofs.Grown.{state_more}
 use Rattle.script_player.proofs.Table.{first_table}
 use Rattle.script_player.proofs.Offs.{counted_more, none_counted, none_cut_same, are_more}
@@ -61,7 +57,7 @@ behind : (P : Configuration → ℕ → State → Type 0) (old mid : StackTold) 
 behind P old mid same cap is = subst (λ (n : ℕ). P old.configuration n (after old.configuration mid.entries)) cap (subst (λ (c : Configuration). P c mid.cap (after c mid.entries)) same is)
 
 -- one more step
-pub walks_on : (p q r : Payer) (made : List Step) (x : Step) (old mid new : StackTold) → mid.configuration ≡ old.configuration → mid.cap ≡ old.cap → mid.most ≡ old.most → old.faults ≤ mid.faults → IsWalking p q made old mid
+pub walks_on : (p q r : Seen) (made : List Step) (x : Step) (old mid new : StackTold) → mid.configuration ≡ old.configuration → mid.cap ≡ old.cap → mid.most ≡ old.most → old.faults ≤ mid.faults → IsWalking p q made old mid
     → IsMade q r made x mid new → cuts_in x.kind ≤ mid.causes.takes → mid.one ≡ old.one → IsWalking p r (made ++ x ∷ []) old new
 walks_on p q r made x old mid new same cap most counted walking step planned one_part = record {
   marks = walking.marks;
@@ -91,9 +87,10 @@ walks_on p q r made x old mid new same cap most counted walking step planned one
   moves = has_more made x walking.pieces piece step.moves (moment_of old) (moment_of mid) (moment_of new) walking.moves step.moved step.tell step.behind;
   closes = λ calm. closes_more (moment_of old) made x walking.moves.moves step.moves walking.moves.are (walking.closes (calm_until old mid new piece adds step.counted calm))
       (λ drain. ap (λ (m : Moment). m.busy) (ap (λ (m : Moment). moment_behind m step.moves) walking.moves.behind ∙ step.behind) ∙ step.closes (calm_from old mid new counted calm) (ap is_drain drain));
-  chain = chain_more walking.moves.moves step.moves (shown_of old) (shown_of mid) (shown_of new) walking.chain step.chain;
-  pays = subst (λ (ms : List Move). PaysBy p r old ms) (sym (all_more walking.moves.moves step.moves))
-      (by_more p q r old mid (all_moves walking.moves.moves) step.moves same (all_behind (moment_of old) walking.moves.moves ∙ walking.moves.behind) walked_state walking.pays step.pays);
+  tell = adds ∙ ap (λ (es : List Entry). es ++ piece) walking.tell ∙ append_assoc old.entries (entries_of (all_moves walking.moves.moves)) piece
+      ∙ ap (λ (es : List Entry). old.entries ++ es)
+      (ap (λ (es : List Entry). entries_of (all_moves walking.moves.moves) ++ es) step.tell ∙ sym (entries_more (all_moves walking.moves.moves) step.moves) ∙ ap entries_of (sym (all_more walking.moves.moves step.moves)));
+  by_law = subst (λ (ms : List Move). MovesBy false ms p r) (sym (all_more walking.moves.moves step.moves)) (moves_more false (all_moves walking.moves.moves) step.moves p q r walking.by_law step.by_law);
   cuts = λ one.
       let (were, pending) = walking.cuts one in
       let (here, now) = step.cuts planned (one_part ∙ one) (planned_behind None (moment_of old) made walking.moves.moves) pending in
@@ -117,7 +114,7 @@ walks_on p q r made x old mid new same cap most counted walking step planned one
     walked_state : state_of mid ≡ after_from old.configuration (state_of old) (entries_of (all_moves walking.moves.moves))
     walked_state =
         ap (λ (c : Configuration). after c mid.entries) same
-        ∙ ap (after old.configuration) (moved_entries (all_moves walking.moves.moves) (shown_of old) (shown_of mid) walking.chain)
+        ∙ ap (after old.configuration) walking.tell
         ∙ state_more old.configuration old.entries (entries_of (all_moves walking.moves.moves))
 
     is : IsPiece mid.configuration made (state_of mid) x piece
@@ -151,8 +148,9 @@ walks_on p q r made x old mid new same cap most counted walking step planned one
     paid =
         explained.offs (plan_behind None 0 (events_of made walking.pieces)) (ops_at 0 (events_of made walking.pieces)) planned (omega (arith, tell, few)) walking.off.plan_stays
 
-pub has_walked : (p q r : Payer) (made : List Step) (old mid new : StackTold) → new.entries ≡ mid.entries → mid.faults ≤ new.faults → new.ops ≡ mid.ops → WereCounted 0 mid.causes.unplanned new.causes.unplanned → new.causes.came ≡ mid.causes.came → (TellsOff mid → TellsOff new) → PaysBy q r mid [] → IsWalking p q made old mid → HasWalked p r made old new
-has_walked p q r made old mid new same counted operations cuts came power pays walking = record {
+pub has_walked : (p q r : Seen) (made : List Step) (old mid new : StackTold) → old.ready ≡ true → IsSeen old p → new.entries ≡ mid.entries → mid.faults ≤ new.faults → new.ops ≡ mid.ops → WereCounted 0 mid.causes.unplanned new.causes.unplanned → new.causes.came ≡ mid.causes.came → (TellsOff mid → TellsOff new)
+    → LastsOn q r → IsWalking p q made old mid → HasWalked (payer_at old p) (payer_at new r) made old new
+has_walked p q r made old mid new ready seen same counted operations cuts came power last walking = record {
   more = walking.more;
   grows = same ∙ walking.grows;
   pieces = walking.pieces;
@@ -170,50 +168,21 @@ has_walked p q r made old mid new same counted operations cuts came power pays w
         (counted_more walking.off.others 0 old.causes.unplanned mid.causes.unplanned new.causes.unplanned walking.off.counted cuts),
   );
   last = moment_of mid;
-  serves = each_posted (all_moves walking.moves.moves) (shown_of old) (shown_of mid) walking.chain;
-  rests = each_rests (all_moves walking.moves.moves) (shown_of old) (shown_of mid) walking.chain;
+  serves = serves_by old p q (all_moves walking.moves.moves) seen walking.by_law;
+  rests = rests_by old p q (all_moves walking.moves.moves) seen walking.by_law;
   closes = λ calm. walking.closes (calm_until old mid new [] (same ∙ sym (append-nil mid.entries)) counted calm);
   moves = walking.moves;
   operations = sym operations;
   counted = counted;
   cuts = λ one. (walking.cuts one).0;
-  pays = record {
-    tells = λ tells. walking.pays.tells (pays.tells tells);
-    failed = λ k few is. walking.pays.failed k few (pays.failed k (let later = behind_later q.failed (moment_of old) (all_moves walking.moves.moves) walking.pays.counts in omega (arith, few, later, ends)) is);
-    counts = counted_by q.failed r.failed mid.ops pays.failed (moment_of old) (all_moves walking.moves.moves) (omega (arith, ends)) walking.pays.counts;
-    spare = λ k n few is. walking.pays.spare k n few (pays.spare k n (let later = behind_later q.failed (moment_of old) (all_moves walking.moves.moves) walking.pays.counts in omega (arith, few, later, ends)) is);
-    traits = record {
-      kept = λ k few is. walking.pays.traits.kept k few (pays.traits.kept k (let later = behind_later q.failed (moment_of old) (all_moves walking.moves.moves) walking.pays.counts in omega (arith, few, later, ends)) is);
-      seals = λ k n few is. walking.pays.traits.seals k n few (pays.traits.seals k n (let later = behind_later q.failed (moment_of old) (all_moves walking.moves.moves) walking.pays.counts in omega (arith, few, later, ends)) is);
-      reserve = pays.traits.reserve ∙ walking.pays.traits.reserve;
-    };
-    kept = taken_by old.configuration q.failed q.kept r.kept mid.ops pays.traits.kept (moment_of old) (state_of old) (all_moves walking.moves.moves) (omega (arith, ends)) walking.pays.counts walking.pays.kept;
-    sealing = λ since sealing. pays.sealing (found_behind since (all_moves walking.moves.moves)) (walking.pays.sealing since sealing);
-    pages = pays.pages ∙ walking.pays.pages;
-    dues = λ id one turns due. soon_by (q.due id) (r.due id) one id turns old.faults (all_moves walking.moves.moves) (pays.dues id) (walking.pays.dues id one turns due);
-    urgent = λ since sealing.
-        urgent_by old.configuration 4 r.pages q.failed (FreeBy q) (FreeBy r) q.due r.due mid.ops (frees_no_more q r mid.ops pays.spare pays.traits) pays.dues since (moment_of old) (state_of old) (all_moves walking.moves.moves) (omega (arith, ends)) walking.pays.counts
-        (subst (λ (f : State → ℕ → ℕ). EachMoveSince old.configuration (PostsUrgent old.configuration 4 f (FreeBy q) q.due) since (state_of old) (all_moves walking.moves.moves)) (sym pays.pages) (walking.pays.urgent since sealing));
-    worn = λ k n urgent is. pays.worn k n urgent (walking.pays.worn k n urgent is);
-    pays = λ tells since owes.
-        let (paid, then_owes) = walking.pays.pays (pays.tells tells) since owes in
-        let moves = all_moves walking.moves.moves in (
-          since_too old.configuration q.worn r.worn pays.worn since (moment_of old) (state_of old) moves paid,
-          (pays.pays tells (since_behind since (moment_of old) moves) then_owes).1,
-        );
-    work = along_end q.worn p.work q.work r.work r.worn q.failed mid.ops old.configuration (moment_of old) (state_of old) (all_moves walking.moves.moves) (omega (arith, ends)) pays.worn walking.pays.counts walking.pays.work
-        pays.work.known (along_nothing r.worn q.work r.work mid.configuration (moment_of mid) (state_of mid) pays.work);
-  };
+  pays = pays_by old p q (all_moves walking.moves.moves) seen walking.by_law new r ready last;
 }
   where
     nothing_more : (n : ℕ) → n + 0 ≡ n
     nothing_more n = omega arith
 
-    ends : (moment_behind (moment_of old) (all_moves walking.moves.moves)).ops ≡ mid.ops
-    ends = ap (λ (m : Moment). m.ops) (all_behind (moment_of old) walking.moves.moves ∙ walking.moves.behind)
-
 -- a fresh stack has walked no step
-pub fresh_walking : (p : Payer) (t : StackTold) → IsFresh t → IsWalking p p [] t t
+pub fresh_walking : (p : Seen) (t : StackTold) → IsFresh t → IsWalking p p [] t t
 fresh_walking p t fresh = record {
   marks = fresh.marks;
   ops = fresh.ops;
@@ -229,8 +198,8 @@ fresh_walking p t fresh = record {
   takes = omega arith;
   moves = record { moves = []; are = tt; tell = refl; behind = refl };
   closes = λ calm. tt;
-  chain = refl;
-  pays = none_pays p t;
+  tell = sym (append-nil t.entries);
+  by_law = none_moves false p;
   cuts = λ one. (tt, tt);
 }
 
@@ -255,13 +224,13 @@ were_left HistoryFull x xs old mid new configuration cap left =
     subst (λ (h : List Entry). HasNoRoom old.configuration old.cap (after old.configuration h) x.kind) (sym left.entries) (behind (λ c n s. HasNoRoom c n s x.kind) old mid configuration cap left.why)
 
 -- nothing was made for want of memory
-pub none_made : (p : Payer) (steps : List Step) (t : StackTold) → IsFresh t → WasBroken p p Memory steps t t
-none_made p steps t fresh = record { made = []; left = steps; order = refl; walked = has_walked p p p [] t t t refl (omega arith) refl (none_counted t.causes.unplanned) refl (λ tells. tells) (none_pays p t) (fresh_walking p t fresh); why = tt }
+pub none_made : (p : Seen) (steps : List Step) (t : StackTold) → IsSeen t p → IsFresh t → WasBroken (payer_at t p) (payer_at t p) Memory steps t t
+none_made p steps t seen fresh = record { made = []; left = steps; order = refl; walked = has_walked p p p [] t t t fresh.ready seen refl (omega arith) refl (none_counted t.causes.unplanned) refl (λ tells. tells) (none_last p) (fresh_walking p t fresh); why = tt }
 
 -- UNDER WAY
 
-pub begin : (p : Payer) (blocks : ℕ) (table : List ℕ) (t : StackTold) → IsFresh t → blocks ≡ length t.configuration.blocks → table ≡ replicate (16 * (blocks + 1)) 0 → AreUnderWay p p [] table t t
-begin p blocks table t fresh count is = record {
+pub begin : (p : Seen) (blocks : ℕ) (table : List ℕ) (t : StackTold) → IsSeen t p → IsFresh t → blocks ≡ length t.configuration.blocks → table ≡ replicate (16 * (blocks + 1)) 0 → AreUnderWay p p [] table t t
+begin p blocks table t seen fresh count is = record {
   configuration = refl;
   cap = refl;
   most = refl;
@@ -269,6 +238,8 @@ begin p blocks table t fresh count is = record {
   counted = omega arith;
   kept = fresh_kept t fresh;
   table_kept = subst (λ (xs : List ℕ). HasLastStores t.configuration [] xs) (sym (is ∙ ap (λ n. replicate (16 * (n + 1)) 0) count)) (first_table t.configuration);
+  ready = fresh.ready;
+  seen = seen;
   walking = fresh_walking p t fresh;
 }
 
@@ -279,7 +250,7 @@ takes_enough made left x old mid all are =
     let first = sum_by-cons (λ (y : Step). cuts_in y.kind) x left in omega (arith, both, first, all, are)
 
 -- one step more
-pub walk_on : (p q r : Payer) (made : List Step) (x : Step) (table table' : List ℕ) (old mid new : StackTold) → AreUnderWay p q made table old mid → IsMade q r made x mid new → HasLastStores mid.configuration (made ++ x ∷ []) table' → cuts_in x.kind ≤ mid.causes.takes
+pub walk_on : (p q r : Seen) (made : List Step) (x : Step) (table table' : List ℕ) (old mid new : StackTold) → AreUnderWay p q made table old mid → IsMade q r made x mid new → HasLastStores mid.configuration (made ++ x ∷ []) table' → cuts_in x.kind ≤ mid.causes.takes
     → AreUnderWay p r (made ++ x ∷ []) table' old new
 walk_on p q r made x table table' old mid new way step has planned = record {
   configuration = step.configuration ∙ way.configuration;
@@ -289,11 +260,13 @@ walk_on p q r made x table table' old mid new way step has planned = record {
   counted = let a = way.counted in let b = step.counted in omega (arith, a, b);
   kept = step.kept;
   table_kept = subst (λ (c : Configuration). HasLastStores c (made ++ x ∷ []) table') (sym step.configuration) has;
+  ready = way.ready;
+  seen = way.seen;
   walking = walks_on p q r made x old mid new way.configuration way.cap way.most way.counted way.walking step planned way.one;
 }
 
 -- of those that are to be made
-pub go_on : (p q r : Payer) (steps made left : List Step) (x : Step) (table table' : List ℕ) (old mid new : StackTold) → steps ≡ made ++ x ∷ left → length steps < 2 ^ 32 → cuts_of steps ≤ old.causes.takes → AreUnderWay p q made table old mid
+pub go_on : (p q r : Seen) (steps made left : List Step) (x : Step) (table table' : List ℕ) (old mid new : StackTold) → steps ≡ made ++ x ∷ left → length steps < 2 ^ 32 → cuts_of steps ≤ old.causes.takes → AreUnderWay p q made table old mid
     → Makes q r x table table' mid new → AreUnderWay p r (made ++ x ∷ []) table' old new
 go_on p q r steps made left x table table' old mid new order few planned way makes =
     let many = ap length order ∙ length-append made (x ∷ left) in
@@ -302,17 +275,17 @@ go_on p q r steps made left x table table' old mid new order few planned way mak
     (takes_enough made left x old mid (subst (λ (xs : List Step). cuts_of xs ≤ old.causes.takes) order planned) way.walking.takes)
 
 -- all of them
-pub all_made : (p q : Payer) (steps made : List Step) (table : List ℕ) (old now : StackTold) → made ≡ steps → AreUnderWay p q made table old now → HasWalked p q steps old now
+pub all_made : (p q : Seen) (steps made : List Step) (table : List ℕ) (old now : StackTold) → made ≡ steps → AreUnderWay p q made table old now → HasWalked (payer_at old p) (payer_at now q) steps old now
 all_made p q steps made table old now all way =
-    subst (λ (xs : List Step). HasWalked p q xs old now) all (has_walked p q q made old now now refl (omega arith) refl (none_counted now.causes.unplanned) refl (λ tells. tells) (none_pays q now) way.walking)
+    subst (λ (xs : List Step). HasWalked (payer_at old p) (payer_at now q) xs old now) all (has_walked p q q made old now now way.ready way.seen refl (omega arith) refl (none_counted now.causes.unplanned) refl (λ tells. tells) (none_last q) way.walking)
 
-pub some_made : (p q r : Payer) (fault : StepFault) (steps made left : List Step) (x : Step) (table : List ℕ) (old mid new : StackTold) → steps ≡ made ++ x ∷ left → AreUnderWay p q made table old mid → IsLeft fault x mid new → PaysBy q r mid []
-    → WasBroken p r fault steps old new
+pub some_made : (p q r : Seen) (fault : StepFault) (steps made left : List Step) (x : Step) (table : List ℕ) (old mid new : StackTold) → steps ≡ made ++ x ∷ left → AreUnderWay p q made table old mid → IsLeft fault x mid new → LastsOn q r
+    → WasBroken (payer_at old p) (payer_at new r) fault steps old new
 unfolding has_walked
-some_made p q r fault steps made left x table old mid new order way leaves pays = record {
+some_made p q r fault steps made left x table old mid new order way leaves last = record {
   made = made;
   left = x ∷ left;
   order = order;
-  walked = has_walked p q r made old mid new leaves.entries leaves.counted leaves.operations leaves.cuts leaves.came leaves.power pays way.walking;
+  walked = has_walked p q r made old mid new way.ready way.seen leaves.entries leaves.counted leaves.operations leaves.cuts leaves.came leaves.power last way.walking;
   why = were_left fault x left old mid new way.configuration way.cap leaves;
 }

@@ -15,13 +15,13 @@ use Rattle.uds_gateway.specs.block_machine.Blocks.{job_block}
 use Rattle.uds_gateway.specs.block_machine.Steps.{after_from}
 use Rattle.uds_gateway.specs.block_machine.Reply.{fits}
 use Rattle.uds_gateway.specs.ram_blocks.Copies.{next_number}
-use Rattle.script_walks.specs.Words.{Cut, Refuse}
-use Rattle.script_walks.specs.Walk.{is_at_rest}
-use Rattle.script_walks.specs.Turn.{IsTurn}
-use Rattle.promise_run.specs.Run.{DueCut, Added, plan_after}
-use Rattle.promise_run.specs.Refusals.{AreAsAsked, asked_by}
-use Rattle.promise_run.specs.Completeness.{ends_job}
-use Rattle.promise_run.specs.Turns.{is_picked}
+use Rattle.uds_gateway.specs.script_walks.Words.{Cut, Refuse}
+use Rattle.uds_gateway.specs.script_walks.Walk.{is_at_rest}
+use Rattle.uds_gateway.specs.script_walks.Turn.{IsTurn}
+use Rattle.uds_gateway.specs.promise_run.Run.{DueCut, Added, plan_after}
+use Rattle.uds_gateway.specs.promise_run.Refusals.{AreAsAsked, asked_by}
+use Rattle.uds_gateway.specs.promise_run.Completeness.{ends_job}
+use Rattle.uds_gateway.specs.promise_run.Turns.{is_picked}
 use Rattle.script_player.specs.Told.{StackTold, state_of, moment_of, IsWithin, IsGrown, IsNoEarlier, AreCut}
 use Rattle.script_player.specs.Coming.{MissesNone, PlansCuts}
 

@@ -1,9 +1,9 @@
 -- Power cuts that are planned, until they come.
 use Rattle.std.specs.Prelude.{◌≡◌, ◌⊎◌, ◌<◌, ◌≤◌, ◌+◌, true, List, Option, Some, None}
 use Rattle.uds_gateway.specs.nv_base.Count.{last_count}
-use Rattle.script_walks.specs.Words.{StepKind}
-use Rattle.promise_run.specs.Run.{DueCut}
-use Rattle.promise_run.specs.Turns.{Move, Planned, planned_by, AreInTime}
+use Rattle.uds_gateway.specs.script_walks.Words.{StepKind}
+use Rattle.uds_gateway.specs.promise_run.Run.{DueCut}
+use Rattle.uds_gateway.specs.promise_run.Turns.{Move, Planned, planned_by, AreInTime}
 use Rattle.script_player.specs.Told.{StackTold, state_of, moment_of}
 
 -- one stands, no later than it was planned, but for the faults since

@@ -1,19 +1,19 @@
 -- What a stack keeps from step to step.
-use Rattle.std.specs.Prelude.{◌≡◌, ◌+◌, ◌≤◌, ℕ, zero, suc, true, IsTrue, List, [], length}
+use Rattle.std.specs.Prelude.{◌≡◌, ◌+◌, ◌≤◌, ℕ, zero, suc, true, false, IsTrue, List, [], length}
 use Rattle.std.specs.List.{list_all}
 use Rattle.uds_gateway.specs.nv_base.Count.{Rose}
 use Rattle.uds_gateway.specs.block_machine.Words.{Entry}
-use Rattle.script_walks.specs.Words.{Step}
-use Rattle.script_walks.specs.Walk.{AreTurns, IsDrain}
-use Rattle.script_walks.specs.Stores.{AreNewest, JobsTookStored}
-use Rattle.script_walks.specs.StoreLaws.{KeepsStored}
-use Rattle.promise_run.specs.Completeness.{is_calm_entry}
-use Rattle.promise_run.specs.Turns.{Move, entries_of, moment_behind, AreTurnsMade}
+use Rattle.uds_gateway.specs.script_walks.Words.{Step}
+use Rattle.uds_gateway.specs.script_walks.Walk.{AreTurns, IsDrain}
+use Rattle.uds_gateway.specs.script_walks.Stores.{AreNewest, JobsTookStored}
+use Rattle.uds_gateway.specs.script_walks.StoreLaws.{KeepsStored}
+use Rattle.uds_gateway.specs.promise_run.Completeness.{is_calm_entry}
+use Rattle.uds_gateway.specs.promise_run.Turns.{Move, entries_of, moment_behind, AreTurnsMade}
+use Rattle.uds_gateway.specs.nvm_moves.Seen.{Seen}
+use Rattle.uds_gateway.specs.nvm_moves.Moved.{MovesBy}
 use Rattle.script_player.specs.Told.{StackTold, state_of, moment_of, IsGrown}
 use Rattle.script_player.specs.Calls.{AreExplained}
-use Rattle.script_player.specs.Chain.{shown_of, AreMoved}
 use Rattle.script_player.specs.Coming.{CarriesCuts}
-use Rattle.script_player.specs.Paying.{Payer, PaysBy}
 
 -- after these steps its stores are theirs, and its jobs took none but these
 pub record IsKept (before : List Step) (t : StackTold) : Type 0 where
@@ -34,22 +34,21 @@ pub record HasTurned (before : List Step) (old new : StackTold) (es : List Entry
   pub explained : AreExplained old.causes.plan es old new
   pub keeps : KeepsStored old.configuration before (state_of old) es
 
--- these moves are turns from one to the other, which added these entries, and pay
-pub record AreMade (p q : Payer) (es : List Entry) (moves : List Move) (old new : StackTold) : Type 0 where
+-- these moves are turns from one to the other, which added these entries
+pub record AreMade (p q : Seen) (es : List Entry) (moves : List Move) (old new : StackTold) : Type 0 where
   pub turns : AreTurnsMade (moment_of old) moves
   pub tell : es ≡ entries_of moves
   pub behind : moment_behind (moment_of old) moves ≡ moment_of new
-  pub chain : AreMoved moves (shown_of old) (shown_of new)
-  pub pays : PaysBy p q old moves
+  pub moved : MovesBy false moves p q
   pub cuts : CarriesCuts moves old new
 
 -- so many turns
-abbrev pub MakesTurns : Payer → Payer → ℕ → List Step → StackTold → StackTold → Type 0
-MakesTurns p q zero before old new = (new ≡ old) × PaysBy p q old []
+abbrev pub MakesTurns : Seen → Seen → ℕ → List Step → StackTold → StackTold → Type 0
+MakesTurns p q zero before old new = (new ≡ old) × MovesBy false [] p q
 MakesTurns p q (suc n) before old new = (es : List Entry) × HasTurned before old new es × AreTurns (state_of old) (suc n) es
     × ((moves : List Move) × (length moves ≡ suc n) × AreMade p q es moves old new)
 
 -- turns, however many, until nothing is pending, or the power is off
-abbrev pub Drains : Payer → Payer → List Step → StackTold → StackTold → Type 0
+abbrev pub Drains : Seen → Seen → List Step → StackTold → StackTold → Type 0
 Drains p q before old new = (es : List Entry) × HasTurned before old new es × IsDrain old.configuration (state_of old) es
     × ((moves : List Move) × AreMade p q es moves old new)

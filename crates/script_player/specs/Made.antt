@@ -5,19 +5,20 @@ use Rattle.uds_gateway.specs.nv_base.Entry.{ops_behind}
 use Rattle.uds_gateway.specs.block_machine.Words.{Instance, Mark, Request, Reply, Entry, Ask, Found}
 use Rattle.uds_gateway.specs.block_machine.Steps.{after}
 use Rattle.uds_gateway.specs.ram_blocks.Plain.{store_of, plain_blocks_of}
-use Rattle.script_walks.specs.Words.{Step, StepKind, Cut, Restart}
-use Rattle.script_walks.specs.Walk.{request_after, IsPiece, IsWalkOf}
-use Rattle.promise_run.specs.Run.{Played, EachPiece, HasNoRoom, HadRoom, DueCut, Made, Added, CutsExplain}
-use Rattle.promise_run.specs.Refusals.{AreAsAsked, RefusesAsAsked, asked_by}
-use Rattle.promise_run.specs.InRoom.{is_drain}
-use Rattle.promise_run.specs.Turns.{Moment, Move, entries_of, moment_behind, AreMovesOf, HasMoves, EachMove, ServesTurn, StaysAtRest, ClosesAtDrains, all_moves, CutsCome}
+use Rattle.uds_gateway.specs.script_walks.Words.{Step, StepKind, Cut, Restart}
+use Rattle.uds_gateway.specs.script_walks.Walk.{request_after, IsPiece, IsWalkOf}
+use Rattle.uds_gateway.specs.promise_run.Run.{Played, EachPiece, HasNoRoom, HadRoom, DueCut, Made, Added, CutsExplain}
+use Rattle.uds_gateway.specs.promise_run.Refusals.{AreAsAsked, RefusesAsAsked, asked_by}
+use Rattle.uds_gateway.specs.promise_run.InRoom.{is_drain}
+use Rattle.uds_gateway.specs.promise_run.Turns.{Moment, Move, entries_of, moment_behind, AreMovesOf, HasMoves, EachMove, ServesTurn, StaysAtRest, ClosesAtDrains, all_moves, CutsCome}
 use Rattle.script_player.specs.declared.steps.StepFault.{StepFault}
 use Rattle.script_player.specs.declared.steps.StepFault.TheVariants.{Flash, HistoryFull, Memory}
 use Rattle.script_player.specs.Told.{StackTold, state_of, moment_of, IsNoEarlier, AreCut, TellsOff}
 use Rattle.script_player.specs.Calls.{AddsAsk}
 use Rattle.script_player.specs.Kept.{IsKept, StaysCalm}
-use Rattle.script_player.specs.Chain.{shown_of, AreMoved}
 use Rattle.script_player.specs.Coming.{PlansCuts}
+use Rattle.uds_gateway.specs.nvm_moves.Seen.{Seen}
+use Rattle.uds_gateway.specs.nvm_moves.Moved.{MovesBy}
 use Rattle.script_player.specs.Paying.{Payer, PaysBy}
 use Rattle.script_player.specs.Table.{HasLastStores}
 
@@ -42,7 +43,7 @@ pub record IsExplained (kind : StepKind) (piece : List Entry) (old new : StackTo
 -- A STEP
 
 -- the step is made: it added its piece
-pub record IsMade (p q : Payer) (before : List Step) (x : Step) (old new : StackTold) : Type 0 where
+pub record IsMade (p q : Seen) (before : List Step) (x : Step) (old new : StackTold) : Type 0 where
   pub piece : List Entry
   pub configuration : new.configuration ≡ old.configuration
   pub cap : new.cap ≡ old.cap
@@ -58,8 +59,7 @@ pub record IsMade (p q : Payer) (before : List Step) (x : Step) (old new : Stack
   pub moved : AreMovesOf x.kind (moment_of old) moves
   pub tell : piece ≡ entries_of moves
   pub behind : moment_behind (moment_of old) moves ≡ moment_of new
-  pub chain : AreMoved moves (shown_of old) (shown_of new)
-  pub pays : PaysBy p q old moves
+  pub by_law : MovesBy false moves p q
   -- no planned cut is missed
   pub one : new.one ≡ old.one
   pub cuts : cuts_in x.kind ≤ old.causes.takes → PlansCuts x.kind moves old new
@@ -72,7 +72,7 @@ IsAsked caller r table old new =
     → (reply : Reply) × AddsAsk (Ask caller (request_after old.configuration before caller r) reply) old new
 
 -- Whatever steps came before, so few that each has a line: this one is made, and the table goes on.
-abbrev pub Makes : Payer → Payer → Step → List ℕ → List ℕ → StackTold → StackTold → Type 0
+abbrev pub Makes : Seen → Seen → Step → List ℕ → List ℕ → StackTold → StackTold → Type 0
 Makes p q x table table' old new =
     (before : List Step) → length before < 2 ^ 32 → IsKept before old → HasLastStores old.configuration before table
     → IsMade p q before x old new × HasLastStores old.configuration (before ++ x ∷ []) table'

@@ -1,8 +1,9 @@
 -- What a stack keeps from call to call, as far as its device tells what it holds.
-use Rattle.std.specs.Prelude.{Bool, Option}
+use Rattle.std.specs.Prelude.{◌≡◌, ◌+◌, Bool, Option}
 use Rattle.uds_gateway.specs.memif.Told.{DeviceTold, IfElse, Part, PartTold}
 use Rattle.uds_gateway.specs.memif.Clock.{Clock}
 use Rattle.uds_gateway.specs.promise_blocks.OverDevice.{HasStarted}
+use Rattle.uds_gateway.specs.promise_blocks.Operations.{founds}
 use Rattle.uds_gateway.specs.job_progress.Hand.{HandState}
 use Rattle.uds_gateway.specs.nv_desk.Desk.{DeskState}
 use Rattle.uds_gateway.specs.nvm_device_laws.Turn.{TellsSlots}
@@ -17,3 +18,7 @@ pub record IsDown (before : Part → PartTold) (desk : DeskState) (d : DeviceTol
 -- where its last start-up stands, all
 abbrev pub IsKept : Bool → (Part → PartTold) → DeskState → Option HandState → DeviceTold → Clock → Type 0
 IsKept ready before desk hand d clock = IfElse ready (StackKeepsAsTold before desk hand d clock) (IsDown before desk d clock)
+
+-- Each start-up of the device has its Found, but for a last one that failed: so it is where a stack is started again only while it is ready.
+abbrev pub AreStartsFound : Bool → DeskState → DeviceTold → Type 0
+AreStartsFound ready desk d = IfElse ready (d.starts ≡ founds desk.entries) (d.starts ≡ founds desk.entries + 1)

@@ -1,7 +1,7 @@
 -- What is told of a stack whose application stores in memory.
 use Rattle.std.specs.Prelude.{ℕ, ◌+◌, not, Bool, List, length, map, option_map, unwrap_or, if◌then◌else◌, Option, None}
 use Rattle.uds_gateway.specs.nv_base.declared.plan.Plan.{Plan}
-use Rattle.promise_run.specs.Run.{DueCut}
+use Rattle.uds_gateway.specs.promise_run.Run.{DueCut}
 use Rattle.uds_gateway.specs.memif.Told.{DeviceTold, Fixed, faults_of, is_off, nothing_open}
 use Rattle.uds_gateway.specs.block_machine.Words.{Configuration}
 use Rattle.uds_gateway.specs.block_machine.State.{State, Job}

@@ -9,11 +9,12 @@ use Rattle.uds_gateway.specs.declared.stop.ServeStop.TheVariants.{Off, NoRoom, M
 use Rattle.uds_gateway.specs.Services.{asked_by}
 use Rattle.uds_gateway.specs.Jobs.{HasNone, IsRefused, EndsPosted, EndsOff}
 use Rattle.uds_gateway.specs.Served.{IsServedBy, AreServed, IsOffBy}
-use Rattle.script_walks.specs.Words.{Step, StepKind, AskStep, Turn}
-use Rattle.script_walks.specs.Walk.{joined}
+use Rattle.uds_gateway.specs.script_walks.Words.{Step, StepKind, AskStep, Turn}
+use Rattle.uds_gateway.specs.script_walks.Walk.{joined}
 use Rattle.script_player.specs.Told.{StackTold, state_of}
 use Rattle.script_player.specs.Made.{HasWalked}
-use Rattle.script_player.specs.Paying.{Payer}
+use Rattle.uds_gateway.specs.nvm_moves.Seen.{Seen}
+use Rattle.script_player.specs.Paying.{Payer, payer_at}
 use Rattle.script_player.specs.Walking.{AreUnderWay}
 
 -- THE STEPS
@@ -32,22 +33,22 @@ abbrev pub no_stores : Configuration → List ℕ
 no_stores c = replicate (16 * (length c.blocks + 1)) 0
 
 -- such steps are made
-pub record IsServing (p q : Payer) (old now : StackTold) : Type 0 where
+pub record IsServing (p q : Seen) (old now : StackTold) : Type 0 where
   pub made : List Step
   pub only : AreOfRequests made
   pub way : AreUnderWay p q made (no_stores old.configuration) old now
 
 -- ONE REQUEST
 -- more of them are made, which added these entries
-pub record ServesMore (p q : Payer) (piece : List Entry) (old mid new : StackTold) : Type 0 where
+pub record ServesMore (p q : Seen) (piece : List Entry) (old mid new : StackTold) : Type 0 where
   pub serving : IsServing p q old new
   pub adds : new.entries ≡ mid.entries ++ piece
 
 -- no more was made, and nothing added
-pub record ServesNoMore (p q : Payer) (old mid new : StackTold) : Type 0 where
+pub record ServesNoMore (p q : Seen) (old mid new : StackTold) : Type 0 where
   pub made : List Step
   pub only : AreOfRequests made
-  pub walked : HasWalked p q made old new
+  pub walked : HasWalked (payer_at old p) (payer_at new q) made old new
   pub adds : new.entries ≡ mid.entries
   pub configuration : new.configuration ≡ mid.configuration
   pub cap : new.cap ≡ mid.cap
@@ -55,14 +56,14 @@ pub record ServesNoMore (p q : Payer) (old mid new : StackTold) : Type 0 where
 
 -- What a request of the NVRAM Manager comes to: it is refused or posted, and none is pending; or the power went off; its Ask
 -- doesn't fit; or memory was wanting before it.
-abbrev pub EndsJob : Request → Payer → Payer → Result (Unit {0}) ServeStop → (old mid new : StackTold) → Type 0
+abbrev pub EndsJob : Request → Seen → Seen → Result (Unit {0}) ServeStop → (old mid new : StackTold) → Type 0
 EndsJob asked p q (Ok done) old mid new = (piece : List Entry) × ServesMore p q piece old mid new × (IsRefused asked piece ⊎ EndsPosted asked piece) × HasNone (state_of new)
 EndsJob asked p q (Err Off) old mid new = (piece : List Entry) × ServesMore p q piece old mid new × EndsOff asked piece
 EndsJob asked p q (Err NoRoom) old mid new = ServesNoMore p q old mid new × IsTrue (not (fits mid.configuration mid.cap (state_of mid) 1))
 EndsJob asked p q (Err Memory) old mid new = ServesNoMore p q old mid new
 
 -- so a request of the gateway, which may ask for nothing
-abbrev pub EndsRequest : Configuration → List ℕ → Payer → Payer → Result (Unit {0}) ServeStop → (old mid new : StackTold) → Type 0
+abbrev pub EndsRequest : Configuration → List ℕ → Seen → Seen → Result (Unit {0}) ServeStop → (old mid new : StackTold) → Type 0
 EndsRequest c request p q (Ok done) old mid new = (piece : List Entry) × ServesMore p q piece old mid new × IsServedBy c request piece × HasNone (state_of new)
 EndsRequest c request p q (Err Off) old mid new = (piece : List Entry) × ServesMore p q piece old mid new × IsOffBy c request piece
 EndsRequest c request p q (Err NoRoom) old mid new =
@@ -71,7 +72,7 @@ EndsRequest c request p q (Err Memory) old mid new = ServesNoMore p q old mid ne
 
 -- ALL OF THEM
 -- these were answered, each with its piece, and none is pending
-pub record AreServedSoFar (p q : Payer) (requests : List (List ℕ)) (numbers : List ℕ) (old now : StackTold) : Type 0 where
+pub record AreServedSoFar (p q : Seen) (requests : List (List ℕ)) (numbers : List ℕ) (old now : StackTold) : Type 0 where
   pub serving : IsServing p q old now
   pub pieces : List (List Entry)
   pub more : now.entries ≡ old.entries ++ joined pieces

@@ -2,8 +2,8 @@
 use Rattle.std.specs.Prelude.{◌≡◌, ◌≤◌, ◌+◌, ◌*◌, ℕ, false, List, length, get_or, if◌then◌else◌}
 use Rattle.uds_gateway.specs.block_machine.Words.{Configuration}
 use Rattle.uds_gateway.specs.block_machine.Blocks.{desc_of, is_synchronized}
-use Rattle.script_walks.specs.Words.{Step}
-use Rattle.script_walks.specs.Walk.{last_store}
+use Rattle.uds_gateway.specs.script_walks.Words.{Step}
+use Rattle.uds_gateway.specs.script_walks.Walk.{last_store}
 
 -- sixteen callers a block
 abbrev pub place_of : ℕ → ℕ → ℕ

@@ -6,8 +6,8 @@ use Rattle.uds_gateway.specs.block_machine.Words.{Entry, Off, Configuration}
 use Rattle.uds_gateway.specs.block_machine.State.{State, Job}
 use Rattle.uds_gateway.specs.block_machine.Steps.{after}
 use Rattle.uds_gateway.specs.nv_desk.Desk.{DeskState}
-use Rattle.promise_run.specs.Run.{DueCut, Event, Made, Added, plan_after, CutsAre}
-use Rattle.promise_run.specs.Turns.{Moment}
+use Rattle.uds_gateway.specs.promise_run.Run.{DueCut, Event, Made, Added, plan_after, CutsAre}
+use Rattle.uds_gateway.specs.promise_run.Turns.{Moment}
 
 -- what explains refused copies and power cuts
 pub record Causes : Type 0 where

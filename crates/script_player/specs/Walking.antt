@@ -1,18 +1,19 @@
 -- The steps that are made so far.
-use Rattle.std.specs.Prelude.{◌≡◌, ◌≤◌, ◌+◌, ℕ, true, List, [], ◌∷◌, ◌++◌, length, Option, None}
+use Rattle.std.specs.Prelude.{◌≡◌, ◌≤◌, ◌+◌, ℕ, true, false, List, [], ◌∷◌, ◌++◌, length, Option, None}
 use Rattle.uds_gateway.specs.block_machine.Words.{Instance, Mark, Entry, Found}
 use Rattle.uds_gateway.specs.block_machine.Steps.{after}
-use Rattle.script_walks.specs.Words.{Step}
-use Rattle.script_walks.specs.Walk.{IsWalkOf, joined}
-use Rattle.promise_run.specs.Run.{EachPiece, HadRoom, events_of}
-use Rattle.promise_run.specs.Refusals.{StepsRefuse}
-use Rattle.promise_run.specs.Turns.{HasMoves, ClosesAtDrains, all_moves, Moment, Move, Planned, planned_by, moment_behind, CutsCome}
-use Rattle.script_player.specs.Chain.{shown_of, AreMoved}
+use Rattle.uds_gateway.specs.script_walks.Words.{Step}
+use Rattle.uds_gateway.specs.script_walks.Walk.{IsWalkOf, joined}
+use Rattle.uds_gateway.specs.promise_run.Run.{EachPiece, HadRoom, events_of}
+use Rattle.uds_gateway.specs.promise_run.Refusals.{StepsRefuse}
+use Rattle.uds_gateway.specs.promise_run.Turns.{HasMoves, ClosesAtDrains, all_moves, Moment, Move, Planned, planned_by, entries_of, moment_behind, CutsCome}
 use Rattle.script_player.specs.Coming.{IsPending}
 use Rattle.script_player.specs.Told.{StackTold, state_of, moment_of, AreCut}
 use Rattle.script_player.specs.Kept.{IsKept, StaysCalm}
 use Rattle.script_player.specs.Made.{cuts_of}
-use Rattle.script_player.specs.Paying.{Payer, PaysBy}
+use Rattle.uds_gateway.specs.nvm_moves.Seen.{Seen}
+use Rattle.uds_gateway.specs.nvm_moves.Moved.{MovesBy}
+use Rattle.script_player.specs.Paying.{IsSeen}
 use Rattle.script_player.specs.Table.{HasLastStores}
 
 -- the power cut that steps planned: with which operation it comes
@@ -22,7 +23,7 @@ planned_behind plan now steps moves = plan
 
 -- ALL STEPS
 -- a history that began with a start-up, with a piece for each step
-pub record IsWalking (p q : Payer) (made : List Step) (old now : StackTold) : Type 0 where
+pub record IsWalking (p q : Seen) (made : List Step) (old now : StackTold) : Type 0 where
   pub marks : List (Instance × Mark)
   pub ops : ℕ
   pub pieces : List (List Entry)
@@ -40,13 +41,13 @@ pub record IsWalking (p q : Payer) (made : List Step) (old now : StackTold) : Ty
   -- their turns, one by one
   pub moves : HasMoves made pieces (moment_of old) (moment_of now)
   pub closes : StaysCalm old now → ClosesAtDrains (moment_of old) made moves.moves
-  pub chain : AreMoved (all_moves moves.moves) (shown_of old) (shown_of now)
-  pub pays : PaysBy p q old (all_moves moves.moves)
+  pub tell : now.entries ≡ old.entries ++ entries_of (all_moves moves.moves)
+  pub by_law : MovesBy false (all_moves moves.moves) p q
   pub cuts : old.one ≡ true → CutsCome old.configuration None (moment_of old) (state_of old) made moves.moves
       × IsPending (planned_behind None (moment_of old) made moves.moves) now
 
 -- these steps are made
-pub record AreUnderWay (p q : Payer) (made : List Step) (table : List ℕ) (old now : StackTold) : Type 0 where
+pub record AreUnderWay (p q : Seen) (made : List Step) (table : List ℕ) (old now : StackTold) : Type 0 where
   pub configuration : now.configuration ≡ old.configuration
   pub cap : now.cap ≡ old.cap
   pub most : now.most ≡ old.most
@@ -54,4 +55,6 @@ pub record AreUnderWay (p q : Payer) (made : List Step) (table : List ℕ) (old 
   pub counted : old.faults ≤ now.faults
   pub kept : IsKept made now
   pub table_kept : HasLastStores now.configuration made table
+  pub ready : old.ready ≡ true
+  pub seen : IsSeen old p
   pub walking : IsWalking p q made old now

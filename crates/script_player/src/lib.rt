@@ -18,7 +18,6 @@ pub use cuts::cuts_of;
 pub use last_stores::LastStores;
 pub use plain_stack::PlainStack;
 pub use played_stack::PlayedStack;
-pub use promise_run;
 pub use requests::serve_requests;
 pub use steps::{StepFault, make_step, make_steps};
 pub use turns::{drain, make_turns};

@@ -48,14 +48,16 @@ impl<D: MemDevice> PlainStack<D> {
 
 impl<D: MemDevice> PlayedStack for PlainStack<D> {
     ghost use Rattle.script_player.specs.PlainTold.{told_by};
-    ghost use Rattle.script_player.specs.PlainKept.{IsKept};
-    ghost use Rattle.script_player.specs.PlainPaying.{payer_by};
+    ghost use Rattle.script_player.specs.PlainKept.{IsKept, AreStartsFound};
+    ghost use Rattle.script_player.specs.PlainPaying.{seen_by};
 
     ghost told = { λ s. told_by D.told s };
 
     ghost kept = { λ s before. IsKept s.ready before s.desk s.hand (D.told s.device) (D.clock s.device) };
 
-    ghost payer = { λ s. payer_by D.told D.clock s };
+    ghost starts_found = { λ s. AreStartsFound s.ready s.desk (D.told s.device) };
+
+    ghost seen = { λ s. seen_by D.told D.clock s };
 
     fn ask(&mut self, alloc: Global, caller: u8, request: Request) -> Result<Reply, AskFault> {
         let device = self.stack.device();
@@ -66,7 +68,8 @@ impl<D: MemDevice> PlayedStack for PlainStack<D> {
     }
 
     fn turn(&mut self) -> Turned {
-        let _device = self.stack.device();
+        let device = self.stack.device();
+        let _before = device.status();
         let turned = self.stack.turn();
         let behind = self.stack.device();
         let _status = behind.status();

@@ -4,10 +4,11 @@ ghost use Rattle.uds_gateway.specs.memif.Told.{Part, PartTold};
 ghost use Rattle.uds_gateway.specs.block_machine.Words.{Request as Asked};
 ghost use Rattle.uds_gateway.specs.Jobs.{HasNone, HasOne, IsOwn};
 ghost use Rattle.uds_gateway.specs.Turning.{HasJob, Goes, is_on_way};
-ghost use Rattle.script_walks.specs.Words.{Step};
+ghost use Rattle.uds_gateway.specs.script_walks.Words.{Step};
 ghost use Rattle.script_player.specs.Told.{state_of, desk_of};
 ghost use Rattle.script_player.specs.Kept.{IsKept, MakesTurns};
 ghost use Rattle.script_player.specs.Made.{IsFresh};
+ghost use Rattle.script_player.specs.Paying.{payer_at};
 ghost use Rattle.script_player.specs.Requests.{IsServing, EndsJob, EndsRequest, HasServed};
 
 use crate::PlayedStack;
@@ -29,12 +30,14 @@ pub fn serve_requests<S: PlayedStack>(
     requires some { All (λ request. 0 < length request) requests.now }
     requires none { counts.old.items ≡ [] }
     requires fresh { IsFresh (S.told stack.old) }
-    ensures served { HasServed (S.payer stack.old) (S.payer stack.new) requests.now counts.new.items result (S.told stack.old) (S.told stack.new) }
+    ensures served { HasServed (payer_at (S.told stack.old) (S.seen stack.old)) (payer_at (S.told stack.new) (S.seen stack.new)) requests.now counts.new.items result (S.told stack.old) (S.told stack.new) }
     ensures configuration { (S.told stack.new).configuration ≡ (S.told stack.old).configuration }
     ensures most { (S.told stack.new).cap ≡ (S.told stack.old).cap }
     ensures counted { (S.told stack.old).faults ≤ (S.told stack.new).faults }
     ensures keeps { (before : Part → PartTold) → S.kept stack.old before → S.kept stack.new before }
+    ensures starts { S.starts_found stack.old → S.starts_found stack.new }
 {
+    let _entries = stack.len();
     for i in 0..requests.len() {
         if counts.reserve(1).is_err() {
             return Err(ServeStop::Memory);
@@ -58,9 +61,10 @@ fn serve_request<S: PlayedStack>(
     requires some { 0 < length request.now }
     requires ready { (S.told stack.old).ready ≡ true }
     requires none { HasNone (state_of (S.told stack.old)) }
-    ensures ends { (first : S) → IsServing (S.payer first) (S.payer stack.old) (S.told first) (S.told stack.old)
-        → EndsRequest config.now request.now (S.payer first) (S.payer stack.new) result (S.told first) (S.told stack.old) (S.told stack.new) }
+    ensures ends { (first : S) → IsServing (S.seen first) (S.seen stack.old) (S.told first) (S.told stack.old)
+        → EndsRequest config.now request.now (S.seen first) (S.seen stack.new) result (S.told first) (S.told stack.old) (S.told stack.new) }
     ensures keeps { (before : Part → PartTold) → S.kept stack.old before → S.kept stack.new before }
+    ensures starts { S.starts_found stack.old → S.starts_found stack.new }
 {
     match asked_by(alloc, config, request) {
         Ok(asked) => serve_job(alloc, asked, stack),
@@ -74,9 +78,10 @@ fn serve_job<S: PlayedStack>(alloc: Global, asked: Request, stack: &mut S) -> Re
     requires own { IsOwn asked }
     requires ready { (S.told stack.old).ready ≡ true }
     requires none { HasNone (state_of (S.told stack.old)) }
-    ensures ends { (first : S) → IsServing (S.payer first) (S.payer stack.old) (S.told first) (S.told stack.old)
-        → EndsJob asked (S.payer first) (S.payer stack.new) result (S.told first) (S.told stack.old) (S.told stack.new) }
+    ensures ends { (first : S) → IsServing (S.seen first) (S.seen stack.old) (S.told first) (S.told stack.old)
+        → EndsJob asked (S.seen first) (S.seen stack.new) result (S.told first) (S.told stack.old) (S.told stack.new) }
     ensures keeps { (before : Part → PartTold) → S.kept stack.old before → S.kept stack.new before }
+    ensures starts { S.starts_found stack.old → S.starts_found stack.new }
 {
     match stack.ask(alloc, 0, asked) {
         Ok(reply) => match reply {
@@ -96,10 +101,11 @@ fn turns_to_post<S: PlayedStack>(stack: &mut S) -> Turned
     requires ready { (S.told stack.old).ready ≡ true }
     requires job { HasJob (state_of (S.told stack.old)) }
     ensures turns { (before : List Step) → IsKept before (S.told stack.old)
-        → (n : ℕ) × (1 ≤ n) × MakesTurns (S.payer stack.old) (S.payer stack.new) n before (S.told stack.old) (S.told stack.new) × IsKept before (S.told stack.new) }
+        → (n : ℕ) × (1 ≤ n) × MakesTurns (S.seen stack.old) (S.seen stack.new) n before (S.told stack.old) (S.told stack.new) × IsKept before (S.told stack.new) }
     ensures goes { (asked : Asked) → HasOne asked (state_of (S.told stack.old)) → Goes asked result (desk_of (S.told stack.old)) (desk_of (S.told stack.new)) }
     ensures ends { is_on_way result ≡ false }
     ensures keeps { (before : Part → PartTold) → S.kept stack.old before → S.kept stack.new before }
+    ensures starts { S.starts_found stack.old → S.starts_found stack.new }
 {
     let mut turned = stack.turn();
     while is_on_way(turned) {

@@ -1,14 +1,14 @@
 // The steps of a script.
-ghost use Rattle.std.specs.Prelude.{◌≡◌, ◌≤◌, ℕ, List, [], true, length, OnOk, OnErr, IfErr};
+ghost use Rattle.std.specs.Prelude.{◌≡◌, ◌≤◌, ℕ, List, true, length, OnOk, OnErr, IfErr};
 ghost use Rattle.uds_gateway.specs.memif.Told.{Part, PartTold};
 ghost use Rattle.uds_gateway.specs.block_machine.Words.{Configuration};
 ghost use Rattle.uds_gateway.specs.block_machine.Legal.{HasStore};
-ghost use Rattle.script_walks.specs.Words.{Step as Made, AskStep, Restart};
-ghost use Rattle.script_walks.specs.Walk.{request_after};
+ghost use Rattle.uds_gateway.specs.script_walks.Words.{Step as Made, AskStep, Restart};
+ghost use Rattle.uds_gateway.specs.script_walks.Walk.{request_after};
 ghost use Rattle.nvm_script.specs.Played.{IsPlayed, ArePlayed, CanBePlayed};
 ghost use Rattle.script_player.specs.Calls.{StartsAgain};
 ghost use Rattle.script_player.specs.Made.{Makes, IsAsked, IsLeft, IsFresh, HasWalked, WasBroken, cuts_of};
-ghost use Rattle.script_player.specs.Paying.{PaysBy, StartsAnew, AskPays};
+ghost use Rattle.script_player.specs.Paying.{AskMoves, LastsOn, StartsAnew, payer_at};
 ghost use Rattle.script_player.specs.Table.{HasLastStores, HoldsSynchronized};
 
 use crate::turns::{drain, make_turns};
@@ -36,13 +36,15 @@ pub fn make_steps<S: PlayedStack>(
     requires fresh { IsFresh (S.told stack.old) }
     requires played { ArePlayed (S.told stack.old).configuration steps }
     requires planned { cuts_of steps ≤ (S.told stack.old).causes.takes }
-    ensures all { OnOk result (HasWalked (S.payer stack.old) (S.payer stack.new) steps (S.told stack.old) (S.told stack.new)) }
-    ensures some { IfErr result (λ fault. WasBroken (S.payer stack.old) (S.payer stack.new) fault steps (S.told stack.old) (S.told stack.new)) }
+    ensures all { OnOk result (HasWalked (payer_at (S.told stack.old) (S.seen stack.old)) (payer_at (S.told stack.new) (S.seen stack.new)) steps (S.told stack.old) (S.told stack.new)) }
+    ensures some { IfErr result (λ fault. WasBroken (payer_at (S.told stack.old) (S.seen stack.old)) (payer_at (S.told stack.new) (S.seen stack.new)) fault steps (S.told stack.old) (S.told stack.new)) }
     ensures configuration { (S.told stack.new).configuration ≡ (S.told stack.old).configuration }
     ensures most { (S.told stack.new).cap ≡ (S.told stack.old).cap }
     ensures counted { (S.told stack.old).faults ≤ (S.told stack.new).faults }
     ensures keeps { (before : Part → PartTold) → S.kept stack.old before → S.kept stack.new before }
+    ensures starts { S.starts_found stack.old → S.starts_found stack.new }
 {
+    let _entries = stack.len();
     let Ok(mut stores) = LastStores::make(alloc, blocks) else {
         return Err(StepFault::Memory);
     };
@@ -66,10 +68,11 @@ pub fn make_step<S: PlayedStack>(
     requires synchronized { HoldsSynchronized (S.told stack.old).configuration stores.old }
     ensures synchronized { HoldsSynchronized (S.told stack.old).configuration stores.new }
     ensures ready { OnOk result ((S.told stack.new).ready ≡ true) }
-    ensures made { OnOk result (Makes (S.payer stack.old) (S.payer stack.new) step stores.old stores.new (S.told stack.old) (S.told stack.new)) }
+    ensures made { OnOk result (Makes (S.seen stack.old) (S.seen stack.new) step stores.old stores.new (S.told stack.old) (S.told stack.new)) }
     ensures left { IfErr result (λ fault. IsLeft fault step (S.told stack.old) (S.told stack.new)) }
-    ensures owes { OnErr result (PaysBy (S.payer stack.old) (S.payer stack.new) (S.told stack.old) []) }
+    ensures lasts { OnErr result (LastsOn (S.seen stack.old) (S.seen stack.new)) }
     ensures keeps { (before : Part → PartTold) → S.kept stack.old before → S.kept stack.new before }
+    ensures starts { S.starts_found stack.old → S.starts_found stack.new }
 {
     let Step { caller, kind, .. } = step;
     match kind {
@@ -132,10 +135,11 @@ fn ask<S: PlayedStack>(
     requires played { CanBePlayed (S.told stack.old).configuration (AskStep request) }
     requires synchronized { HoldsSynchronized (S.told stack.old).configuration stores.now }
     ensures ready { OnOk result ((S.told stack.new).ready ≡ true) }
-    ensures asked { OnOk result (IsAsked caller request stores.now (S.told stack.old) (S.told stack.new) × AskPays (S.payer stack.old) (S.payer stack.new) (S.told stack.old) (S.told stack.new)) }
-    ensures owes { OnErr result (PaysBy (S.payer stack.old) (S.payer stack.new) (S.told stack.old) []) }
+    ensures asked { OnOk result (IsAsked caller request stores.now (S.told stack.old) (S.told stack.new) × AskMoves (S.seen stack.old) (S.seen stack.new) (S.told stack.old) (S.told stack.new)) }
+    ensures lasts { OnErr result (LastsOn (S.seen stack.old) (S.seen stack.new)) }
     ensures left { IfErr result (λ fault. (line : ℕ) → IsLeft fault (record { line = line; caller = caller; kind = AskStep request }) (S.told stack.old) (S.told stack.new)) }
     ensures keeps { (before : Part → PartTold) → S.kept stack.old before → S.kept stack.new before }
+    ensures starts { S.starts_found stack.old → S.starts_found stack.new }
 {
     match stack.ask(alloc, caller, request_with(request, caller, stores)) {
         Ok(_reply) => Ok(()),
@@ -145,11 +149,13 @@ fn ask<S: PlayedStack>(
 }
 
 fn restart<S: PlayedStack>(alloc: Global, stack: &mut S) -> Result<(), StepFault>
+    requires { (S.told stack.old).ready ≡ true }
     ensures ready { OnOk result ((S.told stack.new).ready ≡ true) }
-    ensures made { OnOk result (StartsAgain (S.told stack.old) (S.told stack.new) × StartsAnew (S.payer stack.old) (S.payer stack.new) (S.told stack.old) (S.told stack.new)) }
-    ensures owes { OnErr result (PaysBy (S.payer stack.old) (S.payer stack.new) (S.told stack.old) []) }
+    ensures made { OnOk result (StartsAgain (S.told stack.old) (S.told stack.new) × StartsAnew (S.seen stack.old) (S.seen stack.new) (S.told stack.old) (S.told stack.new)) }
+    ensures lasts { OnErr result (LastsOn (S.seen stack.old) (S.seen stack.new)) }
     ensures left { IfErr result (λ fault. (line caller : ℕ) → IsLeft fault (record { line = line; caller = caller; kind = Restart }) (S.told stack.old) (S.told stack.new)) }
     ensures keeps { (before : Part → PartTold) → S.kept stack.old before → S.kept stack.new before }
+    ensures starts { S.starts_found stack.old → S.starts_found stack.new }
 {
     match stack.restart(alloc) {
         FoundAnswer::Ready => Ok(()),

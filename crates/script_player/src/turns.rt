@@ -1,13 +1,13 @@
 // Turns of a stack.
 ghost use Rattle.std.specs.Prelude.{◌≡◌, ◌<◌, ◌≤◌, ◌||◌, List, IsTrue, true, false};
-ghost use Rattle.script_walks.specs.Words.{Step};
-ghost use Rattle.script_walks.specs.Walk.{is_at_rest};
+ghost use Rattle.uds_gateway.specs.script_walks.Words.{Step};
+ghost use Rattle.uds_gateway.specs.script_walks.Walk.{is_at_rest};
 ghost use Rattle.uds_gateway.specs.memif.Told.{Part, PartTold};
 ghost use Rattle.uds_gateway.specs.nv_base.Count.{Rose};
 ghost use Rattle.script_player.specs.Told.{state_of};
 ghost use Rattle.script_player.specs.Calls.{MakesTurn, is_last};
 ghost use Rattle.script_player.specs.Kept.{IsKept, MakesTurns, Drains};
-ghost use Rattle.script_player.specs.Paying.{PaysTurn};
+ghost use Rattle.script_player.specs.Paying.{TurnMoves};
 
 use crate::PlayedStack;
 use uds_gateway::Turned;
@@ -16,8 +16,9 @@ use uds_gateway::Turned;
 pub fn make_turns<S: PlayedStack>(stack: &mut S, count: u32)
     requires { (S.told stack.old).ready ≡ true }
     ensures ready { (S.told stack.new).ready ≡ true }
-    ensures turns { (before : List Step) → IsKept before (S.told stack.old) → MakesTurns (S.payer stack.old) (S.payer stack.new) count before (S.told stack.old) (S.told stack.new) × IsKept before (S.told stack.new) }
+    ensures turns { (before : List Step) → IsKept before (S.told stack.old) → MakesTurns (S.seen stack.old) (S.seen stack.new) count before (S.told stack.old) (S.told stack.new) × IsKept before (S.told stack.new) }
     ensures keeps { (before : Part → PartTold) → S.kept stack.old before → S.kept stack.new before }
+    ensures starts { S.starts_found stack.old → S.starts_found stack.new }
 {
     for _turn in 0..count {
         stack.turn();
@@ -29,9 +30,10 @@ pub fn make_turns<S: PlayedStack>(stack: &mut S, count: u32)
 pub fn drain<S: PlayedStack>(stack: &mut S)
     requires { (S.told stack.old).ready ≡ true }
     ensures ready { (S.told stack.new).ready ≡ true }
-    ensures drains { (before : List Step) → IsKept before (S.told stack.old) → Drains (S.payer stack.old) (S.payer stack.new) before (S.told stack.old) (S.told stack.new) × IsKept before (S.told stack.new) }
+    ensures drains { (before : List Step) → IsKept before (S.told stack.old) → Drains (S.seen stack.old) (S.seen stack.new) before (S.told stack.old) (S.told stack.new) × IsKept before (S.told stack.new) }
     ensures at_rest { ¬ Rose (S.told stack.old).faults (S.told stack.new).faults → (state_of (S.told stack.new)).off ≡ false → (S.told stack.new).busy ≡ false }
     ensures keeps { (before : Part → PartTold) → S.kept stack.old before → S.kept stack.new before }
+    ensures starts { S.starts_found stack.old → S.starts_found stack.new }
 {
     while !ends_drain(stack) {}
 }
@@ -40,11 +42,12 @@ pub fn drain<S: PlayedStack>(stack: &mut S)
 fn ends_drain<S: PlayedStack>(stack: &mut S) -> bool
     requires { (S.told stack.old).ready ≡ true }
     ensures turn { MakesTurn (S.told stack.old) (S.told stack.new) }
-    ensures pays { PaysTurn (S.payer stack.old) (S.payer stack.new) (S.told stack.old) (S.told stack.new) }
+    ensures moved { TurnMoves (S.seen stack.old) (S.seen stack.new) (S.told stack.old) (S.told stack.new) }
     ensures ends { result ≡ true → IsTrue (is_at_rest (state_of (S.told stack.new)) || (state_of (S.told stack.new)).off) }
     ensures at_rest { result ≡ true → ¬ Rose (S.told stack.old).faults (S.told stack.new).faults → (state_of (S.told stack.new)).off ≡ false → (S.told stack.new).busy ≡ false }
     ensures goes_on { result ≡ false → (S.told stack.new).work < (S.told stack.old).work }
     ensures keeps { (before : Part → PartTold) → S.kept stack.old before → S.kept stack.new before }
+    ensures starts { S.starts_found stack.old → S.starts_found stack.new }
 {
     let in_hand = stack.in_hand();
     let faults = stack.faults();

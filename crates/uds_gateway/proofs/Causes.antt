@@ -5,19 +5,19 @@ use Rattle.std.specs.Option.{option_eq}
 use Rattle.std.specs.Str.{bytes_eq}
 use Rattle.std.proofs.Common.{◌≡◌, ◌⊎◌, ℕ, Bool, true, false, if◌then◌else◌, List, [], ◌∷◌, ◌++◌, Option, Some, Result, Ok, Err, Contains, refl, sym, ap, ◌∙◌, subst, inl, inr, arith}
 use Rattle.std.proofs.lemmas.Bool.{cases_Bool, and_parts, eqb-true, eq-eqb}
-use Rattle.nvm_core.specs.nv_base.Result.{code_of}
-use Rattle.nvm_core.specs.block_machine.Words.{ReqResult, Fine, Pending, Instance, Mark, Content, Invalid, Erased, Request, Read, Write, Accepted, JobKind, ReadJob, WriteJob, Taken, Entry, Ask, Pick, Wrote, Post, Off, Found, RomIndex, BlockKind, Native, Redundant, Dataset, BlockDesc, Configuration}
-use Rattle.nvm_core.specs.block_machine.State.{State, BlockState, Job}
-use Rattle.nvm_core.specs.block_machine.Blocks.{desc_of, block_at, is_synchronized, is_dataset, names_rom, indices_by, indices_of, settled_at, asked_block, job_block, job_kind, kind_of, asked_content}
-use Rattle.nvm_core.specs.block_machine.ResultTable.{read_one, read_copies, write_result, table}
-use Rattle.nvm_core.specs.block_machine.Results.{Answer, own_of, outcome_of, outcomes_of, with_content, took_none, checked_id, checks_id, result_by, result_of, open_sets, failed_set, same_answer}
-use Rattle.nvm_core.specs.block_machine.Reply.{reply_of}
-use Rattle.nvm_core.specs.block_machine.Next.{Next, PickJob, next_of}
-use Rattle.nvm_core.specs.block_machine.Legal.{TakesForWrite, TakesBy, IsPick, MayPick, MayPost, IsLegalFrom}
-use Rattle.nvm_core.specs.block_machine.Steps.{step, after_from, job_at, picked_job, picked, wrote}
-use Rattle.nvm_core.proofs.block_laws.BlockFields.{field_kept}
-use Rattle.nvm_core.proofs.block_laws.HistoryLaws.{after_push}
-use Rattle.nvm_core.proofs.block_laws.NextLaws.{accepted_pass}
+use Rattle.nvm_moves.specs.nv_base.Result.{code_of}
+use Rattle.nvm_moves.specs.block_machine.Words.{ReqResult, Fine, Pending, Instance, Mark, Content, Invalid, Erased, Request, Read, Write, Accepted, JobKind, ReadJob, WriteJob, Taken, Entry, Ask, Pick, Wrote, Post, Off, Found, RomIndex, BlockKind, Native, Redundant, Dataset, BlockDesc, Configuration}
+use Rattle.nvm_moves.specs.block_machine.State.{State, BlockState, Job}
+use Rattle.nvm_moves.specs.block_machine.Blocks.{desc_of, block_at, is_synchronized, is_dataset, names_rom, indices_by, indices_of, settled_at, asked_block, job_block, job_kind, kind_of, asked_content}
+use Rattle.nvm_moves.specs.block_machine.ResultTable.{read_one, read_copies, write_result, table}
+use Rattle.nvm_moves.specs.block_machine.Results.{Answer, own_of, outcome_of, outcomes_of, with_content, took_none, checked_id, checks_id, result_by, result_of, open_sets, failed_set, same_answer}
+use Rattle.nvm_moves.specs.block_machine.Reply.{reply_of}
+use Rattle.nvm_moves.specs.block_machine.Next.{Next, PickJob, next_of}
+use Rattle.nvm_moves.specs.block_machine.Legal.{TakesForWrite, TakesBy, IsPick, MayPick, MayPost, IsLegalFrom}
+use Rattle.nvm_moves.specs.block_machine.Steps.{step, after_from, job_at, picked_job, picked, wrote}
+use Rattle.nvm_moves.proofs.BlockFields.{field_kept}
+use Rattle.nvm_moves.proofs.HistoryLaws.{after_push}
+use Rattle.nvm_moves.proofs.NextLaws.{accepted_pass}
 use Rattle.uds_gateway.specs.Jobs.{HasNone, HasOne, IsInHand, IsOwn, is_under_way, EndsPosted}
 use Rattle.uds_gateway.specs.declared.code.NegativeCode.{NegativeCode}
 use Rattle.uds_gateway.specs.Services.{asked_by}

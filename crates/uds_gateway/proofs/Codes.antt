@@ -2,8 +2,8 @@
 use Rattle.std.specs.Prelude.{◌≢◌, ◌↔◌, ◌==◌, nat_le, length, drop, get_or, unwrap_or}
 use Rattle.std.proofs.Common.{◌≡◌, ◌⊎◌, ℕ, true, false, if◌then◌else◌, List, [], ◌∷◌, ◌++◌, Option, Some, None, Result, Ok, Err, refl, sym, ap, ◌∙◌, subst, inl, inr}
 use Rattle.std.proofs.lemmas.Bool.{cases_Bool}
-use Rattle.nvm_core.specs.block_machine.Words.{ReqResult, Fine, RedundancyFailed, Restored, Request, Read, Write, Entry, Configuration}
-use Rattle.nvm_core.specs.block_machine.Blocks.{desc_of}
+use Rattle.nvm_moves.specs.block_machine.Words.{ReqResult, Fine, RedundancyFailed, Restored, Request, Read, Write, Entry, Configuration}
+use Rattle.nvm_moves.specs.block_machine.Blocks.{desc_of}
 use Rattle.uds_gateway.specs.declared.code.NegativeCode.{NegativeCode}
 use Rattle.uds_gateway.specs.declared.code.NegativeCode.TheVariants.{ServiceNotSupported, IncorrectLength, ConditionsNotCorrect, OutOfRange, ProgrammingFailure}
 use Rattle.uds_gateway.specs.Services.{read_service, write_service, number_of, block_by, read_of, write_of, read_by, write_by, service_in, asked_by}

@@ -4,28 +4,28 @@ use Rattle.std.specs.List.{list_all}
 use Rattle.std.proofs.Common.{◌≡◌, ◌<◌, ℕ, Bool, true, false, List, [], ◌∷◌, ◌++◌, Option, Some, None, refl, sym, ap, ◌∙◌, subst, inl, inr, arith, append-nil}
 use Rattle.std.proofs.lemmas.Bool.{and_parts}
 use Rattle.std.proofs.lemmas.List.{append_assoc}
-use Rattle.nvm_core.specs.memif.Told.{DeviceTold, Stand, Open, Ended, ops_of, nothing_open}
-use Rattle.nvm_core.specs.memif.declared.answer.JobResult.TheVariants.{JobOk, JobFailed, JobPending, JobCanceled, BlockInconsistent, BlockInvalid}
-use Rattle.nvm_core.specs.memif.Clock.{Clock}
-use Rattle.nvm_core.specs.block_machine.Words.{Mark, Request, Entry, Ask, Pick, Wrote, Post, Off, Found}
-use Rattle.nvm_core.specs.block_machine.State.{State}
-use Rattle.nvm_core.specs.block_machine.Blocks.{asked_block, job_block}
-use Rattle.nvm_core.specs.block_machine.Steps.{step}
-use Rattle.nvm_core.specs.block_machine.Next.{Next, next_of}
-use Rattle.nvm_core.specs.ram_blocks.Told.{Told}
-use Rattle.nvm_core.specs.nv_desk.Desk.{DeskState, state_of}
-use Rattle.nvm_core.specs.nv_desk_copies.Posts.{IsPostedNext}
-use Rattle.nvm_core.specs.nvm_device_laws.Turn.{wrote_by, settled_by}
-use Rattle.nvm_core.specs.Stack.{StackState, PowersOff}
-use Rattle.nvm_core.specs.BehindDevice.{TurnsDevice, asked_by}
-use Rattle.nvm_core.specs.Turns.{IsFirstHalf, IsSecondHalf, Turns}
-use Rattle.nvm_core.specs.Work as work
-use Rattle.nvm_core.specs.nvm_laws.Halves.{PostsHand}
-use Rattle.nvm_core.specs.nvm_laws.Turns.{AddsBy}
-use Rattle.nvm_core.specs.nvm_laws.declared.turned.Turned.{Turned}
-use Rattle.nvm_core.specs.nvm_laws.declared.turned.Turned.TheVariants as turned
-use Rattle.nvm_core.specs.nvm_laws.declared.turned.Act.TheVariants as act
-use Rattle.nvm_core.proofs.block_laws.HistoryLaws.{histories_step}
+use Rattle.nvm_moves.specs.memif.Told.{DeviceTold, Stand, Open, Ended, ops_of, nothing_open}
+use Rattle.nvm_moves.specs.memif.declared.answer.JobResult.TheVariants.{JobOk, JobFailed, JobPending, JobCanceled, BlockInconsistent, BlockInvalid}
+use Rattle.nvm_moves.specs.memif.Clock.{Clock}
+use Rattle.nvm_moves.specs.block_machine.Words.{Mark, Request, Entry, Ask, Pick, Wrote, Post, Off, Found}
+use Rattle.nvm_moves.specs.block_machine.State.{State}
+use Rattle.nvm_moves.specs.block_machine.Blocks.{asked_block, job_block}
+use Rattle.nvm_moves.specs.block_machine.Steps.{step}
+use Rattle.nvm_moves.specs.block_machine.Next.{Next, next_of}
+use Rattle.nvm_moves.specs.ram_blocks.Told.{Told}
+use Rattle.nvm_moves.specs.nv_desk.Desk.{DeskState, state_of}
+use Rattle.nvm_moves.specs.nv_desk_copies.Posts.{IsPostedNext}
+use Rattle.nvm_moves.specs.nvm_device_laws.Turn.{wrote_by, settled_by}
+use Rattle.nvm_moves.specs.nvm_core.Stack.{StackState, PowersOff}
+use Rattle.nvm_moves.specs.nvm_core.BehindDevice.{TurnsDevice, asked_by}
+use Rattle.nvm_moves.specs.nvm_core.Turns.{IsFirstHalf, IsSecondHalf, Turns}
+use Rattle.nvm_moves.specs.nvm_core.Work as work
+use Rattle.nvm_moves.specs.nvm_laws.Halves.{PostsHand}
+use Rattle.nvm_moves.specs.nvm_laws.Turns.{AddsBy}
+use Rattle.nvm_moves.specs.nvm_laws.declared.turned.Turned.{Turned}
+use Rattle.nvm_moves.specs.nvm_laws.declared.turned.Turned.TheVariants as turned
+use Rattle.nvm_moves.specs.nvm_laws.declared.turned.Act.TheVariants as act
+use Rattle.nvm_moves.proofs.HistoryLaws.{histories_step}
 use Rattle.uds_gateway.specs.Jobs.{HasNone, HasOne, is_under_way}
 use Rattle.uds_gateway.specs.Turning.{GoesOn, ComesTo, ComesToPost, Goes, is_on_way}
 use Rattle.uds_gateway.proofs.Jobs.{next_waiting, picks_one, writes_one, posts_none, never_rests}

@@ -3,15 +3,15 @@ use Rattle.std.specs.Prelude.{drop, find, option_map, is_some, ◌-◌}
 use Rattle.std.specs.Option.{option_map_or}
 use Rattle.std.proofs.Common.{◌≡◌, ◌+◌, ℕ, Bool, true, false, List, [], ◌∷◌, ◌++◌, Option, Some, None, if◌then◌else◌, refl, sym, ap, ◌∙◌, subst, inl, inr}
 use Rattle.std.proofs.lemmas.Bool.{cases_Bool, eq-eqb}
-use Rattle.nvm_core.specs.block_machine.Words.{ReqResult, Instance, Mark, JobKind, Taken, Request, Read, Write, Restore, Erase, Invalidate, SetIndex, GetIndex, SetProtection, SetLock, SetRam, PutRam, Status, ReadAll, WriteAll, CancelWriteAll, Reply, Accepted, Refused, Refusal, UnknownBlock, NotStarted, Ask, Pick, Wrote, Post, Configuration}
-use Rattle.nvm_core.specs.block_machine.State.{State, Job, Sweep}
-use Rattle.nvm_core.specs.block_machine.Blocks.{asked_block, job_block}
-use Rattle.nvm_core.specs.block_machine.Reply.{holds, tested, reply_of}
-use Rattle.nvm_core.specs.block_machine.Next.{Next, PickJob, Nothing, next_of}
-use Rattle.nvm_core.specs.block_machine.Results.{Answer}
-use Rattle.nvm_core.specs.block_machine.Sweeps.{after_member}
-use Rattle.nvm_core.specs.block_machine.Legal.{MayPick, MayPostNext}
-use Rattle.nvm_core.specs.block_machine.Steps.{job_at, step, picked, picked_job, wrote, posted}
+use Rattle.nvm_moves.specs.block_machine.Words.{ReqResult, Instance, Mark, JobKind, Taken, Request, Read, Write, Restore, Erase, Invalidate, SetIndex, GetIndex, SetProtection, SetLock, SetRam, PutRam, Status, ReadAll, WriteAll, CancelWriteAll, Reply, Accepted, Refused, Refusal, UnknownBlock, NotStarted, Ask, Pick, Wrote, Post, Configuration}
+use Rattle.nvm_moves.specs.block_machine.State.{State, Job, Sweep}
+use Rattle.nvm_moves.specs.block_machine.Blocks.{asked_block, job_block}
+use Rattle.nvm_moves.specs.block_machine.Reply.{holds, tested, reply_of}
+use Rattle.nvm_moves.specs.block_machine.Next.{Next, PickJob, Nothing, next_of}
+use Rattle.nvm_moves.specs.block_machine.Results.{Answer}
+use Rattle.nvm_moves.specs.block_machine.Sweeps.{after_member}
+use Rattle.nvm_moves.specs.block_machine.Legal.{MayPick, MayPostNext}
+use Rattle.nvm_moves.specs.block_machine.Steps.{job_at, step, picked, picked_job, wrote, posted}
 use Rattle.uds_gateway.specs.Jobs.{HasNone, HasOne, Waits, IsInHand, IsOwn}
 
 -- WHAT COMES NEXT

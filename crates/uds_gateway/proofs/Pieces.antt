@@ -4,16 +4,16 @@ use Rattle.std.specs.List.{list_all}
 use Rattle.std.proofs.Common.{◌≡◌, ◌<◌, ◌≤◌, ◌+◌, ℕ, Bool, true, false, List, [], ◌∷◌, ◌++◌, length, Option, Some, None, refl, sym, ap, ◌∙◌, subst, inl, inr, arith, append-nil}
 use Rattle.std.proofs.lemmas.Bool.{and_parts}
 use Rattle.std.proofs.lemmas.List.{append_assoc}
-use Rattle.nvm_core.specs.nv_desk.declared.ask.AskFault.{AskFault}
-use Rattle.nvm_core.specs.nv_desk.declared.ask.AskFault.TheVariants as fault
-use Rattle.nvm_core.specs.block_machine.Words.{ReqResult, Request, Reply, Accepted, Refused, Refusal, StatusIs, IndexIs, Entry, Ask, Pick, Wrote, Post, Off, Found, Configuration}
-use Rattle.nvm_core.specs.block_machine.State.{State}
-use Rattle.nvm_core.specs.block_machine.Blocks.{desc_of, asked_block}
-use Rattle.nvm_core.specs.block_machine.Reply.{reply_of, fits}
-use Rattle.nvm_core.specs.nv_desk.Desk.{DeskState, state_of}
-use Rattle.nvm_core.specs.Stack.{StackState}
-use Rattle.nvm_core.specs.nvm_laws.declared.turned.Turned.{Turned}
-use Rattle.nvm_core.specs.nvm_laws.declared.turned.Turned.TheVariants as turned
+use Rattle.nvm_moves.specs.nv_desk.declared.ask.AskFault.{AskFault}
+use Rattle.nvm_moves.specs.nv_desk.declared.ask.AskFault.TheVariants as fault
+use Rattle.nvm_moves.specs.block_machine.Words.{ReqResult, Request, Reply, Accepted, Refused, Refusal, StatusIs, IndexIs, Entry, Ask, Pick, Wrote, Post, Off, Found, Configuration}
+use Rattle.nvm_moves.specs.block_machine.State.{State}
+use Rattle.nvm_moves.specs.block_machine.Blocks.{desc_of, asked_block}
+use Rattle.nvm_moves.specs.block_machine.Reply.{reply_of, fits}
+use Rattle.nvm_moves.specs.nv_desk.Desk.{DeskState, state_of}
+use Rattle.nvm_moves.specs.nvm_core.Stack.{StackState}
+use Rattle.nvm_moves.specs.nvm_laws.declared.turned.Turned.{Turned}
+use Rattle.nvm_moves.specs.nvm_laws.declared.turned.Turned.TheVariants as turned
 use Rattle.uds_gateway.specs.declared.code.NegativeCode.{NegativeCode}
 use Rattle.uds_gateway.specs.declared.code.NegativeCode.TheVariants.{ConditionsNotCorrect}
 use Rattle.uds_gateway.specs.declared.stop.ServeStop.{ServeStop}

@@ -2,8 +2,8 @@
 use Rattle.std.specs.List.{list_all}
 use Rattle.std.proofs.Common.{◌≡◌, ℕ, true, false, IsTrue, List, [], ◌∷◌, ◌++◌, Some, None, Result, Ok, Err, refl, ap, ◌∙◌, inl, inr}
 use Rattle.std.proofs.lemmas.Bool.{and_parts}
-use Rattle.nvm_core.specs.block_machine.Words.{Request, Entry, Ask, Pick, Wrote, Post, Off, Found, Configuration}
-use Rattle.nvm_core.specs.block_machine.Blocks.{asked_block}
+use Rattle.nvm_moves.specs.block_machine.Words.{Request, Entry, Ask, Pick, Wrote, Post, Off, Found, Configuration}
+use Rattle.nvm_moves.specs.block_machine.Blocks.{asked_block}
 use Rattle.uds_gateway.specs.declared.code.NegativeCode.{NegativeCode}
 use Rattle.uds_gateway.specs.declared.code.NegativeCode.TheVariants.{ConditionsNotCorrect}
 use Rattle.uds_gateway.specs.Services.{asked_by}

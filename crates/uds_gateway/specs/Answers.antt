@@ -1,6 +1,6 @@
 -- The answer of a request, by the entries of its job.
 use Rattle.std.specs.Prelude.{◌≡◌, ℕ, ◌==◌, List, [], ◌∷◌, ◌++◌, take, drop, unwrap_or, if◌then◌else◌, Option, Some, None, Result, Ok, Err}
-use Rattle.nvm_core.specs.block_machine.Words.{ReqResult, Fine, RedundancyFailed, Restored, Request, Refused, Entry, Ask, Post, Configuration}
+use Rattle.nvm_moves.specs.block_machine.Words.{ReqResult, Fine, RedundancyFailed, Restored, Request, Refused, Entry, Ask, Post, Configuration}
 use Rattle.uds_gateway.specs.declared.code.NegativeCode.{NegativeCode}
 use Rattle.uds_gateway.specs.declared.code.NegativeCode.TheVariants.{ConditionsNotCorrect, ProgrammingFailure}
 use Rattle.uds_gateway.specs.declared.asked.AskedFault.{AskedFault}

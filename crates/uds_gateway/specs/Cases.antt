@@ -1,9 +1,9 @@
 -- Worked cases.
 use Rattle.std.specs.Prelude.{◌≡◌, ℕ, List, [], ◌∷◌, Some, replicate, true}
-use Rattle.nvm_core.specs.block_machine.Words.{ReqResult, Entry, ReadJob, Configuration}
-use Rattle.nvm_core.specs.block_config.Block.{plain_block}
-use Rattle.nvm_core.specs.block_config.DemoConfig.{demo_config}
-use Rattle.nvm_core.specs.block_machine.Cases.{config_of, ok, write, read, pick, pick_write, wrote, post, give, bytes_1}
+use Rattle.nvm_moves.specs.block_machine.Words.{ReqResult, Entry, ReadJob, Configuration}
+use Rattle.nvm_moves.specs.block_config.Block.{plain_block}
+use Rattle.nvm_moves.specs.block_config.DemoConfig.{demo_config}
+use Rattle.nvm_moves.specs.block_machine.Cases.{config_of, ok, write, read, pick, pick_write, wrote, post, give, bytes_1}
 use Rattle.uds_gateway.specs.Answers.{uds}
 
 -- over the demo

@@ -1,11 +1,11 @@
 -- What a request that failed tells of the flash.
 use Rattle.std.specs.Prelude.{◌≡◌, ◌⊎◌, ℕ, Bool, true, false, List, [], ◌∷◌, Contains, is_some, Option, Some}
-use Rattle.nvm_core.specs.block_machine.Words.{ReqResult, Fine, Mark, Invalid, Erased, Request, Accepted, Entry, Ask, Configuration}
-use Rattle.nvm_core.specs.block_machine.State.{State, Job}
-use Rattle.nvm_core.specs.block_machine.Blocks.{desc_of, indices_of, settled_at, asked_block, job_block}
-use Rattle.nvm_core.specs.block_machine.Results.{own_of, failed_set}
-use Rattle.nvm_core.specs.block_machine.Legal.{IsLegalFrom}
-use Rattle.nvm_core.specs.block_machine.Steps.{after_from}
+use Rattle.nvm_moves.specs.block_machine.Words.{ReqResult, Fine, Mark, Invalid, Erased, Request, Accepted, Entry, Ask, Configuration}
+use Rattle.nvm_moves.specs.block_machine.State.{State, Job}
+use Rattle.nvm_moves.specs.block_machine.Blocks.{desc_of, indices_of, settled_at, asked_block, job_block}
+use Rattle.nvm_moves.specs.block_machine.Results.{own_of, failed_set}
+use Rattle.nvm_moves.specs.block_machine.Legal.{IsLegalFrom}
+use Rattle.nvm_moves.specs.block_machine.Steps.{after_from}
 use Rattle.uds_gateway.specs.Jobs.{HasNone, IsOwn, EndsPosted}
 use Rattle.uds_gateway.specs.Codes.{is_read, gives_content}
 

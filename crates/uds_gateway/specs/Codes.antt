@@ -1,6 +1,6 @@
 -- When each negative code comes.
 use Rattle.std.specs.Prelude.{◌≡◌, ◌≢◌, ◌⊎◌, ◌↔◌, ℕ, Bool, true, false, List, Some, Result, Ok, Err}
-use Rattle.nvm_core.specs.block_machine.Words.{ReqResult, Fine, RedundancyFailed, Restored, Request, Read, Entry, Configuration}
+use Rattle.nvm_moves.specs.block_machine.Words.{ReqResult, Fine, RedundancyFailed, Restored, Request, Read, Entry, Configuration}
 use Rattle.uds_gateway.specs.declared.code.NegativeCode.{NegativeCode}
 use Rattle.uds_gateway.specs.declared.code.NegativeCode.TheVariants.{ConditionsNotCorrect, ProgrammingFailure}
 use Rattle.uds_gateway.specs.Services.{asked_by}

@@ -1,9 +1,9 @@
 -- The job of a request, from its acceptance to its Post.
 use Rattle.std.specs.Prelude.{◌≡◌, ◌⊎◌, ℕ, Bool, true, false, IsTrue, List, [], ◌∷◌, ◌++◌, Option, Some, None}
 use Rattle.std.specs.List.{list_all}
-use Rattle.nvm_core.specs.block_machine.Words.{ReqResult, Request, Read, Write, Accepted, Refused, Refusal, Entry, Ask, Pick, Wrote, Post, Off}
-use Rattle.nvm_core.specs.block_machine.State.{State, Job}
-use Rattle.nvm_core.specs.block_machine.Blocks.{asked_block}
+use Rattle.nvm_moves.specs.block_machine.Words.{ReqResult, Request, Read, Write, Accepted, Refused, Refusal, Entry, Ask, Pick, Wrote, Post, Off}
+use Rattle.nvm_moves.specs.block_machine.State.{State, Job}
+use Rattle.nvm_moves.specs.block_machine.Blocks.{asked_block}
 
 -- WHAT IS PENDING
 

@@ -1,6 +1,6 @@
 -- Requests one after another, each with the entries of its job.
 use Rattle.std.specs.Prelude.{◌≡◌, ◌⊎◌, ℕ, List, [], ◌∷◌, Result, Ok, Err}
-use Rattle.nvm_core.specs.block_machine.Words.{Request, Entry, Configuration}
+use Rattle.nvm_moves.specs.block_machine.Words.{Request, Entry, Configuration}
 use Rattle.uds_gateway.specs.declared.code.NegativeCode.{NegativeCode}
 use Rattle.uds_gateway.specs.Services.{asked_by}
 use Rattle.uds_gateway.specs.Jobs.{IsRefused, EndsPosted, EndsOff}

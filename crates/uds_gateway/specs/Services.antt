@@ -1,7 +1,7 @@
 -- The two services, and what a request asks the NVRAM Manager for (ISO 14229-1).
 use Rattle.std.specs.Prelude.{ℕ, ◌+◌, ◌*◌, ◌-◌, ◌==◌, ◌&&◌, nat_le, false, List, length, drop, get_or, if◌then◌else◌, Option, Some, None, Result, Ok, Err}
-use Rattle.nvm_core.specs.block_machine.Words.{Request, Read, Write, Configuration}
-use Rattle.nvm_core.specs.block_machine.Blocks.{desc_of}
+use Rattle.nvm_moves.specs.block_machine.Words.{Request, Read, Write, Configuration}
+use Rattle.nvm_moves.specs.block_machine.Blocks.{desc_of}
 use Rattle.uds_gateway.specs.declared.code.NegativeCode.{NegativeCode}
 use Rattle.uds_gateway.specs.declared.code.NegativeCode.TheVariants.{ServiceNotSupported, IncorrectLength, ConditionsNotCorrect, OutOfRange, ProgrammingFailure}
 

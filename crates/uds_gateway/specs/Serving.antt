@@ -1,9 +1,9 @@
 -- What `serve` adds to the history, and what it answers.
 use Rattle.std.specs.Prelude.{◌≡◌, ◌⊎◌, ◌<◌, ◌+◌, Bool, true, false, ℕ, List, [], ◌++◌, length, unwrap_or, IfOk, Some, Result, Ok, Err}
-use Rattle.nvm_core.specs.block_machine.Words.{Request, Entry, Configuration}
-use Rattle.nvm_core.specs.block_machine.Blocks.{desc_of, asked_block}
-use Rattle.nvm_core.specs.block_machine.Reply.{fits}
-use Rattle.nvm_core.specs.nv_desk.Desk.{DeskState, state_of}
+use Rattle.nvm_moves.specs.block_machine.Words.{Request, Entry, Configuration}
+use Rattle.nvm_moves.specs.block_machine.Blocks.{desc_of, asked_block}
+use Rattle.nvm_moves.specs.block_machine.Reply.{fits}
+use Rattle.nvm_moves.specs.nv_desk.Desk.{DeskState, state_of}
 use Rattle.uds_gateway.specs.declared.code.NegativeCode.{NegativeCode}
 use Rattle.uds_gateway.specs.declared.stop.ServeStop.{ServeStop}
 use Rattle.uds_gateway.specs.declared.stop.ServeStop.TheVariants.{Off, NoRoom, Memory}

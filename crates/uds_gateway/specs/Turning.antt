@@ -1,12 +1,12 @@
 -- The turns of a job, to its Post.
 use Rattle.std.specs.Prelude.{◌≡◌, ℕ, Bool, true, false, IsTrue, List, [], ◌∷◌, ◌++◌, Option}
 use Rattle.std.specs.List.{list_all}
-use Rattle.nvm_core.specs.block_machine.Words.{ReqResult, Request, Entry, Post, Off}
-use Rattle.nvm_core.specs.block_machine.State.{State}
-use Rattle.nvm_core.specs.block_machine.Blocks.{asked_block}
-use Rattle.nvm_core.specs.nv_desk.Desk.{DeskState, state_of}
-use Rattle.nvm_core.specs.nvm_laws.declared.turned.Turned.{Turned}
-use Rattle.nvm_core.specs.nvm_laws.declared.turned.Turned.TheVariants.{Idle, Worked, Picked, Posted, Off as PowerOff}
+use Rattle.nvm_moves.specs.block_machine.Words.{ReqResult, Request, Entry, Post, Off}
+use Rattle.nvm_moves.specs.block_machine.State.{State}
+use Rattle.nvm_moves.specs.block_machine.Blocks.{asked_block}
+use Rattle.nvm_moves.specs.nv_desk.Desk.{DeskState, state_of}
+use Rattle.nvm_moves.specs.nvm_laws.declared.turned.Turned.{Turned}
+use Rattle.nvm_moves.specs.nvm_laws.declared.turned.Turned.TheVariants.{Idle, Worked, Picked, Posted, Off as PowerOff}
 use Rattle.uds_gateway.specs.Jobs.{HasNone, HasOne, is_under_way}
 
 -- one job is pending, of some request

@@ -4,7 +4,7 @@ ghost use Rattle.uds_gateway.specs.Answers.{negative, content_answer, read_answe
 
 use crate::NegativeCode;
 use crate::asked::READ_SERVICE;
-use nvm_core::nv_base::{Bytes, ReqResult};
+use nvm_moves::{Bytes, ReqResult};
 use std::alloc::{AllocError, Global};
 
 /// The memory of an answer that gives so many bytes: behind the service and the identifier.

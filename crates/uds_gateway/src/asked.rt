@@ -1,13 +1,12 @@
 // What a request asks the NVRAM Manager for.
 ghost use Rattle.std.specs.Prelude.{◌≡◌, ◌<◌, ◌≤◌, length, IfOk, IfErr, OnOk, Ok};
-ghost use Rattle.nvm_core.specs.block_machine.Blocks.{desc_of};
+ghost use Rattle.nvm_moves.specs.block_machine.Blocks.{desc_of};
 ghost use Rattle.uds_gateway.specs.Services.{asked_by, block_by, read_by, write_by};
 ghost use Rattle.uds_gateway.specs.Answers.{IsWhy};
 ghost use Rattle.uds_gateway.specs.Jobs.{IsOwn};
 
 use crate::NegativeCode;
-use nvm_core::block_config::Config;
-use nvm_core::nv_base::{Request, bytes_of};
+use nvm_moves::{Config, Request, bytes_of};
 use std::alloc::{AllocError, Global};
 
 /// ReadDataByIdentifier.

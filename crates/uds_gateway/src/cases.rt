@@ -1,8 +1,8 @@
 // Worked requests with their answers, and what they aren't.
 ghost use Rattle.std.specs.Prelude.{◌≡◌, [], ◌∷◌, ◌++◌, Some, None, Ok, Err, false};
-ghost use Rattle.nvm_core.specs.block_config.DemoConfig.{demo_config};
-ghost use Rattle.nvm_core.specs.block_machine.Words.{Fine, NotOk, IntegrityFailed, Invalidated, RedundancyFailed, Restored, Protected, Off, Read, Write};
-ghost use Rattle.nvm_core.specs.block_machine.Cases.{ok, refused, write, pick_write, post, bytes_1};
+ghost use Rattle.nvm_moves.specs.block_config.DemoConfig.{demo_config};
+ghost use Rattle.nvm_moves.specs.block_machine.Words.{Fine, NotOk, IntegrityFailed, Invalidated, RedundancyFailed, Restored, Protected, Off, Read, Write};
+ghost use Rattle.nvm_moves.specs.block_machine.Cases.{ok, refused, write, pick_write, post, bytes_1};
 ghost use Rattle.uds_gateway.specs.declared.code.NegativeCode.TheVariants.{ServiceNotSupported, IncorrectLength, OutOfRange};
 ghost use Rattle.uds_gateway.specs.Services.{asked_by};
 ghost use Rattle.uds_gateway.specs.Answers.{uds};

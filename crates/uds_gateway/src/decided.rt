@@ -4,8 +4,7 @@ ghost use Rattle.uds_gateway.specs.Answers.{answer_at, answer_in, uds};
 
 use crate::answer::{answer_room, negative, posted_answer};
 use crate::{AskedFault, NegativeCode, asked_by};
-use nvm_core::block_config::Config;
-use nvm_core::nv_base::{Bytes, Entry, History, Reply};
+use nvm_moves::{Bytes, Config, Entry, History, Reply};
 use std::alloc::{AllocError, Global};
 
 /// The answer of a request, which isn't empty, by the entries of a history from one place to another: `None` where none of them

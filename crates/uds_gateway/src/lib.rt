@@ -19,12 +19,8 @@ pub use cases::{answers_by_the_table, answers_wait_for_the_post, requests_ask_fo
 pub use code::NegativeCode;
 pub use decided::piece_answer;
 pub use laws::{codes_come_by_their_cases, failures_have_causes};
-pub use nvm_core::Stack;
-pub use nvm_core::block_config::Config;
-pub use nvm_core::memif::MemDevice;
-pub use nvm_core::nv_base::{Bytes, Reply, Request};
-pub use nvm_core::nv_desk::AskFault;
-pub use nvm_core::nvm_laws::{FoundAnswer, Turned};
-pub use nvm_core::ram_blocks::PlainSync;
+pub use nvm_moves::{
+    AskFault, Bytes, Config, FoundAnswer, MemDevice, PlainSync, Reply, Request, Stack, Turned,
+};
 pub use serving::serve;
 pub use stop::ServeStop;

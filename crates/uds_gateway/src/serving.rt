@@ -1,8 +1,8 @@
 // The answer of a request, over a stack.
 ghost use Rattle.std.specs.Prelude.{◌≡◌, ◌≢◌, ◌≤◌, ◌<◌, ◌+◌, ◌++◌, ◌∷◌, ℕ, [], List, Option, length, true, Ok, IfOk, IfErr, OnOk, OnErr, vec_capacity, unwrap_or};
-ghost use Rattle.nvm_core.specs.block_machine.Words.{Entry as Line, Post, ReqResult as Posted, Request as Asked};
-ghost use Rattle.nvm_core.specs.block_machine.Blocks.{desc_of, asked_block as block_of_request};
-ghost use Rattle.nvm_core.specs.nv_desk.Desk.{state_of};
+ghost use Rattle.nvm_moves.specs.block_machine.Words.{Entry as Line, Post, ReqResult as Posted, Request as Asked};
+ghost use Rattle.nvm_moves.specs.block_machine.Blocks.{desc_of, asked_block as block_of_request};
+ghost use Rattle.nvm_moves.specs.nv_desk.Desk.{state_of};
 ghost use Rattle.uds_gateway.specs.Answers.{posted_answer as answer_of, negative as negative_of};
 ghost use Rattle.uds_gateway.specs.Jobs.{HasNone, HasOne, IsOwn};
 ghost use Rattle.uds_gateway.specs.Turning.{HasJob};
@@ -11,13 +11,9 @@ ghost use Rattle.uds_gateway.specs.Serving.{Serves, ServesBy, Finishes};
 use crate::answer::{answer_room, negative, posted_answer};
 use crate::turning::turns_to_post;
 use crate::{AskedFault, NegativeCode, ServeStop, asked_by, length_of};
-use nvm_core::Stack;
-use nvm_core::block_config::Config;
-use nvm_core::memif::MemDevice;
-use nvm_core::nv_base::{Bytes, Entry, Reply, Request};
-use nvm_core::nv_desk::AskFault;
-use nvm_core::nvm_laws::Turned;
-use nvm_core::ram_blocks::SyncCalls;
+use nvm_moves::{
+    AskFault, Bytes, Config, Entry, MemDevice, Reply, Request, Stack, SyncCalls, Turned,
+};
 use std::alloc::{AllocError, Global};
 
 /// The answer of a request, which isn't empty, over a stack of this configuration that is up and has no job pending. A request that

@@ -1,15 +1,12 @@
 // The turns of a job, to its Post.
 ghost use Rattle.std.specs.Prelude.{◌≡◌, ◌<◌, true, false};
-ghost use Rattle.nvm_core.specs.block_machine.Words.{Request};
-ghost use Rattle.nvm_core.specs.nv_desk.Desk.{state_of};
-ghost use Rattle.nvm_core.specs.Work.{work_of};
+ghost use Rattle.nvm_moves.specs.block_machine.Words.{Request};
+ghost use Rattle.nvm_moves.specs.nv_desk.Desk.{state_of};
+ghost use Rattle.nvm_moves.specs.nvm_core.Work.{work_of};
 ghost use Rattle.uds_gateway.specs.Jobs.{HasOne};
 ghost use Rattle.uds_gateway.specs.Turning.{HasJob, Goes, is_on_way};
 
-use nvm_core::Stack;
-use nvm_core::memif::MemDevice;
-use nvm_core::nvm_laws::Turned;
-use nvm_core::ram_blocks::SyncCalls;
+use nvm_moves::{MemDevice, Stack, SyncCalls, Turned};
 
 /// Makes turns until the one job that is pending is posted, or the power is off.
 pub fn turns_to_post<D: MemDevice, C: SyncCalls + Drop>(stack: &mut Stack<D, C>) -> Turned

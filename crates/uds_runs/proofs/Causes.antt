@@ -8,10 +8,10 @@ use Rattle.uds_gateway.specs.block_machine.Blocks.{desc_of, asked_block, job_kin
 use Rattle.uds_gateway.specs.block_machine.Steps.{step, after, after_from}
 use Rattle.uds_gateway.specs.block_machine.Legal.{IsLegalFrom}
 use Rattle.uds_gateway.specs.promise_blocks.Payment.{Worn}
-use Rattle.script_walks.specs.Walk.{joined}
+use Rattle.uds_gateway.specs.script_walks.Walk.{joined}
 use Rattle.promise_device.specs.Bridge.{IsWornOut}
-use Rattle.promise_run.specs.Completeness.{EachEntry, PostsWell}
-use Rattle.promise_run.specs.Promise.{making_of}
+use Rattle.uds_gateway.specs.promise_run.Completeness.{EachEntry, PostsWell}
+use Rattle.uds_gateway.specs.promise_run.Promise.{making_of}
 use Rattle.uds_gateway.specs.block_machine.StartUp.{at_first}
 use Rattle.uds_gateway.specs.declared.code.NegativeCode.TheVariants.{ServiceNotSupported, IncorrectLength, ConditionsNotCorrect, OutOfRange, ProgrammingFailure}
 use Rattle.uds_gateway.specs.declared.code.NegativeCode.{NegativeCode}

@@ -6,11 +6,11 @@ use Rattle.uds_gateway.specs.block_machine.Blocks.{asked_block}
 use Rattle.uds_gateway.specs.block_machine.Steps.{after, after_from}
 use Rattle.uds_gateway.specs.block_machine.Legal.{IsLegal}
 use Rattle.uds_gateway.specs.promise_blocks.Payment.{Worn, IsExcused}
-use Rattle.script_walks.specs.Walk.{joined}
+use Rattle.uds_gateway.specs.script_walks.Walk.{joined}
 use Rattle.promise_device.specs.Bridge.{IsWornOut}
-use Rattle.promise_run.specs.Completeness.{PostWell}
-use Rattle.promise_run.specs.Promise.{making_of}
-use Rattle.promise_run.specs.Run.{Run}
+use Rattle.uds_gateway.specs.promise_run.Completeness.{PostWell}
+use Rattle.uds_gateway.specs.promise_run.Promise.{making_of}
+use Rattle.uds_gateway.specs.promise_run.Run.{Run}
 use Rattle.uds_gateway.specs.declared.code.NegativeCode.TheVariants.{ConditionsNotCorrect, ProgrammingFailure}
 use Rattle.uds_gateway.specs.Services.{asked_by}
 use Rattle.uds_gateway.specs.Answers.{negative, uds}

@@ -4,35 +4,37 @@ use Rattle.std.proofs.lemmas.List.{take_all, take-append-drop}
 use Rattle.uds_gateway.specs.block_config.Config.{Configuration}
 use Rattle.uds_gateway.specs.declared.stop.ServeStop.{ServeStop}
 use Rattle.uds_gateway.specs.declared.stop.ServeStop.TheVariants as stop
+use Rattle.script_player.specs.Paying.{payer_at}
 use Rattle.script_player.specs.Requests.{EndsRequest, AreServedSoFar, HasServed}
 use Rattle.script_player.proofs.Served.{serves_none, serves_one, serves_all, serves_first, serves_some, next_request, one_more}
 use Rattle.script_player.proofs.requests.serve_requests.Goals as goal
 
 pub loop-i-init : goal.loop-i-init
 loop-i-init g c =
-    let p = g.S.PlayedStack.payer c.args.stack.now in
+    let p = g.S.PlayedStack.seen c.args.stack.now in
     let old = g.S.PlayedStack.told c.args.stack.now in
     record {
-      so_far = subst (λ (ns : List ℕ). AreServedSoFar p p [] ns old old) (sym c.requires.none) (serves_none p old c.requires.fresh);
+      so_far = subst (λ (ns : List ℕ). AreServedSoFar p p [] ns old old) (sym c.requires.none) (serves_none p old c.len-entries.ensures.seen c.requires.fresh);
       keeps = λ before kept. kept;
+      starts = λ found. found;
     }
 
 pub returns-then-is_err-clause-served : goal.returns-then-is_err-clause-served
 returns-then-is_err-clause-served g c =
-    let p = g.S.PlayedStack.payer c.args.stack.now in
-    let q = g.S.PlayedStack.payer c.loop-i.stack in
+    let p = g.S.PlayedStack.seen c.args.stack.now in
+    let q = g.S.PlayedStack.seen c.loop-i.stack in
     let old = g.S.PlayedStack.told c.args.stack.now in
     let now = g.S.PlayedStack.told c.loop-i.stack in
     let xs = c.args.requests.now in
     let i = c.loop-i.i in
-    subst (λ (ns : List ℕ). HasServed p q xs ns (Err stop.Memory) old now) (sym c.reserve.ensures.items)
+    subst (λ (ns : List ℕ). HasServed (payer_at old p) (payer_at now q) xs ns (Err stop.Memory) old now) (sym c.reserve.ensures.items)
     (serves_some p q xs (take i xs) (drop i xs) c.loop-i.counts.items old now (sym (take-append-drop i xs)) c.loop-i.invariant.so_far)
 
 pub returns-in-Err-clause-served : goal.returns-in-Err-clause-served
 returns-in-Err-clause-served g c =
-    let p = g.S.PlayedStack.payer c.args.stack.now in
-    let q = g.S.PlayedStack.payer c.loop-i.stack in
-    let r = g.S.PlayedStack.payer c.serve_request.new.stack in
+    let p = g.S.PlayedStack.seen c.args.stack.now in
+    let q = g.S.PlayedStack.seen c.loop-i.stack in
+    let r = g.S.PlayedStack.seen c.serve_request.new.stack in
     let old = g.S.PlayedStack.told c.args.stack.now in
     let mid = g.S.PlayedStack.told c.loop-i.stack in
     let new = g.S.PlayedStack.told c.serve_request.new.stack in
@@ -41,16 +43,16 @@ returns-in-Err-clause-served g c =
     let x = c.as_slice.result.now in
     let at = c.as_slice.ensures ∙ c.index-requests-i.is in
     let ends = c.serve_request.ensures.ends c.args.stack.now c.loop-i.invariant.so_far.serving in
-    subst (λ (ns : List ℕ). HasServed p r xs ns (Err c.in-Err.stop) old new) (sym c.reserve.ensures.items)
+    subst (λ (ns : List ℕ). HasServed (payer_at old p) (payer_at new r) xs ns (Err c.in-Err.stop) old new) (sym c.reserve.ensures.items)
     (serves_first p q r c.in-Err.stop xs (take i xs) (drop (i + 1) xs) x c.loop-i.counts.items old mid new (next_request xs i x c.index-requests-i.result c.loop-i-test.true at) c.loop-i.invariant.so_far
     (subst (λ (d : Configuration). EndsRequest d x p r (Err c.in-Err.stop) old mid new) (sym c.requires.configuration)
     (subst (λ (e : Result (Unit {0}) ServeStop). EndsRequest c.args.config.now x p r e old mid new) c.in-Err.is ends)))
 
 pub loop-i-preserved : goal.loop-i-preserved
 loop-i-preserved g c =
-    let p = g.S.PlayedStack.payer c.args.stack.now in
-    let q = g.S.PlayedStack.payer c.loop-i.stack in
-    let r = g.S.PlayedStack.payer c.serve_request.new.stack in
+    let p = g.S.PlayedStack.seen c.args.stack.now in
+    let q = g.S.PlayedStack.seen c.loop-i.stack in
+    let r = g.S.PlayedStack.seen c.serve_request.new.stack in
     let old = g.S.PlayedStack.told c.args.stack.now in
     let mid = g.S.PlayedStack.told c.loop-i.stack in
     let new = g.S.PlayedStack.told c.serve_request.new.stack in
@@ -65,18 +67,19 @@ loop-i-preserved g c =
     (subst (λ (e : Result (Unit {0}) ServeStop). EndsRequest c.args.config.now x p r e old mid new) c.in_default.is ends)) in
     let pushed : c.push_reserved.new.self.items ≡ c.loop-i.counts.items ++ (length new.entries - length mid.entries) ∷ [] =
     c.push_reserved.ensures.items ∙ ap (λ (ns : List ℕ). ns ++ (c.len.result - c.len-before.result) ∷ []) c.reserve.ensures.items
-    ∙ ap (λ (n : ℕ). c.loop-i.counts.items ++ (n - c.len-before.result) ∷ []) c.len.ensures ∙ ap (λ (n : ℕ). c.loop-i.counts.items ++ (length new.entries - n) ∷ []) c.len-before.ensures in
+    ∙ ap (λ (n : ℕ). c.loop-i.counts.items ++ (n - c.len-before.result) ∷ []) c.len.ensures.count ∙ ap (λ (n : ℕ). c.loop-i.counts.items ++ (length new.entries - n) ∷ []) c.len-before.ensures.count in
     record {
       so_far =
           subst (λ (ns : List ℕ). AreServedSoFar p r (take (i + 1) xs) ns old new) (sym pushed)
           (subst (λ (rs : List (List ℕ)). AreServedSoFar p r rs (c.loop-i.counts.items ++ (length new.entries - length mid.entries) ∷ []) old new) (one_more xs i x c.index-requests-i.result c.loop-i-test.true at) one);
       keeps = λ before kept. c.serve_request.ensures.keeps before (c.loop-i.invariant.keeps before kept);
+      starts = λ found. c.serve_request.ensures.starts (c.loop-i.invariant.starts found);
     }
 
 pub returns-clause-served : goal.returns-clause-served
 returns-clause-served g c =
-    let p = g.S.PlayedStack.payer c.args.stack.now in
-    let q = g.S.PlayedStack.payer c.loop-i.stack in
+    let p = g.S.PlayedStack.seen c.args.stack.now in
+    let q = g.S.PlayedStack.seen c.loop-i.stack in
     let old = g.S.PlayedStack.told c.args.stack.now in
     let now = g.S.PlayedStack.told c.loop-i.stack in
     let xs = c.args.requests.now in

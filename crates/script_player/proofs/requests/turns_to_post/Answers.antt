@@ -12,9 +12,10 @@ loop-turned-init g c =
     let new = g.S.PlayedStack.told c.turn-turned.new.self in
     record {
       ready = ready_grown old new c.turn-turned.ensures.turns.made.entries c.turn-turned.ensures.turns.made.grows c.requires.ready;
-      turns = λ before kept. first_turn (g.S.PlayedStack.payer c.args.stack.now) (g.S.PlayedStack.payer c.turn-turned.new.self) c.turn-turned.result before old new c.turn-turned.ensures.turns c.turn-turned.ensures.pays kept;
+      turns = λ before kept. first_turn (g.S.PlayedStack.seen c.args.stack.now) (g.S.PlayedStack.seen c.turn-turned.new.self) c.turn-turned.result before old new c.turn-turned.ensures.turns c.turn-turned.ensures.moved kept;
       goes = c.turn-turned.ensures.goes;
       keeps = c.turn-turned.ensures.keeps;
+      starts = c.turn-turned.ensures.starts;
     }
 
 pub loop-turned-smaller : goal.loop-turned-smaller
@@ -35,10 +36,11 @@ loop-turned-preserved g c =
     record {
       ready = ready_grown old new turns.made.entries turns.made.grows c.loop-turned.invariant.ready;
       turns = λ before kept.
-          more_turns (g.S.PlayedStack.payer c.args.stack.now) (g.S.PlayedStack.payer c.loop-turned.stack) (g.S.PlayedStack.payer c.turn-turned-in-loop-turned.new.self) c.turn-turned-in-loop-turned.result before first old new
-          (c.loop-turned.invariant.turns before kept) turns c.turn-turned-in-loop-turned.ensures.pays;
+          more_turns (g.S.PlayedStack.seen c.args.stack.now) (g.S.PlayedStack.seen c.loop-turned.stack) (g.S.PlayedStack.seen c.turn-turned-in-loop-turned.new.self) c.turn-turned-in-loop-turned.result before first old new
+          (c.loop-turned.invariant.turns before kept) turns c.turn-turned-in-loop-turned.ensures.moved;
       goes = λ asked one.
           let on = on_way asked c.loop-turned.turned (desk_of first) (desk_of old) (sym c.is_on_way.ensures ∙ c.loop-turned-test.true) (c.loop-turned.invariant.goes asked one) in
           goes_more asked c.turn-turned-in-loop-turned.result (desk_of first) (desk_of old) (desk_of new) on (c.turn-turned-in-loop-turned.ensures.goes asked on.one);
       keeps = λ before kept. c.turn-turned-in-loop-turned.ensures.keeps before (c.loop-turned.invariant.keeps before kept);
+      starts = λ found. c.turn-turned-in-loop-turned.ensures.starts (c.loop-turned.invariant.starts found);
     }

@@ -3,7 +3,7 @@ use Rattle.uds_gateway.specs.block_machine.Words.{Request}
 use Rattle.uds_gateway.specs.memif.Told.{Part, PartTold}
 use Rattle.uds_gateway.specs.Jobs.{HasOne}
 use Rattle.uds_gateway.specs.Turning.{Goes, is_on_way}
-use Rattle.script_walks.specs.Words.{Step}
+use Rattle.uds_gateway.specs.script_walks.Words.{Step}
 use Rattle.script_player.specs.Told.{state_of, desk_of}
 use Rattle.script_player.specs.Kept.{IsKept}
 use Rattle.script_player.proofs.Served.{TurnsSome}
@@ -12,9 +12,10 @@ use Rattle.script_player.proofs.requests.turns_to_post.Given as goal
 abbrev pub invariant-loop-turned : goal.invariant-loop-turned
 invariant-loop-turned g l = record {
   ready : (g.S.PlayedStack.told l.stack).ready ≡ true;
-  turns : (before : List Step) → IsKept before (g.S.PlayedStack.told l.fn.stack) → TurnsSome (g.S.PlayedStack.payer l.fn.stack) (g.S.PlayedStack.payer l.stack) before (g.S.PlayedStack.told l.fn.stack) (g.S.PlayedStack.told l.stack);
+  turns : (before : List Step) → IsKept before (g.S.PlayedStack.told l.fn.stack) → TurnsSome (g.S.PlayedStack.seen l.fn.stack) (g.S.PlayedStack.seen l.stack) before (g.S.PlayedStack.told l.fn.stack) (g.S.PlayedStack.told l.stack);
   goes : (asked : Request) → HasOne asked (state_of (g.S.PlayedStack.told l.fn.stack)) → Goes asked l.turned (desk_of (g.S.PlayedStack.told l.fn.stack)) (desk_of (g.S.PlayedStack.told l.stack));
   keeps : (before : Part → PartTold) → g.S.PlayedStack.kept l.fn.stack before → g.S.PlayedStack.kept l.stack before;
+  starts : g.S.PlayedStack.starts_found l.fn.stack → g.S.PlayedStack.starts_found l.stack;
 }
 
 abbrev pub decreases-loop-turned : goal.decreases-loop-turned

@@ -2,7 +2,6 @@ use Rattle.std.proofs.Common.{subst}
 use Rattle.uds_gateway.specs.block_machine.Words.{Request, Ask}
 use Rattle.script_player.specs.Calls.{AddsAsk}
 use Rattle.script_player.specs.Made.{IsAsked}
-use Rattle.script_player.proofs.Paying.{nothing_pays}
 use Rattle.script_player.proofs.steps.ask.Goals as goal
 
 pub returns-in-Ok-clause-asked : goal.returns-in-Ok-clause-asked
@@ -12,12 +11,4 @@ returns-in-Ok-clause-asked g c =
     let asked : IsAsked c.args.caller c.args.request c.args.stores.now old new = λ before has. (
       c.in-Ok._reply,
       subst (λ (r : Request). AddsAsk (Ask c.args.caller r c.in-Ok._reply) old new) (c.request_with.ensures.after old.configuration before has c.requires.played) c.in-Ok.ensures.asks,
-    ) in (asked, (c.ask.ensures.pays, c.in-Ok.ensures.urgent))
-
-pub returns-in-Err-NoRoom-clause-owes : goal.returns-in-Err-NoRoom-clause-owes
-returns-in-Err-NoRoom-clause-owes g c =
-    nothing_pays (g.S.PlayedStack.payer c.args.stack.now) (g.S.PlayedStack.payer c.ask.new.self) (g.S.PlayedStack.told c.args.stack.now) (g.S.PlayedStack.told c.ask.new.self) c.in-Err-NoRoom.ensures.pays
-
-pub returns-in-Err-Memory-clause-owes : goal.returns-in-Err-Memory-clause-owes
-returns-in-Err-Memory-clause-owes g c =
-    nothing_pays (g.S.PlayedStack.payer c.args.stack.now) (g.S.PlayedStack.payer c.ask.new.self) (g.S.PlayedStack.told c.args.stack.now) (g.S.PlayedStack.told c.ask.new.self) c.in-Err-Memory.ensures.pays
+    ) in (asked, c.in-Ok.ensures.moved)

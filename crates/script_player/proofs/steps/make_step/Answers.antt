@@ -1,7 +1,7 @@
 use Rattle.std.proofs.Common.{ℕ, List, ◌++◌, ◌∷◌, [], refl, sym, ◌∙◌, subst}
 use Rattle.nvm_script.specs.declared.step.StepKind.{StepKind}
 use Rattle.nvm_script.specs.declared.step.StepKind.TheVariants as kind
-use Rattle.script_walks.specs.Words.{Step}
+use Rattle.uds_gateway.specs.script_walks.Words.{Step}
 use Rattle.nvm_script.specs.Played.{CanBePlayed}
 use Rattle.script_player.specs.Calls.{Stores}
 use Rattle.script_player.specs.Made.{Makes, IsLeft}
@@ -16,8 +16,8 @@ returns-in-Ask-clause-made g c =
     let new = g.S.PlayedStack.told c.ask.new.stack in
     let x = c.args.step in
     on_ok c.ask.result c.ask.ensures.asked (λ asked.
-    step_made (g.S.PlayedStack.payer c.args.stack.now) (g.S.PlayedStack.payer c.ask.new.stack) x (kind.Ask c.in-Ask.request) c.args.stores.now old new c.in-Ask.is refl (λ before has kept.
-    ask_made (g.S.PlayedStack.payer c.args.stack.now) (g.S.PlayedStack.payer c.ask.new.stack) before x.line x.caller c.in-Ask.request c.args.stores.now old new
+    step_made (g.S.PlayedStack.seen c.args.stack.now) (g.S.PlayedStack.seen c.ask.new.stack) x (kind.Ask c.in-Ask.request) c.args.stores.now old new c.in-Ask.is refl (λ before has kept.
+    ask_made (g.S.PlayedStack.seen c.args.stack.now) (g.S.PlayedStack.seen c.ask.new.stack) before x.line x.caller c.in-Ask.request c.args.stores.now old new
     (subst (λ (k : StepKind). CanBePlayed old.configuration k) c.in-Ask.is c.requires.played.kind) asked.0 asked.1 has kept))
 
 pub returns-in-Ask-clause-left : goal.returns-in-Ask-clause-left
@@ -31,25 +31,25 @@ returns-in-Turn-clause-made g c =
     let old = g.S.PlayedStack.told c.args.stack.now in
     let new = g.S.PlayedStack.told c.make_turns.new.stack in
     let x = c.args.step in
-    step_made (g.S.PlayedStack.payer c.args.stack.now) (g.S.PlayedStack.payer c.make_turns.new.stack) x (kind.Turn c.in-Turn.count) c.args.stores.now old new c.in-Turn.is refl (λ before has kept.
+    step_made (g.S.PlayedStack.seen c.args.stack.now) (g.S.PlayedStack.seen c.make_turns.new.stack) x (kind.Turn c.in-Turn.count) c.args.stores.now old new c.in-Turn.is refl (λ before has kept.
     let (made, now) = c.make_turns.ensures.turns before kept in
-    turns_made (g.S.PlayedStack.payer c.args.stack.now) (g.S.PlayedStack.payer c.make_turns.new.stack) before x.line x.caller c.in-Turn.count old new (subst (λ (k : StepKind). CanBePlayed old.configuration k) c.in-Turn.is c.requires.played.kind) made now)
+    turns_made (g.S.PlayedStack.seen c.args.stack.now) (g.S.PlayedStack.seen c.make_turns.new.stack) before x.line x.caller c.in-Turn.count old new (subst (λ (k : StepKind). CanBePlayed old.configuration k) c.in-Turn.is c.requires.played.kind) made now)
 
 pub returns-in-Drain-clause-made : goal.returns-in-Drain-clause-made
 returns-in-Drain-clause-made g c =
     let old = g.S.PlayedStack.told c.args.stack.now in
     let new = g.S.PlayedStack.told c.drain.new.stack in
-    step_made (g.S.PlayedStack.payer c.args.stack.now) (g.S.PlayedStack.payer c.drain.new.stack) c.args.step kind.Drain c.args.stores.now old new c.in-Drain.is refl (λ before has kept.
+    step_made (g.S.PlayedStack.seen c.args.stack.now) (g.S.PlayedStack.seen c.drain.new.stack) c.args.step kind.Drain c.args.stores.now old new c.in-Drain.is refl (λ before has kept.
     let (made, now) = c.drain.ensures.drains before kept in
-    drain_made (g.S.PlayedStack.payer c.args.stack.now) (g.S.PlayedStack.payer c.drain.new.stack) before c.args.step.line c.args.step.caller old new made c.drain.ensures.at_rest now)
+    drain_made (g.S.PlayedStack.seen c.args.stack.now) (g.S.PlayedStack.seen c.drain.new.stack) before c.args.step.line c.args.step.caller old new made c.drain.ensures.at_rest now)
 
 pub returns-in-Restart-clause-made : goal.returns-in-Restart-clause-made
 returns-in-Restart-clause-made g c =
     let old = g.S.PlayedStack.told c.args.stack.now in
     let new = g.S.PlayedStack.told c.restart.new.stack in
     on_ok c.restart.result c.restart.ensures.made (λ restarted.
-    step_made (g.S.PlayedStack.payer c.args.stack.now) (g.S.PlayedStack.payer c.restart.new.stack) c.args.step kind.Restart c.args.stores.now old new c.in-Restart.is refl (λ before has kept.
-    restart_made (g.S.PlayedStack.payer c.args.stack.now) (g.S.PlayedStack.payer c.restart.new.stack) before c.args.step.line c.args.step.caller old new restarted.0 restarted.1 kept))
+    step_made (g.S.PlayedStack.seen c.args.stack.now) (g.S.PlayedStack.seen c.restart.new.stack) c.args.step kind.Restart c.args.stores.now old new c.in-Restart.is refl (λ before has kept.
+    restart_made (g.S.PlayedStack.seen c.args.stack.now) (g.S.PlayedStack.seen c.restart.new.stack) before c.args.step.line c.args.step.caller old new restarted.0 restarted.1 kept))
 
 pub returns-in-Restart-clause-left : goal.returns-in-Restart-clause-left
 returns-in-Restart-clause-left g c =
@@ -59,11 +59,11 @@ returns-in-Restart-clause-left g c =
 
 pub returns-in-Cut-clause-made : goal.returns-in-Cut-clause-made
 returns-in-Cut-clause-made g c =
-    arm_made (g.S.PlayedStack.payer c.args.stack.now) (g.S.PlayedStack.payer c.arm.new.self) c.args.step c.in-Cut.nth c.in-Cut.keep c.args.stores.now (g.S.PlayedStack.told c.args.stack.now) (g.S.PlayedStack.told c.arm.new.self) c.in-Cut.is c.arm.ensures.arms c.arm.ensures.pays
+    arm_made (g.S.PlayedStack.seen c.args.stack.now) (g.S.PlayedStack.seen c.arm.new.self) c.args.step c.in-Cut.nth c.in-Cut.keep c.args.stores.now (g.S.PlayedStack.told c.args.stack.now) (g.S.PlayedStack.told c.arm.new.self) c.in-Cut.is c.arm.ensures.arms c.arm.ensures.moved
 
 pub returns-in-Refuse-clause-made : goal.returns-in-Refuse-clause-made
 returns-in-Refuse-clause-made g c =
-    refuse_made (g.S.PlayedStack.payer c.args.stack.now) (g.S.PlayedStack.payer c.refuse.new.self) c.args.step c.in-Refuse.block c.in-Refuse.count c.args.stores.now (g.S.PlayedStack.told c.args.stack.now) (g.S.PlayedStack.told c.refuse.new.self) c.in-Refuse.is c.refuse.ensures.refuses c.refuse.ensures.pays
+    refuse_made (g.S.PlayedStack.seen c.args.stack.now) (g.S.PlayedStack.seen c.refuse.new.self) c.args.step c.in-Refuse.block c.in-Refuse.count c.args.stores.now (g.S.PlayedStack.told c.args.stack.now) (g.S.PlayedStack.told c.refuse.new.self) c.in-Refuse.is c.refuse.ensures.refuses c.refuse.ensures.moved
 
 pub returns-in-Store-clause-made : goal.returns-in-Store-clause-made
 returns-in-Store-clause-made g c =
@@ -77,10 +77,10 @@ returns-in-Store-clause-made g c =
     let sync = is_sync old.configuration block _ can in
     let within = is_within old.configuration block _ can in
     let stored = subst (λ (bytes : List ℕ). Stores block bytes number old new) c.as_slice.ensures c.store-number.ensures.stores in
-    at_kind (λ (y : Step). Makes (g.S.PlayedStack.payer c.args.stack.now) (g.S.PlayedStack.payer c.store-number.new.self) y c.args.stores.now c.note.new.self old new) x (kind.Store block content) c.in-Store.is
+    at_kind (λ (y : Step). Makes (g.S.PlayedStack.seen c.args.stack.now) (g.S.PlayedStack.seen c.store-number.new.self) y c.args.stores.now c.note.new.self old new) x (kind.Store block content) c.in-Store.is
     (λ before few kept has.
     let numbered = stored.numbered ∙ next_store old.configuration before block _ few (kept.stores block sync).number in (
-      store_made (g.S.PlayedStack.payer c.args.stack.now) (g.S.PlayedStack.payer c.store-number.new.self) before x.line x.caller block number content old new sync within few stored c.store-number.ensures.pays kept,
+      store_made (g.S.PlayedStack.seen c.args.stack.now) (g.S.PlayedStack.seen c.store-number.new.self) before x.line x.caller block number content old new sync within few stored c.store-number.ensures.moved kept,
       subst (λ (table : List ℕ). HasLastStores old.configuration (before ++ record { line = x.line; caller = x.caller; kind = kind.Store block content } ∷ []) table) (sym c.note.ensures)
           (noted_table old.configuration before x.line x.caller block number content c.args.stores.now c.requires.played.caller sync within numbered has),
     ))

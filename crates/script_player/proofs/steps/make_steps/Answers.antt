@@ -9,14 +9,15 @@ use Rattle.script_player.proofs.Walking.{is_played, none_made, begin, go_on, all
 use Rattle.script_player.proofs.steps.make_steps.Goals as goal
 
 pub returns-in_default-clause-some : goal.returns-in_default-clause-some
-returns-in_default-clause-some g c = none_made (g.S.PlayedStack.payer c.args.stack.now) c.args.steps (g.S.PlayedStack.told c.args.stack.now) c.requires.fresh
+returns-in_default-clause-some g c = none_made (g.S.PlayedStack.seen c.args.stack.now) c.args.steps (g.S.PlayedStack.told c.args.stack.now) c.len-entries.ensures.seen c.requires.fresh
 
 pub loop-step-init : goal.loop-step-init
 loop-step-init g c = record {
   order = sym (c.into_iter-step-iterator.ensures.into_iter_gives.0 ∙ c.into_steps-step-items.ensures.steps);
   left = search rules;
-  way = begin (g.S.PlayedStack.payer c.args.stack.now) c.args.blocks c.in-Ok.stores (g.S.PlayedStack.told c.args.stack.now) c.requires.fresh c.requires.blocks c.in-Ok.ensures;
+  way = begin (g.S.PlayedStack.seen c.args.stack.now) c.args.blocks c.in-Ok.stores (g.S.PlayedStack.told c.args.stack.now) c.len-entries.ensures.seen c.requires.fresh c.requires.blocks c.in-Ok.ensures;
   keeps = λ before kept. kept;
+  starts = λ found. found;
 }
 
 pub make_step-requires : goal.make_step-requires
@@ -38,18 +39,19 @@ loop-step-preserved g c =
     record {
       order = order ∙ sym (append_assoc at.yielded (c.in-Some.step ∷ []) _);
       left = let few = at.invariant.left in let gone = c.in-Some.ensures.steps.1 in let short = ap length more in omega (arith, few, gone, short);
-      way = go_on (g.S.PlayedStack.payer c.args.stack.now) (g.S.PlayedStack.payer at.stack) (g.S.PlayedStack.payer c.make_step.new.stack) c.args.steps at.yielded _ c.in-Some.step at.stores c.make_step.new.stores (g.S.PlayedStack.told c.args.stack.now) (g.S.PlayedStack.told at.stack) (g.S.PlayedStack.told c.make_step.new.stack) order c.into_steps-step-items.ensures.few c.requires.planned at.invariant.way c.in_default-make_step.ensures.made;
+      way = go_on (g.S.PlayedStack.seen c.args.stack.now) (g.S.PlayedStack.seen at.stack) (g.S.PlayedStack.seen c.make_step.new.stack) c.args.steps at.yielded _ c.in-Some.step at.stores c.make_step.new.stores (g.S.PlayedStack.told c.args.stack.now) (g.S.PlayedStack.told at.stack) (g.S.PlayedStack.told c.make_step.new.stack) order c.into_steps-step-items.ensures.few c.requires.planned at.invariant.way c.in_default-make_step.ensures.made;
       keeps = λ before kept. c.make_step.ensures.keeps before (at.invariant.keeps before kept);
+      starts = λ found. c.make_step.ensures.starts (at.invariant.starts found);
     }
 
 pub returns-in-Err-clause-some : goal.returns-in-Err-clause-some
 returns-in-Err-clause-some g c =
     let at = c.loop-step in
-    some_made (g.S.PlayedStack.payer c.args.stack.now) (g.S.PlayedStack.payer at.stack) (g.S.PlayedStack.payer c.make_step.new.stack) c.in-Err.fault c.args.steps at.yielded _ c.in-Some.step at.stores (g.S.PlayedStack.told c.args.stack.now) (g.S.PlayedStack.told at.stack) (g.S.PlayedStack.told c.make_step.new.stack) (at.invariant.order ∙ ap (λ (xs : List Step). at.yielded ++ xs) c.in-Some.ensures.steps.0) at.invariant.way c.in-Err.ensures.left c.in-Err.ensures.owes
+    some_made (g.S.PlayedStack.seen c.args.stack.now) (g.S.PlayedStack.seen at.stack) (g.S.PlayedStack.seen c.make_step.new.stack) c.in-Err.fault c.args.steps at.yielded _ c.in-Some.step at.stores (g.S.PlayedStack.told c.args.stack.now) (g.S.PlayedStack.told at.stack) (g.S.PlayedStack.told c.make_step.new.stack) (at.invariant.order ∙ ap (λ (xs : List Step). at.yielded ++ xs) c.in-Some.ensures.steps.0) at.invariant.way c.in-Err.ensures.left c.in-Err.ensures.lasts
 
 pub returns-clause-all : goal.returns-clause-all
 returns-clause-all g c =
     let at = c.loop-step in
     let none : into_iter_items at.step-iterator ≡ [] = nil_from_length _ (sym at.invariant.left ∙ c.in-None.ensures.steps.0) in
-    all_made (g.S.PlayedStack.payer c.args.stack.now) (g.S.PlayedStack.payer at.stack) c.args.steps at.yielded at.stores (g.S.PlayedStack.told c.args.stack.now) (g.S.PlayedStack.told at.stack)
+    all_made (g.S.PlayedStack.seen c.args.stack.now) (g.S.PlayedStack.seen at.stack) c.args.steps at.yielded at.stores (g.S.PlayedStack.told c.args.stack.now) (g.S.PlayedStack.told at.stack)
     (sym (at.invariant.order ∙ ap (λ (xs : List Step). at.yielded ++ xs) none ∙ append-nil at.yielded)) at.invariant.way

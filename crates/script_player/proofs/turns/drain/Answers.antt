@@ -6,7 +6,7 @@ use Rattle.script_player.proofs.Turned.{turn_kept, turned_more, none_turned, dra
 use Rattle.script_player.proofs.turns.drain.Goals as goal
 
 pub loop-init : goal.loop-init
-loop-init g c = record { ready = c.requires; counted = omega arith; kept = λ before kept. ([], none_turned before (g.S.PlayedStack.told c.args.stack.now) kept, ([], none_moved (g.S.PlayedStack.payer c.args.stack.now) (g.S.PlayedStack.told c.args.stack.now)), kept); keeps = λ before kept. kept }
+loop-init g c = record { ready = c.requires; counted = omega arith; kept = λ before kept. ([], none_turned before (g.S.PlayedStack.told c.args.stack.now) kept, ([], none_moved (g.S.PlayedStack.seen c.args.stack.now) (g.S.PlayedStack.told c.args.stack.now)), kept); keeps = λ before kept. kept; starts = λ found. found }
 
 pub loop-preserved : goal.loop-preserved
 loop-preserved g c =
@@ -22,12 +22,13 @@ loop-preserved g c =
                 one,
             (
               ms ++ move_to c.ends_drain.ensures.turn.entries (g.S.PlayedStack.told c.ends_drain.new.stack) ∷ [],
-              made_more (g.S.PlayedStack.payer c.args.stack.now) (g.S.PlayedStack.payer c.loop.stack) (g.S.PlayedStack.payer c.ends_drain.new.stack) (g.S.PlayedStack.told c.args.stack.now) (g.S.PlayedStack.told c.loop.stack) (g.S.PlayedStack.told c.ends_drain.new.stack) es c.ends_drain.ensures.turn.entries ms (move_to c.ends_drain.ensures.turn.entries (g.S.PlayedStack.told c.ends_drain.new.stack) ∷ []) turned.grows moved
-                  (turn_moved (g.S.PlayedStack.payer c.loop.stack) (g.S.PlayedStack.payer c.ends_drain.new.stack) (g.S.PlayedStack.told c.loop.stack) (g.S.PlayedStack.told c.ends_drain.new.stack) c.ends_drain.ensures.turn c.ends_drain.ensures.pays),
+              made_more (g.S.PlayedStack.seen c.args.stack.now) (g.S.PlayedStack.seen c.loop.stack) (g.S.PlayedStack.seen c.ends_drain.new.stack) (g.S.PlayedStack.told c.args.stack.now) (g.S.PlayedStack.told c.loop.stack) (g.S.PlayedStack.told c.ends_drain.new.stack) es c.ends_drain.ensures.turn.entries ms (move_to c.ends_drain.ensures.turn.entries (g.S.PlayedStack.told c.ends_drain.new.stack) ∷ []) turned.grows moved
+                  (turn_moved (g.S.PlayedStack.seen c.loop.stack) (g.S.PlayedStack.seen c.ends_drain.new.stack) (g.S.PlayedStack.told c.loop.stack) (g.S.PlayedStack.told c.ends_drain.new.stack) c.ends_drain.ensures.turn c.ends_drain.ensures.moved),
             ),
             then_kept,
           );
       keeps = λ before kept. c.ends_drain.ensures.keeps before (was.keeps before kept);
+      starts = λ found. c.ends_drain.ensures.starts (was.starts found);
     }
 
 pub returns-clause-ready : goal.returns-clause-ready
@@ -45,8 +46,8 @@ returns-clause-drains g c before kept =
     let (one, then_kept) = turn_kept before (g.S.PlayedStack.told c.loop.stack) (g.S.PlayedStack.told c.ends_drain.new.stack) c.ends_drain.ensures.turn now in
     let all = turned_more before (g.S.PlayedStack.told c.args.stack.now) (g.S.PlayedStack.told c.loop.stack) (g.S.PlayedStack.told c.ends_drain.new.stack) es c.ends_drain.ensures.turn.entries turned
     one in (
-      drained (g.S.PlayedStack.payer c.args.stack.now) (g.S.PlayedStack.payer c.ends_drain.new.stack) before (g.S.PlayedStack.told c.args.stack.now) (g.S.PlayedStack.told c.ends_drain.new.stack) (es ++ c.ends_drain.ensures.turn.entries) (ms ++ move_to c.ends_drain.ensures.turn.entries (g.S.PlayedStack.told c.ends_drain.new.stack) ∷ []) all
-          (made_more (g.S.PlayedStack.payer c.args.stack.now) (g.S.PlayedStack.payer c.loop.stack) (g.S.PlayedStack.payer c.ends_drain.new.stack) (g.S.PlayedStack.told c.args.stack.now) (g.S.PlayedStack.told c.loop.stack) (g.S.PlayedStack.told c.ends_drain.new.stack) es c.ends_drain.ensures.turn.entries ms (move_to c.ends_drain.ensures.turn.entries (g.S.PlayedStack.told c.ends_drain.new.stack) ∷ []) turned.grows moved
-          (turn_moved (g.S.PlayedStack.payer c.loop.stack) (g.S.PlayedStack.payer c.ends_drain.new.stack) (g.S.PlayedStack.told c.loop.stack) (g.S.PlayedStack.told c.ends_drain.new.stack) c.ends_drain.ensures.turn c.ends_drain.ensures.pays)) (c.ends_drain.ensures.ends c.loop-test.false),
+      drained (g.S.PlayedStack.seen c.args.stack.now) (g.S.PlayedStack.seen c.ends_drain.new.stack) before (g.S.PlayedStack.told c.args.stack.now) (g.S.PlayedStack.told c.ends_drain.new.stack) (es ++ c.ends_drain.ensures.turn.entries) (ms ++ move_to c.ends_drain.ensures.turn.entries (g.S.PlayedStack.told c.ends_drain.new.stack) ∷ []) all
+          (made_more (g.S.PlayedStack.seen c.args.stack.now) (g.S.PlayedStack.seen c.loop.stack) (g.S.PlayedStack.seen c.ends_drain.new.stack) (g.S.PlayedStack.told c.args.stack.now) (g.S.PlayedStack.told c.loop.stack) (g.S.PlayedStack.told c.ends_drain.new.stack) es c.ends_drain.ensures.turn.entries ms (move_to c.ends_drain.ensures.turn.entries (g.S.PlayedStack.told c.ends_drain.new.stack) ∷ []) turned.grows moved
+          (turn_moved (g.S.PlayedStack.seen c.loop.stack) (g.S.PlayedStack.seen c.ends_drain.new.stack) (g.S.PlayedStack.told c.loop.stack) (g.S.PlayedStack.told c.ends_drain.new.stack) c.ends_drain.ensures.turn c.ends_drain.ensures.moved)) (c.ends_drain.ensures.ends c.loop-test.false),
       then_kept,
     )

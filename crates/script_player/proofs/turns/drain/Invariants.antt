@@ -1,8 +1,8 @@
 use Rattle.std.proofs.Common.{◌≡◌, ◌≤◌, true, List}
 use Rattle.uds_gateway.specs.block_machine.Words.{Entry}
 use Rattle.uds_gateway.specs.memif.Told.{Part, PartTold}
-use Rattle.script_walks.specs.Words.{Step}
-use Rattle.promise_run.specs.Turns.{Move}
+use Rattle.uds_gateway.specs.script_walks.Words.{Step}
+use Rattle.uds_gateway.specs.promise_run.Turns.{Move}
 use Rattle.script_player.specs.Kept.{IsKept, HasTurned, AreMade}
 use Rattle.script_player.proofs.turns.drain.Given as goal
 
@@ -12,8 +12,9 @@ invariant-loop g l = record {
   counted : (g.S.PlayedStack.told l.initial.stack).faults ≤ (g.S.PlayedStack.told l.stack).faults;
   kept : (before : List Step) → IsKept before (g.S.PlayedStack.told l.initial.stack)
       → (es : List Entry) × HasTurned before (g.S.PlayedStack.told l.initial.stack) (g.S.PlayedStack.told l.stack) es
-      × ((ms : List Move) × AreMade (g.S.PlayedStack.payer l.initial.stack) (g.S.PlayedStack.payer l.stack) es ms (g.S.PlayedStack.told l.initial.stack) (g.S.PlayedStack.told l.stack)) × IsKept before (g.S.PlayedStack.told l.stack);
+      × ((ms : List Move) × AreMade (g.S.PlayedStack.seen l.initial.stack) (g.S.PlayedStack.seen l.stack) es ms (g.S.PlayedStack.told l.initial.stack) (g.S.PlayedStack.told l.stack)) × IsKept before (g.S.PlayedStack.told l.stack);
   keeps : (before : Part → PartTold) → g.S.PlayedStack.kept l.initial.stack before → g.S.PlayedStack.kept l.stack before;
+  starts : g.S.PlayedStack.starts_found l.initial.stack → g.S.PlayedStack.starts_found l.stack;
 }
 
 abbrev pub decreases-loop : goal.decreases-loop

@@ -1,9 +1,9 @@
 use Rattle.std.specs.Prelude.{vec_capacity}
 use Rattle.std.proofs.Common.{◌≤◌, ◌+◌, ℕ, ap, ◌∙◌, subst}
-use Rattle.nvm_core.specs.block_machine.Blocks.{desc_of}
-use Rattle.nvm_core.specs.block_machine.Reply.{fits}
-use Rattle.nvm_core.specs.nv_desk.Desk.{state_of}
-use Rattle.nvm_core.specs.Stack.{StackState}
+use Rattle.nvm_moves.specs.block_machine.Blocks.{desc_of}
+use Rattle.nvm_moves.specs.block_machine.Reply.{fits}
+use Rattle.nvm_moves.specs.nv_desk.Desk.{state_of}
+use Rattle.nvm_moves.specs.nvm_core.Stack.{StackState}
 use Rattle.uds_gateway.proofs.Pieces.{asked_one, asked_serves, has_room}
 use Rattle.uds_gateway.proofs.serving.ask.Goals as goal
 

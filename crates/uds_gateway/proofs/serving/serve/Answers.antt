@@ -1,6 +1,6 @@
 use Rattle.std.specs.Prelude.{Result}
 use Rattle.std.proofs.Common.{sym, subst}
-use Rattle.nvm_core.specs.block_machine.Words.{Request}
+use Rattle.nvm_moves.specs.block_machine.Words.{Request}
 use Rattle.uds_gateway.specs.declared.code.NegativeCode.{NegativeCode}
 use Rattle.uds_gateway.specs.declared.asked.AskedFault.{AskedFault}
 use Rattle.uds_gateway.specs.Services.{asked_by}

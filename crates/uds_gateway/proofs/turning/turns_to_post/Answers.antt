@@ -1,5 +1,5 @@
 use Rattle.std.proofs.Common.{sym, ◌∙◌}
-use Rattle.nvm_core.specs.Work.{work_of}
+use Rattle.nvm_moves.specs.nvm_core.Work.{work_of}
 use Rattle.uds_gateway.specs.Turning.{is_on_way}
 use Rattle.uds_gateway.proofs.JobTurns.{goes_more, on_way, turns_fall}
 use Rattle.uds_gateway.proofs.turning.turns_to_post.Goals as goal

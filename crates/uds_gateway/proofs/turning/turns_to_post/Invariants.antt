@@ -1,7 +1,7 @@
 use Rattle.std.proofs.Common.{◌≡◌, ◌+◌, true, if◌then◌else◌}
-use Rattle.nvm_core.specs.block_machine.Words.{Request}
-use Rattle.nvm_core.specs.nv_desk.Desk.{state_of}
-use Rattle.nvm_core.specs.Work.{work_of}
+use Rattle.nvm_moves.specs.block_machine.Words.{Request}
+use Rattle.nvm_moves.specs.nv_desk.Desk.{state_of}
+use Rattle.nvm_moves.specs.nvm_core.Work.{work_of}
 use Rattle.uds_gateway.specs.Jobs.{HasOne}
 use Rattle.uds_gateway.specs.Turning.{Goes, is_on_way}
 use Rattle.uds_gateway.proofs.turning.turns_to_post.Given as goal

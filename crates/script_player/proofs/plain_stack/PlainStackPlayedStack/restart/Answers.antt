@@ -1,5 +1,7 @@
-use Rattle.std.proofs.Common.{rules, ◌≡◌, Bool, true, false, List, Option, sym, ap, subst, inl}
-use Rattle.uds_gateway.specs.memif.Told.{DeviceTold, Part, PartTold}
+use Rattle.std.proofs.Common.{rules, ◌≡◌, Bool, true, false, List, [], ◌∷◌, Option, Some, sym, ap, subst, inl, ◌∙◌}
+use Rattle.uds_gateway.specs.memif.Told.{DeviceTold, Part, PartTold, ops_of}
+use Rattle.uds_gateway.specs.memif.Trials.{Lasts}
+use Rattle.uds_gateway.specs.block_machine.Words.{Entry, Found}
 use Rattle.uds_gateway.specs.memif.Clock.{Clock}
 use Rattle.uds_gateway.specs.memif.Calls.{InOrder}
 use Rattle.uds_gateway.specs.promise_blocks.OverDevice.{HasStarted}
@@ -10,16 +12,20 @@ use Rattle.uds_gateway.specs.nvm_device_laws.Turn.{TellsSlots}
 use Rattle.uds_gateway.specs.nvm_laws.Keeps.{StackKeepsAsTold}
 use Rattle.uds_gateway.specs.nvm_laws.declared.turned.FoundAnswer.{FoundAnswer}
 use Rattle.uds_gateway.specs.nvm_laws.declared.turned.FoundAnswer.TheVariants as found
-use Rattle.uds_gateway.specs.nvm_core.Stack.{StackState}
+use Rattle.uds_gateway.specs.nvm_core.Stack.{StackState, PowersOff}
 use Rattle.uds_gateway.specs.nvm_core.StartUps.{DownKeepsAsTold, Restarts, StartsKeep}
 use Rattle.uds_gateway.specs.block_laws.Laws.{EntriesAreCounted, HistoriesGoOn, HistoriesStep, SumsGrow}
 use Rattle.uds_gateway.proofs.HistoryLaws.{entries_are_counted, histories_go_on, histories_step, sums_grow}
 use Rattle.script_player.specs.Calls as calls
-use Rattle.script_player.specs.Paying.{StartPays}
+use Rattle.uds_gateway.specs.nvm_moves.Moved.{MovesBy}
+use Rattle.uds_gateway.proofs.StackMoves.{stack_starts}
+use Rattle.script_player.specs.Paying.{StartMoves}
+use Rattle.script_player.specs.Told.{moment_of}
 use Rattle.script_player.specs.PlainTold.{told_by}
-use Rattle.script_player.specs.PlainKept.{IsKept}
-use Rattle.script_player.specs.PlainPaying.{payer_by}
-use Rattle.script_player.proofs.PlainPaying.{restart_paid, restart_tells}
+use Rattle.script_player.specs.PlainKept.{IsKept, AreStartsFound}
+use Rattle.script_player.specs.PlainPaying.{seen_by}
+use Rattle.script_player.proofs.PlainPaying.{fails_last, restart_tells, same_entry, same_last}
+use Rattle.script_player.proofs.PlainStarts.{restart_starts}
 use Rattle.script_player.proofs.plain_stack.PlainStackPlayedStack.restart.Goals as goal
 
 -- whatever the last start-up came to, a further one has what it needs
@@ -69,16 +75,29 @@ returns-clause-keeps g c before kept =
     (subst (λ (t : StackState g.row.D.Denot (List PlainBlock)). IsKept t.ready before t.desk t.hand (told t.device) (clock t.device)) (sym c.self.view_is) kept)
     c.restart-answer.result c.restart-answer.ensures.restarts c.restart-answer.ensures.keeps
 
-pub returns-clause-pays : goal.returns-clause-pays
-returns-clause-pays g c =
+-- as it is seen
+restart_moves : {D : Type 0} (told : D → DeviceTold) (clock : D → Clock) (old new : StackState D (List PlainBlock)) → ((before : Part → PartTold) → IsKept old.ready before old.desk old.hand (told old.device) (clock old.device) → IsKept new.ready before new.desk new.hand (told new.device) (clock new.device))
+    → Lasts (told old.device) (clock old.device) (told new.device) (clock new.device) → InOrder (told new.device) (clock new.device) → (new.ready ≡ true → PowersOff new.desk (told new.device)) → (answer : FoundAnswer) → Restarts told answer old new
+    → StartMoves answer (seen_by told clock old) (seen_by told clock new) (told_by told old) (told_by told new)
+restart_moves told clock old new keeps lasts order power found.Ready restarts = λ e grows.
+    let entry = Found restarts.marks (ops_of (told new.device)) in
+    subst (λ (x : Entry). MovesBy false (record { entry = Some x; behind = moment_of (told_by told new) } ∷ []) (seen_by told clock old) (seen_by told clock new)) (same_entry old.desk.entries new.desk.entries entry e (ap (λ (s : StackState _ (List PlainBlock)). s.desk.entries) restarts.only) grows)
+    (stack_starts told clock old new (λ (before : Part → PartTold). IsKept old.ready before old.desk old.hand (told old.device) (clock old.device)) (λ (before : Part → PartTold). IsKept new.ready before new.desk new.hand (told new.device) (clock new.device)) keeps restarts order
+    lasts (restart_tells told clock old new found.Ready restarts) (power (ap (λ (s : StackState _ (List PlainBlock)). s.ready) restarts.only)))
+restart_moves told clock old new keeps lasts order power found.Failed restarts = fails_last told clock old new lasts restarts
+restart_moves told clock old new keeps lasts order power found.NoRoom restarts = same_last told clock old new restarts.0
+restart_moves told clock old new keeps lasts order power found.Memory restarts = same_last told clock old new restarts
+
+pub returns-clause-moved : goal.returns-clause-moved
+returns-clause-moved g c =
     let s = c.self.inside.stack in
     let new = c.restart-answer.new.self in
     let told = g.D.MemDevice.told in
     let clock = g.D.MemDevice.clock in
-    subst (λ (t : StackState g.row.D.Denot (List PlainBlock)). StartPays c.restart-answer.result (payer_by told clock t) (payer_by told clock new) (told_by told t) (told_by told new)) c.self.view_is
-    (restart_paid told clock s new
+    subst (λ (t : StackState g.row.D.Denot (List PlainBlock)). StartMoves c.restart-answer.result (seen_by told clock t) (seen_by told clock new) (told_by told t) (told_by told new)) c.self.view_is
+    (restart_moves told clock s new
     (λ before kept. restart_keeps told clock before s new (c.restart-answer.ensures.down before) kept c.restart-answer.result c.restart-answer.ensures.restarts c.restart-answer.ensures.keeps)
-    c.restart-answer.ensures.lasts (subst (λ (x : g.row.D.Denot). InOrder (told x) (clock x)) c.device-behind.ensures.device c.status-status.ensures.order) c.device-behind.ensures.tied c.restart-answer.result c.restart-answer.ensures.restarts)
+    c.restart-answer.ensures.lasts (subst (λ (x : g.row.D.Denot). InOrder (told x) (clock x)) c.device-behind.ensures.device c.status-status.ensures.order) c.device-behind.ensures.power c.restart-answer.result c.restart-answer.ensures.restarts)
 
 -- what is told of it, by what it came to
 restarts_told : {D : Type 0} (told : D → DeviceTold) (old new : StackState D (List PlainBlock)) (answer : FoundAnswer) → Restarts told answer old new → calls.Restarts answer (told_by told old) (told_by told new)
@@ -104,3 +123,12 @@ returns-clause-restarts g c =
     let told = g.D.MemDevice.told in
     subst (λ (t : StackState g.row.D.Denot (List PlainBlock)). calls.Restarts c.restart-answer.result (told_by told t) (told_by told c.restart-answer.new.self)) c.self.view_is
     (restarts_told told c.self.inside.stack c.restart-answer.new.self c.restart-answer.result c.restart-answer.ensures.restarts)
+
+pub returns-clause-starts : goal.returns-clause-starts
+returns-clause-starts g c ready found =
+    let s = c.self.inside.stack in
+    let new = c.restart-answer.new.self in
+    let told = g.D.MemDevice.told in
+    let clock = g.D.MemDevice.clock in
+    restart_starts told clock s new c.restart-answer.result c.restart-answer.ensures.restarts (ap (λ (t : StackState g.row.D.Denot (List PlainBlock)). t.ready) c.self.view_is ∙ ready)
+    (subst (λ (t : StackState g.row.D.Denot (List PlainBlock)). AreStartsFound t.ready t.desk (told t.device)) (sym c.self.view_is) found)

@@ -1,9 +1,14 @@
 use Rattle.std.specs.Prelude.{map}
-use Rattle.std.proofs.Common.{◌≡◌, List, length, sym, subst, Some}
+use Rattle.std.proofs.Common.{◌≡◌, false, List, [], length, sym, subst, Some}
 use Rattle.uds_gateway.specs.ram_blocks.declared.plain_block.PlainBlock.{PlainBlock}
 use Rattle.uds_gateway.specs.ram_blocks.Plain.{told_of}
 use Rattle.nvm_script.specs.Rules.{sync_length_of}
 use Rattle.uds_gateway.specs.nvm_core.Stack.{StackState}
+use Rattle.uds_gateway.specs.memif.Told.{Part, PartTold}
+use Rattle.uds_gateway.specs.nvm_moves.Moved.{MovesBy}
+use Rattle.uds_gateway.proofs.StackMoves.{stack_stays}
+use Rattle.script_player.specs.PlainKept.{IsKept}
+use Rattle.script_player.specs.PlainPaying.{seen_by}
 use Rattle.script_player.specs.Calls.{Stores}
 use Rattle.script_player.specs.PlainTold.{told_by}
 use Rattle.script_player.proofs.PlainCopies.{may_store}
@@ -24,3 +29,13 @@ returns-clause-stores g c =
     subst (λ (t : StackState g.row.D.Denot (List PlainBlock)). Stores c.args.block c.args.content.now c.store.result (told_by g.D.MemDevice.told t) (told_by g.D.MemDevice.told c.store.new.self)) c.self.view_is
     (subst (λ (t : StackState g.row.D.Denot (List PlainBlock)). Stores c.args.block c.args.content.now c.store.result (told_by g.D.MemDevice.told s) (told_by g.D.MemDevice.told t)) (sym c.store.ensures.stored)
     (stores c.args.block c.store.result c.args.content.now s.desk s.hand s.copies s.ready (g.D.MemDevice.told s.device) synchronized c.store.ensures.number))
+
+pub returns-clause-moved : goal.returns-clause-moved
+returns-clause-moved g c =
+    let s = c.self.inside.stack in
+    let new = c.store.new.self in
+    let told = g.D.MemDevice.told in
+    let clock = g.D.MemDevice.clock in
+    subst (λ (t : StackState g.row.D.Denot (List PlainBlock)). MovesBy false [] (seen_by told clock t) (seen_by told clock new)) c.self.view_is
+    (stack_stays told clock s new (λ (before : Part → PartTold). IsKept s.ready before s.desk s.hand (told s.device) (clock s.device)) (λ (before : Part → PartTold). IsKept new.ready before new.desk new.hand (told new.device) (clock new.device))
+    (λ before kept. subst (λ (t : StackState g.row.D.Denot (List PlainBlock)). IsKept t.ready before t.desk t.hand (told t.device) (clock t.device)) (sym c.store.ensures.stored) kept) _ c.store.ensures.stored)

@@ -1,22 +1,24 @@
-use Rattle.std.proofs.Common.{◌≡◌, List, sym, subst, ap, ◌∙◌, inl, inr}
+use Rattle.std.proofs.Common.{◌≡◌, true, List, sym, subst, ap, ◌∙◌, inl, inr}
 use Rattle.uds_gateway.specs.block_machine.Words.{Request}
 use Rattle.uds_gateway.specs.ram_blocks.declared.plain_block.PlainBlock.{PlainBlock}
 use Rattle.uds_gateway.specs.memif.Told.{Part, PartTold}
 use Rattle.uds_gateway.specs.memif.Calls.{InOrder}
 use Rattle.uds_gateway.specs.nvm_core.Stack.{StackState}
-use Rattle.script_player.specs.PlainKept.{IsKept}
+use Rattle.script_player.specs.PlainKept.{IsKept, AreStartsFound}
 use Rattle.script_player.specs.Calls.{Turns}
-use Rattle.script_player.specs.Paying.{PaysTurn}
-use Rattle.script_player.specs.Told.{state_of, desk_of}
+use Rattle.script_player.specs.Paying.{TurnMoves}
+use Rattle.script_player.specs.Told.{state_of, desk_of, StackTold}
 use Rattle.uds_gateway.specs.Jobs.{HasOne}
 use Rattle.uds_gateway.specs.Turning.{Goes}
 use Rattle.uds_gateway.proofs.JobTurns.{turn_goes}
 use Rattle.script_player.proofs.Served.{goes_told}
-use Rattle.script_player.specs.PlainPaying.{payer_by}
-use Rattle.script_player.proofs.PlainPaying.{keeps_by, turn_paid, turned_ready}
+use Rattle.script_player.specs.PlainPaying.{seen_by}
+use Rattle.uds_gateway.proofs.StackMoves.{stack_turns, turned_ready}
+use Rattle.script_player.proofs.PlainPaying.{keeps_by, up_moves}
 use Rattle.script_player.specs.PlainTold.{told_by}
 use Rattle.script_player.proofs.PlainHalves.{IsBehind, ended}
 use Rattle.script_player.proofs.PlainBehind.{behind_device}
+use Rattle.script_player.proofs.PlainStarts.{turn_starts}
 use Rattle.script_player.proofs.plain_stack.PlainStackPlayedStack.turn.Goals as goal
 
 pub returns-clause-turns : goal.returns-clause-turns
@@ -42,20 +44,20 @@ returns-clause-turns g c =
           (behind (more.2.ready ∙ more.1.ready))
     ])
 
-pub returns-clause-pays : goal.returns-clause-pays
-returns-clause-pays g c =
+pub returns-clause-moved : goal.returns-clause-moved
+returns-clause-moved g c =
     let s = c.self.inside.stack in
     let new = c.turn-turned.new.self in
     let told = g.D.MemDevice.told in
     let clock = g.D.MemDevice.clock in
+    let is = c.turn-turned.ensures in
     let ready = ap (λ (t : StackState g.row.D.Denot (List PlainBlock)). t.ready) c.self.view_is ∙ c.requires in
-    subst (λ (t : StackState g.row.D.Denot (List PlainBlock)). PaysTurn (payer_by told clock t) (payer_by told clock new) (told_by told t) (told_by told new)) c.self.view_is
-    (turn_paid told clock s new
-    (keeps_by s.ready new.ready s.desk new.desk s.hand new.hand (told s.device) (told new.device) (clock s.device) (clock new.device) ready (turned_ready told clock s new c.turn-turned.result c.turn-turned.ensures.turns) c.turn-turned.ensures.keeps)
-    c.turn-turned.ensures.keeps.told c.turn-turned.ensures.lasts c.turn-turned.result c.turn-turned.ensures.turns c.turn-turned.ensures.due (c.device-device.ensures.tied ready) (c.device-device.ensures.power ready)
-    (c.device-behind.ensures.power (turned_ready told clock s new c.turn-turned.result c.turn-turned.ensures.turns ∙ ready)) (subst (λ (x : g.row.D.Denot). InOrder (told x) (clock x)) c.device-behind.ensures.device c.status-status.ensures.order)
-    (subst (λ (t : StackState g.row.D.Denot (List PlainBlock)). Turns c.turn-turned.result (told_by told t) (told_by told new)) (sym c.self.view_is) (returns-clause-turns g c)).made ready c.turn-turned.ensures.pays
-    c.turn-turned.ensures.seals c.turn-turned.ensures.kept)
+    let up : new.ready ≡ true = turned_ready told clock _ _ _ c.turn-turned.result s new is.turns ∙ ready in
+    subst (λ (t : StackState g.row.D.Denot (List PlainBlock)). TurnMoves (seen_by told clock t) (seen_by told clock new) (told_by told t) (told_by told new)) c.self.view_is
+    (let (e, adds, moves) =
+    stack_turns told clock _ _ _ c.turn-turned.result s new is.turns ready is.keeps is.counted is.left is.lasts is.pays is.due is.seals is.kept (c.device-device.ensures.tied ready) c.device-behind.ensures.tied c.device-behind.ensures.power
+    (subst (λ (x : g.row.D.Denot). InOrder (told x) (clock x)) c.device-device.ensures.device c.status-before.ensures.order) (subst (λ (x : g.row.D.Denot). InOrder (told x) (clock x)) c.device-behind.ensures.device c.status-status.ensures.order) in
+    (e, adds, up_moves told clock _ s new ready up moves))
 
 pub returns-clause-keeps : goal.returns-clause-keeps
 returns-clause-keeps g c =
@@ -65,7 +67,7 @@ returns-clause-keeps g c =
     let clock = g.D.MemDevice.clock in
     let ready = ap (λ (t : StackState g.row.D.Denot (List PlainBlock)). t.ready) c.self.view_is ∙ c.requires in
     subst (λ (t : StackState g.row.D.Denot (List PlainBlock)). (before : Part → PartTold) → IsKept t.ready before t.desk t.hand (told t.device) (clock t.device) → IsKept new.ready before new.desk new.hand (told new.device) (clock new.device)) c.self.view_is
-    (keeps_by s.ready new.ready s.desk new.desk s.hand new.hand (told s.device) (told new.device) (clock s.device) (clock new.device) ready (turned_ready told clock s new c.turn-turned.result c.turn-turned.ensures.turns) c.turn-turned.ensures.keeps)
+    (keeps_by s.ready new.ready s.desk new.desk s.hand new.hand (told s.device) (told new.device) (clock s.device) (clock new.device) ready (turned_ready told clock _ _ _ c.turn-turned.result s new c.turn-turned.ensures.turns) c.turn-turned.ensures.keeps)
 
 pub returns-clause-goes : goal.returns-clause-goes
 returns-clause-goes g c =
@@ -75,4 +77,14 @@ returns-clause-goes g c =
     let ready = ap (λ (t : StackState g.row.D.Denot (List PlainBlock)). t.ready) c.self.view_is ∙ c.requires in
     subst (λ (t : StackState g.row.D.Denot (List PlainBlock)). (asked : Request) → HasOne asked (state_of (told_by told t)) → Goes asked c.turn-turned.result (desk_of (told_by told t)) (desk_of (told_by told new))) c.self.view_is
     (λ asked one. goes_told asked c.turn-turned.result s.desk new.desk
-    (turn_goes told g.D.MemDevice.clock _ _ _ s new asked one c.turn-turned.result (c.device-behind.ensures.power (turned_ready told g.D.MemDevice.clock s new c.turn-turned.result c.turn-turned.ensures.turns ∙ ready)) c.turn-turned.ensures.turns))
+    (turn_goes told g.D.MemDevice.clock _ _ _ s new asked one c.turn-turned.result (c.device-behind.ensures.power (turned_ready told g.D.MemDevice.clock _ _ _ c.turn-turned.result s new c.turn-turned.ensures.turns ∙ ready)) c.turn-turned.ensures.turns))
+
+pub returns-clause-starts : goal.returns-clause-starts
+returns-clause-starts g c =
+    let s = c.self.inside.stack in
+    let new = c.turn-turned.new.self in
+    let told = g.D.MemDevice.told in
+    let clock = g.D.MemDevice.clock in
+    let made = (subst (λ (t : StackState g.row.D.Denot (List PlainBlock)). Turns c.turn-turned.result (told_by told t) (told_by told new)) (sym c.self.view_is) (returns-clause-turns g c)).made in
+    subst (λ (t : StackState g.row.D.Denot (List PlainBlock)). AreStartsFound t.ready t.desk (told t.device) → AreStartsFound new.ready new.desk (told new.device)) c.self.view_is
+    (turn_starts told clock s new c.turn-turned.result c.turn-turned.ensures.turns (turned_ready told clock _ _ _ c.turn-turned.result s new c.turn-turned.ensures.turns) s.desk.config _ _ made.entries made.turn.entry (ap (λ (t : StackTold). t.entries) made.grows))

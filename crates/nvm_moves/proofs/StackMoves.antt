@@ -1,0 +1,271 @@
+-- The calls of a stack of one's own, as moves.
+use Rattle.std.specs.Prelude.{◌||◌, min, if◌then◌else◌}
+use Rattle.std.proofs.Common.{◌≡◌, ◌⊎◌, inl, inr, ℕ, ◌+◌, ◌≤◌, Bool, true, false, List, [], ◌∷◌, ◌++◌, Option, Some, None, refl, sym, ap, ◌∙◌, subst, arith}
+use Rattle.std.proofs.lemmas.Bool.{cases_Bool}
+use Rattle.nvm_core.specs.nv_base.Count.{last_count}
+use Rattle.nvm_core.specs.memif.Told.{DeviceTold, Fixed, Part, PartTold, Stand, Open, Ended as EndedJob, armed, faults_of, is_off, is_open, most_open, ops_of}
+use Rattle.nvm_core.specs.memif.Clock.{Clock, Seals}
+use Rattle.nvm_core.specs.memif.Calls.{Arms, FreesReady, InOrder, IsSealing}
+use Rattle.nvm_core.specs.memif.Trials.{Lasts}
+use Rattle.nvm_core.proofs.memif.Turning.{same_clock, same_lasts, same_told}
+use Rattle.nvm_core.specs.block_machine.Words.{Request, Reply, Entry, Ask, Found}
+use Rattle.nvm_core.specs.block_machine.State.{State}
+use Rattle.nvm_core.proofs.block_laws.HistoryLaws.{histories_step}
+use Rattle.nvm_core.specs.ram_blocks.Told.{Told}
+use Rattle.nvm_core.specs.nv_desk.Desk.{DeskState, state_of}
+use Rattle.nvm_core.specs.job_progress.Hand.{HandState}
+use Rattle.nvm_core.specs.nvm_device_laws.Turn.{TellsSlots}
+use Rattle.nvm_core.specs.nvm_laws.Due.{IsDue}
+use Rattle.nvm_core.specs.nvm_laws.DueCalls.{KeepsDue, TurnServesDue}
+use Rattle.nvm_core.specs.nvm_laws.DueLaws.{with_entries}
+use Rattle.nvm_core.specs.nvm_laws.Keeps.{StaysKept}
+use Rattle.nvm_core.specs.nvm_laws.Ties.{IsTied}
+use Rattle.nvm_core.specs.nvm_laws.Traits.{KeepsSeal, TakesKeptInHand}
+use Rattle.nvm_core.specs.nvm_laws.declared.turned.Turned.{Turned}
+use Rattle.nvm_core.specs.nvm_laws.declared.turned.Turned.TheVariants as turned
+use Rattle.nvm_core.specs.nvm_laws.declared.turned.Act.TheVariants.{Ended}
+use Rattle.nvm_core.specs.DeviceWork.{IsSimple, costs_in, work_in}
+use Rattle.nvm_core.specs.Due.{now_of}
+use Rattle.nvm_core.specs.DueWrites.{IsDueFor, free_turns}
+use Rattle.nvm_core.specs.JobNumbers.{IsOfBlock}
+use Rattle.nvm_core.specs.Operations.{left_on}
+use Rattle.nvm_core.specs.Paying.{TurnPays, worn_so_far}
+use Rattle.nvm_core.specs.Stack.{StackState, PowersOff}
+use Rattle.nvm_core.specs.StartUps.{StartsUp}
+use Rattle.nvm_core.specs.Turns as core
+use Rattle.nvm_core.specs.Turns.{IsFirstHalf}
+use Rattle.nvm_core.specs.Work.{left_with, TakesTurns}
+use Rattle.nvm_core.proofs.DeviceWork.{none_some}
+use Rattle.nvm_core.proofs.StartWork.{start_leaves}
+use Rattle.nvm_core.proofs.TurnWork.{closed_tries}
+use Rattle.nvm_core.proofs.TurnedBehind.{has_turned}
+use Rattle.nvm_core.specs.promise_blocks.Work.{has_risen}
+use Rattle.promise_run.specs.Turns.{Moment, Move, entry_list}
+use Rattle.nvm_moves.specs.Seen.{Seen, IsOn, moment_by, moment_seen, seen_as, seen_in, work_seen}
+use Rattle.nvm_moves.specs.Served.{MayGoOn, turns_beside}
+use Rattle.nvm_moves.specs.Worked.{HadPages, KeepsToWork}
+use Rattle.nvm_moves.specs.Moved.{MovesBy}
+use Rattle.nvm_moves.proofs.AskedBlocks.{ask_leaves_power}
+use Rattle.nvm_moves.proofs.DueAsked.{one_served}
+use Rattle.nvm_moves.proofs.Halves.{as_turn, turn_is_told}
+use Rattle.nvm_moves.proofs.Moved.{ask_moves, start_moves, still_moves, turn_moves}
+use Rattle.nvm_moves.proofs.Servable.{roomy}
+
+-- A TURN
+one_off : (a b : Bool) → a ≡ true → (a || b) ≡ true
+one_off true b off = refl
+one_off false b off = cc off
+
+-- where the power is off behind a call the machine's is
+stays_on : (desk : DeskState) (old new : DeviceTold) → new.fixed ≡ old.fixed → PowersOff desk new → old.fixed.two ≡ false → IsOn desk new
+stays_on desk old new fixed power one = record { one = ap (λ (f : Fixed). f.two) fixed ∙ one; power = λ off. power (one_off new.first.off new.second.off off) }
+
+module _ {D C : Type 0} (told : D → DeviceTold) (clock : D → Clock) (copies : C → List Told) (is_store : C → ℕ → ℕ → List ℕ → Type 0) (looked : C → C → ℕ → ℕ → Type 0) where
+  pub turned_ready : (answer : Turned) (old new : StackState D C) → core.Turns told clock copies is_store looked answer old new → new.ready ≡ old.ready
+  turned_ready answer old new (inl half) = half.ready
+  turned_ready answer old new (inr (between, half, rest)) = rest.ready ∙ half.ready
+
+  turned_fixed : (answer : Turned) (old new : StackState D C) → core.Turns told clock copies is_store looked answer old new → (told new.device).fixed ≡ (told old.device).fixed
+  turned_fixed answer old new (inl half) = ap (λ (d : DeviceTold). d.fixed) half.device
+  turned_fixed answer old new (inr (between, half, rest)) =
+      let (a, is) = as_turn answer (told between.device) (clock between.device) (told new.device) (clock new.device) rest.turns in
+      (has_turned a (told between.device) (clock between.device) (told new.device) (clock new.device) is).fixed ∙ ap (λ (d : DeviceTold). d.fixed) half.device
+
+  went_off : (answer : Turned) (old new : StackState D C) → answer ≡ turned.Off → IsFirstHalf told copies is_store looked (Ended answer) old new → PowersOff new.desk (told new.device) → (state_of old.desk).off ≡ true
+  went_off answer old new is half power =
+      let off = (subst (λ (a : Turned). IsFirstHalf told copies is_store looked (Ended a) old new) is half).half in
+      ap (λ (d : DeskState). (state_of d).off) (sym off.0.0) ∙ power off.1
+
+  -- it is one move, with the entry that it added, if any
+  pub stack_turns : (answer : Turned) (old new : StackState D C) → core.Turns told clock copies is_store looked answer old new → old.ready ≡ true → StaysKept old.desk old.hand (told old.device) (clock old.device) new.desk new.hand (told new.device) (clock new.device)
+      → faults_of (told old.device) ≤ faults_of (told new.device) → TakesTurns told answer old new → Lasts (told old.device) (clock old.device) (told new.device) (clock new.device) → TurnPays told clock old new
+      → TurnServesDue (now_of told old) (now_of told new) → KeepsSeal (told old.device) (clock old.device) (told new.device) (clock new.device) → TakesKeptInHand old.desk (told old.device) (told new.device) (clock new.device)
+      → IsTied old.desk old.hand (told old.device) → (new.ready ≡ true → IsTied new.desk new.hand (told new.device)) → (new.ready ≡ true → PowersOff new.desk (told new.device)) → InOrder (told old.device) (clock old.device) → InOrder (told new.device) (clock new.device)
+      → (e : Option Entry) × (new.desk.entries ≡ old.desk.entries ++ entry_list e) × MovesBy false (record { entry = e; behind = moment_by None (told new.device) } ∷ []) (seen_in told clock old) (seen_in told clock new)
+  stack_turns answer old new turns ready keeps counted left lasts pays due seals kept tied tied_new power order order_new =
+      let up : new.ready ≡ true = turned_ready answer old new turns ∙ ready in
+      let is =
+      turn_is_told told clock copies is_store looked old new (IsOn old.desk (told old.device)) (IsOn new.desk (told new.device)) (λ on. stays_on new.desk (told old.device) (told new.device) (turned_fixed answer old new turns) (power up) on.one) keeps answer turns counted lasts pays kept
+      (λ half off. went_off answer old new off half (power up)) left tied (tied_new up).paired seals due order order_new (λ on. on) (λ on. on) in
+      (is.entry, ap (λ (d : DeskState). d.entries) is.adds, turn_moves (seen_in told clock old) (seen_in told clock new) false is)
+
+-- OTHER CALLS
+-- a plan changes nothing else
+record IsAlike (old new : DeviceTold) : Type 0 where
+  off : is_off new ≡ is_off old
+  ops : new.ops ≡ old.ops
+  sealing : IsSealing old → IsSealing new
+
+armed_alike : (nth keep : ℕ) (d : DeviceTold) → IsAlike d (armed 0 nth keep d)
+armed_alike nth keep d = record { off = refl; ops = refl; sealing = λ is. record { switching = is.switching; ready = is.ready } }
+
+arms_keep_seal : (nth keep : ℕ) (old : DeviceTold) (clock : Clock) (new : DeviceTold) (clock_new : Clock) → Arms 0 nth keep old clock new clock_new → KeepsSeal old clock new clock_new
+arms_keep_seal nth keep old clock new clock_new (is, stays) since sealed on k later last few seals =
+    let alike = armed_alike nth keep old in
+    let ops : new.ops ≡ old.ops = ap (λ (d : DeviceTold). d.ops) is ∙ alike.ops in
+    subst IsSealing (sym is) (alike.sealing (sealed (sym (ap is_off is ∙ alike.off) ∙ on) k later (omega (arith, ops, last)) (omega (arith, ops, few)) ((stays.same.was Seals k).0 seals)))
+
+armed_left : (nth keep : ℕ) (hand : Option HandState) (d : DeviceTold) → left_with hand (armed 0 nth keep d) ≡ left_with hand d
+armed_left nth keep None d = refl
+armed_left nth keep (Some h) d = refl
+
+module _ {D C : Type 0} (told : D → DeviceTold) (clock : D → Clock) (old new : StackState D C) (kept kept_new : (Part → PartTold) → Type 0) (stays : (before : Part → PartTold) → kept before → kept_new before) where
+  abbrev Old : Seen
+  Old = seen_as told clock kept old
+
+  abbrev New : Seen
+  New = seen_as told clock kept_new new
+
+  still_lasts : (s : StackState D C) → Lasts (told s.device) (clock s.device) (told s.device) (clock s.device)
+  still_lasts s = same_told (told s.device) (clock s.device) (told s.device) (clock s.device) refl (same_clock (clock s.device))
+
+  -- a request
+  pub stack_asks : (caller : ℕ) (r : Request) (reply : Reply) → new ≡ record old { desk = record old.desk { entries = old.desk.entries ++ Ask caller r reply ∷ [] } } → IsTied old.desk old.hand (told old.device)
+      → InOrder (told old.device) (clock old.device) → FreesReady (told old.device) (clock old.device) → KeepsDue (now_of told old) (now_of told new)
+      → MovesBy false (record { entry = Some (Ask caller r reply); behind = moment_by None (told old.device) } ∷ []) Old New
+  stack_asks caller r reply is tied order frees due =
+      let e = Ask caller r reply in
+      let lasts = subst (λ (s : StackState D C). Lasts (told old.device) (clock old.device) (told s.device) (clock s.device)) (sym is) (still_lasts old) in
+      ask_moves false e Old New (record {
+        are = (refl, tt);
+        adds = ap (λ (s : StackState D C). s.desk) is;
+        hand = ap (λ (s : StackState D C). s.hand) is;
+        device = ap (λ (s : StackState D C). told s.device) is;
+        begun = refl;
+        lasts = lasts;
+        stays = record { told = subst (λ (s : StackState D C). TellsSlots (told s.device)) is; kept = stays };
+        uncut = λ on. subst (λ (s : StackState D C). IsOn s.desk (told s.device)) (sym is) (record {
+          one = on.one;
+          power = λ off. ap (λ (x : State). x.off) (histories_step old.desk.config old.desk.entries e) ∙ (ask_leaves_power old.desk.config (state_of old.desk) caller r reply).1 ∙ on.power off;
+        });
+        seals = subst (λ (s : StackState D C). KeepsSeal (told old.device) (clock old.device) (told s.device) (clock s.device)) (sym is) (λ since sealed. sealed);
+      }) tt
+      (λ since s. one_served old.hand (told old.device) s.first (turns_beside false) (MayGoOn New.clock Old.device.fixed.reserve) since (moment_seen Old) old.desk caller r reply tied.started
+      (roomy since old.desk old.hand (told old.device) (told new.device) (clock old.device) (clock new.device) s.uncut s.sealed order frees tied.paired tied.up lasts) (omega arith)
+      (subst (λ (s : StackState D C). KeepsDue (now_of told old) (now_of told s)) is due))
+
+  -- a power cut that is planned
+  pub stack_arms : (nth keep : ℕ) → new ≡ record old { device = new.device } → Arms 0 nth keep (told old.device) (clock old.device) (told new.device) (clock new.device) → (TellsSlots (told new.device) → TellsSlots (told old.device)) → KeepsDue (now_of told old) (now_of told new)
+      → MovesBy false [] Old New
+  stack_arms nth keep only arms tells due =
+      let desk = ap (λ (s : StackState D C). s.desk) only in
+      let hand = ap (λ (s : StackState D C). s.hand) only in
+      still_moves false Old New (record {
+        desk = desk;
+        hand = hand;
+        begun = refl;
+        moment = ap (moment_by None) arms.0;
+        left = ap (λ (h : Option HandState). left_with h (told new.device)) hand ∙ ap (left_with old.hand) arms.0 ∙ armed_left nth keep old.hand (told old.device);
+        work = ap work_in arms.0;
+        fixed = ap (λ (d : DeviceTold). d.fixed) arms.0;
+        lasts = same_lasts (told old.device) (clock old.device) (told new.device) (clock new.device) (ap (λ (d : DeviceTold). d.ops) arms.0) (ap (λ (d : DeviceTold). d.first.faults) arms.0) (ap (λ (d : DeviceTold). d.second.faults) arms.0) arms.1.same;
+        stays = record { told = tells; kept = stays };
+        uncut = λ on. record {
+          one = ap (λ (d : DeviceTold). d.fixed.two) arms.0 ∙ on.one;
+          power = λ off. ap (λ (d : DeskState). (state_of d).off) desk ∙ on.power (sym (ap (λ (d : DeviceTold). d.first.off) arms.0) ∙ off);
+        };
+        seals = arms_keep_seal nth keep (told old.device) (clock old.device) (told new.device) (clock new.device) arms;
+        dues = λ one id turns was. record {
+          number = was.number;
+          due = subst (λ (h : Option HandState). IsDue was.number (turns + free_turns one h) (now_of told new)) (sym hand) (due was.number (turns + free_turns one old.hand) was.due);
+          block = subst (λ (d : DeskState). IsOfBlock was.number id (state_of d)) (sym desk) was.block;
+          on = ap (λ (d : DeskState). (state_of d).off) desk ∙ was.on;
+        };
+      })
+
+  -- what changes the copies alone, or nothing
+  pub stack_stays : (xs : C) → new ≡ record old { copies = xs } → MovesBy false [] Old New
+  stack_stays xs is =
+      subst (λ (s : StackState D C). MovesBy false [] Old (seen_as told clock kept_new s)) (sym is)
+      (still_moves false Old (seen_as told clock kept_new old) (record {
+        desk = refl;
+        hand = refl;
+        begun = refl;
+        moment = refl;
+        left = refl;
+        work = refl;
+        fixed = refl;
+        lasts = still_lasts old;
+        stays = record { told = λ tells. tells; kept = stays };
+        uncut = λ on. on;
+        seals = λ since sealed. sealed;
+        dues = λ one id turns due. due;
+      }))
+
+  -- A START-UP
+  -- its work is what it leaves, paid by a fault
+  module _ (starts : StartsUp told old new) (order : InOrder (told new.device) (clock new.device)) where
+    d : DeviceTold
+    d = told old.device
+
+    n : DeviceTold
+    n = told new.device
+
+    abbrev move : Move
+    move = record { entry = Some (Found starts.marks (ops_of (told new.device))); behind = moment_by None (told new.device) }
+
+    none_open : (f : Fixed) (stand : Stand) → is_open stand ≡ false → most_open f stand ≡ 0
+    none_open f (Open j) closed = let P : true ≡ false = closed in absurd (cc P)
+    none_open f (EndedJob result given) closed = refl
+
+    on_left : (off : Bool) (left : ℕ) → (if off then 0 else left) ≤ left
+    on_left true left = omega arith
+    on_left false left = omega arith
+
+    few_left : (b : Bool) → (told new.device).left ≤ (told new.device).fixed.own → ((told new.device).left ≡ 0) ⊎ (b ≡ true) → left_on (told new.device) ≤ (told new.device).left
+        → left_on (told new.device) ≤ (if b then (told new.device).fixed.own else 0)
+    few_left true most leaves less = omega (arith, most, less)
+    few_left false most (inl none) less = omega (arith, none, less)
+    few_left false most (inr never) less = absurd (let P : false ≡ true = never in cc P)
+
+    leaves_few : IsSimple (told old.device).fixed → left_on (told new.device) ≤ (if has_risen (faults_of (told old.device)) (faults_of (told new.device)) then (told old.device).fixed.own else 0)
+    leaves_few simple =
+        let none = none_open (told new.device).fixed (told new.device).stand starts.finds.at_rest in
+        let most = order.bounded in
+        subst (λ (f : Fixed). left_on (told new.device) ≤ (if has_risen (faults_of (told old.device)) (faults_of (told new.device)) then f.own else 0)) starts.finds.up.restarted.fixed
+        (few_left (has_risen (faults_of (told old.device)) (faults_of (told new.device))) (omega (arith, none, most)) (start_leaves starts.marks (told old.device) (told new.device) starts.finds simple)
+        (on_left (is_off (told new.device)) (told new.device).left))
+
+    more_in : (l x y u v : ℕ) → x ≤ u → y ≤ v → min (x + y) l ≤ min (u + v) l
+    more_in l x y u v first second = omega (arith, first, second)
+
+    or_last : (b : Bool) → (b || true) ≡ true
+    or_last true = refl
+    or_last false = refl
+
+    by_fault : (faulty : Bool) (own left before behind was : ℕ) → behind ≡ before → left ≤ (if faulty then own else 0) → behind + left ≤ before + was + (0 + ((if faulty then own + 1 else 0) + 0))
+    by_fault true own left before behind was same few = omega (arith, few, same)
+    by_fault false own left before behind was same few = omega (arith, few, same)
+
+    start_works : IsSimple (told old.device).fixed → KeepsToWork (worn_so_far (told new.device) (clock new.device)) (clock new.device) Old (work_in (told new.device)) move
+    start_works simple =
+        let closed = closed_tries (told new.device).stand starts.finds.at_rest in (
+          None,
+          record {
+            begins = λ k none. none_some k none;
+            adds = λ test has.
+                by_fault (has_risen (faults_of (told old.device)) (faults_of (told new.device))) (told old.device).fixed.own (left_on (told new.device)) (told old.device).ops (told new.device).ops (left_on (told old.device)) starts.finds.up.restarted.ops
+                (leaves_few simple);
+            ends = λ k on. inr (closed, inl (or_last (has_risen (faults_of (told old.device)) (faults_of (told new.device)))));
+            none = λ none. closed;
+            over = λ posted. cc posted;
+          },
+        )
+
+    pub stack_starts : Lasts (told old.device) (clock old.device) (told new.device) (clock new.device) → (TellsSlots (told new.device) → TellsSlots (told old.device)) → PowersOff new.desk (told new.device) → MovesBy false (move ∷ []) Old New
+    stack_starts lasts tells power =
+        start_moves false Old New (record {
+          entry = Found starts.marks (ops_of (told new.device));
+          found = refl;
+          adds = ap (λ (s : StackState D C). record s.desk { prepared = new.desk.prepared }) starts.only;
+          told = refl;
+          hand = ap (λ (s : StackState D C). s.hand) starts.only;
+          begun = refl;
+          ops = starts.finds.up.restarted.ops;
+          fixed = starts.finds.up.restarted.fixed;
+          counted = more_in last_count (told old.device).first.faults (told old.device).second.faults (told new.device).first.faults (told new.device).second.faults lasts.faults.0 lasts.faults.1;
+          lasts = lasts;
+          stays = record { told = tells; kept = stays };
+          uncut = λ on. stays_on new.desk (told old.device) (told new.device) starts.finds.up.restarted.fixed power on.one;
+          work = λ on simple. start_works simple;
+        })
