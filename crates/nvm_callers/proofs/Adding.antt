@@ -81,6 +81,7 @@ module _ {D C : Type 0} (told : D → DeviceTold) (clock : D → Clock) (copies 
     more = [];
     grows = sym (append-nil seen);
     no_start = refl;
+    starts = refl;
     no_refusal = λ synchronized none. (none, refl);
     cuts = λ uncut. (uncut, inl (omega arith));
   }
@@ -91,6 +92,7 @@ module _ {D C : Type 0} (told : D → DeviceTold) (clock : D → Clock) (copies 
     more = one.more ++ two.more;
     grows = two.grows ∙ ap (λ (l : List Entry). l ++ two.more) one.grows ∙ append_assoc a one.more two.more;
     no_start = all_more (λ e. not (is_found e)) one.more two.more one.no_start two.no_start;
+    starts = two.starts ∙ one.starts;
     no_refusal = λ are none.
         let first = one.no_refusal are none in
         let second = two.no_refusal (synchronized are) first.0 in (second.0, all_more tells_no_refusal one.more two.more first.1 second.1);
@@ -109,6 +111,7 @@ module _ {D C : Type 0} (told : D → DeviceTold) (clock : D → Clock) (copies 
     grows = adds.grows ∙ append_assoc seen adds.asks (option_to_list adds.last);
     no_start = all_more (λ e. not (is_found e)) adds.asks (option_to_list adds.last) (asks_all (λ e. not (is_found e)) ask_starts_none adds.asks adds.are)
         (all_last (λ e. not (is_found e)) adds.last (negated adds.last adds.no_start));
+    starts = adds.starts;
     no_refusal = λ are none.
         let is = adds.no_refusal are none in
         (is.0, all_more tells_no_refusal adds.asks (option_to_list adds.last) (asks_all tells_no_refusal ask_refuses_none adds.asks adds.are) (all_last tells_no_refusal adds.last is.1));
@@ -128,6 +131,7 @@ module _ {D C : Type 0} (told : D → DeviceTold) (clock : D → Clock) (copies 
     more = is.sees.asks;
     grows = grown;
     no_start = asks_all (λ e. not (is_found e)) ask_starts_none is.sees.asks is.sees.are;
+    starts = refl;
     no_refusal = λ are none. (none, asks_all tells_no_refusal ask_refuses_none is.sees.asks is.sees.are);
     cuts = λ uncut. (
       record {

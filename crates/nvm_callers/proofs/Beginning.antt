@@ -68,6 +68,7 @@ module _ {D : Type 0} (told : D → DeviceTold) (clock : D → Clock) (copies : 
         more = own.more;
         grows = own.grows;
         no_start = own.no_start;
+        starts = own.starts;
         no_refusal = own.no_refusal;
         hand = own.hand;
         keeps = own.keeps;

@@ -60,6 +60,7 @@ module _ {D C : Type 0} (told : D → DeviceTold) (clock : D → Clock) (copies 
         more = added.more;
         grows = added.grows;
         no_start = added.no_start;
+        starts = added.starts;
         no_refusal = (added.no_refusal synchronized none).1;
         hand = now.hand;
         keeps = kept.keeps;

@@ -20,10 +20,11 @@ use Rattle.driver_moves.specs.nv_desk_copies.Posts.{IsPosted, IsPostedNext}
 use Rattle.driver_moves.specs.job_progress.Asks.{is_of_jobs}
 use Rattle.driver_moves.specs.nvm_device_laws.Turn.{settled_by, wrote_by}
 use Rattle.driver_moves.specs.nvm_laws.Turns.{AddsBy}
+use Rattle.driver_moves.specs.memif.declared.answer.DeviceTurn.TheVariants as turn
 use Rattle.driver_moves.specs.nvm_laws.declared.turned.Turned.{Turned}
 use Rattle.driver_moves.specs.nvm_laws.declared.turned.Turned.TheVariants as turned
 use Rattle.driver_moves.specs.nvm_laws.declared.turned.Act.TheVariants.{Ended, Device}
-use Rattle.driver_moves.specs.nvm_core.BehindDevice.{asked_by}
+use Rattle.driver_moves.specs.nvm_core.BehindDevice.{TurnsDevice, asked_by}
 use Rattle.driver_moves.specs.nvm_core.OperationStart.{LeavesDevice}
 use Rattle.script_walks.specs.Runs.{is_found}
 use Rattle.driver_moves.specs.nvm_shared.declared.terms.Terms.{Terms}
@@ -34,6 +35,7 @@ use Rattle.driver_moves.specs.nvm_shared.Unplanned.{IsUnplanned, StaysUnplanned,
 use Rattle.driver_moves.proofs.nvm_moves.HistoryLaws.{histories_step}
 use Rattle.driver_moves.proofs.nvm_moves.Powering.{jobs_keep_power}
 use Rattle.driver_moves.proofs.Uncut.{asks_power, fixed_stays}
+use Rattle.driver_moves.proofs.nvm_moves.StartUps.{turns_start_none}
 use Rattle.driver_moves.proofs.nvm_shared.Unplanned.{turns_stay_unplanned}
 use Rattle.driver_moves.specs.promise_run.RunHalves.{offs_in, tells_no_refusal}
 use Rattle.nvm_callers.specs.Added.{RefusesNone, IsUncut}
@@ -102,6 +104,13 @@ uncut_on desk desk_new d d_new fixed first power uncut = record {
   power = λ off. power (uncut.power (sym (ap (λ (p : PartTold). p.off) first) ∙ off));
 }
 
+device_starts : (answer : Turned) (old new : DeviceTold) (clock clock_new : Clock) → TurnsDevice answer old clock new clock_new → new.starts ≡ old.starts
+device_starts turned.Idle old new clock clock_new turns = turns_start_none turn.Idle old clock new clock_new turns
+device_starts turned.Worked old new clock clock_new turns = turns_start_none turn.Worked old clock new clock_new turns
+device_starts turned.Off old new clock clock_new turns = turns_start_none turn.Off old clock new clock_new turns
+device_starts turned.Picked old new clock clock_new turns = absurd turns
+device_starts turned.Posted old new clock clock_new turns = absurd turns
+
 none_counted : (p q : PartTold) → q ≡ p → WereCounted 0 p.planning.unplanned q.planning.unplanned
 none_counted p q same = let count = ap (λ (x : PartTold). x.planning.unplanned) same in inl (omega (arith, count))
 
@@ -120,6 +129,7 @@ module _ {D C : Type 0} (told : D → DeviceTold) (clock : D → Clock) (copies 
     pub last : Option Entry
     pub grows : seen_new ≡ (seen ++ asks) ++ option_to_list last
     pub no_start : IfSome last (λ e. is_found e ≡ false)
+    pub starts : (told new.device).starts ≡ (told old.device).starts
     pub no_refusal : AreSynchronized t.config (copies old.copies) → RefusesNone (copies old.copies)
         → RefusesNone (copies new.copies) × IfSome last (λ e. tells_no_refusal e ≡ true)
     pub cuts : IsUncut (desk_with t (seen ++ asks)) (told old.device)
@@ -132,6 +142,9 @@ module _ {D C : Type 0} (told : D → DeviceTold) (clock : D → Clock) (copies 
     first_stays : (told new.device).first ≡ (told old.device).first
     first_stays = ap (λ (d : DeviceTold). d.first) leaves
 
+    starts_stay : (told new.device).starts ≡ (told old.device).starts
+    starts_stay = ap (λ (d : DeviceTold). d.starts) leaves
+
     nothing : desk_with t seen_new ≡ with_more (desk_with t seen) asks → copies new.copies ≡ copies old.copies → TurnAdds answer seen seen_new old new
     nothing same copied =
         let entries : seen_new ≡ seen ++ asks = ap (λ (d : DeskState). d.entries) same in
@@ -141,6 +154,7 @@ module _ {D C : Type 0} (told : D → DeviceTold) (clock : D → Clock) (copies 
           last = None;
           grows = entries ∙ sym (append-nil (seen ++ asks));
           no_start = tt;
+          starts = starts_stay;
           no_refusal = λ synchronized none. (subst RefusesNone (sym copied) none, tt);
           cuts = λ uncut. (
             uncut_on (desk_with t (seen ++ asks)) (desk_with t seen_new) (told old.device) (told new.device) (ap (λ (d : DeviceTold). d.fixed) leaves) first_stays
@@ -160,6 +174,7 @@ module _ {D C : Type 0} (told : D → DeviceTold) (clock : D → Clock) (copies 
       last = Some e;
       grows = grows;
       no_start = no_start;
+      starts = starts_stay;
       no_refusal = no_refusal;
       cuts = λ uncut. (
         uncut_on (desk_with t (seen ++ asks)) (desk_with t seen_new) (told old.device) (told new.device) (ap (λ (d : DeviceTold). d.fixed) leaves) first_stays
@@ -227,6 +242,9 @@ module _ {D C : Type 0} (told : D → DeviceTold) (clock : D → Clock) (copies 
         last = asked_by answer a b ops;
         grows = grows;
         no_start = plain_found (asked_by answer a b ops) plain.0;
+        starts =
+            device_starts answer (told between.device) (told new.device) (clock between.device) (clock new.device) ends.turns
+            ∙ ap (λ (d : DeviceTold). d.starts) leaves;
         no_refusal = λ synchronized none. (
           subst (λ (x : C). RefusesNone (copies x)) (sym ends.copies) (subst RefusesNone (sym begins.half.half.0.1) none),
           plain_refusal (asked_by answer a b ops) plain.0,

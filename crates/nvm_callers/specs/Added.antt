@@ -20,12 +20,13 @@ abbrev pub RefusesNone : List Told → Type 0
 RefusesNone copies = (block : ℕ) → IfSome (told_at copies block) (λ s. s.to_refuse ≡ Some 0)
 
 module _ {D C : Type 0} (told : D → DeviceTold) (clock : D → Clock) (copies : C → List Told) (is_store : C → ℕ → ℕ → List ℕ → Type 0) (looked : C → C → ℕ → ℕ → Type 0) (over : C → C → Type 0) (stands : C → ℕ → ℕ → List Entry → Type 0) (t : Terms) where
-  -- The history went on, without a start-up. Where no copy is to be refused none was. Where no cut is planned none that was planned
-  -- came, and each Off is a cut that was counted.
+  -- The history went on, without a start-up, of which the device counted none. Where no copy is to be refused none was. Where no cut is
+  -- planned none that was planned came, and each Off is a cut that was counted.
   pub record HasAdded (seen seen_new : List Entry) (old new : DriverState D C) : Type 0 where
     pub more : List Entry
     pub grows : seen_new ≡ seen ++ more
     pub no_start : IsTrue (list_all (λ e. not (is_found e)) more)
+    pub starts : (told new.device).starts ≡ (told old.device).starts
     pub no_refusal : AreSynchronized t.config (copies old.copies) → RefusesNone (copies old.copies)
         → RefusesNone (copies new.copies) × IsTrue (list_all tells_no_refusal more)
     pub cuts : IsUncut (desk_with t seen) (told old.device)

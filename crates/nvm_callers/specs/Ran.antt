@@ -29,16 +29,17 @@ end_of ending.All = Whole
 end_of ending.NoRoom = HistoryFull
 end_of ending.Memory = Memory
 
--- What was kept over any device, from a stack behind its first start-up on. The history went on, without a start-up; no copy was
--- refused. The promise stays kept, as far as the device tells what it holds. Where no power cut is planned, none that was came, and
--- each Off is a cut that was counted. Its entries have moves, one by one, that keep the law. Nothing is pending at the end or the power is off, unless
--- memory was wanting.
+-- What was kept over any device, from a stack behind its first start-up on. The history went on, without a start-up, of which the
+-- device counted none; no copy was refused. The promise stays kept, as far as the device tells what it holds. Where no power cut is
+-- planned, none that was came, and each Off is a cut that was counted. Its entries have moves, one by one, that keep the law. Nothing
+-- is pending at the end or the power is off, unless memory was wanting.
 pub record WasRun {D : Type 0} (told : D → DeviceTold) (clock : D → Clock) (s : StackState D (List PlainBlock)) (e : Ending) (desk : DeskState) (device : D) : Type 0 where
   pub config : desk.config ≡ s.desk.config
   pub cap : desk.cap ≡ s.desk.cap
   pub more : List Entry
   pub grows : desk.entries ≡ s.desk.entries ++ more
   pub no_start : IsTrue (list_all (λ e. not (is_found e)) more)
+  pub starts : (told device).starts ≡ (told s.device).starts
   pub no_refusal : IsTrue (list_all tells_no_refusal more)
   pub hand : Option HandState
   pub keeps : StaysKept s.desk s.hand (told s.device) (clock s.device) desk hand (told device) (clock device)

@@ -35,3 +35,4 @@ mod Failing
 pub mod Callers
 pub mod RunHalves
 pub mod BankTurns
+pub mod StartUps

@@ -1,5 +1,5 @@
 -- The refused copies of which Posts tell were asked for.
-use Rattle.std.specs.Prelude.{◌==◌, ◌-◌, take, sum_by, if◌then◌else◌}
+use Rattle.std.specs.Prelude.{◌==◌, take, sum_by, if◌then◌else◌}
 use Rattle.std.specs.Option.{option_map_or}
 use Rattle.std.proofs.Common.{◌≡◌, ◌≢◌, ◌≤◌, ◌+◌, ◌⊎◌, ℕ, zero, suc, Bool, true, false, List, [], ◌∷◌, ◌++◌, length, Option, Some, None, refl, sym, ap, ◌∙◌, subst, inl, inr, arith}
 use Rattle.std.proofs.lemmas.Bool.Decides.{eqb_tells, leb_tells}

@@ -1,8 +1,9 @@
 -- The banks of a run's flash take turns, from a flash on which no bank stood.
-use Rattle.std.specs.Prelude.{◌≡◌, ◌<◌, ◌≤◌, ◌+◌, ℕ, false, count_by}
+use Rattle.std.specs.Prelude.{◌≡◌, ◌<◌, ◌≤◌, ◌+◌, ◌-◌, ◌/◌, ℕ, false, count_by}
 use Rattle.block_machine.specs.nv_base.Count.{WereCounted}
 use Rattle.block_machine.specs.nv_base.Geometry.{IsLegal, HasBanks}
 use Rattle.memif.specs.Told.{PartTold, DeviceTold}
+use Rattle.script_walks.specs.Runs.{is_found}
 use Rattle.promise_blocks.specs.OverDevice.{HasStarted}
 use Rattle.promise_blocks.specs.Operations.{founds}
 use Rattle.promise_device.specs.Image.{attached}
@@ -40,15 +41,15 @@ pub record TellsRestarts (r : Run) (before : PartTold) (now : DeviceTold) : Type
   pub starts : now.starts ≤ founds r.history + 1
   pub faults : (n : ℕ) → WereCounted n before.faults now.first.faults → WereCounted n r.flash.entry.faults r.flash.exit.faults
 
--- The first sector of bank k is erased once for each generation that is its own, once more for one that is on its way, and else only
--- where the flash counted a fault or the history tells a start-up.
-pub record HasCausedErases (r : Run) (begins : BeginsUnused r) (k : ℕ) : Type 0 where
+-- The first sector of bank k is erased once for each of its generations, k + 1 and each N-th one behind it of N banks, once more for one
+-- that is on its way, and else only where the flash counted a fault or the history tells a start-up.
+pub record HasCausedErases (r : Run) (tells : TellsBytes r.flash) (k : ℕ) : Type 0 where
   pub faults : ℕ
   pub counted : WereCounted faults r.flash.entry.faults r.flash.exit.faults
   pub few : let m = making_of r.configuration in
-      count_by (λ x. erases_first m k x.op) r.flash.operations ≤ seals m.banks k (generation_of m begins.tells.last) + 1 + faults + founds r.history
+      count_by (λ x. erases_first m k x.op) r.flash.operations ≤ (generation_of m tells.last + (m.banks - 1 - k)) / m.banks + 1 + faults + count_by is_found r.history
 
 abbrev pub ErasesHaveCauses : Type 0
 ErasesHaveCauses =
     (r : Run) (begins : BeginsUnused r) (before : PartTold) (now : DeviceTold) (k : ℕ) → Promise r → HasStarted r.history → TellsRestarts r before now
-    → k < (making_of r.configuration).banks → HasCausedErases r begins k
+    → k < (making_of r.configuration).banks → HasCausedErases r begins.tells k

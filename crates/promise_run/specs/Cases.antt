@@ -31,7 +31,7 @@ use Rattle.promise_run.specs.Run.{Run, Played, Ran, cap, HadRoom, LeavesFor, End
 -- IMAGES
 -- block 2 is as described
 abbrev pub with_block_2 : BlockDesc → Configuration
-with_block_2 d = record { id = 1; geometry = record { page = 16; sector = 160; sectors = 2 }; banks = 2; standard = 8; immediate = 4; blocks = manager_block 1 ∷ d ∷ [] }
+with_block_2 d = record { id = 1; geometry = record { page = 16; sector = 160; sectors = 2 }; banks = 2; eeprom = None; standard = 8; immediate = 4; blocks = manager_block 1 ∷ d ∷ [] }
 
 abbrev pub small : Configuration
 small = with_block_2 (plain_block 4)

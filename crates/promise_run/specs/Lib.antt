@@ -21,3 +21,4 @@ pub mod UrgentCases
 pub mod OperationCases
 pub mod KeptCases
 pub mod BankTurns
+pub mod StartUps

@@ -39,6 +39,10 @@ abbrev pub written_with : List Move → ℕ → List Move
 written_with more n =
     accepts ∷ picks ∷ operation 1 ∷ operation 2 ∷ operation 3 ∷ (more ++ record { entry = Some (Wrote (record { block = 2; index = 0 }) (Content one) n); behind = at 0 n } ∷ record { entry = Some (Post 2 Fine None 0 n); behind = at 0 n } ∷ [])
 
+-- a further start-up alone, with so many operations behind it
+abbrev pub starts_at : ℕ → List Move
+starts_at ops = record { entry = Some (Found [] ops); behind = at 0 ops } ∷ []
+
 -- a further start-up behind so many faults, and an operation
 abbrev pub started_again : (faults : ℕ) → List Move
 started_again faults = record { entry = Some (Found [] 0); behind = at faults 0 } ∷ record { entry = None; behind = at faults 1 } ∷ []
