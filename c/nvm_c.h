@@ -21,8 +21,8 @@ enum {
     NVM_RESTORE_PERMANENT_RAM = 24, NVM_PUT_RAM = 128
 };
 
-/* 0 it is open; else the memory is in back: 1 the text is no configuration, 2 it hasn't the flash's size, 4 no memory. At 1 and 2 its
-   bytes are proved to be as they were. cuts is how many power cuts can be planned. */
+/* 0 it is open; else the memory is in back: 1 the text is no configuration, 2 it hasn't the flash's size, 4 no memory, 5 the
+   configuration has a second device. At 1, 2 and 5 its bytes are proved to be as they were. cuts is how many power cuts can be planned. */
 uint8_t nvm_open(nvm_handle *handle, const uint8_t *text, size_t text_length, nvm_memory flash, uint32_t cuts, nvm_memory *back);
 
 /* 0 accepted, 1 refused for the reason in value, 2 the data index is in value, 3 the history is full, 4 no memory, 5 the last

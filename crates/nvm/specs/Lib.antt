@@ -1,6 +1,7 @@
 pub use Rattle.nvm_flash.specs.nv_base as nv_base
 pub use Rattle.nvm_flash.specs.fls_model as fls_model
 pub use Rattle.nvm_flash.specs.fls_devices as fls_devices
+pub use Rattle.fls_files.specs as fls_files
 pub use Rattle.nvm_flash.specs.memif as memif
 pub use Rattle.nvm_flash.specs.block_config as block_config
 pub use Rattle.nvm_flash.specs.block_machine as block_machine

@@ -9,6 +9,7 @@
 
 mod unit;
 
+pub use fls_files;
 pub use nvm_flash;
 pub use nvm_flash::block_config::{Config, ConfigFault, read};
 pub use nvm_flash::fls_devices::Cutter;

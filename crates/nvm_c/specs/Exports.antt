@@ -90,6 +90,7 @@ fault_code (fault.WrongSize found) = 2
 fault_code fault.Flash = 3
 fault_code fault.InUse = 3
 fault_code fault.Memory = 4
+fault_code fault.NoSecond = 5
 
 -- Of a configuration over a flash there is no unit: the stack says why, and the flash comes back as it was, or attached, in the memory
 -- that comes back; or there was no memory.

@@ -55,6 +55,7 @@ fn fault_code(fault: MakeFault) -> u8
         MakeFault::WrongSize { .. } => 2,
         MakeFault::Flash | MakeFault::InUse => 3,
         MakeFault::Memory => 4,
+        MakeFault::NoSecond => 5,
     }
 }
 

@@ -22,25 +22,25 @@ number_is n = omega arith
 pages_is : (c : Configuration) (n : ℕ) → (figures_at (fixed_by c) n).pages ≡ pages_on c (instance_of (record { 0 = n }))
 pages_is c n = ap (λ (k : ℕ). (figures_at (fixed_by c) k).pages) (number_is n) ∙ pages_at c (instance_of (record { 0 = n }))
 
-working : (c : Configuration) → IsLegalConfig c → (kind : JobKind) (n : ℕ) → works kind ≡ true → most_of (figures_at (fixed_by c) n) (operation kind) ≡ try_on c kind (instance_of (record { 0 = n }))
-working c legal kind n on =
+working : (c : Configuration) → IsLegalConfig c → c.eeprom ≡ None → (kind : JobKind) (n : ℕ) → works kind ≡ true → most_of (figures_at (fixed_by c) n) (operation kind) ≡ try_on c kind (instance_of (record { 0 = n }))
+working c legal one kind n on =
     ap (λ (k : ℕ). most_of (figures_at (fixed_by c) k) (operation kind)) (number_is n)
-    ∙ try_is c legal (instance_of (record { 0 = n })).block kind on (instance_of (record { 0 = n })).index
+    ∙ try_is c legal one (instance_of (record { 0 = n })).block kind on (instance_of (record { 0 = n })).index
 
-most_is : (c : Configuration) → IsLegalConfig c → (kind : JobKind) (n : ℕ) → (if works kind then most_of (figures_at (fixed_by c) n) (operation kind) else 0) ≡ try_on c kind (instance_of (record { 0 = n }))
-most_is c legal ReadJob n = working c legal ReadJob n refl
-most_is c legal WriteJob n = working c legal WriteJob n refl
-most_is c legal EraseJob n = working c legal EraseJob n refl
-most_is c legal InvalidateJob n = working c legal InvalidateJob n refl
-most_is c legal RestoreJob n = sym (none_at (length_of (lengths_of c) (number_of (instance_of (record { 0 = n })))))
-most_is c legal ReadAllJob n = sym (none_at (length_of (lengths_of c) (number_of (instance_of (record { 0 = n })))))
-most_is c legal WriteAllJob n = sym (none_at (length_of (lengths_of c) (number_of (instance_of (record { 0 = n })))))
+most_is : (c : Configuration) → IsLegalConfig c → c.eeprom ≡ None → (kind : JobKind) (n : ℕ) → (if works kind then most_of (figures_at (fixed_by c) n) (operation kind) else 0) ≡ try_on c kind (instance_of (record { 0 = n }))
+most_is c legal one ReadJob n = working c legal one ReadJob n refl
+most_is c legal one WriteJob n = working c legal one WriteJob n refl
+most_is c legal one EraseJob n = working c legal one EraseJob n refl
+most_is c legal one InvalidateJob n = working c legal one InvalidateJob n refl
+most_is c legal one RestoreJob n = sym (none_at (length_of (lengths_of c) (number_of (instance_of (record { 0 = n })))))
+most_is c legal one ReadAllJob n = sym (none_at (length_of (lengths_of c) (number_of (instance_of (record { 0 = n })))))
+most_is c legal one WriteAllJob n = sym (none_at (length_of (lengths_of c) (number_of (instance_of (record { 0 = n })))))
 
 pub costs_are_figures : CostsAreFigures
-costs_are_figures c legal = λ i. record {
-  switch = switch_is c legal i;
+costs_are_figures c legal one = λ i. record {
+  switch = switch_is c legal one i;
   pages = λ n. pages_is c n i;
-  most = λ kind n. most_is c legal kind n i;
+  most = λ kind n. most_is c legal one kind n i;
   reserve = (costs_of c).reserve;
 }
 

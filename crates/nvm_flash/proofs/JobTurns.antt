@@ -13,9 +13,10 @@ use Rattle.nvm_core.specs.block_config.declared.block.BlockKind.{BlockKind}
 use Rattle.nvm_core.specs.block_config.declared.block.BlockKind.TheVariants.{Native, Redundant, Dataset}
 use Rattle.nvm_core.specs.block_config.Block.{instance_count}
 use Rattle.nvm_core.specs.block_config.Config.{Configuration}
-use Rattle.nvm_core.specs.block_config.Lengths.{length_at, block_lengths, lengths_from, lengths_of}
+use Rattle.nvm_core.specs.block_config.Lengths.{length_at, block_lengths, stored_lengths, lengths_by, lengths_of}
 use Rattle.nvm_core.specs.block_config.Rules.{IsDatasetCount, IsLegalBlock, AreBlocks, IsLegalConfig}
 use Rattle.nvm_core.specs.block_config.Sizes.{instances_of, size_of}
+use Rattle.nvm_core.proofs.block_config.Devices.{lengths_are_first}
 use Rattle.nvm_core.proofs.block_config.Numbering.{length-lengths_from}
 use Rattle.fee_core.specs.memif.Told.{Figures, at_number, figures_at, length_of, most_of, no_figures}
 use Rattle.nvm_core.specs.block_machine.Words.{Instance, JobKind, ReadJob, WriteJob, RestoreJob, EraseJob, InvalidateJob, ReadAllJob, WriteAllJob}
@@ -60,21 +61,27 @@ greatest_row : (p id n start count : ℕ) → 1 ≤ count → record_pages_of n 
 greatest_row p id n start zero some = omega (arith, some)
 greatest_row p id n start (suc count) some = omega arith
 
-greatest_within : (p id m : ℕ) (bs : List BlockDesc) → HaveInstances bs → fold (λ n b. max n (size_of p b)) m bs ≤ max m (greatest p (lengths_from id bs))
+greatest_stored : (p id : ℕ) (b : BlockDesc) (first : Bool) → 1 ≤ instances_of b → (if first then record_pages_of b.length p else 0) ≤ greatest p (if first then block_lengths id b else [])
+greatest_stored p id b true some = greatest_row p id b.length 0 (instances_of b) some
+greatest_stored p id b false some = omega arith
+
+greatest_within : (p id m : ℕ) (bs : List BlockDesc) → HaveInstances bs → fold (λ n b. max n (size_of p b)) m bs ≤ max m (greatest p (lengths_by (Some 0) id bs))
 greatest_within p id m [] have = omega arith
 greatest_within p id m (b ∷ bs) have =
     let rest = greatest_within p (id + 1) (max m (size_of p b)) bs have.1 in
-    let more = greatest_more p (block_lengths id b) (lengths_from (id + 1) bs) in
-    let here = greatest_row p id b.length 0 (instances_of b) have.0 in omega (arith, rest, more, here)
+    let more = greatest_more p (stored_lengths (Some 0) id b) (lengths_by (Some 0) (id + 1) bs) in
+    let here = greatest_stored p id b (b.device == 0) have.0 in omega (arith, rest, more, here)
 
-pub switch_is : (c : Configuration) → IsLegalConfig c → (fixed_by c).own ≡ switch_at_most c
-switch_is c legal =
+pub switch_is : (c : Configuration) → IsLegalConfig c → c.eeprom ≡ None → (fixed_by c).own ≡ switch_at_most c
+switch_is c legal one =
     let p = c.geometry.page in
+    let first = lengths_are_first c legal one in
     let copies = copies_are p (lengths_of c) in
-    let pages = all_blocks p 1 c.blocks in
+    let pages = ap (all_pages p) (sym first) ∙ all_blocks p 1 c.blocks in
+    let same = ap (greatest p) first in
     let count = length-lengths_from 1 c.blocks in
     let most = greatest_blocks p 1 c.blocks in
-    let least = greatest_within p 1 0 c.blocks (blocks_have c.id c.blocks legal.blocks_legal) in omega (arith, copies, pages, count, most, least)
+    let least = greatest_within p 1 0 c.blocks (blocks_have c.id c.blocks legal.blocks_legal) in omega (arith, copies, pages, same, count, most, least)
 
 -- A TRY
 chosen : (b : Bool) (f : ℕ → Figures) (length : ℕ) (rest : Figures) (others : Option ℕ) → rest ≡ option_map_or f others no_figures
@@ -102,12 +109,12 @@ by_length c RestoreJob length works = cc
 by_length c ReadAllJob length works = cc
 by_length c WriteAllJob length works = cc
 
-pub try_is : (c : Configuration) → IsLegalConfig c → (block : ℕ) (kind : JobKind) → works kind ≡ true → (i : ℕ)
+pub try_is : (c : Configuration) → IsLegalConfig c → c.eeprom ≡ None → (block : ℕ) (kind : JobKind) → works kind ≡ true → (i : ℕ)
     → most_at (fixed_by c) block kind i ≡ try_on c kind (record { block = block; index = i })
-try_is c legal block kind works i =
+try_is c legal one block kind works i =
     let n = number_of (record { block = block; index = i }) in
     ap (λ (f : Figures). most_of f (operation kind)) (figures_are c.geometry.page (fixed_by c).own (lengths_of c) n)
-    ∙ ap (λ (own : ℕ). most_of (option_map_or (figures_for c.geometry.page own) (length_of (lengths_of c) n) no_figures) (operation kind)) (switch_is c legal)
+    ∙ ap (λ (own : ℕ). most_of (option_map_or (figures_for c.geometry.page own) (length_of (lengths_of c) n) no_figures) (operation kind)) (switch_is c legal one)
     ∙ by_length c kind (length_of (lengths_of c) n) works
 
 -- ALL TRIES
@@ -133,29 +140,29 @@ no_tries c tries block is =
     ∙ ap (λ (n : ℕ). tries * n) (sym (zeros is))
     ∙ sym (ap (λ (f : ℕ → ℕ). tries * sum_by f is) (λ k i. none_at (length_of (lengths_of c) (number_of (record { block = block; index = i }))) k))
 
-working : (c : Configuration) → IsLegalConfig c → (block : ℕ) (kind : JobKind) → works kind ≡ true → (retries : ℕ) (is : List ℕ)
+working : (c : Configuration) → IsLegalConfig c → c.eeprom ≡ None → (block : ℕ) (kind : JobKind) → works kind ≡ true → (retries : ℕ) (is : List ℕ)
     → over_tries (most_at (fixed_by c) block kind) retries is ≡ (retries + 1) * sum_by (λ i. try_on c kind (record { block = block; index = i })) is
-working c legal block kind works retries is =
+working c legal one block kind works retries is =
     tries_are (most_at (fixed_by c) block kind) retries is
-    ∙ ap (λ (f : ℕ → ℕ). (retries + 1) * sum_by f is) (λ k i. try_is c legal block kind works i k)
+    ∙ ap (λ (f : ℕ → ℕ). (retries + 1) * sum_by f is) (λ k i. try_is c legal one block kind works i k)
 
-by_kind : (c : Configuration) → IsLegalConfig c → (d : BlockDesc) (block : ℕ) (kind : JobKind) (is : List ℕ)
+by_kind : (c : Configuration) → IsLegalConfig c → c.eeprom ≡ None → (d : BlockDesc) (block : ℕ) (kind : JobKind) (is : List ℕ)
     → over_tries (most_at (fixed_by c) block kind) (retries_of d kind) (if works kind then is else [])
     ≡ device_tries d kind * sum_by (λ i. try_on c kind (record { block = block; index = i })) is
-by_kind c legal d block ReadJob is = working c legal block ReadJob refl d.reads is
-by_kind c legal d block WriteJob is = working c legal block WriteJob refl d.writes is
-by_kind c legal d block EraseJob is = working c legal block EraseJob refl d.writes is
-by_kind c legal d block InvalidateJob is = working c legal block InvalidateJob refl d.writes is
-by_kind c legal d block RestoreJob is = no_tries c (d.writes + 1) block is
-by_kind c legal d block ReadAllJob is = no_tries c (d.writes + 1) block is
-by_kind c legal d block WriteAllJob is = no_tries c (d.writes + 1) block is
+by_kind c legal one d block ReadJob is = working c legal one block ReadJob refl d.reads is
+by_kind c legal one d block WriteJob is = working c legal one block WriteJob refl d.writes is
+by_kind c legal one d block EraseJob is = working c legal one block EraseJob refl d.writes is
+by_kind c legal one d block InvalidateJob is = working c legal one block InvalidateJob refl d.writes is
+by_kind c legal one d block RestoreJob is = no_tries c (d.writes + 1) block is
+by_kind c legal one d block ReadAllJob is = no_tries c (d.writes + 1) block is
+by_kind c legal one d block WriteAllJob is = no_tries c (d.writes + 1) block is
 
 pub job_turns_are_figures : JobTurnsAreFigures
-job_turns_are_figures c legal s j =
+job_turns_are_figures c legal one s j =
     let id = job_block j in
     let tries = over_tries (most_at (fixed_by c) id (kind_of j)) (retries_of (desc_of c id) (kind_of j)) (if works (kind_of j) then indices_of c s id else []) in
-    ap (λ (n : ℕ). n + tries + 1) (switch_is c legal)
-    ∙ ap (λ (n : ℕ). switch_at_most c + n + 1) (by_kind c legal (desc_of c id) id (kind_of j) (indices_of c s id))
+    ap (λ (n : ℕ). n + tries + 1) (switch_is c legal one)
+    ∙ ap (λ (n : ℕ). switch_at_most c + n + 1) (by_kind c legal one (desc_of c id) id (kind_of j) (indices_of c s id))
 
 -- URGENT WRITES
 by_pages : (p own : ℕ) (length : Option ℕ) → (option_map_or (figures_for p own) length no_figures).pages ≡ option_map_or (λ n. record_pages_of n p) length 0

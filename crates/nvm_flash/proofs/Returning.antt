@@ -28,7 +28,7 @@ use Rattle.nvm_flash.specs.declared.device.MakeFault.{MakeFault}
 use Rattle.nvm_flash.specs.declared.device.MakeFault.TheVariants.{Flash, Memory}
 use Rattle.nvm_flash.specs.Turns.{fixed_by}
 use Rattle.nvm_flash.specs.CutterLaws.{run_over}
-use Rattle.nvm_flash.specs.Made.{IsOrigin, IsCause, ComesBack, IsBack, AreOfFirst, IsMadeWith}
+use Rattle.nvm_flash.specs.Made.{IsOrigin, IsCause, MissesSecond, ComesBack, IsBack, AreOfFirst, IsMadeWith}
 use Rattle.nvm_flash.proofs.CutterRuns.{devices_bridge, tells_over, starts_over}
 use Rattle.nvm_flash.proofs.CutterUnmade.{counts_stay_within, tells_within}
 
@@ -79,12 +79,13 @@ both_told g (Some x) None alike chain = absurd alike
 both_told g None (Some y) alike chain = absurd alike
 
 pub comes_back : (c : Configuration) (inner exit : Told) (before : PartTold) (now : DeviceTold) (clock : Clock) (fault : MakeFault) → IsBack c inner exit before now clock → now.ops ≡ 0 → now.first.planning.unplanned ≡ inner.cuts → inner.faults ≤ now.first.flash_faults
-    → IsCause c fault inner exit → ComesBack c fault inner exit
-comes_back c inner exit before now clock fault back no_ops unplanned less cause =
+    → IsCause c fault inner exit → MissesSecond c fault → ComesBack c fault inner exit
+comes_back c inner exit before now clock fault back no_ops unplanned less cause second =
     let (empty, ops, cuts) = back.none no_ops unplanned in
     let run : FlashRun = record { entry = inner; exit = exit; operations = back.operations } in
     record {
       cause = cause;
+      second = second;
       flash = record {
         none = refl;
         ops = ops;
@@ -96,13 +97,13 @@ comes_back c inner exit before now clock fault back no_ops unplanned less cause 
     }
 
 -- a device that was made alone
-pub made_back : (c : Configuration) (inner : Told) (cuts : ℕ) (making : Making) (entry exit : Told) (d e : Device) → IsOrigin c inner cuts making entry → IsMadeOf making entry d → e ≡ d
+pub made_back : (c : Configuration) (inner : Told) (cuts : ℕ) (making : Making) (entry exit : Told) (d e : Device) → IsOrigin c inner cuts making entry → c.eeprom ≡ None → IsMadeOf making entry d → e ≡ d
     → IsBack c inner exit (part_at entry) (told_of e) (clock_of e) → ComesBack c Memory inner exit
-made_back c inner cuts making entry exit d e origin made same back =
+made_back c inner cuts making entry exit d e origin one made same back =
     let part : (told_of e).first ≡ part_at entry = ap (λ (x : Device). (told_of x).first) same ∙ made.part in
     let from : part_at entry ≡ part_at (told_cutting (cutting inner cuts)) = ap part_at origin.over in
     comes_back c inner exit (part_at entry) (told_of e) (clock_of e) Memory back (ap (λ (x : Device). (told_of x).ops) same ∙ made.ops) (ap (λ p. p.planning.unplanned) (part ∙ from))
-    (let flash = ap (λ p. p.flash_faults) (part ∙ from) in omega (arith, flash)) tt
+    (let flash = ap (λ p. p.flash_faults) (part ∙ from) in omega (arith, flash)) tt one
 
 -- a device whose first start-up failed by a fault
 rose_with : (a b d e : ℕ) → Rose a b → (b + d ≤ a + e) ⊎ (last_count ≤ e) → a ≡ 0 → d ≤ e → Rose d e
@@ -110,12 +111,12 @@ rose_with a b d e (inl more) (inl tied) none less = inl (omega (arith, more, tie
 rose_with a b d e (inr (full, stays)) (inl tied) none less = absurd (omega (arith, full, none))
 rose_with a b d e rose (inr end) none less = elim (eq-or-lt_of_le less) [ inl same ↦ inr (omega (arith, same, end), less) | inr more ↦ inl more ]
 
-pub failed_back : (c : Configuration) (inner : Told) (cuts : ℕ) (making : Making) (entry exit : Told) (d e : Device) → IsOrigin c inner cuts making entry → IsMadeOf making entry d → FailsToFind (told_of d) (told_of e)
+pub failed_back : (c : Configuration) (inner : Told) (cuts : ℕ) (making : Making) (entry exit : Told) (d e : Device) → IsOrigin c inner cuts making entry → c.eeprom ≡ None → IsMadeOf making entry d → FailsToFind (told_of d) (told_of e)
     → IsBack c inner exit (part_at entry) (told_of e) (clock_of e) → ComesBack c Flash inner exit
-failed_back c inner cuts making entry exit d e origin made fails back =
+failed_back c inner cuts making entry exit d e origin one made fails back =
     comes_back c inner exit (part_at entry) (told_of e) (clock_of e) Flash back
     (fails.restarted.ops ∙ made.ops) (ap (λ p. p.planning.unplanned) up.only ∙ ap (λ p. p.planning.unplanned) part) (omega (arith, grown, flash))
-    (let at = back.faults in subst (λ (n : ℕ). Rose inner.faults n) (sym at) (subst (λ (n : ℕ). Rose n (told_of e).first.flash_faults) flash rose))
+    (let at = back.faults in subst (λ (n : ℕ). Rose inner.faults n) (sym at) (subst (λ (n : ℕ). Rose n (told_of e).first.flash_faults) flash rose)) one
   where
     up : PowersUp (told_of d).first (told_of e).first
     up = fails.restarted.first
@@ -139,13 +140,14 @@ failed_back c inner cuts making entry exit d e origin made fails back =
 
 -- a stack that was made of such a device
 pub made_stack : {C : Type 0} (c : Configuration) (most : ℕ) (making : Making) (entry : Told) (s : StackState Device C) (d : Device) (copies : C)
-    → s ≡ first_stack c most d copies → IsMadeOf making entry d → AreOfFirst d → (told_of d).fixed ≡ fixed_by c → 2 ≤ most → IsMadeWith c most making entry copies s
-made_stack {C} c most making entry s d copies same made parts fixed room = record {
+    → s ≡ first_stack c most d copies → IsMadeOf making entry d → AreOfFirst d → (told_of d).fixed ≡ fixed_by c → 2 ≤ most → c.eeprom ≡ None → IsMadeWith c most making entry copies s
+made_stack {C} c most making entry s d copies same made parts fixed room one = record {
   device = subst (λ (x : Device). IsMadeOf making entry x) own made;
   parts = subst AreOfFirst own parts;
   fixed = subst (λ (x : Device). (told_of x).fixed ≡ fixed_by c) own fixed;
   only = subst (λ (x : Device). s ≡ first_stack c most x copies) own same;
   room = room;
+  one_device = one;
 }
   where
     own : d ≡ s.device

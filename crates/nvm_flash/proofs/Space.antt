@@ -1,18 +1,19 @@
 -- A legal configuration leaves its device the space that it needs.
-use Rattle.std.specs.Prelude.{max, fold, sum_by}
+use Rattle.std.specs.Prelude.{max, fold, sum_by, if◌then◌else◌}
 use Rattle.std.specs.List.{range_with_len}
-use Rattle.std.proofs.Common.{◌≡◌, ◌≤◌, ◌+◌, ◌*◌, ℕ, zero, suc, List, [], ◌∷◌, ◌++◌, map, length, refl, ap, ◌∙◌, arith}
-use Rattle.std.proofs.Math.Nat.{suc-mul}
+use Rattle.std.proofs.Common.{◌≡◌, ◌≤◌, ◌+◌, ◌*◌, ◌==◌, ℕ, zero, suc, Bool, true, false, List, [], ◌∷◌, ◌++◌, map, length, Some, None, refl, sym, ap, ◌∙◌, arith}
+use Rattle.std.proofs.Math.Nat.{suc-mul, mul-zero}
 use Rattle.std.proofs.lemmas.List.Sums.{sum_by-cons}
 use Rattle.fee_core.specs.nv_base.declared.instance.DeviceNumber.{DeviceNumber}
 use Rattle.fee_core.specs.nv_base.Lengths.{AreLengths}
 use Rattle.fee_core.specs.nv_base.Pages.{record_pages_of}
 use Rattle.nvm_core.specs.block_config.declared.block.BlockDesc.{BlockDesc}
 use Rattle.nvm_core.specs.block_config.Config.{Configuration}
-use Rattle.nvm_core.specs.block_config.Lengths.{length_at, block_lengths, lengths_from, lengths_of}
+use Rattle.nvm_core.specs.block_config.Lengths.{length_at, block_lengths, stored_lengths, lengths_by, lengths_of}
 use Rattle.nvm_core.specs.block_config.Rules.{IsLegalConfig}
 use Rattle.nvm_core.specs.block_config.Sizes as sizes
 use Rattle.nvm_core.specs.block_config.Sizes.{instances_of, size_of, measures_of}
+use Rattle.nvm_core.proofs.block_config.Devices.{lengths_are_first}
 use Rattle.fee_core.specs.fee_course.Copies.{greatest}
 use Rattle.fee_core.specs.fee_switch_laws.Space.{HasSpace, all_pages}
 
@@ -37,15 +38,18 @@ range_length : (start n : ℕ) → length (range_with_len start n) ≡ n
 range_length start zero = refl
 range_length start (suc n) = let rest = range_length (start + 1) n in grind (arith, rest)
 
--- all of them
-pub all_blocks : (p id : ℕ) (bs : List BlockDesc) → all_pages p (lengths_from id bs) ≡ sum_by (λ b. instances_of b * size_of p b) bs
+-- of the first device's blocks
+stored_pages : (p id : ℕ) (b : BlockDesc) (first : Bool) → all_pages p (if first then block_lengths id b else []) ≡ instances_of b * (if first then record_pages_of b.length p else 0)
+stored_pages p id b true = all_of p id b.length (range_with_len 0 (instances_of b)) ∙ ap (λ n. n * record_pages_of b.length p) (range_length 0 (instances_of b))
+stored_pages p id b false = sym (mul-zero (instances_of b))
+
+pub all_blocks : (p id : ℕ) (bs : List BlockDesc) → all_pages p (lengths_by (Some 0) id bs) ≡ sum_by (λ b. instances_of b * size_of p b) bs
 all_blocks p id [] = refl
 all_blocks p id (b ∷ bs) =
-    let one = all_of p id b.length (range_with_len 0 (instances_of b)) in
-    let count = ap (λ n. n * record_pages_of b.length p) (range_length 0 (instances_of b)) in
-    let more = all_more p (block_lengths id b) (lengths_from (id + 1) bs) in
+    let one = stored_pages p id b (b.device == 0) in
+    let more = all_more p (stored_lengths (Some 0) id b) (lengths_by (Some 0) (id + 1) bs) in
     let rest = all_blocks p (id + 1) bs in
-    let sum = sum_by-cons (λ (x : BlockDesc). instances_of x * size_of p x) b bs in omega (arith, one, count, more, rest, sum)
+    let sum = sum_by-cons (λ (x : BlockDesc). instances_of x * size_of p x) b bs in omega (arith, one, more, rest, sum)
 
 fold_from : (f : BlockDesc → ℕ) (m : ℕ) (bs : List BlockDesc) → m ≤ fold (λ n b. max n (f b)) m bs
 fold_from f m [] = omega arith
@@ -55,21 +59,26 @@ fold_grows : (f : BlockDesc → ℕ) (m n : ℕ) (bs : List BlockDesc) → m ≤
 fold_grows f m n [] less = less
 fold_grows f m n (b ∷ bs) less = fold_grows f (max m (f b)) (max n (f b)) bs (omega (arith, less))
 
-pub greatest_blocks : (p id : ℕ) (bs : List BlockDesc) → greatest p (lengths_from id bs) ≤ sizes.greatest (size_of p) bs
+greatest_stored : (p id : ℕ) (b : BlockDesc) (first : Bool) → greatest p (if first then block_lengths id b else []) ≤ (if first then record_pages_of b.length p else 0)
+greatest_stored p id b true = greatest_of p id b.length (range_with_len 0 (instances_of b))
+greatest_stored p id b false = omega arith
+
+pub greatest_blocks : (p id : ℕ) (bs : List BlockDesc) → greatest p (lengths_by (Some 0) id bs) ≤ sizes.greatest (size_of p) bs
 greatest_blocks p id [] = omega arith
 greatest_blocks p id (b ∷ bs) =
-    let one = greatest_of p id b.length (range_with_len 0 (instances_of b)) in
-    let more = greatest_more p (block_lengths id b) (lengths_from (id + 1) bs) in
+    let one = greatest_stored p id b (b.device == 0) in
+    let more = greatest_more p (stored_lengths (Some 0) id b) (lengths_by (Some 0) (id + 1) bs) in
     let rest = greatest_blocks p (id + 1) bs in
     let here = fold_from (size_of p) (max 0 (size_of p b)) bs in
     let grows = fold_grows (size_of p) 0 (max 0 (size_of p b)) bs (omega arith) in omega (arith, one, more, rest, here, grows)
 
-pub has_space : (c : Configuration) (numbers : List (DeviceNumber × ℕ)) → IsLegalConfig c → numbers ≡ lengths_of c → AreLengths 0 numbers → HasSpace numbers c.geometry c.banks (measures_of c.geometry.page c.blocks).urgent
-has_space c numbers legal is lengths = record {
+pub has_space : (c : Configuration) (numbers : List (DeviceNumber × ℕ)) → IsLegalConfig c → c.eeprom ≡ None → numbers ≡ lengths_of c → AreLengths 0 numbers → HasSpace numbers c.geometry c.banks (measures_of c.geometry.page c.blocks).urgent
+has_space c numbers legal one is lengths = record {
   lengths = lengths;
   space =
       let room = legal.room in
-      let all = ap (all_pages c.geometry.page) is ∙ all_blocks c.geometry.page 1 c.blocks in
+      let first = is ∙ sym (lengths_are_first c legal one) in
+      let all = ap (all_pages c.geometry.page) first ∙ all_blocks c.geometry.page 1 c.blocks in
       let most = greatest_blocks c.geometry.page 1 c.blocks in
-      let same = ap (greatest c.geometry.page) is in omega (arith, room, all, most, same);
+      let same = ap (greatest c.geometry.page) first in omega (arith, room, all, most, same);
 }

@@ -1,5 +1,5 @@
 -- What the device of a configuration makes of its work at most.
-use Rattle.std.specs.Prelude.{◌≡◌, ◌≤◌, ℕ, if◌then◌else◌}
+use Rattle.std.specs.Prelude.{◌≡◌, ◌≤◌, ℕ, None, if◌then◌else◌}
 use Rattle.nvm_core.specs.block_config.Config.{Configuration}
 use Rattle.nvm_core.specs.block_config.Rules.{IsLegalConfig}
 use Rattle.fee_core.specs.memif.Told.{Fixed, figures_at, most_of}
@@ -18,9 +18,9 @@ costs_by f = record {
 }
 
 -- LAWS
--- it is that of the configuration, and a read takes one turn
+-- without a second device it is that of the configuration, and a read takes one turn
 abbrev pub CostsAreFigures : Type 0
-CostsAreFigures = (c : Configuration) → IsLegalConfig c → costs_by (fixed_by c) ≡ costs_of c
+CostsAreFigures = (c : Configuration) → IsLegalConfig c → c.eeprom ≡ None → costs_by (fixed_by c) ≡ costs_of c
 
 abbrev pub ReadsTakeOne : Type 0
 ReadsTakeOne = (c : Configuration) (n : ℕ) → (figures_at (fixed_by c) n).read ≤ 1

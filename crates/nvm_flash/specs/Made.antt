@@ -22,7 +22,7 @@ use Rattle.promise_run.specs.Promise.{making_of}
 use Rattle.nvm_core.specs.Stack.{StackState, first_stack}
 use Rattle.nvm_flash.specs.Turns.{fixed_by}
 use Rattle.nvm_flash.specs.declared.device.MakeFault.{MakeFault}
-use Rattle.nvm_flash.specs.declared.device.MakeFault.TheVariants.{WrongSize, Flash, InUse, Memory}
+use Rattle.nvm_flash.specs.declared.device.MakeFault.TheVariants.{WrongSize, Flash, InUse, NoSecond, Memory}
 
 -- what a device is made of: this configuration, over a flash that tells this, with so many power cuts that can be planned
 pub record IsOrigin (c : Configuration) (inner : Told) (cuts : ℕ) (making : Making) (entry : Told) : Type 0 where
@@ -35,16 +35,23 @@ abbrev pub IsOnlyFaulty : Told → Told → Type 0
 IsOnlyFaulty s t = Rose s.faults t.faults × LeavesAlone (record s { faults = t.faults }) t
 
 -- why it isn't made or started: the flash has another size than the configuration's, and is left alone; a fault of the flash;
--- another call has the flash in use; or want of memory
+-- another call has the flash in use; a second device is missing; or want of memory
 abbrev pub IsCause : Configuration → MakeFault → Told → Told → Type 0
 IsCause c (WrongSize found) s t = IfSome s.bytes (λ b. (length b.now ≡ found) × (found ≢ 0) × (found ≢ size_of c.geometry)) × LeavesAlone s t
 IsCause c Flash s t = Rose s.faults t.faults
 IsCause c InUse s t = IsOnlyFaulty s t
+IsCause c NoSecond s t = t ≡ s
 IsCause c Memory s t = Unit {0}
+
+-- a second device is said to be missing where the configuration names one, and no other reason is given then
+abbrev pub MissesSecond : Configuration → MakeFault → Type 0
+MissesSecond c NoSecond = c.eeprom ≢ None
+MissesSecond c _ = c.eeprom ≡ None
 
 -- the flash comes back as it was, or attached
 pub record ComesBack (c : Configuration) (fault : MakeFault) (s t : Told) : Type 0 where
   pub cause : IsCause c fault s t
+  pub second : MissesSecond c fault
   pub flash : LeavesFlash c.geometry (record { entry = s; exit = t; operations = [] })
   pub faults : s.faults ≤ t.faults
   pub cuts : s.cuts ≤ t.cuts
@@ -83,6 +90,7 @@ pub record IsMadeWith {C : Type 0} (c : Configuration) (most : ℕ) (making : Ma
   pub fixed : (told_of s.device).fixed ≡ fixed_by c
   pub only : s ≡ first_stack c most s.device copies
   pub room : 2 ≤ most
+  pub one_device : c.eeprom ≡ None
 
 -- with the copies that a player has at first
 abbrev pub IsMadeStack : Configuration → ℕ → Making → Told → StackState Device (List PlainBlock) → Type 0

@@ -1,5 +1,5 @@
 -- The figures of the device of a configuration, and the most turns of a job by them.
-use Rattle.std.specs.Prelude.{◌≡◌, ℕ}
+use Rattle.std.specs.Prelude.{◌≡◌, ℕ, None}
 use Rattle.fee_core.specs.nv_base.Geometry.{sectors_of_bank}
 use Rattle.nvm_core.specs.block_config.Config.{Configuration}
 use Rattle.nvm_core.specs.block_config.Lengths.{lengths_of}
@@ -19,9 +19,9 @@ abbrev pub fixed_by : Configuration → Fixed
 fixed_by c = fixed_for c.geometry.page (sectors_of_bank c.geometry c.banks) (lengths_of c) (measures_of c.geometry.page c.blocks).urgent
 
 -- LAWS
--- the most turns of a job are those of its program by these figures
+-- without a second device, the most turns of a job are those of its program by these figures
 abbrev pub JobTurnsAreFigures : Type 0
-JobTurnsAreFigures = (c : Configuration) → IsLegalConfig c → (s : State) (j : Job) → most_turns (fixed_by c) (program_for c s j) ≡ job_turns c s j
+JobTurnsAreFigures = (c : Configuration) → IsLegalConfig c → c.eeprom ≡ None → (s : State) (j : Job) → most_turns (fixed_by c) (program_for c s j) ≡ job_turns c s j
 
 -- and the pages of the records of a write are those by these figures
 abbrev pub WritePagesAreFigures : Type 0

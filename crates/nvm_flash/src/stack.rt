@@ -1,5 +1,5 @@
 // The stack.
-ghost use Rattle.std.specs.Prelude.{◌≤◌, ℕ, IfErr, IfOk};
+ghost use Rattle.std.specs.Prelude.{◌≡◌, ◌≤◌, ℕ, IfErr, IfOk, None};
 ghost use Rattle.fee_core.specs.fee_told.Device.{told_of};
 ghost use Rattle.fee_core.specs.Tells.{told_clock};
 ghost use Rattle.fee_core.specs.fls_model.Told.{Told};
@@ -22,7 +22,7 @@ use std::alloc::Global;
 pub type FlashStack<F, O> = Stack<Fee<Cutter<F>, O>, PlainSync>;
 
 /// The stack of a configuration over a flash, before its first start-up, with a history of at most `cap` entries, and with the copies
-/// that a player has at first.
+/// that a player has at first. A configuration with a second device is refused.
 pub fn make_stack<F: Flash, O: Origin>(
     alloc: Global,
     config: Config,
@@ -31,6 +31,26 @@ pub fn make_stack<F: Flash, O: Origin>(
     cap: u32,
 ) -> Result<FlashStack<F, O>, (MakeFault, F)>
     requires origin { IsOrigin config (F.told flash) cuts O.making O.entry }
+    requires room { 2 ≤ cap }
+    ensures made { IfOk result (λ s. IsMadeStack config cap O.making O.entry s) }
+    ensures stopped { IfErr result (λ e. ComesBack config e.0 (F.told flash) (F.told e.1)) }
+{
+    match config.second() {
+        Some(_) => Err((MakeFault::NoSecond, flash)),
+        None => make_plain(alloc, config, flash, cuts, cap),
+    }
+}
+
+// So for one without a second device.
+fn make_plain<F: Flash, O: Origin>(
+    alloc: Global,
+    config: Config,
+    flash: F,
+    cuts: u32,
+    cap: u32,
+) -> Result<FlashStack<F, O>, (MakeFault, F)>
+    requires origin { IsOrigin config (F.told flash) cuts O.making O.entry }
+    requires one_device { config.eeprom ≡ None }
     requires room { 2 ≤ cap }
     ensures made { IfOk result (λ s. IsMadeStack config cap O.making O.entry s) }
     ensures stopped { IfErr result (λ e. ComesBack config e.0 (F.told flash) (F.told e.1)) }

@@ -11,6 +11,6 @@ returns-in-Failed g c =
       started = tt;
       keeps = tt;
       stopped = λ inner cuts origin.
-          failed_back c.args.stack.desk.config inner cuts g.O.Origin.making g.O.Origin.entry (g.F.Flash.told c.give_back.result) c.args.stack.device c.into_device.result origin c.requires.device
+          failed_back c.args.stack.desk.config inner cuts g.O.Origin.making g.O.Origin.entry (g.F.Flash.told c.give_back.result) c.args.stack.device c.into_device.result origin c.requires.one_device c.requires.device
           (subst (λ (d : Device). FailsToFind (told_of c.args.stack.device) (told_of d)) (sym c.into_device.ensures) starts.fails) (c.give_back.ensures c.args.stack.desk.config inner cuts origin);
     }

@@ -3,7 +3,7 @@ use Rattle.std.proofs.lemmas.Result.{IfOk-weaker}
 use Rattle.nvm_core.specs.ram_blocks.declared.plain_block.PlainBlock.{PlainBlock}
 use Rattle.nvm_core.proofs.ram_blocks.FreshCopies.{are_synchronized}
 use Rattle.nvm_flash.specs.Made.{IsMadeStack, IsMadeWith}
-use Rattle.nvm_flash.proofs.stack.make_stack.Goals as goal
+use Rattle.nvm_flash.proofs.stack.make_plain.Goals as goal
 
 pub make_stack_with-requires-clause-synchronized : goal.make_stack_with-requires-clause-synchronized
 make_stack_with-requires-clause-synchronized g c = are_synchronized c.args.config c.in-Ok.copies c.blocks-blocks.ensures.legal c.in-Ok.ensures
