@@ -2,7 +2,7 @@
 //! else is the commands'.
 #![tactic(auto)]
 
-use fls_devices::{FileFlash, ImageFault, ImageFile};
+use fls_files::{FileFlash, ImageFault, ImageFile};
 use fls_model::mem_flash;
 use nv_streams::{StdSink, StdSource};
 use nvm_top::{Status, command};

@@ -12,8 +12,8 @@ use nvm_top::nvm_flash::block_config::{Config, read};
 use nvm_top::nvm_flash::memif::PlainStore;
 use nvm_top::nvm_flash::nvm_core::Stack;
 use nvm_top::nvm_flash::nvm_laws::FoundAnswer;
+use nvm_top::nvm_flash::promise_run::CAP;
 use nvm_top::nvm_flash::ram_blocks::PlainSync;
-use script_player::promise_run::CAP;
 use script_player::{PlainStack, cuts_of, make_steps};
 use std::alloc::{AllocError, Global};
 
@@ -31,10 +31,7 @@ pub fn play_in_memory(alloc: Global, input: &[u8]) -> anyhow::Result<Vec<u8>> {
     if make_steps(alloc, steps, blocks, &mut stack).is_err() {
         bail!("a step isn't made in memory");
     }
-    if !stack.stack().keeps_entries() {
-        bail!("the entries aren't kept");
-    }
-    Ok(text_of(alloc, stack.stack().history())?)
+    kept_text(alloc, stack.stack())
 }
 
 // The steps of an input.
@@ -58,7 +55,7 @@ fn start(alloc: Global, config: Config) -> anyhow::Result<Stack<PlainStore, Plai
     ensures fresh { IfOk result (λ s. IsFresh (told_by (λ d. d) s)) }
 {
     config.geometry();
-    let numbers = config.lengths(alloc)?;
+    let numbers = config.all_lengths(alloc)?;
     let device = PlainStore::make(alloc, &numbers)?;
     let copies = PlainSync::make(alloc, &config)?;
     let Ok(mut stack) = Stack::make(alloc, config, device, copies, CAP) else {
@@ -68,6 +65,14 @@ fn start(alloc: Global, config: Config) -> anyhow::Result<Stack<PlainStore, Plai
         FoundAnswer::Ready => Ok(stack),
         _ => bail!("no start-up in memory"),
     }
+}
+
+// The text of a stack's history, which a stack of this cap keeps.
+fn kept_text(alloc: Global, stack: &Stack<PlainStore, PlainSync>) -> anyhow::Result<Vec<u8>> {
+    if !stack.keeps_entries() {
+        bail!("the entries aren't kept");
+    }
+    Ok(text_of(alloc, stack.history())?)
 }
 
 // The lines of a history.

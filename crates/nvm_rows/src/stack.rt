@@ -46,6 +46,14 @@ fn make_over(
     make_on::<Brand>(alloc, config, steps, flash)
 }
 
+// The summary of a stack's history; None where it isn't kept, or there is no memory.
+fn kept_summary<D: MemDevice>(alloc: Global, stack: &Stack<D, PlainSync>) -> Option<Bytes> {
+    if !stack.keeps_entries() {
+        return None;
+    }
+    summary_text(alloc, stack.history()).ok()
+}
+
 // So over the device of this origin.
 fn make_on<O: Origin>(
     alloc: Global,
@@ -60,10 +68,7 @@ fn make_on<O: Origin>(
         FoundAnswer::Ready => make_all(alloc, steps, &mut stack),
         _ => false,
     };
-    if !stack.keeps_entries() {
-        return None;
-    }
-    let text = summary_text(alloc, stack.history()).ok();
+    let text = kept_summary(alloc, &stack);
     let flash = give_back(stack.into_device());
     let text = text.filter(|_| is_made)?;
     Some((text, flash))

@@ -129,7 +129,7 @@ fn run<R: Threads + Wait + Sync, D: MemDevice + Drop, H: Hold + Sync>(
 fn make_device(alloc: Global, config: &Config) -> Result<PlainStore, AllocError>
     ensures { IfOk result (λ d. d.fixed.numbers ≡ lengths_of config.now) }
 {
-    let numbers = config.lengths(alloc)?;
+    let numbers = config.all_lengths(alloc)?;
     PlainStore::make(alloc, &numbers)
 }
 

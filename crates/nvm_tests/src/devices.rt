@@ -1,5 +1,5 @@
 // A flash in a file.
-use nvm_flash::fls_devices::{ByteFile, FileFlash, ImageFault, ImageFile, mem_file};
+use fls_files::{ByteFile, FileFlash, ImageFault, ImageFile, mem_file};
 use nvm_flash::fls_model::{AttachFault, Flash};
 use nvm_laws::nv_base::Geometry;
 use std::alloc::Global;
@@ -12,7 +12,7 @@ const SMALLEST: Geometry = Geometry {
     sectors: 2,
 };
 
-const PATH: &str = "fls_devices_test.img";
+const PATH: &str = "fls_files_test.img";
 
 // Programs the second page twice.
 fn change_twice<F: Flash>(alloc: Global, flash: &mut F) -> Result<(), AttachFault> {
@@ -61,14 +61,14 @@ fn keeps_an_image_in_a_file(rt: HostRuntime) {
 
 // Whether a file of another size is refused.
 fn is_refused(rt: &HostRuntime) -> bool {
-    let wrong = change_file(rt, "fls_devices_size.img");
+    let wrong = change_file(rt, "fls_files_size.img");
     matches!(wrong, Err(AttachFault::WrongSize { found: 100 }))
 }
 
 #[test]
 fn an_image_file_of_another_size(rt: HostRuntime) {
-    assert!(rt; fs::write(&rt, "fls_devices_size.img", [7; 100].as_slice()).is_ok());
-    assert!(rt; is_refused(&rt) && fs::remove_file(&rt, "fls_devices_size.img").is_ok());
+    assert!(rt; fs::write(&rt, "fls_files_size.img", [7; 100].as_slice()).is_ok());
+    assert!(rt; is_refused(&rt) && fs::remove_file(&rt, "fls_files_size.img").is_ok());
 }
 
 #[test]
@@ -94,9 +94,9 @@ fn keeps_an_image_in_memory(rt: HostRuntime) {
     assert!(rt; is_kept_in_memory(rt.alloc()));
 }
 
-const LATE: &str = "fls_devices_late.img";
+const LATE: &str = "fls_files_late.img";
 
-const BESIDE: &str = "fls_devices_late.img.new";
+const BESIDE: &str = "fls_files_late.img.new";
 
 // Whether an absent file is made by the attach, and by nothing before it, with no other file left; and whether it isn't made to
 // be read.
@@ -130,9 +130,9 @@ fn attach_file(
     (attached, why)
 }
 
-const HELD: &str = "fls_devices_held.img";
+const HELD: &str = "fls_files_held.img";
 
-const HELD_NEW: &str = "fls_devices_held.img.new";
+const HELD_NEW: &str = "fls_files_held.img.new";
 
 // Whether another call, also one that reads alone, finds the flash in use while this one has it, and no longer.
 fn is_held_alone(rt: &HostRuntime) -> bool {
@@ -153,9 +153,9 @@ fn an_image_file_that_another_call_has(rt: HostRuntime) {
     assert!(rt; is_held_alone(&rt) && fs::remove_file(&rt, HELD).is_ok());
 }
 
-const MADE: &str = "fls_devices_made.img";
+const MADE: &str = "fls_files_made.img";
 
-const MADE_NEW: &str = "fls_devices_made.img.new";
+const MADE_NEW: &str = "fls_files_made.img.new";
 
 // Whether what stands under the other name ends the attach, and stays as it is.
 fn stays(rt: &HostRuntime, found: &[u8]) -> bool {
@@ -171,10 +171,10 @@ fn stays(rt: &HostRuntime, found: &[u8]) -> bool {
 
 // Whether a link there is followed by nothing.
 fn is_no_link(rt: &HostRuntime) -> bool {
-    let linked = symlink(rt, "fls_devices_other.img", MADE_NEW).is_ok();
+    let linked = symlink(rt, "fls_files_other.img", MADE_NEW).is_ok();
     let (attached, why) = attach_file(rt, MADE, MADE_NEW);
     let failed = attached.is_err() && why == Some(ImageFault::InTheWay);
-    linked && failed && fs::metadata(rt, "fls_devices_other.img").is_err()
+    linked && failed && fs::metadata(rt, "fls_files_other.img").is_err()
 }
 
 // Whether the part that a call that was killed left is taken.

@@ -40,6 +40,8 @@ fn why_no_stack_was_made(rt: HostRuntime) {
     let fault = "the flash counted a fault while the stack was made or started";
     assert!(rt; prints(MakeFault::Flash, fault));
     assert!(rt; prints(MakeFault::InUse, "another call has the flash in use"));
+    let second = "the configuration names a second device, and none is handed in";
+    assert!(rt; prints(MakeFault::NoSecond, second));
     let memory = "there is no memory for the stack";
     assert!(rt; prints(MakeFault::Memory, memory));
 }

@@ -23,7 +23,7 @@ const PENDING: u8 = 2;
 fn make_device(alloc: Global, config: &Config) -> Result<PlainStore, AllocError>
     ensures { IfOk result (λ d. d.fixed.numbers ≡ lengths_of config.now) }
 {
-    let numbers = config.lengths(alloc)?;
+    let numbers = config.all_lengths(alloc)?;
     PlainStore::make(alloc, &numbers)
 }
 

@@ -15,16 +15,16 @@ use Rattle.nvm_script.specs.Printed.{history_lines}
 use Rattle.script_player.specs.uds_gateway.Answers.{uds}
 use Rattle.script_player.specs.uds_gateway.Served.{AreServed}
 use Rattle.script_player.specs.uds_gateway.declared.stop.ServeStop.{ServeStop}
-use Rattle.script_walks.specs.Walk.{joined}
+use Rattle.script_player.specs.script_walks.Walk.{joined}
 use Rattle.uds_script.specs.Lines.{uds_line}
-use Rattle.nvm_top.specs.declared.output.OutputFault.{OutputFault}
-use Rattle.nvm_top.specs.declared.output.OutputFault.TheVariants as output
-use Rattle.nvm_top.specs.declared.status.Status.{Status}
-use Rattle.nvm_top.specs.declared.status.Status.TheVariants as status
-use Rattle.nvm_top.specs.declared.stop.Stop.{Stop}
-use Rattle.nvm_top.specs.declared.stop.Stop.TheVariants as stop
-use Rattle.nvm_top.specs.Output.{BreaksOff, IsEndOf, Writes, fault_status}
-use Rattle.nvm_top.specs.Stop.{status_of, line_of, IsStop}
+use Rattle.nvm_lines.specs.declared.output.OutputFault.{OutputFault}
+use Rattle.nvm_lines.specs.declared.output.OutputFault.TheVariants as output
+use Rattle.nvm_lines.specs.declared.status.Status.{Status}
+use Rattle.nvm_lines.specs.declared.status.Status.TheVariants as status
+use Rattle.nvm_lines.specs.declared.stop.Stop.{Stop}
+use Rattle.nvm_lines.specs.declared.stop.Stop.TheVariants as stop
+use Rattle.nvm_lines.specs.Output.{BreaksOff, IsEndOf, Writes, fault_status}
+use Rattle.nvm_lines.specs.Stop.{status_of, line_of, IsStop}
 use Rattle.nvm_top.specs.Uds.{answer_lines, served_lines, lines_by, BreaksOffIn, HasPieces, WritesLines, stop_of_serving, stopped_serving, status_served, line_served}
 use Rattle.nvm_top.proofs.RunLines.{not_wanting}
 

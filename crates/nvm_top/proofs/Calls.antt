@@ -5,7 +5,7 @@ use Rattle.nvm_flash.specs.fls_model.Told.{Told}
 use Rattle.nvm_words.specs.Words.{is_run}
 use Rattle.nvm_words.specs.declared.words.CommandKind.{CommandKind}
 use Rattle.nvm_words.specs.declared.words.CommandKind.TheVariants.{Play, Run, Dump, Check, Soak, Uds}
-use Rattle.nvm_top.specs.declared.status.Status.TheVariants as status
+use Rattle.nvm_lines.specs.declared.status.Status.TheVariants as status
 use Rattle.nvm_top.specs.Causes.{HasCauses}
 use Rattle.nvm_top.specs.Commands.{Ended, ended, KeepsCommand, KeepsOnly, KeepsPlay, KeepsRunCommand, KeepsUds}
 use Rattle.nvm_top.proofs.Images.{kept-same}

@@ -3,7 +3,7 @@ use Rattle.std.proofs.Common.{◌≡◌, List, [], ◌∷◌, Option, None, refl
 use Rattle.nvm_flash.specs.nv_base.Count.{Rose}
 use Rattle.nvm_flash.specs.block_config.Config.{Configuration}
 use Rattle.nvm_flash.specs.fls_model.Told.{Told, Change}
-use Rattle.script_walks.specs.Words.{Step}
+use Rattle.script_player.specs.script_walks.Words.{Step}
 use Rattle.nvm_flash.specs.block_machine.Words.{Entry}
 use Rattle.nvm_flash.specs.block_machine.State.{State}
 use Rattle.nvm_flash.specs.block_machine.Steps.{after}

@@ -2,7 +2,7 @@
 use Rattle.std.specs.Prelude.{◌||◌, not, IfSome, IfOk, take, option_map, min, nat_lt, nat_le}
 use Rattle.std.specs.Option.{option_map_or}
 use Rattle.std.proofs.lemmas.Bool.{and_parts, leb-true, ltb-true}
-use Rattle.std.proofs.Common.{◌≡◌, ◌≢◌, ◌≤◌, ◌+◌, ◌*◌, ◌⊎◌, ℕ, Bool, true, false, List, [], Option, Some, None, Result, Ok, Err, length, refl, sym, ap, ◌∙◌, subst, inl, inr, arith}
+use Rattle.std.proofs.Common.{◌≡◌, ◌≢◌, ◌≤◌, ◌+◌, ◌*◌, ◌⊎◌, ◌++◌, ℕ, Bool, true, false, List, [], ◌∷◌, Option, Some, None, Result, Ok, Err, length, refl, sym, ap, ◌∙◌, subst, inl, inr, arith}
 use Rattle.std.proofs.Math.Nat.{eq-or-lt_of_le}
 use Rattle.nvm_flash.specs.nv_base.Count.{last_count, Rose, WereCounted}
 use Rattle.nvm_flash.specs.nv_base.Geometry.{size_of}
@@ -10,7 +10,8 @@ use Rattle.nvm_flash.specs.nv_base.declared.geometry.Geometry.{Geometry}
 use Rattle.nvm_flash.specs.block_config.Config.{Configuration}
 use Rattle.nvm_flash.specs.block_config.Rules.{IsLegalConfig}
 use Rattle.nvm_flash.specs.block_machine.State.{State, Job}
-use Rattle.nvm_flash.specs.memif.Told.{Part, PartTold, Fixed, First, faults_of, figures_at}
+use Rattle.nvm_flash.specs.block_machine.Words.{Entry, Found}
+use Rattle.nvm_flash.specs.memif.Told.{DeviceTold, Part, PartTold, Fixed, First, faults_of, figures_at}
 use Rattle.nvm_flash.specs.memif.Calls.{InOrder}
 use Rattle.nvm_flash.specs.fls_model.Told.{Told, ToldBytes, Change, IfBothTold, bytes_now}
 use Rattle.nvm_flash.specs.fls_devices.Cutter.{cutting, told_cutting}
@@ -36,10 +37,10 @@ use Rattle.nvm_flash.specs.nvm_laws.Keeps.{StackKeepsAsTold}
 use Rattle.nvm_flash.specs.promise_run.Run.{Played, cap}
 use Rattle.nvm_flash.specs.promise_run.Promise.{making_of}
 use Rattle.nvm_flash.specs.promise_run.Halves.{HalvesMakeIt}
-use Rattle.script_walks.specs.Texts.{AreValues}
+use Rattle.script_player.specs.script_walks.Texts.{AreValues}
 use Rattle.script_player.specs.Made.{IsFresh}
 use Rattle.script_player.specs.PlainTold.{told_by}
-use Rattle.script_player.specs.PlainKept.{IsKept}
+use Rattle.script_player.specs.PlainKept.{IsKept, AreStartsFound}
 use Rattle.nvm_flash.specs.declared.device.MakeFault.{MakeFault}
 use Rattle.nvm_flash.specs.declared.device.MakeFault.TheVariants as fault
 use Rattle.nvm_flash.specs.job_progress.JobInHand.{IsPaired, program_for}
@@ -60,14 +61,16 @@ use Rattle.nvm_flash.proofs.nvm_device_laws.DownCalls.{over_with}
 use Rattle.nvm_flash.proofs.promise_device.Readings.{sound_starts_compute, worn_banks_compute}
 use Rattle.nvm_flash.proofs.promise_run.Composition.{begins_well}
 use Rattle.nvm_flash.specs.Made.{IsOrigin, IsMadeStack, AreOfFirst, ComesBack, IsBack, one_part}
+use Rattle.nvm_flash.specs.promise_device.SwitchErases.{RestartsAreFew}
+use Rattle.nvm_flash.specs.promise_blocks.Operations.{founds}
 use Rattle.nvm_flash.specs.promise_device.Bridge.{IsWornOut}
 use Rattle.nvm_flash.specs.nvm_core.Paying.{counted_of, TriesSince, has_urgent}
 use Rattle.script_player.specs.PlainPaying.{payer_by}
 use Rattle.nvm_flash.specs.nvm_core.DueWrites.{pages_in}
-use Rattle.nvm_top.specs.Stack.{IsKeptFrom, IsStarted, StopsAtStart, Vouches, run_of, stop_of_make}
+use Rattle.nvm_top.specs.Stack.{IsKeptFrom, IsStarted, StopsAtStart, Vouches, run_of, stop_of_make, KeepsPlayed}
 use Rattle.nvm_flash.specs.fls_model.Attach.{IsFilled}
 use Rattle.nvm_top.specs.Play.{IsRightSize, IsWrongSize}
-use Rattle.nvm_top.specs.declared.stop.Stop.{Stop}
+use Rattle.nvm_lines.specs.declared.stop.Stop.{Stop}
 
 -- THE HISTORY
 -- that of a program is kept
@@ -87,14 +90,16 @@ wrong_length (Some b) found need is = (λ none. is.1 (sym is.0 ∙ none), λ who
 pub stops : (c : Configuration) (why : MakeFault) (s t : Told) → ComesBack c why s t → StopsAtStart c s t (stop_of_make why (size_of c.geometry))
 stops c (fault.WrongSize found) s t back = record {
   why = (same_length s.bytes found (size_of c.geometry) back.cause.0, refl);
+  second = back.second;
   end = (wrong_length s.bytes found (size_of c.geometry) back.cause.0, back.cause.1);
   flash = back.flash;
   faults = back.faults;
   cuts = back.cuts;
 }
-stops c fault.Flash s t back = record { why = tt; end = back.cause; flash = back.flash; faults = back.faults; cuts = back.cuts }
-stops c fault.InUse s t back = record { why = tt; end = back.cause; flash = back.flash; faults = back.faults; cuts = back.cuts }
-stops c fault.Memory s t back = record { why = tt; end = tt; flash = back.flash; faults = back.faults; cuts = back.cuts }
+stops c fault.Flash s t back = record { why = tt; second = back.second; end = back.cause; flash = back.flash; faults = back.faults; cuts = back.cuts }
+stops c fault.NoSecond s t back = record { why = tt; second = back.second; end = back.cause; flash = back.flash; faults = back.faults; cuts = back.cuts }
+stops c fault.InUse s t back = record { why = tt; second = back.second; end = back.cause; flash = back.flash; faults = back.faults; cuts = back.cuts }
+stops c fault.Memory s t back = record { why = tt; second = back.second; end = tt; flash = back.flash; faults = back.faults; cuts = back.cuts }
 
 -- THE FIRST START-UP
 
@@ -133,11 +138,13 @@ right_size c inner cuts making entry m origin made =
 pub started : (c : Configuration) (inner : Told) (cuts : ℕ) (making : Making) (entry : Told) (m s : StackState Device (List PlainBlock)) → IsLegalConfig c → IsOrigin c inner cuts making entry → IsMadeStack c cap making entry m → StartsUp told_of m s → IsStarted c cuts (part_at entry) (told_by told_of s)
 started c inner cuts making entry m s legal origin made starts = record {
   configuration = config;
+  legal = legal;
+  one_device = made.one_device;
   most = ap (λ x. x.desk.cap) starts.only ∙ ap (λ x. x.desk.cap) made.only;
   turns =
       ap (λ (f : Fixed). λ (x : State) (j : Job). most_turns f (program_for s.desk.config x j)) (starts.finds.up.restarted.fixed ∙ made.fixed)
       ∙ ap (λ (y : Configuration). λ (x : State) (j : Job). most_turns (fixed_by c) (program_for y x j)) config
-      ∙ (λ i x j. job_turns_are_figures c legal x j i);
+      ∙ (λ i x j. job_turns_are_figures c legal made.one_device x j i);
   fresh = fresh.0;
   ops = fresh.1;
   takes = let is = ap (λ p. p.planning.takes) starts.finds.up.restarted.first.only ∙ ap (λ p. p.planning.takes) part in omega (arith, is);
@@ -200,16 +207,30 @@ work_up c making entry m s t legal order tied same starts made =
     let leaves =
     subst (λ (x : StackState Device (List PlainBlock)). ((told_of x.device).left ≡ 0) ⊎ (nat_lt 0 (faults_of (told_of x.device)) ≡ true)) (sym same)
     (first_leaves starts.marks (told_of m.device) (told_of s.device) starts.finds (subst IsSimple (sym made.fixed) (record { one = refl; reads = reads_take_one c }))) in (
-      ap costs_in fixed ∙ costs_are_figures c legal ∙ ap costs_of (sym config),
+      ap costs_in fixed ∙ costs_are_figures c legal made.one_device ∙ ap costs_of (sym config),
       start_work told_of told_clock (record t { ready = false }) t refl order (subst (λ (h : Option HandState). IsPaired t.desk.config (state_of t.desk) h (told_of t.device)) none tied.paired)
           (nat_lt 0 (faults_of (told_of t.device))) (λ simple_too. leaves) (record { left = 0; trying = None })
           (simple, λ ready. absurd (let never : false ≡ true = ready in cc never)),
     )
 
+-- its start-up is the one that its history tells
+starts_up : (c : Configuration) (making : Making) (entry : Told) (m s t : StackState Device (List PlainBlock)) → t ≡ s → StartsUp told_of m s → IsMadeStack c cap making entry m → AreStartsFound t.ready t.desk (told_of t.device)
+starts_up c making entry m s t same starts made =
+    let none : (told_of m.device).starts ≡ 0 = made.device.starts in
+    let more = starts.finds.up.restarted.starts in
+    let one : founds s.desk.entries ≡ 1 = ap (λ (x : StackState Device (List PlainBlock)). founds x.desk.entries) starts.only ∙ ap (λ (h : List Entry). founds (h ++ Found starts.marks (told_of s.device).ops ∷ [])) (ap (λ x. x.desk.entries) made.only) in
+    subst (λ (x : StackState Device (List PlainBlock)). AreStartsFound x.ready x.desk (told_of x.device)) (sym same)
+    (subst (λ (b : Bool). AreStartsFound b s.desk (told_of s.device)) (sym (ap (λ x. x.ready) starts.only)) (omega (arith, none, more, one)))
+
+-- it made one more at most
+founds_least : (ready : Bool) (desk : DeskState) (d : DeviceTold) → AreStartsFound ready desk d → d.starts ≤ founds desk.entries + 1
+founds_least true desk d are = omega (arith, are)
+founds_least false desk d are = omega (arith, are)
+
 pub kept_up : (c : Configuration) (making : Making) (entry : Told) (before : Part → PartTold) (m s t : StackState Device (List PlainBlock)) → IsLegalConfig c → InOrder (told_of t.device) (told_clock t.device) → IsTied t.desk t.hand (told_of t.device) → t ≡ s → StartsUp told_of m s → IsMadeStack c cap making entry m → StackKeepsAsTold before s.desk None (told_of s.device) (told_clock s.device)
-    → IsKeptFrom (IsKept t.ready before t.desk t.hand (told_of t.device) (told_clock t.device)) (payer_by told_of told_clock t) (told_by told_of t)
+    → IsKeptFrom (KeepsPlayed t.ready before t.desk t.hand (told_of t.device) (told_clock t.device)) (payer_by told_of told_clock t) (told_by told_of t)
 kept_up c making entry before m s t legal order tied same starts made keeps =
-    let kept = is_kept before m s t same starts keeps in (kept, (((before, kept), (omega arith, none_owed before m s t same starts)), pages_up c making entry m s t same starts made, reserve_up c making entry m s t same starts made, λ ready. none_sealed (told_of t.device) (told_clock t.device), (work_up c making entry m s t legal order tied same starts made).0, (work_up c making entry m s t legal order tied same starts made).1))
+    let kept = is_kept before m s t same starts keeps in ((kept, starts_up c making entry m s t same starts made), (((before, kept), (omega arith, none_owed before m s t same starts)), pages_up c making entry m s t same starts made, reserve_up c making entry m s t same starts made, λ ready. none_sealed (told_of t.device) (told_clock t.device), (work_up c making entry m s t legal order tied same starts made).0, (work_up c making entry m s t legal order tied same starts made).1))
 
 -- ITS END
 
@@ -251,7 +272,7 @@ had_room (Some x) spare k n free fits told = (free x, told, leb-true n (free x) 
 
 pub vouched : (c : Configuration) (inner : Told) (cuts : ℕ) (making : Making) (entry exit : Told) (s : StackState Device (List PlainBlock)) (e : Device) → e ≡ s.device → HalvesMakeIt (told_clock e) → AreValues s.desk.entries → IsOrigin c inner cuts making entry → s.desk.config ≡ c → s.desk.cap ≡ cap
     → IsBack c inner exit (part_at entry) (told_of e) (clock_of e)
-    → Vouches (IsKept s.ready (one_part (part_at entry)) s.desk s.hand (told_of s.device) (told_clock s.device)) (payer_by told_of told_clock s) (part_at entry) (told_by told_of s) inner exit
+    → Vouches (KeepsPlayed s.ready (one_part (part_at entry)) s.desk s.hand (told_of s.device) (told_clock s.device)) (payer_by told_of told_clock s) (part_at entry) (told_by told_of s) inner exit
 vouched c inner cuts making entry exit s e same halves values origin config most back = record {
   operations = back.operations;
   ops = own.ops;
@@ -286,17 +307,28 @@ vouched c inner cuts making entry exit s e same halves values origin config most
             (bridge.spare told begins k (omega (arith, few, all)) (ltb-true k last_count counted)),
       );
   values = values;
+  restarts = λ kept made left pieces end. (
+    told_of s.device,
+    record {
+      none = refl;
+      restarts =
+          subst (λ (x : Configuration). RestartsAreFew (making_of x) back.operations (told_of s.device)) (sym config)
+          (subst (λ (d : Device). RestartsAreFew (making_of c) back.operations (told_of d)) same back.restarts);
+      starts = founds_least s.ready s.desk (told_of s.device) kept.1;
+      faults = own.faults;
+    },
+  );
   tells = λ told sound. slots told sound;
   early = λ kept told made left pieces end.
       begins_well (told_clock s.device) (run_of s.desk.config s.desk.entries inner exit back.operations (told_of s.device).first.planning.came (Played made pieces left) end) (part_at entry) (told_of s.device)
-      (subst (λ (n : ℕ). KeepsEarly s.desk.config n s.desk.entries (told_clock s.device)) most (early_of s.ready (one_part (part_at entry)) s.desk s.hand s.device kept (bridge.tells told)))
+      (subst (λ (n : ℕ). KeepsEarly s.desk.config n s.desk.entries (told_clock s.device)) most (early_of s.ready (one_part (part_at entry)) s.desk s.hand s.device kept.0 (bridge.tells told)))
       (told_bridge (reading_of (making_of s.desk.config)) inner exit back.operations (part_at entry) s.device bridge) told;
   promise = λ kept told sound made left pieces end order refusals off.
       its (run_of s.desk.config s.desk.entries inner exit back.operations (told_of s.device).first.planning.came (Played made pieces left) end) (one_part (part_at entry)) (told_of s.device)
       (record {
         alone = refl;
         order = order;
-        over = subst (λ (n : ℕ). KeepsOver s.desk.config n s.desk.entries (one_part (part_at entry)) (told_of s.device) (told_clock s.device)) most (over_of s.ready (one_part (part_at entry)) s.desk s.hand s.device kept (slots told sound));
+        over = subst (λ (n : ℕ). KeepsOver s.desk.config n s.desk.entries (one_part (part_at entry)) (told_of s.device) (told_clock s.device)) most (over_of s.ready (one_part (part_at entry)) s.desk s.hand s.device kept.0 (slots told sound));
         refusals = refusals;
         off = (off.0, off.1, subst (λ (k : ℕ). WereCounted off.0 (part_at entry).planning.unplanned k) one_part_cuts off.2);
         came = refl;

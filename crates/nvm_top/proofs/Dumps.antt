@@ -7,16 +7,17 @@ use Rattle.nvm_flash.specs.nv_base.Geometry.{size_of}
 use Rattle.nvm_flash.specs.block_config.Config.{Configuration}
 use Rattle.nvm_flash.specs.fee_image.Image.{layout_of}
 use Rattle.nvm_flash.specs.fls_model.Told.{Told}
-use Rattle.nvm_top.specs.declared.status.Status.{Status}
-use Rattle.nvm_top.specs.declared.status.Status.TheVariants as status
-use Rattle.nvm_top.specs.declared.stop.Stop.{Stop}
-use Rattle.nvm_top.specs.declared.stop.Stop.TheVariants as stop
+use Rattle.nvm_lines.specs.declared.status.Status.{Status}
+use Rattle.nvm_lines.specs.declared.status.Status.TheVariants as status
+use Rattle.nvm_lines.specs.declared.stop.Stop.{Stop}
+use Rattle.nvm_lines.specs.declared.stop.Stop.TheVariants as stop
 use Rattle.nvm_top.specs.Dump.{IsImageOf, IsDump, DumpsFlash, DumpsBy}
-use Rattle.nvm_top.specs.Ends.{HasConfig, ReadsBy}
-use Rattle.nvm_top.specs.Output.{Writes, IsReport}
+use Rattle.nvm_lines.specs.Reading.{HasConfig}
+use Rattle.nvm_top.specs.Ends.{ReadsBy}
+use Rattle.nvm_lines.specs.Output.{Writes, IsReport}
 use Rattle.nvm_top.specs.Play.{IsAttachStop, IsPlayEnd, IsBeforeStart}
-use Rattle.nvm_top.specs.Reading.{IsCheckStop}
-use Rattle.nvm_top.specs.Stop.{status_of, line_of, IsStop}
+use Rattle.nvm_lines.specs.Reading.{IsCheckStop}
+use Rattle.nvm_lines.specs.Stop.{status_of, line_of, IsStop}
 use Rattle.nvm_top.proofs.PlayLemmas.{report-by}
 use Rattle.nvm_top.proofs.RunLines.{Writes-as, by_stop, read_line}
 

@@ -1,14 +1,14 @@
 -- A run without a start-up.
 use Rattle.std.specs.List.{Contains}
-use Rattle.std.proofs.Common.{◌≡◌, ◌≢◌, ◌≤◌, ◌⊎◌, ℕ, false, List, [], ◌∷◌, Option, None, refl, ap, inl, inr, arith}
+use Rattle.std.proofs.Common.{◌≡◌, ◌≢◌, ◌≤◌, ◌⊎◌, ℕ, false, List, [], ◌∷◌, Option, None, refl, sym, subst, ap, inl, inr, arith}
 use Rattle.nv_streams.specs.Sink.{Written}
 use Rattle.nvm_flash.specs.nv_base.Geometry.{size_of}
 use Rattle.nvm_flash.specs.block_config.Config.{Configuration}
 use Rattle.nvm_flash.specs.fls_model.Told.{Told}
 use Rattle.nvm_flash.specs.promise_device.FlashRun.{FlashRun}
-use Rattle.script_walks.specs.Words.{Step}
+use Rattle.script_player.specs.script_walks.Words.{Step}
 use Rattle.nvm_flash.specs.block_machine.Words.{Entry, Found}
-use Rattle.nvm_flash.specs.promise_run.Run.{Run, Course, Played, Ran, End, Whole, HasOrder, EndsAtStart, MadeNothing, CutsAre, events_in}
+use Rattle.nvm_flash.specs.promise_run.Run.{Run, Course, Played, Ran, End, Whole, HasOrder, EndsAtStart, LeavesAlone, MadeNothing, CutsAre, events_in}
 use Rattle.nvm_flash.specs.promise_run.Refusals.{RefusesAsAsked}
 use Rattle.nvm_flash.specs.promise_run.Run.{FlashFault, HistoryFull, Memory}
 use Rattle.nvm_flash.specs.promise_run.Promise.{Promise}
@@ -20,16 +20,16 @@ use Rattle.nvm_flash.specs.promise_run.JobTurns.{job_turns}
 use Rattle.nvm_top.specs.Play.{IsFlashStop}
 use Rattle.nvm_flash.specs.promise_run.Turns.{EndsBy, HasTurns}
 use Rattle.nvm_flash.proofs.promise_run.Callers.{callers_are_served}
-use Rattle.nvm_top.specs.declared.status.Status.{Status}
-use Rattle.nvm_top.specs.declared.status.Status.TheVariants as status
+use Rattle.nvm_lines.specs.declared.status.Status.{Status}
+use Rattle.nvm_lines.specs.declared.status.Status.TheVariants as status
 use Rattle.nvm_top.specs.declared.runs.RunText.{RunText}
 use Rattle.nvm_top.specs.declared.runs.RunText.TheVariants.{History, Summary}
-use Rattle.nvm_top.specs.declared.stop.Stop.{Stop}
-use Rattle.nvm_top.specs.declared.stop.Stop.TheVariants as stop
+use Rattle.nvm_lines.specs.declared.stop.Stop.{Stop}
+use Rattle.nvm_lines.specs.declared.stop.Stop.TheVariants as stop
 use Rattle.nvm_top.specs.Stack.{StopsAtStart, run_of}
-use Rattle.nvm_top.specs.Output.{Writes}
+use Rattle.nvm_lines.specs.Output.{Writes}
 use Rattle.nvm_top.specs.Promised.{call_by, FollowsScript, HasNoRun, HasRun, WritesText, EndsIn, entries_in, lines_in}
-use Rattle.nvm_top.specs.Stop.{status_of, line_of, IsStop}
+use Rattle.nvm_lines.specs.Stop.{status_of, line_of, IsStop}
 use Rattle.nvm_top.proofs.Complete.{early_complete}
 use Rattle.nvm_top.proofs.RunLines.{Writes-as, by_stop}
 use Rattle.nvm_top.proofs.Texts.{stop_alone}
@@ -141,11 +141,12 @@ early_moves mode.Run c steps entry exit end more ends = record {
   paid = λ told sound. tt;
 }
 
-pub early_has : (m : Mode) (c : Configuration) (steps : List Step) (Tells : Run → Type 0) (entry exit : Told) (stop : Stop) (end : End) → StopsAtStart c entry exit stop → EndsAtStart (record { entry = entry; exit = exit; operations = [] }) end
+pub early_has : (m : Mode) (c : Configuration) (steps : List Step) (Tells : Run → Type 0) (entry exit : Told) (stop : Stop) (end : End) → StopsAtStart c entry exit stop → c.eeprom ≡ None → EndsAtStart (record { entry = entry; exit = exit; operations = [] }) end
     → Tells (run_of c [] entry exit [] [] (nothing m steps) end) → HasRun m c steps Tells entry exit
-early_has m c steps Tells entry exit stop end stops ends tells = record {
+early_has m c steps Tells entry exit stop end stops one ends tells = record {
   run = run_of c [] entry exit [] [] (nothing m steps) end;
   configuration = refl;
+  one_device = one;
   most = refl;
   course = nothing_is m steps;
   at_entry = refl;
@@ -154,17 +155,17 @@ early_has m c steps Tells entry exit stop end stops ends tells = record {
   ends = tells;
   keeps =
       let promise = early_promise m c steps entry exit stop end stops ends in
-      record { order = early_order m c steps entry exit end promise.order; size = λ started. absurd started; refusals = promise.refusals; off = promise.off; counted = inl (let same = stops.flash.ops in omega (arith, same)); complete = early_ends m c steps entry exit end promise.order; exit = λ started. absurd started; turns = early_moves m c steps entry exit end stops.faults ends; values = tt; early = λ told. record { found = λ marks has. absurd (omega (arith, has.1)); legal = tt }; promise = λ told sound. promise };
+      record { order = early_order m c steps entry exit end promise.order; size = λ started. absurd started; refusals = promise.refusals; off = promise.off; counted = inl (let same = stops.flash.ops in omega (arith, same)); complete = early_ends m c steps entry exit end promise.order; exit = λ started. absurd started; turns = early_moves m c steps entry exit end stops.faults ends; values = tt; early = λ told. record { found = λ marks has. absurd (omega (arith, has.1)); legal = tt }; promise = λ told sound. promise; erases = λ told k unused has. absurd has };
 }
 
 -- AND ITS CALL
 
-early_end : (text : RunText) (m : Mode) (c : Configuration) (steps : List Step) (entry exit : Told) (why : Stop) (end : End) (x : Status) (w w' : Written) (input : Option (List ℕ)) → StopsAtStart c entry exit why → EndsAtStart (record { entry = entry; exit = exit; operations = [] }) end
+early_end : (text : RunText) (m : Mode) (c : Configuration) (steps : List Step) (entry exit : Told) (why : Stop) (end : End) (x : Status) (w w' : Written) (input : Option (List ℕ)) → StopsAtStart c entry exit why → c.eeprom ≡ None → EndsAtStart (record { entry = entry; exit = exit; operations = [] }) end
     → WritesText (status_at end) (entries_in text []) (lines_in text end []) w w' x → HasRun m c steps (EndsIn text (call_by m input x entry exit w w')) entry exit
-early_end text m c steps entry exit why end status.Memory w w' input stops ends is =
-    early_has m c steps (EndsIn text (call_by m input status.Memory entry exit w w')) entry exit why Memory stops tt (ends_told m input entry exit w w' (entries_in text []) (λ e. lines_in text e []) end status.Memory is)
-early_end text m c steps entry exit why end x w w' input stops ends is =
-    early_has m c steps (EndsIn text (call_by m input x entry exit w w')) entry exit why end stops ends (ends_told m input entry exit w w' (entries_in text []) (λ e. lines_in text e []) end x is)
+early_end text m c steps entry exit why end status.Memory w w' input stops one ends is =
+    early_has m c steps (EndsIn text (call_by m input status.Memory entry exit w w')) entry exit why Memory stops one tt (ends_told m input entry exit w w' (entries_in text []) (λ e. lines_in text e []) end status.Memory is)
+early_end text m c steps entry exit why end x w w' input stops one ends is =
+    early_has m c steps (EndsIn text (call_by m input x entry exit w w')) entry exit why end stops one ends (ends_told m input entry exit w w' (entries_in text []) (λ e. lines_in text e []) end x is)
 
 -- its line stands alone
 early_line : (why : Stop) (meant : Status) (lines : List (List ℕ)) (text : RunText) (w w' : Written) (x : Status) → meant ≡ status_of why → lines ≡ line_of why ∷ [] → Writes (IsStop why) w w' x → WritesText meant (entries_in text []) lines w w' x
@@ -172,10 +173,10 @@ early_line why meant lines History w w' x one two is = stop_alone why meant line
 early_line why meant lines Summary w w' x one two is = stop_alone why meant lines w w' x one two is
 
 -- the flash isn't attached for its size
-pub wrong_size : (c : Configuration) (entry exit : Told) (found needed : ℕ) (x : Status) (w w' : Written) → StopsAtStart c entry exit (stop.WrongSize found needed) → Writes (IsStop (stop.WrongSize found needed)) w w' x → HasNoRun (IsFlashStop (size_of c.geometry) entry.bytes) w w' x entry exit
+pub wrong_size : (c : Configuration) (entry exit : Told) (found needed : ℕ) (x : Status) (w w' : Written) → StopsAtStart c entry exit (stop.WrongSize found needed) → Writes (IsStop (stop.WrongSize found needed)) w w' x → HasNoRun (IsFlashStop c entry.bytes) w w' x entry exit
 wrong_size c entry exit found needed x w w' stops is = record {
-  line = Writes-as (IsStop (stop.WrongSize found needed)) (IsFlashStop (size_of c.geometry) entry.bytes) w w' x
-      (λ y lines at. by_stop (IsFlashStop (size_of c.geometry) entry.bytes) (stop.WrongSize found needed) y lines (λ other. (stops.end.0, (found, stops.why.0, ap (λ n. line_of (stop.WrongSize found n) ∷ []) stops.why.1))) at) is;
+  line = Writes-as (IsStop (stop.WrongSize found needed)) (IsFlashStop c entry.bytes) w w' x
+      (λ y lines at. by_stop (IsFlashStop c entry.bytes) (stop.WrongSize found needed) y lines (λ other. (stops.second, (stops.end.0, (found, stops.why.0, ap (λ n. line_of (stop.WrongSize found n) ∷ []) stops.why.1)))) at) is;
   flash = inl (stops.end.1, sized w w' x is);
 }
   where
@@ -184,26 +185,39 @@ wrong_size c entry exit found needed x w w' stops is = record {
     sized v v' _ at = λ e. cc e
 
 -- nor where another call has it in use
-pub found_in_use : (c : Configuration) (entry exit : Told) (x : Status) (w w' : Written) → StopsAtStart c entry exit stop.InUse → Writes (IsStop stop.InUse) w w' x → HasNoRun (IsFlashStop (size_of c.geometry) entry.bytes) w w' x entry exit
+pub found_in_use : (c : Configuration) (entry exit : Told) (x : Status) (w w' : Written) → StopsAtStart c entry exit stop.InUse → Writes (IsStop stop.InUse) w w' x → HasNoRun (IsFlashStop c entry.bytes) w w' x entry exit
 found_in_use c entry exit x w w' stops is = record {
-  line = Writes-as (IsStop stop.InUse) (IsFlashStop (size_of c.geometry) entry.bytes) w w' x
-      (λ y lines at. by_stop (IsFlashStop (size_of c.geometry) entry.bytes) stop.InUse y lines (λ other. refl) at) is;
-  flash = inr (record { line = is; faults = stops.end });
+  line = Writes-as (IsStop stop.InUse) (IsFlashStop c entry.bytes) w w' x
+      (λ y lines at. by_stop (IsFlashStop c entry.bytes) stop.InUse y lines (λ other. (stops.second, refl)) at) is;
+  flash = inr (is, stops.end);
 }
+
+-- nor where a second device is missing
+pub no_second : (c : Configuration) (entry exit : Told) (x : Status) (w w' : Written) → StopsAtStart c entry exit stop.NoSecond → Writes (IsStop stop.NoSecond) w w' x → HasNoRun (IsFlashStop c entry.bytes) w w' x entry exit
+no_second c entry exit x w w' stops is = record {
+  line = Writes-as (IsStop stop.NoSecond) (IsFlashStop c entry.bytes) w w' x
+      (λ y lines at. by_stop (IsFlashStop c entry.bytes) stop.NoSecond y lines (λ other. (stops.second, refl)) at) is;
+  flash = inl (subst (LeavesAlone entry) (sym stops.end) (record { geometry = refl; off = λ off. off; bytes = refl; ops = refl; faults = refl; cuts = refl }), beside w w' x is);
+}
+  where
+    beside : (v v' : Written) (y : Status) → Writes (IsStop stop.NoSecond) v v' y → y ≢ status.InUse
+    beside v v' status.InUse at = absurd (let same = at.1.1 in cc same)
+    beside v v' _ at = λ e. cc e
 
 -- or there is a run without a start-up
 pub early_in : (text : RunText) (m : Mode) (c : Configuration) (steps : List Step) (entry exit : Told) (why : Stop) (x : Status) (w w' : Written) (input : Option (List ℕ)) → StopsAtStart c entry exit why → Writes (IsStop why) w w' x
-    → HasRun m c steps (EndsIn text (call_by m input x entry exit w w')) entry exit ⊎ HasNoRun (IsFlashStop (size_of c.geometry) entry.bytes) w w' x entry exit
+    → HasRun m c steps (EndsIn text (call_by m input x entry exit w w')) entry exit ⊎ HasNoRun (IsFlashStop c entry.bytes) w w' x entry exit
 early_in text m c steps entry exit (stop.WrongSize found needed) x w w' input stops is = inr (wrong_size c entry exit found needed x w w' stops is)
 early_in text m c steps entry exit stop.InUse x w w' input stops is = inr (found_in_use c entry exit x w w' stops is)
+early_in text m c steps entry exit stop.NoSecond x w w' input stops is = inr (no_second c entry exit x w w' stops is)
 early_in text m c steps entry exit stop.FlashFault x w w' input stops is =
-    inl (early_end text m c steps entry exit stop.FlashFault FlashFault x w w' input stops stops.end (early_line stop.FlashFault status.FlashFault (lines_in text FlashFault []) text w w' x refl (fault_line text) is))
+    inl (early_end text m c steps entry exit stop.FlashFault FlashFault x w w' input stops stops.second stops.end (early_line stop.FlashFault status.FlashFault (lines_in text FlashFault []) text w w' x refl (fault_line text) is))
   where
     fault_line : (t : RunText) → lines_in t FlashFault [] ≡ line_of stop.FlashFault ∷ []
     fault_line History = refl
     fault_line Summary = refl
 early_in text m c steps entry exit stop.Memory x w w' input stops is =
-    inl (early_end text m c steps entry exit stop.Memory Memory x w w' input stops tt (early_line stop.Memory status.Memory (lines_in text Memory []) text w w' x refl (no_line text) is))
+    inl (early_end text m c steps entry exit stop.Memory Memory x w w' input stops stops.second tt (early_line stop.Memory status.Memory (lines_in text Memory []) text w w' x refl (no_line text) is))
   where
     no_line : (t : RunText) → lines_in t Memory [] ≡ [] ∷ []
     no_line History = refl

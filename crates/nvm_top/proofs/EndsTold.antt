@@ -8,8 +8,8 @@ use Rattle.nvm_flash.specs.promise_run.Run.{End, Whole}
 use Rattle.nvm_flash.specs.promise_run.Run.{FlashFault, HistoryFull, Memory}
 use Rattle.nvm_flash.specs.promise_run.Call.{EndsWith}
 use Rattle.nvm_script.specs.declared.script.Mode.{Mode}
-use Rattle.nvm_top.specs.declared.status.Status.{Status}
-use Rattle.nvm_top.specs.declared.status.Status.TheVariants as status
+use Rattle.nvm_lines.specs.declared.status.Status.{Status}
+use Rattle.nvm_lines.specs.declared.status.Status.TheVariants as status
 use Rattle.nvm_top.specs.Promised.{call_by, WritesText}
 
 -- the status of an end

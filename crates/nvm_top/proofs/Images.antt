@@ -5,8 +5,8 @@ use Rattle.nvm_flash.specs.nv_base.declared.geometry.Geometry.{Geometry}
 use Rattle.nvm_flash.specs.nv_base.Geometry.{size_of}
 use Rattle.nvm_flash.specs.fls_model.Attach.{IsAttached, IsFilled, enlarged}
 use Rattle.nvm_flash.specs.fls_model.Told.{Told, ToldBytes, IfBothTold, powered}
-use Rattle.nvm_top.specs.declared.stop.Stop.{Stop}
-use Rattle.nvm_top.specs.declared.stop.Stop.TheVariants.{FlashFault, Memory}
+use Rattle.nvm_lines.specs.declared.stop.Stop.{Stop}
+use Rattle.nvm_lines.specs.declared.stop.Stop.TheVariants.{FlashFault, Memory}
 use Rattle.nvm_top.specs.Dump.{KeepsFlash}
 use Rattle.nvm_top.specs.Reading.{IsSectorStop}
 

@@ -9,18 +9,20 @@ use Rattle.nvm_flash.specs.fls_model.Told.{Told, ToldBytes, TellsFor, bytes_now}
 use Rattle.nvm_flash.specs.fls_model.Memory.{in_memory}
 use Rattle.nvm_flash.specs.promise_device.FlashRun.{TellsBytes, StartsSound}
 use Rattle.nvm_flash.specs.promise_device.Image.{IsSoundFlash}
-use Rattle.nvm_flash.specs.promise_run.Call.{Call}
+use Rattle.nvm_flash.specs.promise_run.Call.{Call, IsRunOf}
 use Rattle.nvm_flash.specs.promise_run.JobTurns.{job_turns}
 use Rattle.nvm_flash.specs.promise_run.Promise.{making_of}
+use Rattle.nvm_flash.specs.promise_run.Run.{Run}
 use Rattle.nvm_flash.proofs.fee_image.Soundness.{blank_is_sound}
 use Rattle.nvm_flash.proofs.promise_run.InRoom.{room_suffices, turns_make_few}
-use Rattle.nvm_top.specs.declared.status.Status.{Status}
-use Rattle.nvm_top.specs.declared.status.Status.TheVariants as status
+use Rattle.nvm_lines.specs.declared.status.Status.{Status}
+use Rattle.nvm_lines.specs.declared.status.Status.TheVariants as status
 use Rattle.nvm_top.specs.Commands.{Ended, KeepsCommand, KeepsPlay}
 use Rattle.nvm_script.specs.declared.script.Mode.TheVariants as mode
 use Rattle.nvm_top.specs.Play.{StepsStopBy}
-use Rattle.nvm_top.specs.Promised.{HasPromise, HasNoRun}
+use Rattle.nvm_top.specs.Promised.{HasPromise, HasNoRun, KeepsRun}
 use Rattle.nvm_top.specs.Worked.{HasCuts, CutsLeaveAt}
+use Rattle.nvm_top.proofs.WholeCalls.{calls_have_runs}
 
 pub play_kept : (command : Option CommandKind) (e : Ended) → is_play command ≡ true → KeepsCommand command e → KeepsPlay e
 play_kept (Some Play) e is keeps = keeps
@@ -31,8 +33,8 @@ play_kept (Some Uds) e is keeps = cc is
 play_kept (Some RunWord) e is keeps = cc is
 play_kept None e is keeps = cc is
 
-has_cuts : (operations : ℕ) (call : Call) (last : List ℕ) → call.entry ≡ (in_memory [] operations).told → bytes_now call.exit ≡ Some last → operations < last_count → HasPromise call → HasCuts operations call
-has_cuts operations call last at_entry at_exit small (r, is, course, short, keeps) = (r, is, λ turns. turns_make_few operations (job_turns r.configuration) r is.beside (keeps.promise tells sound) keeps.turns turns small, λ few. room_suffices r is.beside (keeps.promise tells sound) (record { bytes = tells; room = room few }) sound)
+cuts_of : (operations : ℕ) (call : Call) (last : List ℕ) → call.entry ≡ (in_memory [] operations).told → bytes_now call.exit ≡ Some last → operations < last_count → (r : Run) × IsRunOf call r × KeepsRun r → HasCuts operations call
+cuts_of operations call last at_entry at_exit small (r, is, keeps) = (r, is, λ turns. turns_make_few operations (job_turns r.configuration) r is.beside (keeps.promise tells sound) keeps.turns turns small, λ few. room_suffices r is.beside (keeps.promise tells sound) (record { bytes = tells; room = room few }) sound)
   where
     entry : r.flash.entry ≡ (in_memory [] operations).told
     entry = is.entry ∙ at_entry
@@ -45,6 +47,9 @@ has_cuts operations call last at_entry at_exit small (r, is, course, short, keep
 
     room : length r.flash.operations ≤ operations → IfSome r.flash.entry.bytes (TellsFor (length r.flash.operations))
     room few = subst (λ (e : Told). IfSome e.bytes (TellsFor (length r.flash.operations))) (sym entry) (refl, few)
+
+has_cuts : (operations : ℕ) (call : Call) (last : List ℕ) → call.entry ≡ (in_memory [] operations).told → bytes_now call.exit ≡ Some last → operations < last_count → HasPromise call → HasCuts operations call
+has_cuts operations call last at_entry at_exit small has = cuts_of operations call last at_entry at_exit small (calls_have_runs call has)
 
 -- at these statuses a run was begun
 abbrev EndsPlay : Call → ℕ → ℕ → Option ToldBytes → Status → Type 0

@@ -9,7 +9,6 @@ pub mod Images
 pub mod InMemory
 pub mod Outputs
 pub mod PlayLemmas
-pub mod Printing
 pub mod Promised
 pub mod RunLines
 pub mod RunMoves

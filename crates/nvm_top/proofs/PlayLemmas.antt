@@ -1,9 +1,9 @@
 -- How a call ends, from how its parts end.
 use Rattle.std.proofs.Common.{◌≤◌, inl, inr, ℕ, sym, subst, arith}
 use Rattle.nvm_flash.specs.nv_base.Count.{Rose}
-use Rattle.nvm_top.specs.declared.status.Status.{Status}
-use Rattle.nvm_top.specs.declared.status.Status.TheVariants as status
-use Rattle.nvm_top.specs.Output.{IsReport}
+use Rattle.nvm_lines.specs.declared.status.Status.{Status}
+use Rattle.nvm_lines.specs.declared.status.Status.TheVariants as status
+use Rattle.nvm_lines.specs.Output.{IsReport}
 
 -- COUNTS
 pub Rose-after : (a b c : ℕ) → a ≤ b → Rose b c → Rose a c

@@ -5,11 +5,12 @@ use Rattle.nv_streams.specs.Sink.{Written}
 use Rattle.nvm_flash.specs.nv_base.Count.{Rose, WereCounted}
 use Rattle.nvm_flash.specs.nv_base.Geometry.{size_of}
 use Rattle.nvm_flash.specs.block_config.Config.{Configuration}
+use Rattle.nvm_flash.specs.block_config.Rules.{IsLegalConfig}
 use Rattle.nvm_flash.specs.memif.Told.{PartTold}
 use Rattle.nvm_flash.specs.fls_model.Told.{Told, Change}
 use Rattle.nvm_flash.specs.promise_device.FlashRun.{FlashRun, TellsBytes, StartsSound, HasFailed}
-use Rattle.script_walks.specs.Words.{Step}
-use Rattle.script_walks.specs.Walk.{IsWalkOf}
+use Rattle.script_player.specs.script_walks.Words.{Step}
+use Rattle.script_player.specs.script_walks.Walk.{IsWalkOf}
 use Rattle.nvm_flash.specs.block_machine.Words.{Entry, Found}
 use Rattle.nvm_flash.specs.block_machine.State.{State, Job}
 use Rattle.nvm_flash.specs.block_machine.Steps.{after}
@@ -26,6 +27,8 @@ use Rattle.nvm_flash.proofs.promise_run.WorkedMoves.{worked_by}
 use Rattle.nvm_top.specs.Play.{IsRightSize}
 use Rattle.nvm_flash.specs.promise_run.Turns.{Moment, moment_behind, BeginsAt, EndsBy, ArePaidSince, EachMove, EachMoveSince, ServesTurn, StaysAtRest, PostsUrgent, MayGoOn, TakeKept, all_moves, CutsCome}
 use Rattle.nvm_flash.proofs.promise_run.Paid.{since_too}
+use Rattle.nvm_flash.specs.promise_run.BankTurns.{BeginsUnused}
+use Rattle.nvm_flash.proofs.promise_run.BankTurns.{starts_sound, erases_have_causes}
 use Rattle.nvm_flash.proofs.promise_run.CalmPosts.{calm_posts}
 use Rattle.nvm_flash.proofs.promise_run.UrgentPosts.{urgent_by}
 use Rattle.nvm_flash.proofs.promise_run.TakenPages.{taken_by}
@@ -38,11 +41,11 @@ use Rattle.script_player.specs.Made as steps
 use Rattle.script_player.specs.Made.{HasWalked, WereLeft, WasBroken}
 use Rattle.script_player.specs.declared.steps.StepFault.{StepFault}
 use Rattle.script_player.specs.declared.steps.StepFault.TheVariants as fault
-use Rattle.nvm_top.specs.declared.status.Status.{Status}
-use Rattle.nvm_top.specs.declared.status.Status.TheVariants as status
+use Rattle.nvm_lines.specs.declared.status.Status.{Status}
+use Rattle.nvm_lines.specs.declared.status.Status.TheVariants as status
 use Rattle.nvm_top.specs.declared.runs.RunText.{RunText}
 use Rattle.nvm_top.specs.declared.runs.RunText.TheVariants.{History, Summary}
-use Rattle.nvm_top.specs.declared.stop.Stop.{Stop}
+use Rattle.nvm_lines.specs.declared.stop.Stop.{Stop}
 use Rattle.nvm_top.specs.Stack.{BeginsPaying, IsStarted, Vouches, run_of}
 use Rattle.nvm_top.specs.Promised.{call_by, HasRun, WritesText, EndsIn, entries_in, lines_in}
 use Rattle.nvm_top.specs.Runs as ends
@@ -116,6 +119,7 @@ pub has_run : (Kept : Type 0) (p q : Payer) (c : Configuration) (cuts : ℕ) (al
 has_run Kept p q c cuts all made left end before old t entry exit Tells started walked same keeps owes v parts leaves own tells size = record {
   run = run_of t.configuration t.entries entry exit v.operations t.causes.came (Played made walked.pieces left) end;
   configuration = of;
+  one_device = started.one_device;
   most = refl;
   course = parts;
   at_entry = refl;
@@ -156,11 +160,19 @@ has_run Kept p q c cuts all made left end before old t entry exit Tells started 
     values = v.values;
     early = λ told. v.early keeps told made left walked.pieces end;
     promise = λ told sound. v.promise keeps told sound made left walked.pieces end order refusals off;
+    erases = λ told k unused has inside.
+        let r = run_of t.configuration t.entries entry exit v.operations t.causes.came (Played made walked.pieces left) end in
+        let begins : BeginsUnused r = record { tells = told; legal = legal.geometry; shared = legal.shared; unused = unused } in
+        let (now, tells) = v.restarts keeps made left walked.pieces end in
+        erases_have_causes r begins before now k (v.promise keeps told (starts_sound r begins) made left walked.pieces end order refusals off) has tells inside;
   };
 }
   where
     of : t.configuration ≡ c
     of = same ∙ started.configuration
+
+    legal : IsLegalConfig t.configuration
+    legal = subst IsLegalConfig (sym of) started.legal
 
     -- its first entry is the start-up
     first : take 1 t.entries ≡ old.entries
@@ -213,16 +225,16 @@ has_run Kept p q c cuts all made left end before old t entry exit Tells started 
         since_too t.configuration q.worn (IsWornOut (making_of t.configuration) (record { entry = entry; exit = exit; operations = v.operations })) v.worn old.faults (moment_of old) (after t.configuration (take 1 t.entries)) (all_moves walked.moves.moves)
         (subst (λ (h : List Entry). ArePaidSince t.configuration q.worn old.faults (moment_of old) (after t.configuration h) (all_moves walked.moves.moves)) (sym first)
         (subst (λ (x : Configuration). ArePaidSince x q.worn old.faults (moment_of old) (after x old.entries) (all_moves walked.moves.moves)) (sym same)
-        (walked.pays.pays (v.tells told sound) old.faults owes.0).0))
+        (walked.pays.pays (v.tells told sound) old.faults owes.0)))
 
     costs : q.work.costs ≡ costs_of t.configuration
-    costs = walked.pays.work.known.costs ∙ owes.4 ∙ ap costs_of (sym same)
+    costs = walked.pays.costs ∙ owes.4 ∙ ap costs_of (sym same)
 
     work : HasWork (costs_of t.configuration) (HadPages (making_of t.configuration) (record { entry = entry; exit = exit; operations = v.operations })) (IsWornOut (making_of t.configuration) (record { entry = entry; exit = exit; operations = v.operations })) t.configuration
         (moment_of old) (after t.configuration (take 1 t.entries)) (all_moves walked.moves.moves)
     work =
         let begun = owes.5 in
-        let (es, are, now) = walked.pays.work.along (record { left = begun.left; trying = None }) begun.is in
+        let (es, are) = walked.pays.works started.one started.on (record { left = begun.left; trying = None }) begun.is in
         let worn = IsWornOut (making_of t.configuration) (record { entry = entry; exit = exit; operations = v.operations }) in
         let room = HadPages (making_of t.configuration) (record { entry = entry; exit = exit; operations = v.operations }) in record {
           left = begun.left;
@@ -237,7 +249,7 @@ has_run Kept p q c cuts all made left end before old t entry exit Tells started 
         }
 
     reserve : q.reserve ≡ (making_of t.configuration).reserve
-    reserve = walked.pays.traits.reserve ∙ owes.2 ∙ ap (λ (x : Configuration). (making_of x).reserve) (sym same)
+    reserve = walked.pays.reserve ∙ owes.2 ∙ ap (λ (x : Configuration). (making_of x).reserve) (sym same)
 
     -- what may go on in the bytes is free by what the stack was told
     goes_on : TellsBytes (record { entry = entry; exit = exit; operations = v.operations }) → StartsSound (making_of t.configuration) (record { entry = entry; exit = exit; operations = v.operations })
@@ -254,11 +266,11 @@ has_run Kept p q c cuts all made left end before old t entry exit Tells started 
     urgent : TellsBytes (record { entry = entry; exit = exit; operations = v.operations }) → StartsSound (making_of t.configuration) (record { entry = entry; exit = exit; operations = v.operations })
         → EachMoveSince t.configuration (PostsUrgent t.configuration 4 (write_pages t.configuration) (MayGoOn (making_of t.configuration) (record { entry = entry; exit = exit; operations = v.operations })) (λ id one left. Unit {0})) old.ops (after t.configuration (take 1 t.entries)) (all_moves walked.moves.moves)
     urgent told sound =
-        urgent_by t.configuration 4 (write_pages t.configuration) q.failed (FreeBy q) (MayGoOn (making_of t.configuration) (record { entry = entry; exit = exit; operations = v.operations })) q.due (λ id one left. Unit {0}) t.ops (goes_on told sound) (λ id one left due. tt)
+        urgent_by t.configuration 4 (write_pages t.configuration) q.failed (FreeBy q) (MayGoOn (making_of t.configuration) (record { entry = entry; exit = exit; operations = v.operations })) (λ id one left. Unit {0}) (λ id one left. Unit {0}) t.ops (goes_on told sound) (λ id one left due. tt)
         old.ops (moment_of old) (after t.configuration (take 1 t.entries)) (all_moves walked.moves.moves) (omega (arith, moves_end)) walked.pays.counts
-        (subst (λ (h : List Entry). EachMoveSince t.configuration (PostsUrgent t.configuration 4 (write_pages t.configuration) (FreeBy q) q.due) old.ops (after t.configuration h) (all_moves walked.moves.moves)) (sym first)
-        (subst (λ (x : Configuration). EachMoveSince x (PostsUrgent x 4 (write_pages x) (FreeBy q) q.due) old.ops (after x old.entries) (all_moves walked.moves.moves)) (sym same)
-        (subst (λ (f : State → ℕ → ℕ). EachMoveSince old.configuration (PostsUrgent old.configuration 4 f (FreeBy q) q.due) old.ops (after old.configuration old.entries) (all_moves walked.moves.moves)) (walked.pays.pages ∙ owes.1) (walked.pays.urgent old.ops owes.3))))
+        (subst (λ (h : List Entry). EachMoveSince t.configuration (PostsUrgent t.configuration 4 (write_pages t.configuration) (FreeBy q) (λ id one left. Unit {0})) old.ops (after t.configuration h) (all_moves walked.moves.moves)) (sym first)
+        (subst (λ (x : Configuration). EachMoveSince x (PostsUrgent x 4 (write_pages x) (FreeBy q) (λ id one left. Unit {0})) old.ops (after x old.entries) (all_moves walked.moves.moves)) (sym same)
+        (subst (λ (f : State → ℕ → ℕ). EachMoveSince old.configuration (PostsUrgent old.configuration 4 f (FreeBy q) (λ id one left. Unit {0})) old.ops (after old.configuration old.entries) (all_moves walked.moves.moves)) (walked.pays.pages ∙ owes.1) (walked.pays.urgent started.one started.on old.ops owes.3))))
 
     taken : TakeKept t.configuration (IsSuch (reading_of (making_of t.configuration)) (record { entry = entry; exit = exit; operations = v.operations }) TakesKept) (moment_of old) (after t.configuration (take 1 t.entries)) (all_moves walked.moves.moves)
     taken =

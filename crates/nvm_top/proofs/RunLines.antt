@@ -3,13 +3,13 @@ use Rattle.std.proofs.Common.{◌≡◌, ◌≢◌, ℕ, List, [], ◌∷◌, Op
 use Rattle.nv_streams.specs.Sink.{Written}
 use Rattle.nvm_flash.specs.nv_base.Count.{Rose}
 use Rattle.nvm_top.specs.Ends.{ChecksBy, ReadsBy}
-use Rattle.nvm_top.specs.Output.{Writes}
-use Rattle.nvm_top.specs.Reading.{IsCheckStop}
-use Rattle.nvm_top.specs.declared.status.Status.{Status}
-use Rattle.nvm_top.specs.declared.status.Status.TheVariants as status
-use Rattle.nvm_top.specs.declared.stop.Stop.{Stop}
-use Rattle.nvm_top.specs.declared.stop.Stop.TheVariants as stop
-use Rattle.nvm_top.specs.Stop.{status_of, line_of, IsStop}
+use Rattle.nvm_lines.specs.Output.{Writes}
+use Rattle.nvm_lines.specs.Reading.{IsCheckStop}
+use Rattle.nvm_lines.specs.declared.status.Status.{Status}
+use Rattle.nvm_lines.specs.declared.status.Status.TheVariants as status
+use Rattle.nvm_lines.specs.declared.stop.Stop.{Stop}
+use Rattle.nvm_lines.specs.declared.stop.Stop.TheVariants as stop
+use Rattle.nvm_lines.specs.Stop.{status_of, line_of, IsStop}
 
 -- an end of one kind is one of another
 pub Writes-as : (P Q : Status → List (List ℕ) → Type 0) (w w' : Written) (x : Status) → ((y : Status) (lines : List (List ℕ)) → P y lines → Q y lines) → Writes P w w' x → Writes Q w w' x

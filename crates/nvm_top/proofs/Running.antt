@@ -1,13 +1,14 @@
 -- A run of callers keeps the promise, by what they came to on its stack.
 use Rattle.std.specs.Prelude.{not, ◌||◌, IsTrue, slice_get}
 use Rattle.std.specs.List.{list_all}
-use Rattle.std.proofs.Common.{◌≡◌, ◌≢◌, ◌≤◌, ◌*◌, ℕ, Bool, true, false, List, [], ◌∷◌, ◌++◌, length, take, drop, Option, Some, None, Result, refl, sym, ap, ◌∙◌, subst, inl, arith}
+use Rattle.std.proofs.Common.{◌≡◌, ◌≢◌, ◌≤◌, ◌+◌, ◌*◌, ℕ, Bool, true, false, List, [], ◌∷◌, ◌++◌, length, take, drop, Option, Some, None, Result, refl, sym, ap, ◌∙◌, subst, inl, arith}
 use Rattle.nv_streams.specs.Sink.{Written}
 use Rattle.nv_streams.proofs.Puts.{Puts-nil}
 use Rattle.nvm_flash.specs.nv_base.Count.{WereCounted}
 use Rattle.nvm_flash.specs.nv_base.Geometry.{size_of}
 use Rattle.nvm_flash.specs.nv_base.declared.plan.Plan.{Plan}
 use Rattle.nvm_flash.specs.block_config.Config.{Configuration}
+use Rattle.nvm_flash.specs.block_config.Rules.{IsLegalConfig}
 use Rattle.nvm_flash.specs.block_machine.Words.{Entry, Found, Instance, Mark}
 use Rattle.nvm_flash.specs.block_machine.Legal.{IsLegal}
 use Rattle.nvm_flash.specs.block_machine.Next.{next_of}
@@ -27,6 +28,8 @@ use Rattle.nvm_flash.specs.promise_blocks.OverDevice.{HasStarted, KeepsOver, Kee
 use Rattle.nvm_flash.specs.nvm_device_laws.Turn.{TellsSlots}
 use Rattle.nvm_flash.specs.nvm_laws.Keeps.{StackKeepsAsTold}
 use Rattle.nvm_flash.specs.nvm_core.Stack.{StackState}
+use Rattle.nvm_flash.specs.promise_blocks.Operations.{founds}
+use Rattle.nvm_flash.specs.promise_run.BankTurns.{BeginsUnused}
 use Rattle.nvm_flash.specs.promise_run.Halves.{beyond_end}
 use Rattle.nvm_flash.specs.promise_run.JobTurns.{job_turns}
 use Rattle.nvm_flash.specs.promise_run.Promise.{making_of}
@@ -34,6 +37,7 @@ use Rattle.nvm_flash.specs.promise_run.Run.{Run, Ran, End, Whole, FlashFault, Hi
 use Rattle.nvm_flash.specs.promise_run.RunHalves.{KeepsCallers, offs_in, tells_no_refusal}
 use Rattle.nvm_flash.specs.Made.{IsBack, one_part}
 use Rattle.nvm_flash.proofs.promise_device.Readings.{sound_starts_compute}
+use Rattle.nvm_flash.proofs.promise_run.BankTurns.{starts_sound, erases_have_causes}
 use Rattle.nvm_flash.proofs.promise_run.Composition.{begins_well}
 use Rattle.nvm_flash.proofs.promise_run.RunHalves.{as_asked, unplanned, uncut_bridges, callers_keep_promise}
 use Rattle.nvm_script.specs.declared.script.Mode.TheVariants as mode
@@ -42,25 +46,24 @@ use Rattle.nvm_callers.specs.Added.{IsUncut}
 use Rattle.nvm_callers.specs.declared.ending.Ending.{Ending}
 use Rattle.nvm_callers.specs.declared.ending.Ending.TheVariants as ending
 use Rattle.script_player.proofs.InHand.{power_on}
-use Rattle.script_player.specs.PlainKept.{IsKept}
 use Rattle.script_player.specs.PlainTold.{plan_from, told_by}
 use Rattle.script_player.specs.PlainPaying.{payer_by}
-use Rattle.script_walks.specs.Callers.{KeepsAwait, KeepsAwaitBy, asks_of, program_of, requests_of}
-use Rattle.script_walks.specs.Looks.{CopyIsShown, Look}
-use Rattle.script_walks.specs.Runs.{AskedAll, IsRun, has_ended, is_found}
-use Rattle.script_walks.specs.Texts.{AreValues}
-use Rattle.script_walks.specs.Turn.{copies_next}
-use Rattle.script_walks.specs.Walk.{TakesStore, copies_by, is_at_rest}
-use Rattle.script_walks.specs.Words.{Step, StepKind, Await}
+use Rattle.script_player.specs.script_walks.Callers.{KeepsAwait, KeepsAwaitBy, asks_of, program_of, requests_of}
+use Rattle.script_player.specs.script_walks.Looks.{CopyIsShown, Look}
+use Rattle.script_player.specs.script_walks.Runs.{AskedAll, IsRun, has_ended, is_found}
+use Rattle.script_player.specs.script_walks.Texts.{AreValues}
+use Rattle.script_player.specs.script_walks.Turn.{copies_next}
+use Rattle.script_player.specs.script_walks.Walk.{TakesStore, copies_by, is_at_rest}
+use Rattle.script_player.specs.script_walks.Words.{Step, StepKind, Await}
 use Rattle.nvm_top.specs.Play.{IsBeforeAttach, IsRightSize}
 use Rattle.nvm_top.specs.Promised.{EndsIn, FollowsCallers, FollowsScript, HasRun, KeepsRun, WritesText, call_by, lines_in}
 use Rattle.nvm_top.specs.Running.{stop_of_ending}
 use Rattle.nvm_top.specs.Runs.{status_of_run, lines_written}
-use Rattle.nvm_top.specs.Stack.{BeginsPaying, IsStarted, run_of}
+use Rattle.nvm_top.specs.Stack.{BeginsPaying, IsStarted, run_of, KeepsPlayed}
 use Rattle.nvm_top.specs.declared.runs.RunText.TheVariants.{History}
-use Rattle.nvm_top.specs.declared.status.Status.{Status}
-use Rattle.nvm_top.specs.declared.status.Status.TheVariants as status
-use Rattle.nvm_top.specs.declared.stop.Stop.{Stop}
+use Rattle.nvm_lines.specs.declared.status.Status.{Status}
+use Rattle.nvm_lines.specs.declared.status.Status.TheVariants as status
+use Rattle.nvm_lines.specs.declared.stop.Stop.{Stop}
 use Rattle.nvm_flash.proofs.FirstStart.{told_bridge}
 use Rattle.nvm_top.proofs.EndsTold.{ends_told, status_at}
 use Rattle.nvm_top.proofs.Promised.{counted_from}
@@ -71,6 +74,7 @@ use Rattle.nvm_top.proofs.WholeCalls.{written_late}
 
 -- This history and this end, on a device that is told before the first start-up and now.
 pub record CameTo (before : Part → PartTold) (c : Configuration) (most : ℕ) (steps : List Step) (end : End) (h : List Entry) (now : DeviceTold) (clock : Clock) : Type 0 where
+  pub legal : IsLegalConfig c
   pub started : HasStarted h
   pub one_start : IsTrue (list_all (λ e. not (is_found e)) (drop 1 h))
   pub no_refusal : IsTrue (list_all tells_no_refusal h)
@@ -84,6 +88,7 @@ pub record CameTo (before : Part → PartTold) (c : Configuration) (most : ℕ) 
   pub ends : end ≢ Memory → IsTrue (has_ended c h)
   pub no_fault : end ≢ FlashFault
   pub moved : HasMovesTo c h now clock
+  pub starts : now.starts ≤ founds h + 1
   pub looks : List Look
   pub order : IsLegal c most h → RunsBy c most steps looks end h
 
@@ -97,6 +102,7 @@ any_run c most steps looks h FlashFault is = absurd is
 -- so it may also end for want of memory
 wanting : (before : Part → PartTold) (c : Configuration) (most : ℕ) (steps : List Step) (end : End) (h : List Entry) (now : DeviceTold) (clock : Clock) → CameTo before c most steps end h now clock → CameTo before c most steps Memory h now clock
 wanting before c most steps end h now clock w = record {
+  legal = w.legal;
   started = w.started;
   one_start = w.one_start;
   no_refusal = w.no_refusal;
@@ -110,6 +116,7 @@ wanting before c most steps end h now clock w = record {
   ends = λ other. absurd (other refl);
   no_fault = λ fault. cc fault;
   moved = w.moved;
+  starts = w.starts;
   looks = w.looks;
   order = λ legal. any_run c most steps w.looks h end (w.order legal);
 }
@@ -120,8 +127,8 @@ as_ready : (ready : Bool) (P Q : Type 0) → ready ≡ true → IfElse ready P Q
 as_ready true P Q is kept = kept
 as_ready false P Q is kept = absurd (cc is)
 
-kept_first : (before : Part → PartTold) (s : StackState Device (List PlainBlock)) → s.ready ≡ true → IsKept s.ready before s.desk s.hand (told_of s.device) (told_clock s.device) → StackKeepsAsTold before s.desk s.hand (told_of s.device) (told_clock s.device)
-kept_first before s ready kept = as_ready s.ready _ _ ready kept
+kept_first : (before : Part → PartTold) (s : StackState Device (List PlainBlock)) → s.ready ≡ true → KeepsPlayed s.ready before s.desk s.hand (told_of s.device) (told_clock s.device) → StackKeepsAsTold before s.desk s.hand (told_of s.device) (told_clock s.device)
+kept_first before s ready kept = as_ready s.ready _ _ ready kept.0
 
 is_none : (off : Bool) (ops : ℕ) (plan : Option Plan) → off ≡ false → plan_from off ops plan ≡ None → plan ≡ None
 is_none true ops plan on none = absurd (cc on)
@@ -181,9 +188,10 @@ all_made ending.NoRoom is = absurd (cc is)
 all_made ending.Memory is = absurd (cc is)
 
 came_to : (before : Part → PartTold) (c : Configuration) (steps : List Step) (s : StackState Device (List PlainBlock)) (e : Ending) (desk : DeskState) (d : Device) → IsStarted c 0 (before First) (told_by told_of s)
-    → BeginsSo s → IsKept s.ready before s.desk s.hand (told_of s.device) (told_clock s.device) → WasRun told_of told_clock s e desk d → KeepsOrder steps e desk
+    → BeginsSo s → KeepsPlayed s.ready before s.desk s.hand (told_of s.device) (told_clock s.device) → WasRun told_of told_clock s e desk d → KeepsOrder steps e desk
     → CameTo before desk.config desk.cap steps (end_of e) desk.entries (told_of d) (told_clock d)
 came_to before c steps s e desk d started begins kept was keeps = record {
+  legal = subst IsLegalConfig (sym (was.config ∙ started.configuration)) started.legal;
   started = subst HasStarted (sym grown) tt;
   one_start = subst (λ (h : List Entry). IsTrue (list_all (λ x. not (is_found x)) (drop 1 h))) (sym grown) was.no_start;
   no_refusal = subst (λ (h : List Entry). IsTrue (list_all tells_no_refusal h)) (sym grown) was.no_refusal;
@@ -201,6 +209,10 @@ came_to before c steps s e desk d started begins kept was keeps = record {
   moved =
       moves_came s.desk s.hand (told_of s.device) (told_clock s.device) (begins_run c (before First) s started begins) (uncut c (before First) s started) (before, kept_first before s started.fresh.ready kept) desk was.hand (told_of d) (told_clock d) was.config
       was.moved started.fresh.marks started.fresh.ops started.fresh.entries started.ops;
+  starts =
+      let one : (told_of s.device).starts ≡ founds s.desk.entries = as_ready s.ready _ _ started.fresh.ready kept.1 in
+      let first : founds s.desk.entries ≡ 1 = ap founds started.fresh.entries in
+      let same = was.starts in omega (arith, one, first, same);
   looks = keeps.looks;
   order = keeps.order;
 }
@@ -216,7 +228,7 @@ came_to before c steps s e desk d started begins kept was keeps = record {
 
 -- of the configuration that was handed in, and the most entries of a history
 pub callers_came : (before : Part → PartTold) (c : Configuration) (steps : List Step) (s : StackState Device (List PlainBlock)) (e : Ending) (desk : DeskState) (d : Device) → IsStarted c 0 (before First) (told_by told_of s)
-    → BeginsSo s → IsKept s.ready before s.desk s.hand (told_of s.device) (told_clock s.device) → WasRun told_of told_clock s e desk d → KeepsOrder steps e desk
+    → BeginsSo s → KeepsPlayed s.ready before s.desk s.hand (told_of s.device) (told_clock s.device) → WasRun told_of told_clock s e desk d → KeepsOrder steps e desk
     → CameTo before c cap steps (end_of e) desk.entries (told_of d) (told_clock d)
 callers_came before c steps s e desk d started begins kept was keeps =
     subst (λ (n : ℕ). CameTo before c n steps (end_of e) desk.entries (told_of d) (told_clock d)) (was.cap ∙ started.most)
@@ -256,8 +268,9 @@ begun_run c steps marks ops = record {
 }
 
 begun : (before : Part → PartTold) (c : Configuration) (steps : List Step) (s : StackState Device (List PlainBlock)) → IsStarted c 0 (before First) (told_by told_of s)
-    → IsKept s.ready before s.desk s.hand (told_of s.device) (told_clock s.device) → CameTo before s.desk.config s.desk.cap steps Memory s.desk.entries (told_of s.device) (told_clock s.device)
+    → KeepsPlayed s.ready before s.desk s.hand (told_of s.device) (told_clock s.device) → CameTo before s.desk.config s.desk.cap steps Memory s.desk.entries (told_of s.device) (told_clock s.device)
 begun before c steps s started kept = record {
+  legal = subst IsLegalConfig (sym started.configuration) started.legal;
   started = subst HasStarted (sym one) tt;
   one_start = subst (λ (h : List Entry). IsTrue (list_all (λ x. not (is_found x)) (drop 1 h))) (sym one) refl;
   no_refusal = subst (λ (h : List Entry). IsTrue (list_all tells_no_refusal h)) (sym one) refl;
@@ -271,6 +284,8 @@ begun before c steps s started kept = record {
   ends = λ other. absurd (other refl);
   no_fault = λ fault. cc fault;
   moved = none_moved started.fresh.marks started.fresh.ops s.desk (told_of s.device) (told_clock s.device) one started.ops;
+  starts =
+      let made : (told_of s.device).starts ≡ founds s.desk.entries = as_ready s.ready _ _ started.fresh.ready kept.1 in omega (arith, made);
   looks = [];
   order = λ legal. subst (λ (h : List Entry). IsRun s.desk.config steps [] h) (sym one) (begun_run s.desk.config steps started.fresh.marks started.fresh.ops);
 }
@@ -282,7 +297,7 @@ begun before c steps s started kept = record {
     first = kept_first before s started.fresh.ready kept
 
 pub none_came : (before : Part → PartTold) (c : Configuration) (steps : List Step) (s : StackState Device (List PlainBlock)) (d : Device) → d ≡ s.device → IsStarted c 0 (before First) (told_by told_of s)
-    → IsKept s.ready before s.desk s.hand (told_of s.device) (told_clock s.device) → CameTo before c cap steps Memory s.desk.entries (told_of d) (told_clock d)
+    → KeepsPlayed s.ready before s.desk s.hand (told_of s.device) (told_clock s.device) → CameTo before c cap steps Memory s.desk.entries (told_of d) (told_clock d)
 none_came before c steps s d same started kept =
     subst (λ (x : Device). CameTo before c cap steps Memory s.desk.entries (told_of x) (told_clock x)) (sym same)
     (subst (λ (n : ℕ). CameTo before c n steps Memory s.desk.entries (told_of s.device) (told_clock s.device)) started.most
@@ -314,6 +329,11 @@ keeps_run c steps end h inner exit entry d back w values size = record {
   values = values;
   early = λ told. begins_well (told_clock d) r (part_at entry) (told_of d) (w.early (bridge.tells told)) (uncut_bridges (beyond_end (told_clock d)) (reading_of (making_of c)) r.flash (part_at entry) (told_of d) w.came bridge) told;
   promise = λ told sound. callers_keep_promise (told_clock d) r steps w.looks (one_part (part_at entry)) (told_of d) (callers (bridge.slots told (sound_starts_compute (making_of c) r.flash sound))) w.came bridge back.wear;
+  erases = λ told k unused has inside.
+      let begins : BeginsUnused r = record { tells = told; legal = w.legal.geometry; shared = w.legal.shared; unused = unused } in
+      erases_have_causes r begins (part_at entry) (told_of d) k
+      (callers_keep_promise (told_clock d) r steps w.looks (one_part (part_at entry)) (told_of d) (callers (bridge.slots told (sound_starts_compute (making_of c) r.flash (starts_sound r begins)))) w.came bridge back.wear) has
+      (record { none = refl; restarts = back.restarts; starts = w.starts; faults = back.bridges.faults }) inside;
 }
   where
     r : Run
@@ -338,11 +358,12 @@ keeps_run c steps end h inner exit entry d back w values size = record {
         }
 
 -- it is this call's
-ran_has : (c : Configuration) (steps : List Step) (end : End) (h : List Entry) (Tells : Run → Type 0) (inner exit entry : Told) (d : Device) (back : IsBack c inner exit (part_at entry) (told_of d) (clock_of d))
+ran_has : (c : Configuration) → c.eeprom ≡ None → (steps : List Step) (end : End) (h : List Entry) (Tells : Run → Type 0) (inner exit entry : Told) (d : Device) (back : IsBack c inner exit (part_at entry) (told_of d) (clock_of d))
     (w : CameTo (one_part (part_at entry)) c cap steps end h (told_of d) (told_clock d)) → AreValues h → IsRightSize (size_of c.geometry) inner.bytes → Tells (run_of c h inner exit back.operations [] (Ran steps w.looks) end) → HasRun mode.Run c steps Tells inner exit
-ran_has c steps end h Tells inner exit entry d back w values size tells = record {
+ran_has c one steps end h Tells inner exit entry d back w values size tells = record {
   run = run_of c h inner exit back.operations [] (Ran steps w.looks) end;
   configuration = refl;
+  one_device = one;
   most = refl;
   course = refl;
   at_entry = refl;
@@ -352,14 +373,14 @@ ran_has c steps end h Tells inner exit entry d back w values size tells = record
   keeps = keeps_run c steps end h inner exit entry d back w values size;
 }
 
-told_run : (c : Configuration) (steps : List Step) (end : End) (h : List Entry) (inner exit entry : Told) (d : Device) (x : Status) (w w' : Written) (input : Option (List ℕ)) → IsBack c inner exit (part_at entry) (told_of d) (clock_of d)
+told_run : (c : Configuration) → c.eeprom ≡ None → (steps : List Step) (end : End) (h : List Entry) (inner exit entry : Told) (d : Device) (x : Status) (w w' : Written) (input : Option (List ℕ)) → IsBack c inner exit (part_at entry) (told_of d) (clock_of d)
     → CameTo (one_part (part_at entry)) c cap steps end h (told_of d) (told_clock d) → AreValues h → IsRightSize (size_of c.geometry) inner.bytes → WritesText (status_at end) h (lines_in History end h) w w' x
     → HasRun mode.Run c steps (EndsIn History (call_by mode.Run input x inner exit w w')) inner exit
-told_run c steps end h inner exit entry d status.Memory w w' input back came values size is =
-    ran_has c steps Memory h (EndsIn History (call_by mode.Run input status.Memory inner exit w w')) inner exit entry d back (wanting (one_part (part_at entry)) c cap steps end h (told_of d) (told_clock d) came) values size
+told_run c one steps end h inner exit entry d status.Memory w w' input back came values size is =
+    ran_has c one steps Memory h (EndsIn History (call_by mode.Run input status.Memory inner exit w w')) inner exit entry d back (wanting (one_part (part_at entry)) c cap steps end h (told_of d) (told_clock d) came) values size
     (ends_told mode.Run input inner exit w w' h (λ e. lines_in History e h) end status.Memory is)
-told_run c steps end h inner exit entry d x w w' input back came values size is =
-    ran_has c steps end h (EndsIn History (call_by mode.Run input x inner exit w w')) inner exit entry d back came values size (ends_told mode.Run input inner exit w w' h (λ e. lines_in History e h) end x is)
+told_run c one steps end h inner exit entry d x w w' input back came values size is =
+    ran_has c one steps end h (EndsIn History (call_by mode.Run input x inner exit w w')) inner exit entry d back came values size (ends_told mode.Run input inner exit w w' h (λ e. lines_in History e h) end x is)
 
 -- as it was written
 in_text : (e : Ending) (h : List Entry) (w w' : Written) (x : Status) → WritesText (status_of_run (stop_of_ending e)) h (lines_written History (stop_of_ending e) h) w w' x → WritesText (status_at (end_of e)) h (lines_in History (end_of e) h) w w' x
@@ -367,21 +388,21 @@ in_text ending.All h w w' x is = is
 in_text ending.NoRoom h w w' x is = is
 in_text ending.Memory h w w' x is = is
 
-pub written_run : (c : Configuration) (steps : List Step) (e : Ending) (run : Result (Unit {0}) Stop) (h g : List Entry) (inner exit entry : Told) (d : Device) (x : Status) (w w' : Written) (input : Option (List ℕ)) → IsBack c inner exit (part_at entry) (told_of d) (clock_of d)
+pub written_run : (c : Configuration) → c.eeprom ≡ None → (steps : List Step) (e : Ending) (run : Result (Unit {0}) Stop) (h g : List Entry) (inner exit entry : Told) (d : Device) (x : Status) (w w' : Written) (input : Option (List ℕ)) → IsBack c inner exit (part_at entry) (told_of d) (clock_of d)
     → CameTo (one_part (part_at entry)) c cap steps (end_of e) h (told_of d) (told_clock d) → AreValues g → IsRightSize (size_of c.geometry) inner.bytes → run ≡ stop_of_ending e → g ≡ h → WritesText (status_of_run run) g (lines_written History run g) w w' x
     → HasRun mode.Run c steps (EndsIn History (call_by mode.Run input x inner exit w w')) inner exit
-written_run c steps e run h g inner exit entry d x w w' input back came values size is_run is_history is =
-    told_run c steps (end_of e) h inner exit entry d x w w' input back came (subst AreValues is_history values) size
+written_run c one steps e run h g inner exit entry d x w w' input back came values size is_run is_history is =
+    told_run c one steps (end_of e) h inner exit entry d x w w' input back came (subst AreValues is_history values) size
     (in_text e h w w' x
     (subst (λ (r : Result (Unit {0}) Stop). WritesText (status_of_run r) h (lines_written History r h) w w' x) is_run
     (subst (λ (es : List Entry). WritesText (status_of_run run) es (lines_written History run es) w w' x) is_history is)))
 
 -- nothing was written
-pub unwritten_run : (c : Configuration) (steps : List Step) (h : List Entry) (inner exit entry : Told) (d : Device) (w : Written) (input : Option (List ℕ)) → IsBack c inner exit (part_at entry) (told_of d) (clock_of d)
+pub unwritten_run : (c : Configuration) → c.eeprom ≡ None → (steps : List Step) (h : List Entry) (inner exit entry : Told) (d : Device) (w : Written) (input : Option (List ℕ)) → IsBack c inner exit (part_at entry) (told_of d) (clock_of d)
     → CameTo (one_part (part_at entry)) c cap steps Memory h (told_of d) (told_clock d) → AreValues h → IsRightSize (size_of c.geometry) inner.bytes
     → HasRun mode.Run c steps (EndsIn History (call_by mode.Run input status.Memory inner exit w w)) inner exit
-unwritten_run c steps h inner exit entry d w input back came values size =
-    told_run c steps Memory h inner exit entry d status.Memory w w input back came values size (0, Puts-nil w)
+unwritten_run c one steps h inner exit entry d w input back came values size =
+    told_run c one steps Memory h inner exit entry d status.Memory w w input back came values size (0, Puts-nil w)
 
 -- HOW IT ENDS
 -- at none of the statuses before the attach

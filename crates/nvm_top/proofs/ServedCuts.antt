@@ -12,8 +12,8 @@ use Rattle.nvm_flash.specs.promise_run.Run.{Event, Added, CutsAre, events_of, pl
 use Rattle.script_player.specs.Requests.{is_of_request, AreOfRequests, LeavesRequests}
 use Rattle.script_player.specs.uds_gateway.Jobs.{EndsOff}
 use Rattle.script_player.specs.uds_gateway.declared.stop.ServeStop.TheVariants as serve
-use Rattle.script_walks.specs.Walk.{IsWalkBy, joined}
-use Rattle.script_walks.specs.Words.{Step, StepKind, AskStep, Store, Turn, Drain, Restart, Cut, Refuse, Await}
+use Rattle.script_player.specs.script_walks.Walk.{IsWalkBy, joined}
+use Rattle.script_player.specs.script_walks.Words.{Step, StepKind, AskStep, Store, Turn, Drain, Restart, Cut, Refuse, Await}
 
 -- WHERE IT WENT OFF
 

@@ -23,21 +23,21 @@ use Rattle.script_player.proofs.Served.{only_more}
 use Rattle.script_player.specs.uds_gateway.Served.{AreServed}
 use Rattle.script_player.specs.uds_gateway.declared.stop.ServeStop.{ServeStop}
 use Rattle.script_player.specs.uds_gateway.declared.stop.ServeStop.TheVariants as serve
-use Rattle.script_walks.specs.Walk.{IsWalkOf, joined}
-use Rattle.script_walks.specs.Words.{Step, AskStep}
-use Rattle.nvm_top.specs.declared.status.Status.{Status}
-use Rattle.nvm_top.specs.declared.status.Status.TheVariants as status
-use Rattle.nvm_top.specs.declared.stop.Stop.{Stop}
-use Rattle.nvm_top.specs.declared.stop.Stop.TheVariants as stop
-use Rattle.nvm_top.specs.Output.{Writes}
+use Rattle.script_player.specs.script_walks.Walk.{IsWalkOf, joined}
+use Rattle.script_player.specs.script_walks.Words.{Step, AskStep}
+use Rattle.nvm_lines.specs.declared.status.Status.{Status}
+use Rattle.nvm_lines.specs.declared.status.Status.TheVariants as status
+use Rattle.nvm_lines.specs.declared.stop.Stop.{Stop}
+use Rattle.nvm_lines.specs.declared.stop.Stop.TheVariants as stop
+use Rattle.nvm_lines.specs.Output.{Writes}
 use Rattle.nvm_top.specs.Play.{IsBeforeAttach, IsRightSize, IsFlashStop}
 use Rattle.nvm_top.specs.Promised.{HasNoRun, WritesText, played_call}
 use Rattle.nvm_top.specs.Stack.{BeginsPaying, IsStarted, StopsAtStart, Vouches, run_of}
-use Rattle.nvm_top.specs.Stop.{IsStop}
+use Rattle.nvm_lines.specs.Stop.{IsStop}
 use Rattle.nvm_top.specs.Uds.{lines_by, lines_of_history, lines_served, HasPieces, HasRequests, HasRequestsOf, HasWrongRequest, UdsStopsBy, WritesLines, status_served, line_served, end_served, TellsServed, TellsRequests, HasServing, HasAnswered}
 use Rattle.nvm_top.proofs.AnswerLines.{has_pieces, lines_of_pieces}
 use Rattle.nvm_script.specs.declared.script.Mode.TheVariants as mode
-use Rattle.nvm_top.proofs.Early.{early_has, found_in_use, wrong_size}
+use Rattle.nvm_top.proofs.Early.{early_has, found_in_use, no_second, wrong_size}
 use Rattle.nvm_top.proofs.EndsTold.{ends_told, status_at}
 use Rattle.nvm_top.proofs.Promised.{has_run}
 use Rattle.nvm_top.proofs.WholeCalls.{sized}
@@ -171,20 +171,21 @@ module _ {p q : Payer} (requests : List (List ℕ)) (counts : List ℕ) (end : R
 
 -- WITHOUT A START-UP
 
-none_end : (c : Configuration) (requests : List (List ℕ)) (entry exit : Told) (why : Stop) (end : End) (x : Status) (w w' : Written) (input : Option (List ℕ)) → StopsAtStart c entry exit why → EndsAtStart (record { entry = entry; exit = exit; operations = [] }) end
+none_end : (c : Configuration) (requests : List (List ℕ)) (entry exit : Told) (why : Stop) (end : End) (x : Status) (w w' : Written) (input : Option (List ℕ)) → StopsAtStart c entry exit why → c.eeprom ≡ None → EndsAtStart (record { entry = entry; exit = exit; operations = [] }) end
     → WritesText (status_at end) [] (last_line end [] ∷ []) w w' x → HasServing c requests (played_call input x entry exit w w') x
-none_end c requests entry exit why end status.Memory w w' input stops ends is =
-    ([], refl, early_has mode.Play c [] (TellsRequests c requests (played_call input status.Memory entry exit w w') status.Memory) entry exit why Memory stops tt (inl (refl, ends_told mode.Play input entry exit w w' [] (λ e. last_line e [] ∷ []) end status.Memory is)))
-none_end c requests entry exit why end x w w' input stops ends is =
-    ([], refl, early_has mode.Play c [] (TellsRequests c requests (played_call input x entry exit w w') x) entry exit why end stops ends (inl (refl, ends_told mode.Play input entry exit w w' [] (λ e. last_line e [] ∷ []) end x is)))
+none_end c requests entry exit why end status.Memory w w' input stops one ends is =
+    ([], refl, early_has mode.Play c [] (TellsRequests c requests (played_call input status.Memory entry exit w w') status.Memory) entry exit why Memory stops one tt (inl (refl, ends_told mode.Play input entry exit w w' [] (λ e. last_line e [] ∷ []) end status.Memory is)))
+none_end c requests entry exit why end x w w' input stops one ends is =
+    ([], refl, early_has mode.Play c [] (TellsRequests c requests (played_call input x entry exit w w') x) entry exit why end stops one ends (inl (refl, ends_told mode.Play input entry exit w w' [] (λ e. last_line e [] ∷ []) end x is)))
 
 -- the flash isn't attached for its size, or there is a run without a start-up
 pub serving_none : (c : Configuration) (requests : List (List ℕ)) (entry exit : Told) (why : Stop) (x : Status) (w w' : Written) (input : Option (List ℕ)) → StopsAtStart c entry exit why → Writes (IsStop why) w w' x
-    → HasServing c requests (played_call input x entry exit w w') x ⊎ HasNoRun (IsFlashStop (size_of c.geometry) entry.bytes) w w' x entry exit
+    → HasServing c requests (played_call input x entry exit w w') x ⊎ HasNoRun (IsFlashStop c entry.bytes) w w' x entry exit
 serving_none c requests entry exit (stop.WrongSize found needed) x w w' input stops is = inr (wrong_size c entry exit found needed x w w' stops is)
 serving_none c requests entry exit stop.InUse x w w' input stops is = inr (found_in_use c entry exit x w w' stops is)
-serving_none c requests entry exit stop.FlashFault x w w' input stops is = inl (none_end c requests entry exit stop.FlashFault FlashFault x w w' input stops stops.end (stop_alone stop.FlashFault status.FlashFault (last_line FlashFault [] ∷ []) w w' x refl refl is))
-serving_none c requests entry exit stop.Memory x w w' input stops is = inl (none_end c requests entry exit stop.Memory Memory x w w' input stops tt (stop_alone stop.Memory status.Memory (last_line Memory [] ∷ []) w w' x refl refl is))
+serving_none c requests entry exit stop.NoSecond x w w' input stops is = inr (no_second c entry exit x w w' stops is)
+serving_none c requests entry exit stop.FlashFault x w w' input stops is = inl (none_end c requests entry exit stop.FlashFault FlashFault x w w' input stops stops.second stops.end (stop_alone stop.FlashFault status.FlashFault (last_line FlashFault [] ∷ []) w w' x refl refl is))
+serving_none c requests entry exit stop.Memory x w w' input stops is = inl (none_end c requests entry exit stop.Memory Memory x w w' input stops stops.second tt (stop_alone stop.Memory status.Memory (last_line Memory [] ∷ []) w w' x refl refl is))
 serving_none c requests entry exit _ x w w' input stops is = absurd stops.why
 
 -- HOW IT ENDS
@@ -208,7 +209,7 @@ has_requests None c requests has = tt
 has_requests (Some bytes) c requests has = (requests, has)
 
 pub answered : (left : Option (List ℕ)) (reads reads' : ℕ) (x : Status) (c : Configuration) (requests : List (List ℕ)) (entry exit : Told) (w w' : Written) → IfSome left (λ bytes. HasRequests bytes c requests)
-    → HasServing c requests (played_call left x entry exit w w') x ⊎ HasNoRun (IsFlashStop (size_of c.geometry) entry.bytes) w w' x entry exit
+    → HasServing c requests (played_call left x entry exit w w') x ⊎ HasNoRun (IsFlashStop c entry.bytes) w w' x entry exit
     → HasAnswered left x (played_call left x entry exit w w') ⊎ HasNoRun (UdsStopsBy left reads reads' entry.bytes) w w' x entry exit
 answered left reads reads' x c requests entry exit w w' has (inl run) = inl (c, requests, has, run)
 answered left reads reads' x c requests entry exit w w' has (inr none) = inr (sized HasWrongRequest HasRequestsOf left reads reads' c w w' x entry exit (has_requests left c requests has) none)

@@ -15,7 +15,7 @@ use Rattle.nvm_words.specs.declared.words.CommandKind.TheVariants.{Play, Run, Du
 use Rattle.nvm_script.specs.declared.script.Mode.TheVariants as mode
 use Rattle.nvm_script.specs.declared.step.Step.{Step}
 use Rattle.nvm_top.specs.declared.runs.RunText.TheVariants.{Summary}
-use Rattle.nvm_top.specs.declared.status.Status.{Status}
+use Rattle.nvm_lines.specs.declared.status.Status.{Status}
 use Rattle.nvm_top.specs.Ends.{HasScript}
 use Rattle.nvm_top.specs.Play.{IsFlashStop}
 use Rattle.nvm_top.specs.Promised.{played_call, EndsIn, HasNoRun, HasRun, HasSoaked}
@@ -80,7 +80,7 @@ step_stops (Some bytes) c (y ∷ ys) x at has = inr (c, y, ys, has, ap (λ (s : 
 
 -- a run's promise is the call's
 pub soaked : (left : Option (List ℕ)) (reads reads' : ℕ) (x : Status) (c : Configuration) (made : List Step) (steps : Configuration → List Step) (entry exit : Told) (w w' : Written) → IfSome left (λ bytes. HasScript mode.Play bytes c []) → made ≡ steps c
-    → HasRun mode.Play c made (EndsIn Summary (played_call left x entry exit w w')) entry exit ⊎ HasNoRun (IsFlashStop (size_of c.geometry) entry.bytes) w w' x entry exit
+    → HasRun mode.Play c made (EndsIn Summary (played_call left x entry exit w w')) entry exit ⊎ HasNoRun (IsFlashStop c entry.bytes) w w' x entry exit
     → HasSoaked left steps (played_call left x entry exit w w') ⊎ HasNoRun (SoakStopsBy left reads reads' entry.bytes) w w' x entry exit
 soaked left reads reads' x c made steps entry exit w w' has drawn (inl run) = inl (c, has, subst (λ (xs : List Step). HasRun mode.Play c xs (EndsIn Summary (played_call left x entry exit w w')) entry exit) drawn run)
 soaked left reads reads' x c made steps entry exit w w' has drawn (inr none) = inr (sized HasStepAt (λ d bytes. HasScript mode.Play bytes d []) left reads reads' c w w' x entry exit has none)

@@ -8,18 +8,18 @@ use Rattle.nvm_script.specs.Lines.{end_line}
 use Rattle.nvm_script.specs.Cut.{cut_lines}
 use Rattle.nvm_script.specs.Printed.{history_lines}
 use Rattle.nvm_script.specs.Summary.{summary}
-use Rattle.nvm_top.specs.Output.{Writes, BreaksOff, IsEndOf, fault_status}
+use Rattle.nvm_lines.specs.Output.{Writes, BreaksOff, IsEndOf, fault_status}
 use Rattle.nvm_top.specs.Runs.{status_of_run, lines_written}
-use Rattle.nvm_top.specs.Stop.{status_of, line_of, IsStop}
-use Rattle.nvm_top.specs.declared.stop.Stop.{Stop}
-use Rattle.nvm_top.specs.declared.stop.Stop.TheVariants as stop
-use Rattle.nvm_top.specs.declared.output.OutputFault.{OutputFault}
-use Rattle.nvm_top.specs.declared.output.OutputFault.TheVariants.{Failed, Memory as OutOfMemory}
+use Rattle.nvm_lines.specs.Stop.{status_of, line_of, IsStop}
+use Rattle.nvm_lines.specs.declared.stop.Stop.{Stop}
+use Rattle.nvm_lines.specs.declared.stop.Stop.TheVariants as stop
+use Rattle.nvm_lines.specs.declared.output.OutputFault.{OutputFault}
+use Rattle.nvm_lines.specs.declared.output.OutputFault.TheVariants.{Failed, Memory as OutOfMemory}
 use Rattle.nvm_top.specs.declared.runs.RunText.{RunText}
 use Rattle.nvm_top.specs.declared.runs.RunText.TheVariants.{History, Summary}
 use Rattle.nvm_top.specs.Promised.{WritesText, entries_in}
-use Rattle.nvm_top.specs.declared.status.Status.{Status}
-use Rattle.nvm_top.specs.declared.status.Status.TheVariants as status
+use Rattle.nvm_lines.specs.declared.status.Status.{Status}
+use Rattle.nvm_lines.specs.declared.status.Status.TheVariants as status
 use Rattle.nvm_top.proofs.RunLines.{not_wanting}
 
 -- a lines behind those of entries

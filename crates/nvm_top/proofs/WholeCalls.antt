@@ -1,34 +1,33 @@
 -- How a whole call ends, and which run is its.
 use Rattle.std.specs.Prelude.{IfSome}
-use Rattle.std.proofs.Common.{◌≡◌, ◌≢◌, ◌≤◌, ◌⊎◌, ℕ, List, [], ◌∷◌, length, Option, Some, None, Result, Ok, Err, refl, sym, ap, ◌∙◌, subst, inl, inr}
+use Rattle.std.proofs.Common.{◌≡◌, ◌≢◌, ◌⊎◌, ℕ, List, [], ◌∷◌, Option, Some, None, Result, Ok, Err, refl, sym, ap, ◌∙◌, subst, inl, inr}
 use Rattle.nv_streams.specs.Sink.{Written}
 use Rattle.nvm_flash.specs.nv_base.Count.{Rose}
 use Rattle.nvm_flash.specs.nv_base.Geometry.{size_of}
 use Rattle.nvm_flash.specs.block_config.Config.{Configuration}
 use Rattle.nvm_flash.specs.fls_model.Told.{Told, ToldBytes}
-use Rattle.script_walks.specs.Words.{Step}
+use Rattle.script_player.specs.script_walks.Words.{Step}
 use Rattle.nvm_flash.specs.block_machine.Words.{Entry}
-use Rattle.nvm_flash.specs.promise_run.Run.{Run, Course, Played, Ran}
+use Rattle.nvm_flash.specs.promise_run.Run.{Run}
 use Rattle.nvm_flash.specs.promise_run.Run.{LeavesAlone}
 use Rattle.nvm_flash.specs.promise_run.Call.{IsCourseOf, IsInputOf}
 use Rattle.nvm_script.specs.Script.{IsScript, later_lines}
 use Rattle.nvm_script.specs.declared.script.Mode.{Mode}
 use Rattle.nvm_script.specs.declared.script.Mode.TheVariants as mode
 use Rattle.nvm_top.specs.Ends.{HasScript, HasStepsOf, HasWrongLine}
-use Rattle.nvm_top.specs.Play.{IsAttachStop, IsBeforeAttach, IsFlashStop, StepsStopBy, StopsBy}
+use Rattle.nvm_top.specs.Play.{IsStartStop, IsBeforeAttach, IsFlashStop, StepsStopBy, StopsBy}
 use Rattle.nvm_top.specs.Reading.{IsReadStop}
-use Rattle.nvm_top.specs.Input.{input_limit}
 use Rattle.script_player.specs.declared.steps.StepFault.{StepFault}
 use Rattle.script_player.specs.declared.steps.StepFault.TheVariants as fault
-use Rattle.nvm_top.specs.declared.status.Status.{Status}
-use Rattle.nvm_top.specs.declared.status.Status.TheVariants as status
+use Rattle.nvm_lines.specs.declared.status.Status.{Status}
+use Rattle.nvm_lines.specs.declared.status.Status.TheVariants as status
 use Rattle.nvm_top.specs.declared.runs.RunText.TheVariants.{History}
-use Rattle.nvm_top.specs.declared.stop.Stop.{Stop}
-use Rattle.nvm_top.specs.declared.stop.Stop.TheVariants as stop
-use Rattle.nvm_top.specs.Output.{Writes, IsReport}
-use Rattle.nvm_top.specs.Promised.{call_by, HasNoRun, HasRun, IsCourseIn, WritesText, HasPromise, EndsIn}
+use Rattle.nvm_lines.specs.declared.stop.Stop.{Stop}
+use Rattle.nvm_lines.specs.declared.stop.Stop.TheVariants as stop
+use Rattle.nvm_lines.specs.Output.{Writes, IsReport}
+use Rattle.nvm_top.specs.Promised.{call_by, HasNoRun, HasRun, CallsHaveRuns, WritesText, HasPromise, EndsIn}
 use Rattle.nvm_top.specs.Runs as ends
-use Rattle.nvm_top.specs.Stop.{status_of, line_of, IsStop}
+use Rattle.nvm_lines.specs.Stop.{status_of, line_of, IsStop}
 use Rattle.nvm_top.proofs.PlayLemmas.{report-by}
 use Rattle.nvm_top.proofs.RunLines.{Writes-as, by_stop, read_line}
 
@@ -50,15 +49,16 @@ pub ran_late : (result : Result (Unit {0}) StepFault) (run : Result (Unit {0}) S
 ran_late result run x entries lines w w' is_run is =
     written_late (ends.status_of_run run) x entries lines w w' (subst (λ (r : Result (Unit {0}) Stop). IsBeforeAttach (ends.status_of_run r) → ⊥) (sym is_run) (run_late result)) is
 
-attach_late : (need : ℕ) (bytes : Option ToldBytes) (why : Stop) → IsAttachStop need bytes why → IsBeforeAttach (status_of why) → ⊥
-attach_late need bytes (stop.WrongSize found needed) is early = early
-attach_late need bytes stop.FlashFault is early = early
-attach_late need bytes stop.InUse is early = early
-attach_late need bytes stop.Memory is early = early
-attach_late need bytes _ is early = absurd is
+attach_late : (c : Configuration) (bytes : Option ToldBytes) (why : Stop) → IsStartStop c bytes why → IsBeforeAttach (status_of why) → ⊥
+attach_late c bytes stop.NoSecond is early = early
+attach_late c bytes (stop.WrongSize found needed) is early = early
+attach_late c bytes stop.FlashFault is early = early
+attach_late c bytes stop.InUse is early = early
+attach_late c bytes stop.Memory is early = early
+attach_late c bytes _ is early = absurd is
 
-pub stopped_late : (need : ℕ) (bytes : Option ToldBytes) (why : Stop) (x : Status) → IsAttachStop need bytes why → IsReport (status_of why) x → IsBeforeAttach x → ⊥
-stopped_late need bytes why x is reports = report-by (λ y. IsBeforeAttach y → ⊥) (status_of why) x (attach_late need bytes why is) (λ early. early) (λ early. early) reports
+pub stopped_late : (c : Configuration) (bytes : Option ToldBytes) (why : Stop) (x : Status) → IsStartStop c bytes why → IsReport (status_of why) x → IsBeforeAttach x → ⊥
+stopped_late c bytes why x is reports = report-by (λ y. IsBeforeAttach y → ⊥) (status_of why) x (attach_late c bytes why is) (λ early. early) (λ early. early) reports
 
 -- OF THE WHOLE CALL
 
@@ -71,24 +71,10 @@ input_of m (Some bytes) c steps r same course has = record {
   course = course;
 }
 
-short_input : (m : Mode) (left : Option (List ℕ)) (c : Configuration) (steps : List Step) → IfSome left (λ bytes. HasScript m bytes c steps) → IfSome left (λ bytes. length bytes ≤ input_limit)
-short_input m None c steps has = tt
-short_input m (Some bytes) c steps has = has.config.short
-
-course_in : (m : Mode) (steps : List Step) (course : Course) → IsCourseOf m steps course → IsCourseIn m course
-course_in mode.Play steps (Played made pieces left) is = tt
-course_in mode.Run steps (Ran all looks) is = tt
-course_in mode.Play steps (Ran all looks) is = absurd is
-course_in mode.Run steps (Played made pieces left) is = absurd is
-
--- a run's promise is the call's
-has_promise : (m : Mode) (left : Option (List ℕ)) (x : Status) (c : Configuration) (steps : List Step) (entry exit : Told) (w w' : Written) → IfSome left (λ bytes. HasScript m bytes c steps)
-    → HasRun m c steps (EndsIn History (call_by m left x entry exit w w')) entry exit → HasPromise (call_by m left x entry exit w w')
-has_promise m left x c steps entry exit w w' has run = (
+pub calls_have_runs : CallsHaveRuns
+calls_have_runs call (c, steps, has, run) = (
   run.run,
-  record { input = input_of m left c steps run.run run.configuration run.course has; most = run.most; entry = run.at_entry; exit = run.at_exit; beside = run.beside; ends = run.ends },
-  course_in m steps run.run.course run.course,
-  short_input m left c steps has,
+  record { input = input_of call.mode call.input c steps run.run run.configuration run.course has; most = run.most; entry = run.at_entry; exit = run.at_exit; beside = run.beside; ends = run.ends },
   run.keeps,
 )
 
@@ -98,17 +84,18 @@ alone told = record { geometry = refl; off = λ off. off; bytes = refl; ops = re
 
 -- WHERE NO RUN IS BEGUN
 
--- the flash has a wrong size, or is in use
-sized_line : (IsWrong : List ℕ → ℕ → Type 0) (Has : Configuration → List ℕ → Type 0) (left : Option (List ℕ)) (reads reads' : ℕ) (bytes : Option ToldBytes) (c : Configuration) (y : Status) (lines : List (List ℕ)) → IfSome left (Has c) → IsFlashStop (size_of c.geometry) bytes y lines
+-- the flash has a wrong size, or is in use, or a second device is missing
+sized_line : (IsWrong : List ℕ → ℕ → Type 0) (Has : Configuration → List ℕ → Type 0) (left : Option (List ℕ)) (reads reads' : ℕ) (bytes : Option ToldBytes) (c : Configuration) (y : Status) (lines : List (List ℕ)) → IfSome left (Has c) → IsFlashStop c bytes y lines
     → StopsBy IsWrong Has left reads reads' bytes y lines
 sized_line IsWrong Has left reads reads' bytes c status.WrongSize lines has is = (c, has, is)
 sized_line IsWrong Has left reads reads' bytes c status.InUse lines has is = (c, has, is)
+sized_line IsWrong Has left reads reads' bytes c status.NoSecond lines has is = (c, has, is)
 sized_line IsWrong Has left reads reads' bytes c _ lines has is = absurd is
 
-pub sized : (IsWrong : List ℕ → ℕ → Type 0) (Has : Configuration → List ℕ → Type 0) (left : Option (List ℕ)) (reads reads' : ℕ) (c : Configuration) (w w' : Written) (x : Status) (entry exit : Told) → IfSome left (Has c) → HasNoRun (IsFlashStop (size_of c.geometry) entry.bytes) w w' x entry exit
+pub sized : (IsWrong : List ℕ → ℕ → Type 0) (Has : Configuration → List ℕ → Type 0) (left : Option (List ℕ)) (reads reads' : ℕ) (c : Configuration) (w w' : Written) (x : Status) (entry exit : Told) → IfSome left (Has c) → HasNoRun (IsFlashStop c entry.bytes) w w' x entry exit
     → HasNoRun (StopsBy IsWrong Has left reads reads' entry.bytes) w w' x entry exit
 sized IsWrong Has left reads reads' c w w' x entry exit has none = record {
-  line = Writes-as (IsFlashStop (size_of c.geometry) entry.bytes) (StopsBy IsWrong Has left reads reads' entry.bytes) w w' x (λ y lines at. sized_line IsWrong Has left reads reads' entry.bytes c y lines has at) none.line;
+  line = Writes-as (IsFlashStop c entry.bytes) (StopsBy IsWrong Has left reads reads' entry.bytes) w w' x (λ y lines at. sized_line IsWrong Has left reads reads' entry.bytes c y lines has at) none.line;
   flash = none.flash;
 }
 
@@ -118,6 +105,7 @@ unread_line : (IsWrong : List ℕ → ℕ → Type 0) (Has : Configuration → L
 unread_line IsWrong Has left reads reads' bytes (stop.BadScript number) fault is other = (number, is, refl)
 unread_line IsWrong Has left reads reads' bytes (stop.WrongSize found need) fault is other = absurd is
 unread_line IsWrong Has left reads reads' bytes stop.InUse fault is other = absurd is
+unread_line IsWrong Has left reads reads' bytes stop.NoSecond fault is other = absurd is
 unread_line IsWrong Has left reads reads' bytes why fault is other = read_line left reads reads' why fault is other
 
 -- no flash is in use before its attach
@@ -143,7 +131,7 @@ has_steps m None c steps has = tt
 has_steps m (Some bytes) c steps has = (has.config, steps, has.script)
 
 pub steps_made : (m : Mode) (left : Option (List ℕ)) (reads reads' : ℕ) (x : Status) (c : Configuration) (steps : List Step) (entry exit : Told) (w w' : Written) → IfSome left (λ bytes. HasScript m bytes c steps)
-    → HasRun m c steps (EndsIn History (call_by m left x entry exit w w')) entry exit ⊎ HasNoRun (IsFlashStop (size_of c.geometry) entry.bytes) w w' x entry exit
+    → HasRun m c steps (EndsIn History (call_by m left x entry exit w w')) entry exit ⊎ HasNoRun (IsFlashStop c entry.bytes) w w' x entry exit
     → HasPromise (call_by m left x entry exit w w') ⊎ HasNoRun (StepsStopBy m left reads reads' entry.bytes) w w' x entry exit
-steps_made m left reads reads' x c steps entry exit w w' has (inl run) = inl (has_promise m left x c steps entry exit w w' has run)
+steps_made m left reads reads' x c steps entry exit w w' has (inl run) = inl (c, steps, has, run)
 steps_made m left reads reads' x c steps entry exit w w' has (inr none) = inr (sized (HasWrongLine m) (HasStepsOf m) left reads reads' c w w' x entry exit (has_steps m left c steps has) none)

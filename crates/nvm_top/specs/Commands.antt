@@ -10,17 +10,17 @@ use Rattle.nvm_script.specs.declared.step.Step.{Step}
 use Rattle.nvm_words.specs.declared.words.CommandKind.{CommandKind}
 use Rattle.nvm_words.specs.declared.words.CommandKind.TheVariants.{Play, Run, Dump, Check, Soak, Uds}
 use Rattle.script_soak.specs.Soak.{soak}
-use Rattle.nvm_top.specs.declared.status.Status.{Status}
-use Rattle.nvm_top.specs.declared.stop.Stop.{Stop}
-use Rattle.nvm_top.specs.declared.stop.Stop.TheVariants as stop
+use Rattle.nvm_lines.specs.declared.status.Status.{Status}
+use Rattle.nvm_lines.specs.declared.stop.Stop.{Stop}
+use Rattle.nvm_lines.specs.declared.stop.Stop.TheVariants as stop
 use Rattle.nvm_top.specs.Causes.{HasCauses}
 use Rattle.nvm_top.specs.Dump.{DumpsBy, KeepsFlash}
 use Rattle.nvm_top.specs.Ends.{ChecksBy}
-use Rattle.nvm_top.specs.Output.{Writes}
+use Rattle.nvm_lines.specs.Output.{Writes}
 use Rattle.nvm_top.specs.Play.{IsBeforeAttach, IsBeforeStart, StepsStopBy}
 use Rattle.nvm_top.specs.Promised.{HasNoRun, HasPromise, HasSoaked, call_by}
 use Rattle.nvm_top.specs.Soak.{SoakStopsBy}
-use Rattle.nvm_top.specs.Stop.{IsStop}
+use Rattle.nvm_lines.specs.Stop.{IsStop}
 use Rattle.nvm_top.specs.Uds.{HasAnswered, UdsStopsBy}
 
 -- A call that is over: its status, and before it and behind it what was left of its input and how often that had failed, what

@@ -9,12 +9,13 @@ use Rattle.nvm_flash.specs.fls_model.Told.{Told, ToldBytes, IfBothTold}
 use Rattle.nvm_flash.specs.fee_image.Image.{Layout, layout_of}
 use Rattle.fee_dump.specs.Dump.{dump_text}
 use Rattle.nvm_script.specs.Cut.{cut_lines}
-use Rattle.nvm_top.specs.declared.status.Status.{Status}
-use Rattle.nvm_top.specs.declared.status.Status.TheVariants as status
-use Rattle.nvm_top.specs.declared.stop.Stop.TheVariants as stop
-use Rattle.nvm_top.specs.Ends.{HasConfig, ReadsBy}
+use Rattle.nvm_lines.specs.declared.status.Status.{Status}
+use Rattle.nvm_lines.specs.declared.status.Status.TheVariants as status
+use Rattle.nvm_lines.specs.declared.stop.Stop.TheVariants as stop
+use Rattle.nvm_lines.specs.Reading.{HasConfig}
+use Rattle.nvm_top.specs.Ends.{ReadsBy}
 use Rattle.nvm_top.specs.Play.{NamesSize}
-use Rattle.nvm_top.specs.Stop.{line_of}
+use Rattle.nvm_lines.specs.Stop.{line_of}
 
 -- these are the bytes of a flash of this shape, where it tells them; one of no bytes is blank
 abbrev pub IsImageOf : Geometry → Option ToldBytes → List ℕ → Type 0

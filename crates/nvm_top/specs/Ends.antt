@@ -1,31 +1,20 @@
 -- How a command ends, as its input decides. No two cases of a command hold of one input, but those of the faults and
 -- of the want of memory, which may come in place of any other.
-use Rattle.std.specs.Prelude.{◌≡◌, ◌≤◌, ℕ, List, [], ◌∷◌, length, Option, IfSome, Ok, Err}
+use Rattle.std.specs.Prelude.{◌≡◌, ℕ, List, [], ◌∷◌, Option, IfSome}
 use Rattle.nvm_flash.specs.nv_base.Count.{Rose}
 use Rattle.nvm_flash.specs.block_config.Config.{Configuration}
-use Rattle.nvm_flash.specs.block_config.Reading.{meaning_of}
-use Rattle.nvm_flash.specs.block_config.declared.fault.ConfigFault.TheVariants.{Broken}
-use Rattle.nvm_script.specs.Script.{IsScript, IsFirstWrong, first_line, later_lines}
+use Rattle.nvm_script.specs.Script.{IsScript, IsFirstWrong, later_lines}
 use Rattle.nvm_script.specs.declared.step.Step.{Step}
 use Rattle.nvm_script.specs.declared.script.Mode.{Mode}
-use Rattle.nvm_top.specs.Input.{IsLonger, input_limit}
-use Rattle.nvm_top.specs.declared.status.Status.{Status}
-use Rattle.nvm_top.specs.declared.status.Status.TheVariants as status
-use Rattle.nvm_top.specs.declared.stop.Stop.TheVariants as stop
+use Rattle.nvm_lines.specs.Reading.{HasConfig, BreaksRule}
+use Rattle.nvm_lines.specs.Input.{IsLonger, input_limit}
+use Rattle.nvm_lines.specs.declared.status.Status.{Status}
+use Rattle.nvm_lines.specs.declared.status.Status.TheVariants as status
+use Rattle.nvm_lines.specs.declared.stop.Stop.TheVariants as stop
 use Rattle.nvm_top.specs.Measures.{measures_line}
-use Rattle.nvm_top.specs.Stop.{line_of}
+use Rattle.nvm_lines.specs.Stop.{line_of}
 
--- the input isn't too long, and its first line is this configuration
-pub record HasConfig (bytes : List ℕ) (c : Configuration) : Type 0 where
-  pub short : length bytes ≤ input_limit
-  pub config : meaning_of (first_line bytes) ≡ Ok c
-
--- the input isn't too long, and this is the first rule that its first line breaks, with the first block that breaks it
-pub record BreaksRule (bytes : List ℕ) (rule block : ℕ) : Type 0 where
-  pub short : length bytes ≤ input_limit
-  pub broken : meaning_of (first_line bytes) ≡ Err (Broken rule block)
-
--- and its later lines are steps of this mode
+-- the input has this configuration, and its later lines are steps of this mode
 abbrev pub HasStepsOf : Mode → Configuration → List ℕ → Type 0
 HasStepsOf m c bytes = HasConfig bytes c × (steps : List Step) × IsScript c m 2 [] (later_lines bytes) steps
 

@@ -7,14 +7,13 @@ use Rattle.nvm_flash.specs.fls_model.Told.{Told}
 use Rattle.nvm_flash.specs.nvm_core.Stack.{StackState}
 use Rattle.nvm_flash.specs.ram_blocks.declared.plain_block.PlainBlock.{PlainBlock}
 use Rattle.script_player.specs.PlainTold.{told_by}
-use Rattle.script_player.specs.PlainKept.{IsKept}
 use Rattle.script_player.specs.PlainPaying.{payer_by}
 use Rattle.script_player.specs.Made.{HasWalked, WasBroken}
 use Rattle.script_player.specs.declared.steps.StepFault.{StepFault}
 use Rattle.script_player.specs.Requests.{HasServed}
 use Rattle.script_player.specs.uds_gateway.declared.stop.ServeStop.{ServeStop}
-use Rattle.script_walks.specs.Words.{Step}
-use Rattle.nvm_top.specs.Stack.{BeginsPaying, IsStarted}
+use Rattle.script_player.specs.script_walks.Words.{Step}
+use Rattle.nvm_top.specs.Stack.{BeginsPaying, IsStarted, KeepsPlayed}
 
 -- what is told of it: of its flash, and of a second one beside that, if there is one
 pub record FlashesTold : Type 0 where
@@ -34,7 +33,7 @@ pub record WereMade {D : Type 0} (device : D → DeviceTold) (clock : D → Cloc
   pub some : IfErr end (λ why. WasBroken (payer_by device clock first) (payer_by device clock s) why steps (told_by device first) (told_by device s))
   pub configuration : (told_by device s).configuration ≡ (told_by device first).configuration
   pub most : (told_by device s).cap ≡ (told_by device first).cap
-  pub keeps : IsKept s.ready before s.desk s.hand (device s.device) (clock s.device)
+  pub keeps : KeepsPlayed s.ready before s.desk s.hand (device s.device) (clock s.device)
   pub owes : BeginsPaying (payer_by device clock first) (told_by device first)
 
 -- REQUESTS ON A STACK OVER IT
@@ -45,5 +44,5 @@ pub record WereServed {D : Type 0} (device : D → DeviceTold) (clock : D → Cl
   pub served : HasServed (payer_by device clock first) (payer_by device clock s) requests counts end (told_by device first) (told_by device s)
   pub configuration : (told_by device s).configuration ≡ (told_by device first).configuration
   pub most : (told_by device s).cap ≡ (told_by device first).cap
-  pub keeps : IsKept s.ready before s.desk s.hand (device s.device) (clock s.device)
+  pub keeps : KeepsPlayed s.ready before s.desk s.hand (device s.device) (clock s.device)
   pub owes : BeginsPaying (payer_by device clock first) (told_by device first)

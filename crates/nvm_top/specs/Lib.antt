@@ -3,14 +3,10 @@ pub mod Commands
 pub mod Dump
 pub mod Ends
 pub mod Flashes
-pub mod Input
 pub mod Measures
-pub mod Output
 pub mod Outputs
 pub mod Play
 pub mod Reading
-pub mod Status
-pub mod Stop
 pub mod Runs
 pub mod Promised
 pub mod Running
@@ -20,3 +16,4 @@ pub mod Uds
 pub mod Worked
 pub use Rattle.nvm_flash.specs as nvm_flash
 pub use Rattle.nvm_script.specs as nvm_script
+pub use Rattle.nvm_lines.specs as nvm_lines

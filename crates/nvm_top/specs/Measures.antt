@@ -5,8 +5,8 @@ use Rattle.nvm_flash.specs.block_config.Banks.{bank_pages_of}
 use Rattle.nvm_flash.specs.block_config.Config.{Configuration}
 use Rattle.nvm_flash.specs.block_config.Rules.{need_pages_of}
 use Rattle.nvm_flash.specs.block_config.Sizes.{measures_of}
-use Rattle.nvm_top.specs.declared.status.Status.{Status}
-use Rattle.nvm_top.specs.declared.status.Status.TheVariants as status
+use Rattle.nvm_lines.specs.declared.status.Status.{Status}
+use Rattle.nvm_lines.specs.declared.status.Status.TheVariants as status
 
 -- the line of these numbers, with its newline
 abbrev pub numbers_line : ℕ → ℕ → ℕ → ℕ → List ℕ

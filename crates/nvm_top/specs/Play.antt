@@ -1,5 +1,5 @@
 -- How a call that works on a flash stops before its start-up, each stop with its cause.
-use Rattle.std.specs.Prelude.{◌≡◌, ◌≢◌, ◌⊎◌, ℕ, List, [], ◌∷◌, length, Option, IfSome}
+use Rattle.std.specs.Prelude.{◌≡◌, ◌≢◌, ◌⊎◌, ℕ, List, [], ◌∷◌, length, Option, None, IfSome}
 use Rattle.nvm_flash.specs.nv_base.Count.{Rose}
 use Rattle.nvm_flash.specs.nv_base.Geometry.{size_of}
 use Rattle.nvm_flash.specs.block_config.Config.{Configuration}
@@ -7,12 +7,12 @@ use Rattle.nvm_flash.specs.fls_model.Told.{Told, ToldBytes}
 use Rattle.nvm_flash.specs.promise_run.Run.{LeavesAlone}
 use Rattle.nvm_flash.specs.Made.{IsOnlyFaulty}
 use Rattle.nvm_script.specs.declared.script.Mode.{Mode}
-use Rattle.nvm_top.specs.declared.status.Status.{Status}
-use Rattle.nvm_top.specs.declared.status.Status.TheVariants as status
-use Rattle.nvm_top.specs.declared.stop.Stop.{Stop}
-use Rattle.nvm_top.specs.declared.stop.Stop.TheVariants as stop
+use Rattle.nvm_lines.specs.declared.status.Status.{Status}
+use Rattle.nvm_lines.specs.declared.status.Status.TheVariants as status
+use Rattle.nvm_lines.specs.declared.stop.Stop.{Stop}
+use Rattle.nvm_lines.specs.declared.stop.Stop.TheVariants as stop
 use Rattle.nvm_top.specs.Ends.{HasStepsOf, HasWrongLine, ReadsBy}
-use Rattle.nvm_top.specs.Stop.{line_of}
+use Rattle.nvm_lines.specs.Stop.{line_of}
 
 -- a flash, where it tells its bytes, has neither none nor so many
 abbrev pub IsWrongSize : ℕ → Option ToldBytes → Type 0
@@ -29,6 +29,16 @@ IsAttachStop need bytes stop.FlashFault = Unit {0}
 IsAttachStop need bytes stop.InUse = Unit {0}
 IsAttachStop need bytes stop.Memory = Unit {0}
 IsAttachStop need bytes _ = ⊥
+
+-- nor a stack of a configuration started: its second device is missing, or that
+abbrev pub IsStartStop : Configuration → Option ToldBytes → Stop → Type 0
+IsStartStop c bytes stop.NoSecond = Unit {0}
+IsStartStop c bytes why = IsAttachStop (size_of c.geometry) bytes why
+
+-- a second device is missing where the configuration names one, and no other reason is given then
+abbrev pub MissesSecond : Configuration → Stop → Type 0
+MissesSecond c stop.NoSecond = c.eeprom ≢ None
+MissesSecond c _ = c.eeprom ≡ None
 
 -- the statuses of a call that stops before its flash is attached
 abbrev pub IsBeforeAttach : Status → Type 0
@@ -57,6 +67,7 @@ IsPlayEnd need s t _ = ⊥
 abbrev pub IsStepsEnd : ℕ → Told → Told → Status → Type 0
 IsStepsEnd need s t status.FlashFault = Rose s.faults t.faults
 IsStepsEnd need s t status.InUse = IsOnlyFaulty s t
+IsStepsEnd need s t status.NoSecond = t ≡ s
 IsStepsEnd need s t status.WrongSize = IsWrongSize need s.bytes × LeavesAlone s t
 IsStepsEnd need s t status.Memory = Unit {0}
 IsStepsEnd need s t _ = ⊥
@@ -67,19 +78,21 @@ abbrev pub NamesSize : ℕ → Option ToldBytes → List (List ℕ) → Type 0
 NamesSize need bytes lines =
     IsWrongSize need bytes × ((found : ℕ) × IfSome bytes (λ b. length b.now ≡ found) × (lines ≡ line_of (stop.WrongSize found need) ∷ []))
 
--- or another call has it in use; no other stop than these
-abbrev pub IsFlashStop : ℕ → Option ToldBytes → Status → List (List ℕ) → Type 0
-IsFlashStop need bytes status.WrongSize lines = NamesSize need bytes lines
-IsFlashStop need bytes status.InUse lines = lines ≡ line_of stop.InUse ∷ []
-IsFlashStop need bytes _ lines = ⊥
+-- or another call has it in use; or, exactly where the configuration names a second device, that is missing; no other stop than these
+abbrev pub IsFlashStop : Configuration → Option ToldBytes → Status → List (List ℕ) → Type 0
+IsFlashStop c bytes status.WrongSize lines = (c.eeprom ≡ None) × NamesSize (size_of c.geometry) bytes lines
+IsFlashStop c bytes status.InUse lines = (c.eeprom ≡ None) × (lines ≡ line_of stop.InUse ∷ [])
+IsFlashStop c bytes status.NoSecond lines = (c.eeprom ≢ None) × (lines ≡ line_of stop.NoSecond ∷ [])
+IsFlashStop c bytes _ lines = ⊥
 
 -- Why no run is begun, by what makes a later line of the input a wrong one, and by which inputs have a configuration: the
--- input isn't read, a line is wrong, or the flash has a wrong size or is in use. It takes the bytes of the input and of the flash, where
+-- input isn't read, a line is wrong, a second device is missing, or the flash has a wrong size or is in use. It takes the bytes of the input and of the flash, where
 -- they are told, the input's faults before and after, and the line that is written.
 abbrev pub StopsBy : (List ℕ → ℕ → Type 0) → (Configuration → List ℕ → Type 0) → (left : Option (List ℕ)) (reads reads' : ℕ) → Option ToldBytes → Status → List (List ℕ) → Type 0
 StopsBy IsWrong Has left reads reads' bytes status.BadScript lines = (number : ℕ) × IfSome left (λ input. IsWrong input number) × (lines ≡ line_of (stop.BadScript number) ∷ [])
-StopsBy IsWrong Has left reads reads' bytes status.WrongSize lines = (c : Configuration) × IfSome left (Has c) × NamesSize (size_of c.geometry) bytes lines
-StopsBy IsWrong Has left reads reads' bytes status.InUse lines = (c : Configuration) × IfSome left (Has c) × (lines ≡ line_of stop.InUse ∷ [])
+StopsBy IsWrong Has left reads reads' bytes status.WrongSize lines = (c : Configuration) × IfSome left (Has c) × IsFlashStop c bytes status.WrongSize lines
+StopsBy IsWrong Has left reads reads' bytes status.InUse lines = (c : Configuration) × IfSome left (Has c) × IsFlashStop c bytes status.InUse lines
+StopsBy IsWrong Has left reads reads' bytes status.NoSecond lines = (c : Configuration) × IfSome left (Has c) × IsFlashStop c bytes status.NoSecond lines
 StopsBy IsWrong Has left reads reads' bytes x lines = ReadsBy left reads reads' x lines
 
 -- of `play`, or of `run`

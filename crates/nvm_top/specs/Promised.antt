@@ -1,5 +1,5 @@
 -- The promise of a whole run, as a command keeps it.
-use Rattle.std.specs.Prelude.{◌≡◌, ◌≢◌, ◌⊎◌, ◌≤◌, ◌++◌, ℕ, not, true, false, IsTrue, List, [], length, take, drop, Option, None, IfSome, ◌∷◌}
+use Rattle.std.specs.Prelude.{◌≡◌, ◌≢◌, ◌⊎◌, ◌<◌, ◌++◌, ℕ, not, true, false, IsTrue, List, [], length, take, drop, Option, None, IfSome, ◌∷◌}
 use Rattle.std.specs.List.{list_all}
 use Rattle.nv_streams.specs.Sink.{Written, Puts, PutsPart}
 use Rattle.nvm_flash.specs.nv_base.Geometry.{size_of}
@@ -10,10 +10,10 @@ use Rattle.nvm_script.specs.declared.script.Mode.TheVariants as mode
 use Rattle.nvm_script.specs.Cut.{cut_lines}
 use Rattle.nvm_script.specs.Printed.{history_lines}
 use Rattle.nvm_script.specs.Summary.{summary}
-use Rattle.script_walks.specs.Words.{Step}
-use Rattle.script_walks.specs.Callers.{asks_of, program_of, requests_of}
-use Rattle.script_walks.specs.Runs.{AskedAll, has_ended, is_found}
-use Rattle.script_walks.specs.Texts.{AreValues}
+use Rattle.script_player.specs.script_walks.Words.{Step}
+use Rattle.script_player.specs.script_walks.Callers.{asks_of, program_of, requests_of}
+use Rattle.script_player.specs.script_walks.Runs.{AskedAll, has_ended, is_found}
+use Rattle.script_player.specs.script_walks.Texts.{AreValues}
 use Rattle.nvm_flash.specs.block_machine.Words.{Entry}
 use Rattle.nvm_flash.specs.promise_blocks.OverDevice.{HasStarted}
 use Rattle.nvm_flash.specs.promise_run.Run.{Run, Course, Played, Ran, End, Whole, FlashFault, Memory, cap, HasOrder, LeavesAlone, CutsExplain}
@@ -21,22 +21,24 @@ use Rattle.nvm_flash.specs.Made.{IsOnlyFaulty}
 use Rattle.nvm_flash.specs.promise_run.Refusals.{RefusesAsAsked}
 use Rattle.nvm_flash.specs.block_machine.Steps.{after}
 use Rattle.nvm_flash.specs.promise_device.FlashRun.{TellsBytes, StartsSound, CountsAll}
+use Rattle.nvm_flash.specs.promise_device.Generations.{IsUnused}
+use Rattle.nvm_flash.specs.promise_device.Image.{attached}
 use Rattle.nvm_flash.specs.promise_run.Promise.{BeginsWell, Promise, making_of}
+use Rattle.nvm_flash.specs.promise_run.BankTurns.{HasCausedErases}
 use Rattle.nvm_flash.specs.promise_run.Completeness.{Completeness}
 use Rattle.nvm_flash.specs.promise_run.JobTurns.{job_turns}
 use Rattle.nvm_flash.specs.promise_run.Turns.{HasTurns}
-use Rattle.nvm_flash.specs.promise_run.Call.{Call, EndsWith, IsCourseOf, IsRunOf, last_line}
-use Rattle.nvm_top.specs.declared.status.Status.{Status}
-use Rattle.nvm_top.specs.declared.status.Status.TheVariants as status
+use Rattle.nvm_flash.specs.promise_run.Call.{Call, EndsWith, IsCourseOf, IsRunOf, last_line, text_of}
+use Rattle.nvm_lines.specs.declared.status.Status.{Status}
+use Rattle.nvm_lines.specs.declared.status.Status.TheVariants as status
 use Rattle.nvm_top.specs.declared.runs.RunText.{RunText}
 use Rattle.nvm_top.specs.declared.runs.RunText.TheVariants.{History, Summary}
-use Rattle.nvm_top.specs.declared.stop.Stop.TheVariants as stop
+use Rattle.nvm_lines.specs.declared.stop.Stop.TheVariants as stop
 use Rattle.nvm_top.specs.Ends.{HasScript}
-use Rattle.nvm_top.specs.Input.{input_limit}
-use Rattle.nvm_top.specs.Output.{Writes}
+use Rattle.nvm_lines.specs.Output.{Writes}
 use Rattle.nvm_top.specs.Play.{IsRightSize}
-use Rattle.nvm_top.specs.Status.{code_of_status}
-use Rattle.nvm_top.specs.Stop.{IsStop}
+use Rattle.nvm_lines.specs.Status.{code_of_status}
+use Rattle.nvm_lines.specs.Stop.{IsStop}
 
 -- a call of `play`, or of `run`
 abbrev pub call_by : Mode → Option (List ℕ) → Status → Told → Told → Written → Written → Call
@@ -78,7 +80,8 @@ FollowsScript r (Ran steps looks) (e ∷ es) = FollowsCallers r steps
 -- Its steps have their turns, one by one, which make all operations of the flash and each count what failed in it, and each job
 -- is posted within its own, counted from its Pick; by their moments a start-up that failed at the end had a fault of its own.
 -- The numbers and bytes of its history are those of a program, as its text needs them. Over a flash that tells its bytes it begins
--- well, whatever its image; and from a sound image on each Post is paid by its faults since its Pick, and the run keeps the promise.
+-- well, whatever its image; and from a sound image on each Post is paid by its faults since its Pick, and the run keeps the promise. From
+-- a flash on which no bank stood the first sector of a bank is erased as often as its turn came, but for faults and start-ups.
 pub record KeepsRun (r : Run) : Type 0 where
   pub order : FollowsScript r r.course r.history
   pub size : HasStarted r.history → IsRightSize (size_of r.configuration.geometry) r.flash.entry.bytes
@@ -91,36 +94,25 @@ pub record KeepsRun (r : Run) : Type 0 where
   pub values : AreValues r.history
   pub early : TellsBytes r.flash → BeginsWell r
   pub promise : TellsBytes r.flash → StartsSound (making_of r.configuration) r.flash → Promise r
+  pub erases : (tells : TellsBytes r.flash) (k : ℕ) → IsUnused (making_of r.configuration) (attached r.configuration.geometry tells.first) → HasStarted r.history
+      → k < r.configuration.banks → HasCausedErases r tells k
 
 -- THE WHOLE CALL
 
--- one player made the steps of `play`, and callers those of `run`
-abbrev pub IsCourseIn : Mode → Course → Type 0
-IsCourseIn mode.Play (Played made pieces left) = Unit {0}
-IsCourseIn mode.Run (Ran steps looks) = Unit {0}
-IsCourseIn m course = ⊥
-
--- there is a run that is this call's, of an input that isn't too long, and it keeps that
-abbrev pub HasPromise : Call → Type 0
-HasPromise call = (r : Run) × IsRunOf call r × IsCourseIn call.mode r.course × IfSome call.input (λ bytes. length bytes ≤ input_limit) × KeepsRun r
-
--- another call has the flash in use: no other line was written than that, and of the flash the faults alone changed, which rose
-pub record FindsInUse (written written' : Written) (x : Status) (entry exit : Told) : Type 0 where
-  pub line : Writes (IsStop stop.InUse) written written' x
-  pub faults : IsOnlyFaulty entry exit
-
--- no run was begun: the line of a stop was written, at want of memory none, and the flash is left alone, but where another call
--- has it in use
+-- no run was begun: the line of a stop was written, at want of memory none, and the flash is left alone, but where another call has it
+-- in use: then no other line was written than that, and of the flash the faults alone changed, which rose
 pub record HasNoRun (IsEnd : Status → List (List ℕ) → Type 0) (written written' : Written) (x : Status) (entry exit : Told) : Type 0 where
   pub line : Writes IsEnd written written' x
-  pub flash : (LeavesAlone entry exit × (x ≢ status.InUse)) ⊎ FindsInUse written written' x entry exit
+  pub flash : (LeavesAlone entry exit × (x ≢ status.InUse)) ⊎ (Writes (IsStop stop.InUse) written written' x × IsOnlyFaulty entry exit)
 
 -- FROM THE ATTACH ON
 
--- a run of these steps in this mode over one flash, from its attach on, which ends as a command tells it
+-- a run of these steps in this mode over one flash, from its attach on, which ends as a command tells it; the configuration names no
+-- second device
 pub record HasRun (m : Mode) (c : Configuration) (steps : List Step) (Tells : Run → Type 0) (entry exit : Told) : Type 0 where
   pub run : Run
   pub configuration : run.configuration ≡ c
+  pub one_device : c.eeprom ≡ None
   pub most : run.most ≡ cap
   pub course : IsCourseOf m steps run.course
   pub at_entry : run.flash.entry ≡ entry
@@ -128,6 +120,18 @@ pub record HasRun (m : Mode) (c : Configuration) (steps : List Step) (Tells : Ru
   pub beside : run.beside ≡ None
   pub ends : Tells run
   pub keeps : KeepsRun run
+
+-- `PLAY` AND `RUN`
+
+-- there is a run of the input's steps that is this call's, and it keeps that
+abbrev pub HasPromise : Call → Type 0
+HasPromise call =
+    (c : Configuration) × (steps : List Step) × IfSome call.input (λ bytes. HasScript call.mode bytes c steps)
+    × HasRun call.mode c steps (λ r. EndsWith r.history (text_of r) call r.end) call.entry call.exit
+
+-- so it is a run of the call
+abbrev pub CallsHaveRuns : Type 0
+CallsHaveRuns = (call : Call) → HasPromise call → (r : Run) × IsRunOf call r × KeepsRun r
 
 -- THE OUTPUT OF A RUN
 

@@ -1,9 +1,7 @@
 -- Why the reading of a call stops.
-use Rattle.std.specs.Prelude.{◌≡◌, ℕ, List, [], Option, IfSome, Err}
+use Rattle.std.specs.Prelude.{◌≡◌, ℕ, List, [], Option, IfSome}
 use Rattle.nvm_flash.specs.nv_base.Count.{Rose}
 use Rattle.nvm_flash.specs.block_config.Config.{Configuration}
-use Rattle.nvm_flash.specs.block_config.Reading.{meaning_of}
-use Rattle.nvm_flash.specs.block_config.declared.fault.ConfigFault.TheVariants.{Broken}
 use Rattle.nvm_flash.specs.fls_model.Told.{Told}
 use Rattle.nvm_script.specs.Script.{IsFirstWrong}
 use Rattle.nvm_script.specs.Played.{ArePlayed}
@@ -11,23 +9,10 @@ use Rattle.nvm_script.specs.declared.script.Mode.{Mode}
 use Rattle.nvm_script.specs.declared.script.Mode.TheVariants as mode
 use Rattle.nvm_script.specs.declared.step.Step.{Step}
 use Rattle.script_callers.specs.RunScripts.{AreRun}
-use Rattle.nvm_top.specs.Ends.{HasWrongLine, BreaksRule}
-use Rattle.nvm_top.specs.Input.{IsLonger, input_limit}
-use Rattle.nvm_top.specs.declared.stop.Stop.{Stop}
-use Rattle.nvm_top.specs.declared.stop.Stop.TheVariants.{BadWords, BadConfig, BadScript, ReadFault, TooLong, FlashFault, Memory}
-
--- why the input isn't read to its end, with its bytes and with its faults before and after
-abbrev pub IsInputStop : Option (List ℕ) → ℕ → ℕ → Stop → Type 0
-IsInputStop left before after ReadFault = Rose before after
-IsInputStop left before after TooLong = IsLonger left input_limit
-IsInputStop left before after Memory = Unit {0}
-IsInputStop left before after _ = ⊥
-
--- why the first line is no configuration: the first broken rule with its block
-abbrev pub IsConfigStop : List ℕ → Stop → Type 0
-IsConfigStop line (BadConfig rule block) = meaning_of line ≡ Err (Broken rule block)
-IsConfigStop line Memory = Unit {0}
-IsConfigStop line _ = ⊥
+use Rattle.nvm_top.specs.Ends.{HasWrongLine}
+use Rattle.nvm_lines.specs.Reading.{BreaksRule, IsCheckStop}
+use Rattle.nvm_lines.specs.declared.stop.Stop.{Stop}
+use Rattle.nvm_lines.specs.declared.stop.Stop.TheVariants.{BadWords, BadConfig, BadScript, ReadFault, TooLong, FlashFault, Memory}
 
 -- the steps of a script of this mode: one player can make them, or callers beside each other can
 abbrev pub AreMadeIn : Mode → Configuration → List Step → Type 0
@@ -46,14 +31,6 @@ IsScriptStop m bytes (BadConfig rule block) = BreaksRule bytes rule block
 IsScriptStop m bytes (BadScript line) = HasWrongLine m bytes line
 IsScriptStop m bytes Memory = Unit {0}
 IsScriptStop m bytes _ = ⊥
-
--- why `check` stops, with the bytes of its input, where they are told
-abbrev pub IsCheckStop : Option (List ℕ) → Stop → Type 0
-IsCheckStop left (BadConfig rule block) = IfSome left (λ bytes. BreaksRule bytes rule block)
-IsCheckStop left ReadFault = Unit {0}
-IsCheckStop left TooLong = IsLonger left input_limit
-IsCheckStop left Memory = Unit {0}
-IsCheckStop left _ = ⊥
 
 -- why a call stops before its flash is attached, by what makes a later line a wrong one, with the bytes of its input, where
 -- they are told

@@ -7,13 +7,13 @@ use Rattle.nvm_script.specs.Summary.{summary}
 use Rattle.nvm_flash.specs.promise_run.Run.{End, FlashFault, HistoryFull, Memory}
 use Rattle.script_player.specs.declared.steps.StepFault.{StepFault}
 use Rattle.script_player.specs.declared.steps.StepFault.TheVariants as fault
-use Rattle.nvm_top.specs.declared.status.Status.{Status}
-use Rattle.nvm_top.specs.declared.status.Status.TheVariants as status
-use Rattle.nvm_top.specs.declared.stop.Stop.{Stop}
-use Rattle.nvm_top.specs.declared.stop.Stop.TheVariants as stop
+use Rattle.nvm_lines.specs.declared.status.Status.{Status}
+use Rattle.nvm_lines.specs.declared.status.Status.TheVariants as status
+use Rattle.nvm_lines.specs.declared.stop.Stop.{Stop}
+use Rattle.nvm_lines.specs.declared.stop.Stop.TheVariants as stop
 use Rattle.nvm_top.specs.declared.runs.RunText.{RunText}
 use Rattle.nvm_top.specs.declared.runs.RunText.TheVariants.{History, Summary}
-use Rattle.nvm_top.specs.Stop.{status_of, line_of}
+use Rattle.nvm_lines.specs.Stop.{status_of, line_of}
 
 -- a command stops where its steps stopped
 abbrev pub stop_of_fault : StepFault → Stop

@@ -9,8 +9,8 @@ use Rattle.nvm_script.specs.declared.step.Step.{Step}
 use Rattle.nvm_top.specs.Ends.{HasScript, HasWrongLine}
 use Rattle.nvm_top.specs.Play.{StopsBy}
 use Rattle.nvm_top.specs.Reading.{IsReadStop}
-use Rattle.nvm_top.specs.declared.status.Status.{Status}
-use Rattle.nvm_top.specs.declared.stop.Stop.{Stop}
+use Rattle.nvm_lines.specs.declared.status.Status.{Status}
+use Rattle.nvm_lines.specs.declared.stop.Stop.{Stop}
 
 -- THE WORDS
 

@@ -16,20 +16,20 @@ use Rattle.script_player.specs.Requests.{AreOfRequests, ServesRequests}
 use Rattle.script_player.specs.uds_gateway.Answers.{uds}
 use Rattle.script_player.specs.uds_gateway.declared.stop.ServeStop.{ServeStop}
 use Rattle.script_player.specs.uds_gateway.declared.stop.ServeStop.TheVariants as serve
-use Rattle.script_walks.specs.Words.{Step}
+use Rattle.script_player.specs.script_walks.Words.{Step}
 use Rattle.uds_script.specs.Lines.{uds_line}
 use Rattle.uds_script.specs.Requests.{IsRequests, IsFirstWrongRequest}
-use Rattle.nvm_top.specs.declared.status.Status.{Status}
-use Rattle.nvm_top.specs.declared.status.Status.TheVariants as status
-use Rattle.nvm_top.specs.declared.output.OutputFault.{OutputFault}
-use Rattle.nvm_top.specs.declared.output.OutputFault.TheVariants as output
-use Rattle.nvm_top.specs.declared.stop.Stop.{Stop}
-use Rattle.nvm_top.specs.declared.stop.Stop.TheVariants as stop
-use Rattle.nvm_top.specs.Ends.{HasConfig, BreaksRule}
+use Rattle.nvm_lines.specs.declared.status.Status.{Status}
+use Rattle.nvm_lines.specs.declared.status.Status.TheVariants as status
+use Rattle.nvm_lines.specs.declared.output.OutputFault.{OutputFault}
+use Rattle.nvm_lines.specs.declared.output.OutputFault.TheVariants as output
+use Rattle.nvm_lines.specs.declared.stop.Stop.{Stop}
+use Rattle.nvm_lines.specs.declared.stop.Stop.TheVariants as stop
+use Rattle.nvm_lines.specs.Reading.{HasConfig, BreaksRule}
 use Rattle.nvm_top.specs.Play.{StopsBy}
 use Rattle.nvm_top.specs.Promised.{HasRun}
 use Rattle.nvm_top.specs.Reading.{IsReadStop}
-use Rattle.nvm_top.specs.Stop.{status_of, line_of}
+use Rattle.nvm_lines.specs.Stop.{status_of, line_of}
 
 -- THE INPUT
 

@@ -6,8 +6,8 @@ use Rattle.nvm_flash.specs.fls_model.Memory.{in_memory}
 use Rattle.nvm_flash.specs.promise_run.Call.{Call, IsRunOf}
 use Rattle.nvm_flash.specs.promise_run.InRoom.{MadeFewTurns, CutsLeave}
 use Rattle.nvm_flash.specs.promise_run.Run.{Run}
-use Rattle.nvm_top.specs.declared.status.Status.{Status}
-use Rattle.nvm_top.specs.declared.status.Status.TheVariants as status
+use Rattle.nvm_lines.specs.declared.status.Status.{Status}
+use Rattle.nvm_lines.specs.declared.status.Status.TheVariants as status
 use Rattle.nvm_top.specs.Promised.{played_call}
 
 -- one that has room to tell so many operations

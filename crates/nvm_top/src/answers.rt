@@ -8,12 +8,10 @@ ghost use Rattle.uds_script.specs.Lines.{uds_line};
 ghost use Rattle.uds_script.specs.Requests.{HaveBytes};
 ghost use Rattle.nvm_top.specs.Uds.{BreaksOffIn, HasPieces, WritesLines, answer_lines, line_served, lines_of_history, status_served, stopped_serving};
 
-use crate::Status;
-use crate::output::{OutputFault, put_line, report, write_end, write_entries};
-use crate::stop::Stop;
 use nv_streams::Sink;
 use nvm_flash::block_config::Config;
 use nvm_flash::nv_base::{Bytes, History};
+use nvm_lines::{OutputFault, Status, Stop, put_line, report, write_end, write_entries};
 use script_player::uds_gateway::{ServeStop, piece_answer};
 use std::alloc::{AllocError, Global};
 use uds_script::uds_text;

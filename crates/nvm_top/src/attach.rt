@@ -4,11 +4,11 @@ ghost use Rattle.nvm_flash.specs.nv_base.Geometry.{IsLegal, size_of};
 ghost use Rattle.nvm_flash.specs.fls_model.Told.{Told};
 ghost use Rattle.nvm_flash.specs.fls_model.Attach.{IsAttach};
 ghost use Rattle.nvm_top.specs.Play.{IsPlayEnd, IsAttachStop};
-ghost use Rattle.nvm_top.specs.Stop.{status_of};
+ghost use Rattle.nvm_lines.specs.Stop.{status_of};
 
-use crate::stop::Stop;
 use nvm_flash::fls_model::AttachFault;
 use nvm_flash::nv_base::Geometry;
+use nvm_lines::Stop;
 
 /// The stop of an attach that failed.
 pub fn attach_stop(fault: AttachFault, geometry: Geometry) -> Stop

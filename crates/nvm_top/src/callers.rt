@@ -6,12 +6,10 @@ ghost use Rattle.script_callers.specs.RunScripts.{AreRun};
 ghost use Rattle.nvm_top.specs.Ends.{HasScript};
 ghost use Rattle.nvm_top.specs.Reading.{IsEarly, IsScriptStop, IsStepsStop};
 
-use crate::configuration::read_config;
-use crate::input::{LIMIT, read_input};
 use crate::script::{Script, script_of};
-use crate::stop::Stop;
 use nv_streams::Source;
 use nvm_flash::block_config::Config;
+use nvm_lines::{LIMIT, Stop, read_config, read_input};
 use nvm_script::{Mode, StepList};
 use std::alloc::Global;
 

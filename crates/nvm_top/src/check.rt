@@ -4,14 +4,12 @@ ghost use Rattle.nvm_flash.specs.nv_base.Count.{Rose};
 ghost use Rattle.nvm_top.specs.Causes.{HasCauses};
 ghost use Rattle.nvm_top.specs.Ends.{ChecksBy};
 ghost use Rattle.nvm_top.specs.Measures.{IsMeasured};
-ghost use Rattle.nvm_top.specs.Output.{Writes};
+ghost use Rattle.nvm_lines.specs.Output.{Writes};
 
-use crate::Status;
-use crate::configuration::read_configuration;
 use crate::measures::measures_line;
-use crate::output::{put_line, report};
 use nv_streams::{Sink, Source};
 use nvm_flash::block_config::Config;
+use nvm_lines::{Status, put_line, read_configuration, report};
 use std::alloc::Global;
 
 /// The command behind its words.

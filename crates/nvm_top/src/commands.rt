@@ -4,17 +4,15 @@ ghost use Rattle.nvm_top.specs.Commands.{ended, KeepsCommand, KeepsOnly};
 ghost use Rattle.nvm_top.specs.Soak.{is_soak};
 ghost use Rattle.nvm_words.specs.Words.{command_of, is_check, is_dump, is_play, is_run, is_uds};
 
-use crate::Status;
 use crate::check::check;
 use crate::dump::dump;
-use crate::output::report;
 use crate::play::play;
 use crate::run::run;
 use crate::soak::soak;
-use crate::stop::Stop;
 use crate::uds::uds;
 use nv_streams::{Sink, Source};
 use nvm_flash::fls_model::Flash;
+use nvm_lines::{Status, Stop, report};
 use nvm_words::{CommandKind, command_of};
 use std::alloc::{AllocError, Global};
 use std::sync::Wait;

@@ -5,17 +5,15 @@ ghost use Rattle.nvm_flash.specs.fee_image.Image.{layout_of};
 ghost use Rattle.nvm_flash.specs.nv_base.Geometry.{IsLegal, HasBanks, size_of};
 ghost use Rattle.nvm_top.specs.Causes.{HasCauses};
 ghost use Rattle.nvm_top.specs.Dump.{DumpsBy, DumpsFlash, IsDump, KeepsFlash};
-ghost use Rattle.nvm_top.specs.Output.{IsReport, Writes};
+ghost use Rattle.nvm_lines.specs.Output.{IsReport, Writes};
 ghost use Rattle.nvm_top.specs.Play.{IsBeforeStart};
 
-use crate::Status;
-use crate::configuration::read_configuration;
 use crate::image::read_image;
-use crate::output::{put_lines, report};
 use fee_dump::dump_text;
 use nv_streams::{Sink, Source};
 use nvm_flash::fls_model::Flash;
 use nvm_flash::nv_base::Geometry;
+use nvm_lines::{Status, put_lines, read_configuration, report};
 use std::alloc::Global;
 
 /// The command behind its words.

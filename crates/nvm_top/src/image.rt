@@ -6,12 +6,12 @@ ghost use Rattle.nvm_flash.specs.fls_model.Told.{HasRange};
 ghost use Rattle.nvm_top.specs.Dump.{IsImageOf, KeepsFlash};
 ghost use Rattle.nvm_top.specs.Play.{IsAttachStop, IsPlayEnd};
 ghost use Rattle.nvm_top.specs.Reading.{IsSectorStop};
-ghost use Rattle.nvm_top.specs.Stop.{status_of};
+ghost use Rattle.nvm_lines.specs.Stop.{status_of};
 
 use crate::attach::attach_stop;
-use crate::stop::Stop;
 use nvm_flash::fls_model::{Flash, FlashAnswer};
 use nvm_flash::nv_base::Geometry;
+use nvm_lines::Stop;
 use std::alloc::Global;
 
 // Adds the bytes of one sector.

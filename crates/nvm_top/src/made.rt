@@ -8,8 +8,8 @@ ghost use Rattle.nvm_top.specs.Play.{IsRightSize};
 
 use crate::flashes::Flashes;
 use crate::script::Script;
-use crate::stop::Stop;
 use nvm_flash::memif::MemDevice;
+use nvm_lines::Stop;
 use script_player::{PlainStack, StepFault, cuts_of, make_steps};
 use std::alloc::Global;
 

@@ -1,7 +1,6 @@
 // The command `play`: the steps of a person over one flash, with their history.
 ghost use Rattle.std.specs.Prelude.{◌≡◌, ◌⊎◌, ℕ, List, Option};
 ghost use Rattle.nvm_flash.specs.nv_base.Count.{Rose};
-ghost use Rattle.nvm_flash.specs.nv_base.Geometry.{size_of};
 ghost use Rattle.nvm_flash.specs.Made.{IsOrigin};
 ghost use Rattle.nvm_script.specs.Played.{ArePlayed};
 ghost use Rattle.script_player.specs.Made.{cuts_of};
@@ -9,10 +8,8 @@ ghost use Rattle.nvm_top.specs.Causes.{HasCauses};
 ghost use Rattle.nvm_top.specs.Play.{IsBeforeAttach, IsFlashStop, StepsStopBy};
 ghost use Rattle.nvm_top.specs.Promised.{EndsIn, HasNoRun, HasPromise, HasRun, played_call};
 
-use crate::Status;
 use crate::flashes::Flashes;
 use crate::made::{Made, make_run};
-use crate::output::report;
 use crate::runs::{RunText, stop_of, write_text};
 use crate::script::{Script, take_script};
 use crate::stack::OneFlash;
@@ -20,6 +17,7 @@ use crate::values::history_values;
 use nv_streams::{Sink, Source};
 use nvm_flash::fee_core::Origin;
 use nvm_flash::fls_model::Flash;
+use nvm_lines::{Status, report};
 use nvm_script::Mode;
 use std::alloc::Global;
 use std::marker::{Brand, PhantomData};
@@ -53,7 +51,7 @@ pub(crate) fn play_flash<K: Sink, F: Flash>(
     requires played { ArePlayed script.config script.steps }
     ensures promise { (input : Option (List ℕ))
         → HasRun Mode.Play script.config script.steps (EndsIn text (played_call input result.0 (F.told flash) (F.told result.1) (K.written output.old) (K.written output.new))) (F.told flash) (F.told result.1)
-        ⊎ HasNoRun (IsFlashStop (size_of script.config.geometry) (F.told flash).bytes) (K.written output.old) (K.written output.new) result.0 (F.told flash) (F.told result.1) }
+        ⊎ HasNoRun (IsFlashStop script.config (F.told flash).bytes) (K.written output.old) (K.written output.new) result.0 (F.told flash) (F.told result.1) }
     ensures late { IsBeforeAttach result.0 → ⊥ }
     ensures write_fault { result.0 ≡ Status.WriteFault → Rose (K.faults output.old) (K.faults output.new) }
 {
@@ -72,7 +70,7 @@ fn play_steps<K: Sink, F: Flash, O: Origin>(
     requires played { ArePlayed script.config script.steps }
     ensures promise { (input : Option (List ℕ))
         → HasRun Mode.Play script.config script.steps (EndsIn text (played_call input result.0 (F.told flash) (F.told result.1) (K.written output.old) (K.written output.new))) (F.told flash) (F.told result.1)
-        ⊎ HasNoRun (IsFlashStop (size_of script.config.geometry) (F.told flash).bytes) (K.written output.old) (K.written output.new) result.0 (F.told flash) (F.told result.1) }
+        ⊎ HasNoRun (IsFlashStop script.config (F.told flash).bytes) (K.written output.old) (K.written output.new) result.0 (F.told flash) (F.told result.1) }
     ensures late { IsBeforeAttach result.0 → ⊥ }
     ensures write_fault { result.0 ≡ Status.WriteFault → Rose (K.faults output.old) (K.faults output.new) }
 {

@@ -1,7 +1,6 @@
 // The command `run`: the callers of a script beside each other over one flash, with their one history.
 ghost use Rattle.std.specs.Prelude.{◌≡◌, ◌⊎◌, ℕ, List, Option};
 ghost use Rattle.nvm_flash.specs.nv_base.Count.{Rose};
-ghost use Rattle.nvm_flash.specs.nv_base.Geometry.{size_of};
 ghost use Rattle.nvm_flash.specs.Made.{IsOrigin};
 ghost use Rattle.script_callers.specs.RunScripts.{AreRun};
 ghost use Rattle.nvm_top.specs.Causes.{HasCauses};
@@ -9,19 +8,17 @@ ghost use Rattle.nvm_top.specs.Play.{IsBeforeAttach, IsFlashStop, StepsStopBy};
 ghost use Rattle.nvm_top.specs.Promised.{EndsIn, HasNoRun, HasPromise, HasRun, call_by};
 ghost use Rattle.nvm_top.specs.Running.{stop_of_ending};
 
-use crate::Status;
 use crate::callers::{Callers, take_callers};
 use crate::flashes::Flashes;
-use crate::output::report;
 use crate::runs::{RunText, write_text};
 use crate::stack::OneFlash;
-use crate::stop::Stop;
 use crate::values::history_values;
 use nv_streams::{Sink, Source};
 use nvm_callers::{Ending, Ran, play_callers};
 use nvm_flash::block_config::Config;
 use nvm_flash::fee_core::Origin;
 use nvm_flash::fls_model::Flash;
+use nvm_lines::{Status, Stop, report};
 use nvm_script::{Mode, StepList};
 use std::alloc::Global;
 use std::marker::{Brand, PhantomData};
@@ -59,7 +56,7 @@ fn run_flash<R: Threads + Wait + Sync, K: Sink, F: Flash>(
     requires run { AreRun callers.config callers.steps }
     ensures promise { (input : Option (List ℕ))
         → HasRun Mode.Run callers.config callers.steps (EndsIn RunText.History (call_by Mode.Run input result.0 (F.told flash) (F.told result.1) (K.written output.old) (K.written output.new))) (F.told flash) (F.told result.1)
-        ⊎ HasNoRun (IsFlashStop (size_of callers.config.geometry) (F.told flash).bytes) (K.written output.old) (K.written output.new) result.0 (F.told flash) (F.told result.1) }
+        ⊎ HasNoRun (IsFlashStop callers.config (F.told flash).bytes) (K.written output.old) (K.written output.new) result.0 (F.told flash) (F.told result.1) }
     ensures late { IsBeforeAttach result.0 → ⊥ }
     ensures write_fault { result.0 ≡ Status.WriteFault → Rose (K.faults output.old) (K.faults output.new) }
 {
@@ -82,7 +79,7 @@ fn run_over<R: Threads + Wait + Sync, K: Sink, F: Flash, O: Origin>(
     requires run { AreRun config steps.now }
     ensures promise { (input : Option (List ℕ))
         → HasRun Mode.Run config steps.now (EndsIn RunText.History (call_by Mode.Run input result.0 (F.told flash) (F.told result.1) (K.written output.old) (K.written output.new))) (F.told flash) (F.told result.1)
-        ⊎ HasNoRun (IsFlashStop (size_of config.geometry) (F.told flash).bytes) (K.written output.old) (K.written output.new) result.0 (F.told flash) (F.told result.1) }
+        ⊎ HasNoRun (IsFlashStop config (F.told flash).bytes) (K.written output.old) (K.written output.new) result.0 (F.told flash) (F.told result.1) }
     ensures late { IsBeforeAttach result.0 → ⊥ }
     ensures write_fault { result.0 ≡ Status.WriteFault → Rose (K.faults output.old) (K.faults output.new) }
 {

@@ -11,14 +11,12 @@ ghost use Rattle.nvm_top.specs.Promised.{HasNoRun, HasSoaked, played_call};
 ghost use Rattle.nvm_top.specs.Reading.{IsEarly};
 ghost use Rattle.nvm_top.specs.Soak.{IsSoakStop, SoakStopsBy};
 
-use crate::Status;
-use crate::output::report;
 use crate::play::play_flash;
 use crate::runs::RunText;
 use crate::script::{Script, take_script};
-use crate::stop::Stop;
 use nv_streams::{Sink, Source};
 use nvm_flash::fls_model::Flash;
+use nvm_lines::{Status, Stop, report};
 use nvm_script::Mode;
 use script_soak::soak_steps;
 use std::alloc::{AllocError, Global};

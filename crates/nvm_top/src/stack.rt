@@ -14,7 +14,6 @@ ghost use Rattle.nvm_top.specs.Stack.{stop_of_make};
 ghost use Rattle.nvm_flash.specs.Made.{one_part};
 
 use crate::flashes::Flashes;
-use crate::stop::Stop;
 use nvm_flash::block_config::Config;
 use nvm_flash::fee_core::{Fee, Origin};
 use nvm_flash::fls_devices::Cutter;
@@ -23,6 +22,7 @@ use nvm_flash::memif::MemDevice;
 use nvm_flash::nv_base::Geometry;
 use nvm_flash::promise_run::CAP;
 use nvm_flash::{FlashStack, MakeFault, give_back, make_stack, start_stack};
+use nvm_lines::Stop;
 use std::alloc::Global;
 use std::marker::PhantomData;
 
@@ -107,6 +107,7 @@ fn stop_of_make(fault: MakeFault, geometry: Geometry) -> Stop
         },
         MakeFault::Flash => Stop::FlashFault,
         MakeFault::InUse => Stop::InUse,
+        MakeFault::NoSecond => Stop::NoSecond,
         MakeFault::Memory => Stop::Memory,
     }
 }

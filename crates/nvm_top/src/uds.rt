@@ -1,7 +1,6 @@
 // The command `uds`: the requests of a UDS gateway over one flash, with their answers.
 ghost use Rattle.std.specs.Prelude.{◌≡◌, ◌⊎◌, ℕ, List, Option};
 ghost use Rattle.nvm_flash.specs.nv_base.Count.{Rose};
-ghost use Rattle.nvm_flash.specs.nv_base.Geometry.{size_of};
 ghost use Rattle.nvm_flash.specs.Made.{IsOrigin};
 ghost use Rattle.uds_script.specs.Requests.{HaveBytes};
 ghost use Rattle.nvm_top.specs.Causes.{HasCauses};
@@ -9,11 +8,9 @@ ghost use Rattle.nvm_top.specs.Play.{IsBeforeAttach, IsFlashStop};
 ghost use Rattle.nvm_top.specs.Promised.{HasNoRun, played_call};
 ghost use Rattle.nvm_top.specs.Uds.{HasAnswered, HasServing, UdsStopsBy};
 
-use crate::Status;
 use crate::answers::write_served;
 use crate::flashes::Flashes;
 use crate::gateway::{Gateway, read_gateway};
-use crate::output::report;
 use crate::served::{Served, serve_run};
 use crate::stack::OneFlash;
 use crate::values::history_values;
@@ -22,6 +19,7 @@ use nvm_flash::block_config::Config;
 use nvm_flash::fee_core::Origin;
 use nvm_flash::fls_model::Flash;
 use nvm_flash::nv_base::Bytes;
+use nvm_lines::{Status, report};
 use std::alloc::Global;
 use std::marker::{Brand, PhantomData};
 
@@ -53,7 +51,7 @@ fn serve_flash<K: Sink, F: Flash>(
     requires own { gateway.own ≡ gateway.config }
     ensures promise { (input : Option (List ℕ))
         → HasServing gateway.config gateway.requests (played_call input result.0 (F.told flash) (F.told result.1) (K.written output.old) (K.written output.new)) result.0
-        ⊎ HasNoRun (IsFlashStop (size_of gateway.config.geometry) (F.told flash).bytes) (K.written output.old) (K.written output.new) result.0 (F.told flash) (F.told result.1) }
+        ⊎ HasNoRun (IsFlashStop gateway.config (F.told flash).bytes) (K.written output.old) (K.written output.new) result.0 (F.told flash) (F.told result.1) }
     ensures late { IsBeforeAttach result.0 → ⊥ }
     ensures write_fault { result.0 ≡ Status.WriteFault → Rose (K.faults output.old) (K.faults output.new) }
 {
@@ -80,7 +78,7 @@ fn serve_over<K: Sink, F: Flash, O: Origin>(
     requires some { HaveBytes requests.now }
     ensures promise { (input : Option (List ℕ))
         → HasServing config requests.now (played_call input result.0 (F.told flash) (F.told result.1) (K.written output.old) (K.written output.new)) result.0
-        ⊎ HasNoRun (IsFlashStop (size_of config.geometry) (F.told flash).bytes) (K.written output.old) (K.written output.new) result.0 (F.told flash) (F.told result.1) }
+        ⊎ HasNoRun (IsFlashStop config (F.told flash).bytes) (K.written output.old) (K.written output.new) result.0 (F.told flash) (F.told result.1) }
     ensures late { IsBeforeAttach result.0 → ⊥ }
     ensures write_fault { result.0 ≡ Status.WriteFault → Rose (K.faults output.old) (K.faults output.new) }
 {

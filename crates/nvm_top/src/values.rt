@@ -1,5 +1,5 @@
 // The numbers and bytes of a history.
-ghost use Rattle.script_walks.specs.Texts.{AreValues};
+ghost use Rattle.script_player.specs.script_walks.Texts.{AreValues};
 
 use nvm_flash::nv_base::History;
 use nvm_script::entry_value;

@@ -12,7 +12,7 @@ use Rattle.nvm_top.specs.nvm_flash.promise_run.Promise.{making_of}
 use Rattle.nvm_top.specs.nvm_flash.promise_run.Run.{Run}
 use Rattle.script_walks.specs.Words.{Step}
 use Rattle.nvm_script.specs.declared.script.Mode.TheVariants as mode
-use Rattle.nvm_top.specs.declared.status.Status.{Status}
+use Rattle.nvm_top.specs.nvm_lines.declared.status.Status.{Status}
 use Rattle.nvm_top.specs.Promised.{HasRun}
 use Rattle.nvm_top.specs.Uds.{TellsServed, TellsRequests}
 use Rattle.uds_runs.specs.Causes.{EachHasCauses}

@@ -2,7 +2,7 @@ use Rattle.std.proofs.Common.{◌+◌, ◌-◌, ℕ, take, drop, slice_index_or,
 use Rattle.nv_streams.specs.Sink.{Puts}
 use Rattle.nvm_script.specs.Printed.{history_lines}
 use Rattle.script_player.proofs.Making.{on_ok, if_err}
-use Rattle.nvm_top.specs.Output.{BreaksOff}
+use Rattle.nvm_lines.specs.Output.{BreaksOff}
 use Rattle.nvm_top.specs.Uds.{lines_by, lines_of_history}
 use Rattle.nvm_top.proofs.AnswerLines.{entries_first, next_count, piece_put, piece_broken, rest_put, rest_broken}
 use Rattle.nvm_top.proofs.answers.write_requests.Goals as goal

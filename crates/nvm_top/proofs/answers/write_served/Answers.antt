@@ -1,5 +1,5 @@
 use Rattle.std.proofs.Common.{rules, ◌≡◌, ◌≢◌, Ok, Err}
-use Rattle.nvm_top.specs.declared.stop.Stop.TheVariants as stop
+use Rattle.nvm_lines.specs.declared.stop.Stop.TheVariants as stop
 use Rattle.nvm_top.specs.Uds.{lines_of_history, stopped_serving}
 use Rattle.nvm_top.proofs.AnswerLines.{served_broken, served_ends, served_stops}
 use Rattle.nvm_top.proofs.answers.write_served.Goals as goal

@@ -1,7 +1,7 @@
 use Rattle.std.proofs.Common.{ℕ, Err, ap, subst}
 use Rattle.nvm_flash.specs.nv_base.declared.geometry.Geometry.{Geometry}
 use Rattle.nvm_top.specs.Dump.{DumpsFlash}
-use Rattle.nvm_top.specs.Output.{Writes}
+use Rattle.nvm_lines.specs.Output.{Writes}
 use Rattle.nvm_top.proofs.Dumps.{configured-text, unread-text}
 use Rattle.nvm_top.proofs.dump.dump.Goals as goal
 

@@ -1,7 +1,7 @@
 use Rattle.std.proofs.Common.{inl, ◌∙◌, subst}
 use Rattle.nvm_flash.specs.fee_laws.Made.{part_at}
 use Rattle.nvm_script.specs.declared.script.Mode.TheVariants as mode
-use Rattle.script_walks.specs.Texts.{AreValues}
+use Rattle.script_player.specs.script_walks.Texts.{AreValues}
 use Rattle.nvm_top.specs.Flashes.{one_flash}
 use Rattle.nvm_top.specs.Runs.{lines_written}
 use Rattle.nvm_flash.specs.Made.{one_part}
@@ -9,6 +9,7 @@ use Rattle.nvm_top.specs.declared.runs.RunText.TheVariants.{History}
 use Rattle.nvm_top.proofs.Early.{early_in}
 use Rattle.nvm_top.proofs.Driven.{keeps_history}
 use Rattle.nvm_top.proofs.Running.{callers_came, callers_late, none_came, unwritten_run, written_run}
+use Rattle.nvm_top.proofs.WholeCalls.{stopped_late}
 use Rattle.nvm_top.proofs.run.run_over.Goals as goal
 
 pub history-requires : goal.history-requires
@@ -23,7 +24,7 @@ returns-in-Ok-play_callers-clause-promise g c input =
     let r = c.in-Ok-play_callers.field-0 in
     let ran = c.in-Ok-play_callers.ensures in
     let inner = g.F.Flash.told c.args.flash in
-    inl (written_run c.args.config c.args.steps.now r.ending c.stop_of_ending-run.result r.desk.entries c.history-history.result.now.entries inner (g.F.Flash.told c.back-flash.result.flash) g.O.Origin.entry r.device c.write_text-status.result _ _ input
+    inl (written_run c.args.config c.in-Ok.ensures.started.one_device c.args.steps.now r.ending c.stop_of_ending-run.result r.desk.entries c.history-history.result.now.entries inner (g.F.Flash.told c.back-flash.result.flash) g.O.Origin.entry r.device c.write_text-status.result _ _ input
     (c.back-flash.ensures c.args.config (one_flash inner) _ c.requires.origin)
     (callers_came (one_part (part_at g.O.Origin.entry)) c.args.config c.args.steps.now s r.ending r.desk r.device c.in-Ok.ensures.started c.in-Ok.ensures.kept.1 c.in-Ok.ensures.kept.0 ran.ran ran.order)
     c.history_values-in-Ok-play_callers.ensures c.in-Ok.ensures.size c.stop_of_ending-run.ensures c.history-history.ensures.entries c.write_text-status.ensures.text)
@@ -38,7 +39,7 @@ returns-in-Err-play_callers-clause-promise g c input =
     let s = c.in-Ok.stack in
     let device = c.in-Err-play_callers.device in
     let inner = g.F.Flash.told c.args.flash in
-    inl (unwritten_run c.args.config c.args.steps.now s.desk.entries inner (g.F.Flash.told c.back-flash-in-Err-play_callers.result.flash) g.O.Origin.entry device _ input
+    inl (unwritten_run c.args.config c.in-Ok.ensures.started.one_device c.args.steps.now s.desk.entries inner (g.F.Flash.told c.back-flash-in-Err-play_callers.result.flash) g.O.Origin.entry device _ input
     (c.back-flash-in-Err-play_callers.ensures c.args.config (one_flash inner) _ c.requires.origin)
     (none_came (one_part (part_at g.O.Origin.entry)) c.args.config c.args.steps.now s device c.in-Err-play_callers.ensures.memory c.in-Ok.ensures.started c.in-Ok.ensures.kept.0)
     (subst AreValues c.history.ensures.entries c.history_values.ensures) c.in-Ok.ensures.size)
@@ -46,3 +47,6 @@ returns-in-Err-play_callers-clause-promise g c input =
 pub returns-in-Err-clause-promise : goal.returns-in-Err-clause-promise
 returns-in-Err-clause-promise g c input =
     early_in History mode.Run c.args.config c.args.steps.now (g.F.Flash.told c.args.flash) (g.F.Flash.told c.in-Err.field-0-1.flash) c.in-Err.stop c.report.result _ _ input c.in-Err.ensures.stopped c.report.ensures.line
+
+pub returns-in-Err-clause-late : goal.returns-in-Err-clause-late
+returns-in-Err-clause-late g c early = stopped_late c.args.config _ c.in-Err.stop c.report.result c.in-Err.ensures.stopped.why c.report.ensures.status early

@@ -1,5 +1,5 @@
 use Rattle.std.proofs.Common.{rules, ◌≡◌, ◌≢◌, Ok, Err}
-use Rattle.nvm_top.specs.declared.stop.Stop.TheVariants as stop
+use Rattle.nvm_lines.specs.declared.stop.Stop.TheVariants as stop
 use Rattle.nvm_top.specs.declared.runs.RunText.TheVariants.{History}
 use Rattle.nvm_top.proofs.Texts.{broken_text, ended_text, stopped_text}
 use Rattle.nvm_top.proofs.runs.write_run.Goals as goal

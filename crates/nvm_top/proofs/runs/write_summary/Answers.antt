@@ -1,7 +1,7 @@
 use Rattle.std.proofs.Common.{◌≡◌, [], Ok, sym, ap, ◌∙◌, subst}
 use Rattle.nvm_top.specs.declared.runs.RunText.TheVariants.{Summary}
-use Rattle.nvm_top.specs.declared.status.Status.{Status}
-use Rattle.nvm_top.specs.Output.{fault_status}
+use Rattle.nvm_lines.specs.declared.status.Status.{Status}
+use Rattle.nvm_lines.specs.Output.{fault_status}
 use Rattle.nvm_top.specs.Promised.{WritesText}
 use Rattle.nvm_top.specs.Runs.{lines_written, status_of_run}
 use Rattle.nvm_top.proofs.Texts.{summary_broken}

@@ -2,10 +2,9 @@ use Rattle.std.proofs.Common.{◌≡◌, List, sym, subst}
 use Rattle.nvm_flash.specs.memif.Told.{First}
 use Rattle.nvm_flash.specs.nvm_core.Stack.{StackState}
 use Rattle.nvm_flash.specs.ram_blocks.declared.plain_block.PlainBlock.{PlainBlock}
-use Rattle.script_player.specs.PlainKept.{IsKept}
 use Rattle.script_player.specs.PlainPaying.{payer_by}
 use Rattle.script_player.specs.PlainTold.{told_by}
-use Rattle.nvm_top.specs.Stack.{BeginsPaying, IsStarted}
+use Rattle.nvm_top.specs.Stack.{BeginsPaying, IsStarted, KeepsPlayed}
 use Rattle.nvm_top.proofs.served.serve_run.Goals as goal
 
 pub returns-in-Ok-clause-served : goal.returns-in-Ok-clause-served
@@ -20,7 +19,8 @@ returns-in-Ok-clause-served g c =
       served = c.serve_requests-end.ensures.served;
       configuration = c.serve_requests-end.ensures.configuration;
       most = c.serve_requests-end.ensures.most;
-      keeps = c.serve_requests-end.ensures.keeps before
-          (subst (λ (s : StackState g.row.P-Device.Denot (List PlainBlock)). IsKept s.ready before s.desk s.hand (told s.device) (clock s.device)) (sym same) c.in-Ok.ensures.kept.0);
+      keeps =
+          let first = subst (λ (s : StackState g.row.P-Device.Denot (List PlainBlock)). KeepsPlayed s.ready before s.desk s.hand (told s.device) (clock s.device)) (sym same) c.in-Ok.ensures.kept.0 in
+          (c.serve_requests-end.ensures.keeps before first.0, c.serve_requests-end.ensures.starts first.1);
       owes = subst (λ (s : StackState g.row.P-Device.Denot (List PlainBlock)). BeginsPaying (payer_by told clock s) (told_by told s)) (sym same) c.in-Ok.ensures.kept.1;
     }

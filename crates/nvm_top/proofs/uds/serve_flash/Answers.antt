@@ -13,5 +13,5 @@ returns-clause-promise g c input =
     let written' = g.K.Sink.written c.serve_over.new.output in
     let x = c.serve_over.result.0 in
     let config = c.args.gateway.config in
-    subst (λ (requests : List (List ℕ)). HasServing config requests (played_call input x entry exit written written') x ⊎ HasNoRun (IsFlashStop (size_of config.geometry) entry.bytes) written written' x entry exit)
+    subst (λ (requests : List (List ℕ)). HasServing config requests (played_call input x entry exit written written') x ⊎ HasNoRun (IsFlashStop config entry.bytes) written written' x entry exit)
     c.as_slice.ensures.requests (c.serve_over.ensures.promise input)

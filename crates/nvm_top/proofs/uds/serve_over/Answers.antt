@@ -5,9 +5,9 @@ use Rattle.nvm_flash.specs.fee_core.Tells.{told_clock}
 use Rattle.nvm_flash.specs.fee_laws.Made.{part_at}
 use Rattle.nvm_flash.proofs.promise_run.Composition.{halves_make_the_promise}
 use Rattle.nvm_flash.specs.block_machine.Words.{Entry}
-use Rattle.script_walks.specs.Texts.{AreValues}
-use Rattle.script_player.specs.PlainKept.{IsKept}
+use Rattle.script_player.specs.script_walks.Texts.{AreValues}
 use Rattle.script_player.specs.PlainTold.{told_by}
+use Rattle.nvm_top.specs.Stack.{KeepsPlayed}
 use Rattle.nvm_top.specs.Flashes.{one_flash}
 use Rattle.nvm_flash.specs.Made.{one_part}
 use Rattle.nvm_top.specs.Uds.{HasPieces, WritesLines, lines_of_history, line_served, status_served}
@@ -45,7 +45,7 @@ returns-in-Ok-clause-promise g c input =
     let x = c.write_served-status.result in
     let v = vouched config entry _ g.O.Origin.making g.O.Origin.entry exit s device (c.into_device-device.ensures ∙ ap (λ y. y.device) c.into_stack.ensures) (halves_make_the_promise (told_clock device)) values c.requires.origin (made.configuration ∙ made.started.configuration) (made.most ∙ made.started.most) (c.back-flash.ensures config (one_flash entry) _ c.requires.origin) in
     inl (serving_has requests counts end config (told_by told_of made.first) (told_by told_of s) (part_at g.O.Origin.entry) made.started made.served made.configuration
-    (IsKept s.ready (one_part (part_at g.O.Origin.entry)) s.desk s.hand (told_of s.device) (told_clock s.device)) entry exit x _ _ input h is made.keeps made.owes v c.in-Ok.ensures.size
+    (KeepsPlayed s.ready (one_part (part_at g.O.Origin.entry)) s.desk s.hand (told_of s.device) (told_clock s.device)) entry exit x _ _ input h is made.keeps made.owes v c.in-Ok.ensures.size
     (subst (λ (d : Configuration). WritesLines (status_served end) (lines_of_history d requests counts h) (line_served end h) (g.K.Sink.written c.args.output.now) (g.K.Sink.written c.write_served-status.new.output) x) c.requires.own
     (subst (λ (ns : List ℕ). WritesLines (status_served end) (lines_of_history c.args.own.now requests ns h) (line_served end h) (g.K.Sink.written c.args.output.now) (g.K.Sink.written c.write_served-status.new.output) x) c.deref.ensures.value c.write_served-status.ensures.text)))
 
@@ -57,4 +57,4 @@ pub returns-in-Ok-clause-late : goal.returns-in-Ok-clause-late
 returns-in-Ok-clause-late g c early = served_late c.in-Ok.field-0.end _ _ _ _ c.write_served-status.result c.write_served-status.ensures.text early
 
 pub returns-in-Err-clause-late : goal.returns-in-Err-clause-late
-returns-in-Err-clause-late g c early = stopped_late _ _ c.in-Err.stop c.report.result c.in-Err.ensures.stopped.why c.report.ensures.status early
+returns-in-Err-clause-late g c early = stopped_late c.args.config _ c.in-Err.stop c.report.result c.in-Err.ensures.stopped.why c.report.ensures.status early

@@ -3,7 +3,7 @@ use Rattle.std.proofs.lemmas.List.{take_more}
 use Rattle.std.proofs.lemmas.Option.{slice_get_within, get_or_from_slice_get}
 use Rattle.nvm_flash.specs.block_machine.Words.{Entry}
 use Rattle.nvm_script.specs.Values.{IsEntryValue}
-use Rattle.script_walks.specs.Texts.{AreValues}
+use Rattle.script_player.specs.script_walks.Texts.{AreValues}
 use Rattle.nvm_top.proofs.values.history_values.Goals as goal
 use Rattle.nvm_top.proofs.values.history_values.Goals.{in-Some, in_default}
 

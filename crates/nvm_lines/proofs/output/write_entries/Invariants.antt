@@ -1,7 +1,7 @@
 use Rattle.std.proofs.Common.{◌≡◌, ◌≤◌, ◌-◌, drop, take}
 use Rattle.nv_streams.specs.Sink.{Puts}
 use Rattle.nvm_script.specs.Printed.{history_lines}
-use Rattle.nvm_top.proofs.output.write_entries.Given as goal
+use Rattle.nvm_lines.proofs.output.write_entries.Given as goal
 
 -- no fault came so far, and the lines of the entries before i were put
 abbrev pub invariant-loop-i : goal.invariant-loop-i

@@ -1,7 +1,7 @@
 -- The exit statuses.
 use Rattle.std.specs.Prelude.{ℕ}
-use Rattle.nvm_top.specs.declared.status.Status.{Status}
-use Rattle.nvm_top.specs.declared.status.Status.TheVariants.{Ok, BadWords, BadConfig, BadScript, ReadFault, WriteFault, FlashFault, Memory, WrongSize, TooLong, HistoryFull, PowerOff, InUse}
+use Rattle.nvm_lines.specs.declared.status.Status.{Status}
+use Rattle.nvm_lines.specs.declared.status.Status.TheVariants.{Ok, BadWords, BadConfig, BadScript, ReadFault, WriteFault, FlashFault, Memory, WrongSize, TooLong, HistoryFull, NoSecond, PowerOff, InUse}
 
 abbrev pub code_of_status : Status → ℕ
 code_of_status Ok = 0
@@ -15,5 +15,6 @@ code_of_status Memory = 8
 code_of_status WrongSize = 9
 code_of_status TooLong = 10
 code_of_status HistoryFull = 11
+code_of_status NoSecond = 14
 code_of_status PowerOff = 15
 code_of_status InUse = 75

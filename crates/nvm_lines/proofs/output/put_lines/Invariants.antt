@@ -1,6 +1,6 @@
 use Rattle.std.proofs.Common.{◌≡◌, ◌≤◌, ◌-◌, length}
-use Rattle.nvm_top.proofs.Printing.{PutsUpTo}
-use Rattle.nvm_top.proofs.output.put_lines.Given as goal
+use Rattle.nvm_lines.proofs.Printing.{PutsUpTo}
+use Rattle.nvm_lines.proofs.output.put_lines.Given as goal
 
 -- no fault came so far, and the lines before this place were put
 abbrev pub invariant-loop-at : goal.invariant-loop-at

@@ -1,10 +1,10 @@
 use Rattle.std.proofs.Common.{List, OnOk, IfErr, subst}
 use Rattle.nv_streams.specs.Sink.{Puts}
-use Rattle.nvm_flash.specs.nv_base.declared.entry.Entry.{Entry}
+use Rattle.nv_base.specs.declared.entry.Entry.{Entry}
 use Rattle.nvm_script.specs.Printed.{history_lines}
-use Rattle.nvm_top.specs.Output.{BreaksOff}
-use Rattle.nvm_top.proofs.Printing.{piece-whole}
-use Rattle.nvm_top.proofs.output.write_history.Goals as goal
+use Rattle.nvm_lines.specs.Output.{BreaksOff}
+use Rattle.nvm_lines.proofs.Printing.{piece-whole}
+use Rattle.nvm_lines.proofs.output.write_history.Goals as goal
 
 pub returns-clause-lines : goal.returns-clause-lines
 returns-clause-lines g c =

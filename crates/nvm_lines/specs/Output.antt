@@ -1,13 +1,13 @@
 -- What a command writes last, and the statuses of outputs that fail.
 use Rattle.std.specs.Prelude.{◌≡◌, ◌⊎◌, ℕ, List, [], ◌∷◌, length, take}
 use Rattle.nv_streams.specs.Sink.{Written, Puts, PutsPart}
-use Rattle.nvm_flash.specs.nv_base.declared.entry.Entry.{Entry}
+use Rattle.nv_base.specs.declared.entry.Entry.{Entry}
 use Rattle.nvm_script.specs.Lines.{end_line}
 use Rattle.nvm_script.specs.Printed.{history_lines}
-use Rattle.nvm_top.specs.declared.status.Status.{Status}
-use Rattle.nvm_top.specs.declared.status.Status.TheVariants as status
-use Rattle.nvm_top.specs.declared.output.OutputFault.{OutputFault}
-use Rattle.nvm_top.specs.declared.output.OutputFault.TheVariants.{Failed, Memory}
+use Rattle.nvm_lines.specs.declared.status.Status.{Status}
+use Rattle.nvm_lines.specs.declared.status.Status.TheVariants as status
+use Rattle.nvm_lines.specs.declared.output.OutputFault.{OutputFault}
+use Rattle.nvm_lines.specs.declared.output.OutputFault.TheVariants.{Failed, Memory}
 
 abbrev pub fault_status : OutputFault → Status
 fault_status Failed = status.WriteFault

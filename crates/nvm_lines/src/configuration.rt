@@ -1,16 +1,15 @@
 // The configuration of a call: the first line of its input.
 ghost use Rattle.std.specs.Prelude.{◌≡◌, Ok, Err, IfOk, IfErr, IfSome, OnOk};
 ghost use Rattle.std.specs.Io.KnownBytes.{IsAtEnd};
-ghost use Rattle.nvm_flash.specs.block_config.Reading.{meaning_of};
+ghost use Rattle.block_config.specs.Reading.{meaning_of};
 ghost use Rattle.nvm_script.specs.Script.{first_line};
-ghost use Rattle.nvm_flash.specs.nv_base.Count.{Rose};
-ghost use Rattle.nvm_top.specs.Ends.{HasConfig};
-ghost use Rattle.nvm_top.specs.Reading.{IsCheckStop, IsConfigStop};
+ghost use Rattle.nv_base.specs.Count.{Rose};
+ghost use Rattle.nvm_lines.specs.Reading.{HasConfig, IsCheckStop, IsConfigStop};
 
 use crate::input::read_input;
 use crate::stop::Stop;
+use block_config::{Config, ConfigFault, read};
 use nv_streams::Source;
-use nvm_flash::block_config::{Config, ConfigFault, read};
 use nvm_script::first_line;
 use std::alloc::Global;
 

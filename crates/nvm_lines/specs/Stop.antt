@@ -1,10 +1,10 @@
 -- The statuses of commands that stop, and the lines that say so.
 use Rattle.std.specs.Prelude.{◌≡◌, ◌≢◌, ℕ, List, [], ◌∷◌, ◌++◌, codes}
 use Rattle.std.specs.Fmt.{decimal}
-use Rattle.nvm_top.specs.declared.status.Status.{Status}
-use Rattle.nvm_top.specs.declared.status.Status.TheVariants as status
-use Rattle.nvm_top.specs.declared.stop.Stop.{Stop}
-use Rattle.nvm_top.specs.declared.stop.Stop.TheVariants.{BadWords, BadConfig, BadScript, ReadFault, TooLong, WrongSize, FlashFault, HistoryFull, Memory, PowerOff, InUse}
+use Rattle.nvm_lines.specs.declared.status.Status.{Status}
+use Rattle.nvm_lines.specs.declared.status.Status.TheVariants as status
+use Rattle.nvm_lines.specs.declared.stop.Stop.{Stop}
+use Rattle.nvm_lines.specs.declared.stop.Stop.TheVariants.{BadWords, BadConfig, BadScript, ReadFault, TooLong, WrongSize, FlashFault, HistoryFull, Memory, NoSecond, PowerOff, InUse}
 
 abbrev pub status_of : Stop → Status
 status_of BadWords = status.BadWords
@@ -16,6 +16,7 @@ status_of (WrongSize found need) = status.WrongSize
 status_of FlashFault = status.FlashFault
 status_of HistoryFull = status.HistoryFull
 status_of Memory = status.Memory
+status_of NoSecond = status.NoSecond
 status_of PowerOff = status.PowerOff
 status_of InUse = status.InUse
 
@@ -30,6 +31,7 @@ line_of (WrongSize found need) = codes "size " ++ (decimal found ++ (codes " " +
 line_of FlashFault = codes "flash fault\n"
 line_of HistoryFull = codes "history full\n"
 line_of Memory = []
+line_of NoSecond = codes "no second device\n"
 line_of PowerOff = codes "power off\n"
 line_of InUse = codes "flash in use\n"
 

@@ -1,16 +1,16 @@
 // Writing the lines of the output.
 ghost use Rattle.std.specs.Prelude.{◌≡◌, [], ◌∷◌, ◌-◌, drop, take, IfErr, OnOk};
-ghost use Rattle.nvm_flash.specs.nv_base.Count.{Rose};
+ghost use Rattle.nv_base.specs.Count.{Rose};
 ghost use Rattle.nv_streams.specs.Sink.{Puts, PutsPart};
 ghost use Rattle.nvm_script.specs.Cut.{cut_lines};
 ghost use Rattle.nvm_script.specs.Printed.{history_lines};
-ghost use Rattle.nvm_top.specs.Output.{fault_status, IsReport, Writes, BreaksOff, IsEndOf};
-ghost use Rattle.nvm_top.specs.Stop.{status_of, IsStop};
+ghost use Rattle.nvm_lines.specs.Output.{fault_status, IsReport, Writes, BreaksOff, IsEndOf};
+ghost use Rattle.nvm_lines.specs.Stop.{status_of, IsStop};
 
 use crate::Status;
 use crate::stop::Stop;
+use nv_base::History;
 use nv_streams::{Sink, SinkAnswer};
-use nvm_flash::nv_base::History;
 use nvm_script::{end_text, entry_text_in, line_length};
 use std::alloc::{AllocError, Global};
 
@@ -22,7 +22,7 @@ pub enum OutputFault {
 }
 
 impl From<AllocError> for OutputFault {
-    ghost use Rattle.nvm_top.specs.declared.output.OutputFault.TheVariants.{Memory};
+    ghost use Rattle.nvm_lines.specs.declared.output.OutputFault.TheVariants.{Memory};
 
     ghost from_gives = { λ _ fault. fault ≡ Memory };
 

@@ -1,10 +1,10 @@
 use Rattle.std.proofs.Common.{ℕ, ◌-◌, drop, take, List, ◌∙◌, arith, subst}
 use Rattle.nv_streams.specs.Sink.{Puts}
-use Rattle.nvm_flash.specs.nv_base.declared.entry.Entry.{Entry}
+use Rattle.nv_base.specs.declared.entry.Entry.{Entry}
 use Rattle.nvm_script.specs.Printed.{history_lines}
-use Rattle.nvm_top.proofs.Printing.{entries-more, entries-part, entries-wanting, piece-at, piece-past}
-use Rattle.nvm_top.proofs.output.write_entries.Goals as goal
-use Rattle.nvm_top.proofs.output.write_entries.Goals.{in-Some+in_ok-line+in-Ok, in_default}
+use Rattle.nvm_lines.proofs.Printing.{entries-more, entries-part, entries-wanting, piece-at, piece-past}
+use Rattle.nvm_lines.proofs.output.write_entries.Goals as goal
+use Rattle.nvm_lines.proofs.output.write_entries.Goals.{in-Some+in_ok-line+in-Ok, in_default}
 
 pub returns-in_default-put_line-clause-part : goal.returns-in_default-put_line-clause-part
 returns-in_default-put_line-clause-part g c =

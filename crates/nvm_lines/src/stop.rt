@@ -1,13 +1,13 @@
 // Why a command stops before its end.
 ghost use Rattle.std.specs.Prelude.{◌≡◌, IfOk, string_bytes};
-ghost use Rattle.nvm_top.specs.Stop.{status_of, line_of};
+ghost use Rattle.nvm_lines.specs.Stop.{status_of, line_of};
 
 use crate::Status;
 use std::alloc::{AllocError, Global};
 
 /// Why a command stops: its words are of no command, its first line breaks a rule, a line is no step, its input failed
-/// or is too long, the flash failed, has a wrong size, or is in use by another call, the history has no room, want of memory, or the
-/// power went off.
+/// or is too long, a second device is named and missing, the flash failed, has a wrong size, or is in use by another call, the history
+/// has no room, want of memory, or the power went off.
 #[derive(Clone, Copy, PartialEq, Eq)]
 pub enum Stop {
     BadWords,
@@ -19,12 +19,13 @@ pub enum Stop {
     FlashFault,
     HistoryFull,
     Memory,
+    NoSecond,
     PowerOff,
     InUse,
 }
 
 impl From<AllocError> for Stop {
-    ghost use Rattle.nvm_top.specs.declared.stop.Stop.TheVariants.{Memory};
+    ghost use Rattle.nvm_lines.specs.declared.stop.Stop.TheVariants.{Memory};
 
     ghost from_gives = { λ _ stop. stop ≡ Memory };
 
@@ -48,6 +49,7 @@ impl Stop {
             Stop::FlashFault => Status::FlashFault,
             Stop::HistoryFull => Status::HistoryFull,
             Stop::Memory => Status::Memory,
+            Stop::NoSecond => Status::NoSecond,
             Stop::PowerOff => Status::PowerOff,
             Stop::InUse => Status::InUse,
         }
@@ -69,6 +71,7 @@ impl Stop {
             Stop::FlashFault => String::from_str(alloc, "flash fault\n"),
             Stop::HistoryFull => String::from_str(alloc, "history full\n"),
             Stop::Memory => Ok(String::new(alloc)),
+            Stop::NoSecond => String::from_str(alloc, "no second device\n"),
             Stop::PowerOff => String::from_str(alloc, "power off\n"),
             Stop::InUse => String::from_str(alloc, "flash in use\n"),
         }

@@ -1,8 +1,8 @@
 // Reading the input to its end.
 ghost use Rattle.std.specs.Prelude.{◌≤◌, IfOk, IfErr, OnOk, vec_len};
 ghost use Rattle.std.specs.Io.KnownBytes.{IsAtEnd};
-ghost use Rattle.nvm_top.specs.Input.{IsAll};
-ghost use Rattle.nvm_top.specs.Reading.{IsInputStop};
+ghost use Rattle.nvm_lines.specs.Input.{IsAll};
+ghost use Rattle.nvm_lines.specs.Reading.{IsInputStop};
 
 use crate::stop::Stop;
 use nv_streams::{Source, SourceAnswer};

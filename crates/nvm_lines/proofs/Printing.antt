@@ -6,13 +6,13 @@ use Rattle.std.specs.List.{slice_range}
 use Rattle.std.specs.Result.{IsErrAnd}
 use Rattle.nv_streams.specs.Sink.{Written, Puts, PutsPart}
 use Rattle.nv_streams.proofs.Puts.{Puts-trans, PutsPart-longer, PutsPart-behind}
-use Rattle.nvm_flash.specs.nv_base.declared.entry.Entry.{Entry}
+use Rattle.nv_base.specs.declared.entry.Entry.{Entry}
 use Rattle.nvm_script.specs.Cut.{cut_lines}
 use Rattle.nvm_script.specs.Lines.{entry_line}
 use Rattle.nvm_script.specs.Printed.{history_lines}
-use Rattle.nvm_top.specs.Output.{BreaksOff}
-use Rattle.nvm_top.specs.declared.output.OutputFault.{OutputFault}
-use Rattle.nvm_top.specs.declared.output.OutputFault.TheVariants.{Memory}
+use Rattle.nvm_lines.specs.Output.{BreaksOff}
+use Rattle.nvm_lines.specs.declared.output.OutputFault.{OutputFault}
+use Rattle.nvm_lines.specs.declared.output.OutputFault.TheVariants.{Memory}
 
 -- ENTRIES
 -- one more

@@ -1,6 +1,6 @@
 use Rattle.std.proofs.Common.{◌≡◌, ◌-◌, vec_len}
 use Rattle.std.specs.Io.KnownBytes.{Consumes}
-use Rattle.nvm_top.proofs.input.read_input.Given as goal
+use Rattle.nvm_lines.proofs.input.read_input.Given as goal
 
 -- all that was taken so far is what the input has lost, and no fault came
 abbrev pub invariant-loop-buffer : goal.invariant-loop-buffer

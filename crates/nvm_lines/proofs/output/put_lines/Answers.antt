@@ -1,7 +1,7 @@
 use Rattle.std.proofs.Common.{◌∙◌, rules}
 use Rattle.std.proofs.lemmas.List.{take_rest}
-use Rattle.nvm_top.proofs.Printing.{line-more, line-part}
-use Rattle.nvm_top.proofs.output.put_lines.Goals as goal
+use Rattle.nvm_lines.proofs.Printing.{line-more, line-part}
+use Rattle.nvm_lines.proofs.output.put_lines.Goals as goal
 
 pub returns-in_default-clause-part : goal.returns-in_default-clause-part
 returns-in_default-clause-part g c =

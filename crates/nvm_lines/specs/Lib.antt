@@ -1,0 +1,5 @@
+pub mod Input
+pub mod Output
+pub mod Reading
+pub mod Status
+pub mod Stop
