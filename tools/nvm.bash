@@ -1,7 +1,7 @@
-# The words of nvm for bash: source this file. Made by tools/manual --completion.
+# The words of nvm for bash: source this file. Made by tools/dev/manual --completion.
 _nvm() {
     case $COMP_CWORD in
-    1) mapfile -t COMPREPLY < <(compgen -W "mem --help --rule --refused --result --status" -- "$2"; compgen -f -- "$2") ;;
+    1) mapfile -t COMPREPLY < <(compgen -W "mem --help --version --proved --rule --refused --result --status" -- "$2"; compgen -f -- "$2") ;;
     2) mapfile -t COMPREPLY < <(compgen -W "play run check dump soak uds" -- "$2") ;;
     esac
 }
@@ -12,15 +12,17 @@ _nvm_tool() {
     COMPREPLY=()
     local options
     case ${1##*/} in
-    lint) options="-h --help --run --strict --line --plain --names --json" ;;
-    sweep) options="-h --help --quiet --jobs --json --junit" ;;
-    cuts) options="-h --help --keep --every --jobs --json --junit" ;;
-    timeline) options="-h --help --history --text --summary --json" ;;
-    picture) options="-h --help --text --values --other --check --json" ;;
-    plan) options="-h --help --writes --endurance --turn-ms --json" ;;
-    provision) options="-h --help --replace --json" ;;
-    manual) options="-h --help --rule --refused --result --status --page --completion --json" ;;
+    lint | nvm-lint) options="-h --help --run --strict --line --plain --names --json" ;;
+    sweep | nvm-sweep) options="-h --help --quiet --jobs --json --junit" ;;
+    cuts | nvm-cuts) options="-h --help --keep --every --jobs --json --junit" ;;
+    timeline | nvm-timeline) options="-h --help --history --text --summary --json" ;;
+    picture | nvm-picture) options="-h --help --text --values --other --check --json" ;;
+    plan | nvm-plan) options="-h --help --writes --endurance --turn-ms --json" ;;
+    provision | nvm-provision) options="-h --help --replace --json" ;;
+    build | nvm-build) options="-h --help --unproved" ;;
+    take | nvm-take) options="-h --help --rooms" ;;
+    release | nvm-release) options="-h --help --proof --unproved --archive --kit --maintainer" ;;
     esac
     if [[ $2 == -* ]]; then mapfile -t COMPREPLY < <(compgen -W "$options" -- "$2"); fi
 }
-complete -o default -F _nvm_tool tools/lint ./tools/lint tools/sweep ./tools/sweep tools/cuts ./tools/cuts tools/timeline ./tools/timeline tools/picture ./tools/picture tools/plan ./tools/plan tools/provision ./tools/provision tools/manual ./tools/manual
+complete -o default -F _nvm_tool tools/lint ./tools/lint nvm-lint tools/sweep ./tools/sweep nvm-sweep tools/cuts ./tools/cuts nvm-cuts tools/timeline ./tools/timeline nvm-timeline tools/picture ./tools/picture nvm-picture tools/plan ./tools/plan nvm-plan tools/provision ./tools/provision nvm-provision tools/build ./tools/build nvm-build tools/take ./tools/take nvm-take tools/release ./tools/release nvm-release

@@ -64,7 +64,7 @@ def broken_others():
     yield Try("dev/edges nothing", b"", 2, "crates.txt has no crate nothing")
     yield Try("dev/trusted nothing command", b"", 2, "crates.txt has no crate nothing")
     yield Try("dev/trusted nvm_top", b"", 2, "a crate and a call of it, or neither")
-    yield Try(f"manual --rule {LONG}", b"", 2, "there is no rule 9.*")
+    yield Try(f"../nvm --rule {LONG}", b"", 2, "there is no rule 9.*")
     for line in (b"post 2 77 ops 1", b"found x", b"wrote 2 data 11 ops 3", b"<script>", b"ask 0 write 2 00 -> refused 99"):
         yield Try(f"timeline {SCRIPT} --history -", b"found 0 ops 0\n%s\n" % line, 4, "-:2: no line of a history: .*")
     yield Try("picture $zeros examples/first.nvm --text", b"", 2, r"FOLDER/zeros has 100 bytes, and .*")
@@ -85,7 +85,7 @@ def programs_that_do_not_answer():
 
 def outputs_that_cannot_be_written():
     told = [f"lint {UNIT}", f"lint {UNIT} --json", f"plan {UNIT}", f"sweep {SCRIPT}", f"cuts {SCRIPT}", f"timeline {SCRIPT}",
-            f"picture $image {SCRIPT} --text", f"provision {UNIT} $none $made --replace", "manual", "manual --page lint", "lint --help",
+            f"picture $image {SCRIPT} --text", f"provision {UNIT} $none $made --replace", "../nvm --help", "dev/manual lint", "lint --help",
             "dev/edges", "dev/edges nvm_top", "dev/try --help"]
     for words in told:
         yield Try(words, b"", 6, "standard output is closed", streams=">&-")

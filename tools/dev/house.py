@@ -8,8 +8,8 @@ import xml.etree.ElementTree as xml
 
 from nvmtools import calls, images, reports, units
 
-USERS = ("lint", "sweep", "cuts", "timeline", "picture", "plan", "provision", "manual")
-DEVELOPERS = ("callers_soak", "edges", "faults", "kills", "price", "refuse", "trusted", "try", "try_c")
+USERS = ("lint", "sweep", "cuts", "timeline", "picture", "plan", "provision", "build", "take", "release")
+DEVELOPERS = ("callers_soak", "edges", "faults", "kills", "manual", "price", "refuse", "trusted", "try", "try_c", "try_release")
 FIRST_START = "@demo\nreadall\ndrain\n"
 RED = "#c00000"
 
@@ -44,6 +44,7 @@ def completion_knows(tool, begun):
 def completion_is_as_told():
     return all([told("lint completes --s", completion_knows("tools/lint", "--s") == ["--strict"]),
                 told("sweep completes --j", completion_knows("./tools/sweep", "--j") == ["--jobs", "--json", "--junit"]),
+                told("of a release too", completion_knows("/usr/bin/nvm-lint", "--s") == ["--strict"]),
                 told("a file is left to bash", completion_knows("tools/plan", "ex") == [])])
 
 

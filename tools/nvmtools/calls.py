@@ -18,6 +18,8 @@ NOT_STARTED = (125, 126, 127)
 # a program that NVM or NVM_ROWS names is given up where it prints nothing for so many seconds, or more than so much
 SECONDS = 600
 MOST_ANSWER, MOST_LINES = 1 << 30, 1_000_000
+# seconds that a program has to end once it is told to
+ENDING = 2
 
 
 def start_of(program):
@@ -52,12 +54,21 @@ def lines_of(words, text, program="nvm_bench"):
         raise Stop(f"{start} doesn't end: nothing came for {limit} seconds", 127) from None
     finally:
         if ran.poll() is None:
-            os.killpg(ran.pid, signal.SIGKILL)
+            stop(ran)
         ran.stdout.close()
-        ran.wait()
     if ran.returncode in NOT_STARTED or ran.returncode < 0:
         raise Stop(f"{start} ended with {ran.returncode}", 127)
     return ran.returncode
+
+
+def stop(ran):
+    """Ends a program with all that it called; ./nvm may be building, and then its toolchain is told first."""
+    os.killpg(ran.pid, signal.SIGTERM)
+    try:
+        ran.wait(ENDING)
+    except subprocess.TimeoutExpired:
+        os.killpg(ran.pid, signal.SIGKILL)
+        ran.wait()
 
 
 def lines_in(pipe, start, limit):

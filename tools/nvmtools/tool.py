@@ -56,9 +56,9 @@ def tell(given, status, **told):
     return status
 
 
-def run_tool(main, doc, add_words):
-    """Reads the words of a tool, runs it, and ends with the status that it returns."""
-    words = words_of(doc, add_words)
+def run_tool(main, doc, add_words, name=None):
+    """Reads the words of a tool, runs it, and ends with the status that it returns. Its name is that of its file, or is told."""
+    words = words_of(doc, add_words, name)
     for number in (signal.SIGTERM, signal.SIGHUP):
         # (so that what it called ends with it)
         signal.signal(number, lambda it, _: sys.exit(KILLED + it))

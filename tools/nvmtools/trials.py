@@ -20,11 +20,9 @@ def add_jobs(words):
 
 
 def jobs_of(given):
-    """How many processes run side by side. An unproved program is built by each of its calls, so it is called once."""
+    """How many processes run side by side."""
     if given.jobs is not None and not 1 <= given.jobs <= 256:
         raise Stop("--jobs is 1 to 256")
-    if os.environ.get("NVM_UNPROVED", "0") == "1" and "NVM_ROWS" not in os.environ:
-        return 1
     return given.jobs or os.cpu_count() or 1
 
 

@@ -19,10 +19,10 @@ DEMO = ('{"id":1,"page":16,"sector":256,"sectors":8,"standard":8,"immediate":4,"
         '"ram":"permanent","readall":true,"writeall":true,"reads":1,"writes":1},{"length":20,"priority":0,"defaults":"a5*20",'
         '"reads":1,"writes":1}]}')
 DEMO_LINE = "@demo"
-KEYS = ("id", "page", "sector", "sectors", "standard", "immediate", "blocks", "banks")
+KEYS = ("id", "page", "sector", "sectors", "standard", "immediate", "blocks", "eeprom", "banks")
 FLAGS = ("readall", "writeall", "once", "protected", "resistant")
 TRIES = ("reads", "writes", "repeats")
-BLOCK_KEYS = ("kind", "length", "priority", "ram", "defaults", "nv", "rom", *FLAGS, *TRIES)
+BLOCK_KEYS = ("kind", "length", "priority", "ram", "defaults", "nv", "rom", *FLAGS, *TRIES, "device")
 # the keys that the program's line doesn't have
 OURS = ("name", "id")
 MANAGERS_OWN = {"kind": "redundant", "length": 2, "ram": "permanent", "name": "configuration id", "reads": 1, "writes": 1,
@@ -64,19 +64,23 @@ class Unit:
         return 2 if self.blocks[block].get("kind") == "redundant" else 1
 
     def lengths(self):
-        """The length of each stored instance, by device number."""
-        return {block * 64 + i: self.blocks[block]["length"] for block in self.blocks for i in range(self.instances(block))}
+        """The length of each instance that the flash stores, by device number: those of a second device aren't in its banks."""
+        return {block * 64 + i: self.blocks[block]["length"] for block in self.blocks if self.is_first(block)
+                for i in range(self.instances(block))}
 
     def record_pages(self, length):
         """The pages of a record of a content."""
         return 3 + -(-length // self.page)
+
+    def is_first(self, block):
+        return self.blocks[block].get("device", 0) == 0
 
     def is_immediate(self, block):
         return self.blocks[block].get("priority", 100) == 0
 
     def room(self):
         """Rule 24: the pages of all instances, of the greatest write, of the greatest immediate one, and what is needed."""
-        each = {block: self.record_pages(self.blocks[block]["length"]) for block in self.blocks}
+        each = {block: self.record_pages(self.blocks[block]["length"]) for block in self.blocks if self.is_first(block)}
         total = sum(each[block] * self.instances(block) for block in each)
         urgent = max((each[block] * self.copies(block) for block in each if self.is_immediate(block)), default=0)
         most = max(each.values())
@@ -253,9 +257,9 @@ def accept(given, printed, status):
 
 
 # the key by which a rule about several is told
-OF_KEY = {7: "sectors", 23: "blocks", 24: "sectors"}
+OF_KEY = {7: "sectors", 23: "blocks", 24: "sectors", 26: "eeprom", 27: "length", 28: "eeprom"}
 # the rules that the parts of a configuration break together: what is mended of a part would change what they say
-TOGETHER = (1, 7, 10, 23, 24)
+TOGETHER = (1, 7, 10, 23, 24, 26, 27, 28)
 MOST_REFUSALS = 50
 
 
@@ -347,7 +351,8 @@ def key_of(where, rule):
     if not isinstance(where, dict):
         return None
     single = {3: "id", 4: "page", 5: "sector", 6: "sectors", 8: "standard", 9: "immediate", 10: "blocks", 12: "kind",
-              13: "length", 14: "priority", 15: "ram", 16: "defaults", 17: "nv", 18: "rom", 21: "once", 29: "banks"}
+              13: "length", 14: "priority", 15: "ram", 16: "defaults", 17: "nv", 18: "rom", 21: "once", 25: "device",
+              29: "banks"}
     if rule in single:
         return single[rule]
     # (a script's own line has no names and ids; a unit file's are taken out)

@@ -1,19 +1,15 @@
 #!/usr/bin/env python3
 """Prints the manual of ./nvm, or one row of it: a rule, a refusal, a result or an exit status, with what to do about it.
 
-./nvm hands its options on to this tool. --page prints the man page and --completion the words for bash, which stand in
-docs/man and tools/nvm.bash; both are made of the same tables as --help, those of docs/SCRIPT.md, and of the tools' own --help.
-The status is 2 where there is no such row.
-
-Example: tools/manual --rule 24"""
-import argparse
+./nvm hands its options on to this file. All of it is made of the tables of docs/SCRIPT.md and docs/CONFIGURATION.md, and so are the man
+pages and the words for bash (tools/dev/manual). The status is 2 where there is no such row."""
 import os
-import runpy
 import sys
 import textwrap
 
 sys.dont_write_bytecode = True
-from nvmtools import calls, manual, reports, tool
+sys.path.insert(0, os.path.dirname(os.path.dirname(os.path.abspath(__file__))))
+from nvmtools import calls, manual, reports
 from nvmtools.calls import Stop
 
 NAME = "nvm"
@@ -23,6 +19,8 @@ ABOUT = ("The input comes from standard input. Its first line is the configurati
          "flash in memory, or the path of an image file, which is made where it is absent.")
 OPTIONS = [
     ("--help", "this page"),
+    ("--version", "the version, the commit, the format of the image, and whether the program that stands here is proved"),
+    ("--proved", "proves the program first and builds it, which takes hours the first time; words of a call may follow"),
     ("--rule N", "rule N of the configuration, which 'config rule N' names"),
     ("--refused N", "why a request is refused with N"),
     ("--result N", "what the result N of a job means"),
@@ -32,25 +30,25 @@ FRONT_STATUSES = [
     ("125", "the program couldn't be built", "see what the toolchain said"),
     ("127", "there is no command 'rt', by which the program is built", "put the Rattle kit on the path"),
 ]
-ENVIRONMENT = [("NVM_UNPROVED=1", "runs the program without a proof, which takes as long at each call as a build"),
-               ("NVM=FILE, NVM_ROWS=FILE", "the tools call a program that was built elsewhere"),
+ENVIRONMENT = [("NVM=FILE, NVM_ROWS=FILE", "the tools call a program that was built elsewhere"),
                ("NVM_SECONDS=N", "the tools give a program up that prints nothing for so long: 600 where NVM or NVM_ROWS names it")]
 TOOLS = [("lint", "what is wrong with a unit or a script, in words"),
          ("sweep", "a power cut and a fault at each operation of a script, each start-up judged"),
          ("cuts", "what a power cut at each operation leaves, as a table"),
          ("timeline", "a history as a drawing, in words or counted"),
          ("picture", "what an image file holds"), ("plan", "room, turns and wear of a configuration"),
-         ("provision", "an image file of given values"), ("manual", "one row of the manual, or all of it")]
+         ("provision", "an image file of given values"),
+         ("build", "the program and the judge of sweeps: proved, or without proofs"),
+         ("take", "a repository of one's own, with what a program over the stack needs"),
+         ("release", "a tarball and a Debian package of what the gate proved")]
 WIDE = 100
+IN_REPOSITORY = os.path.isdir(f"{calls.TOP}/crates")
 
 
 def words(it):
     one = it.add_mutually_exclusive_group()
     for name in ("rule", "refused", "result", "status"):
         one.add_argument(f"--{name}", metavar="N", help=dict(OPTIONS)[f"--{name} N"])
-    one.add_argument("--page", metavar="TOOL", nargs="?", const=NAME, choices=[NAME, *dict(TOOLS)],
-                     help="the man page of a tool, or without one that of nvm")
-    one.add_argument("--completion", action="store_true", help="the words for bash")
     reports.add_json(it)
 
 
@@ -63,7 +61,8 @@ def sections():
     calls_of_it = [(f"{NAME} {words}", text) for words, text in manual.commands()]
     return [("COMMANDS", calls_of_it), ("OPTIONS", OPTIONS), ("ENVIRONMENT", ENVIRONMENT),
             ("EXIT STATUS", [(number, f"{why}. To do: {what}.") for number, why, what in statuses()]),
-            ("TOOLS", [(f"tools/{name}", text) for name, text in TOOLS])]
+            ("TOOLS", [(f"{'tools/' if IN_REPOSITORY else 'nvm-'}{name}", text) for name, text in TOOLS
+                       if os.path.exists(f"{calls.TOP}/tools/{name}")])]
 
 
 def print_help():
@@ -76,76 +75,6 @@ def print_help():
             print(textwrap.fill(text, WIDE, initial_indent="      ", subsequent_indent="      "))
     print("\ndocs/SCRIPT.md has the steps, the lines of a history, the refusals and the results;"
           "\ndocs/CONFIGURATION.md has the keys and rules.")
-
-
-def roff(text):
-    """A text of a man page."""
-    text = text.replace("\\", "\\e").replace("-", "\\-")
-    return "\\&" + text if text[:1] in ".'" else text
-
-
-def print_page():
-    print(f'.\\" made by tools/manual --page\n.TH NVM 1\n.SH NAME\n{NAME} \\- {roff(SHORT)}\n.SH SYNOPSIS')
-    for term, _ in manual.commands():
-        print(f".B {NAME}\n.I {roff(term)}\n.br")
-    print(f".SH DESCRIPTION\n{roff(ABOUT)}")
-    for title, below in sections():
-        print(f".SH {title}")
-        for term, text in below:
-            print(f".TP\n.B {roff(term)}\n{roff(text)}")
-    print(".SH SEE ALSO\ndocs/SCRIPT.md, docs/CONFIGURATION.md and docs/IMAGE.md of the repository")
-
-
-def words_of(name):
-    """The words of a tool, and its help by paragraphs."""
-    found = runpy.run_path(os.path.join(calls.TOP, "tools", name))
-    return tool.words_of(found["__doc__"], found["words"], name), [" ".join(it.split()) for it in found["__doc__"].split("\n\n")]
-
-
-def terms_of(action):
-    """An option or a word of a tool, as a person writes it."""
-    value = action.metavar or (f"{{{','.join(action.choices)}}}" if action.choices else action.dest.upper())
-    names = action.option_strings or [value]
-    return ", ".join(names) + (f" {value}" if action.option_strings and action.nargs != 0 else "")
-
-
-def print_tool_page(name):
-    words, about = words_of(name)
-    usage = words.format_usage().split(None, 2)[2]
-    print(f'.\\" made by tools/manual --page {name}\n.TH NVM-{name.upper()} 1\n.SH NAME\ntools/{name} \\- {roff(dict(TOOLS)[name])}')
-    print(f".SH SYNOPSIS\n.B tools/{name}\n{roff(' '.join(usage.split()))}\n.SH DESCRIPTION")
-    print("\n.PP\n".join(roff(it) for it in about))
-    print(".SH OPTIONS")
-    for action in words._actions:
-        if action.help != argparse.SUPPRESS:
-            print(f".TP\n.B {roff(terms_of(action))}\n{roff(action.help or 'see above')}")
-    print(".SH SEE ALSO\ndocs/TOOLS.md of the repository")
-
-
-def print_completion():
-    commands = " ".join(words.split()[1] for words, _ in manual.commands())
-    options = " ".join(option.split()[0] for option, _ in OPTIONS)
-    print(f"""# The words of nvm for bash: source this file. Made by tools/manual --completion.
-_nvm() {{
-    case $COMP_CWORD in
-    1) mapfile -t COMPREPLY < <(compgen -W "mem {options}" -- "$2"; compgen -f -- "$2") ;;
-    2) mapfile -t COMPREPLY < <(compgen -W "{commands}" -- "$2") ;;
-    esac
-}}
-complete -o filenames -F _nvm nvm ./nvm
-
-# The options of the tools; any other word is a file.
-_nvm_tool() {{
-    COMPREPLY=()
-    local options
-    case ${{1##*/}} in""")
-    for name in dict(TOOLS):
-        options = " ".join(it for action in words_of(name)[0]._actions for it in action.option_strings)
-        print(f'    {name}) options="{options}" ;;')
-    print("""    esac
-    if [[ $2 == -* ]]; then mapfile -t COMPREPLY < <(compgen -W "$options" -- "$2"); fi
-}""")
-    print("complete -o default -F _nvm_tool " + " ".join(f"tools/{name} ./tools/{name}" for name in dict(TOOLS)))
 
 
 def rows_of(kind, number):
@@ -176,14 +105,10 @@ def main(given):
                             rows=[{"why": why, "to_do": what} for why, what in rows_of(*asked)])
     if asked:
         print_row(*asked)
-    elif given.page:
-        print_page() if given.page == NAME else print_tool_page(given.page)
-    elif given.completion:
-        print_completion()
     else:
         print_help()
     return 0
 
 
 if __name__ == "__main__":
-    calls.run_tool(main, __doc__, words)
+    calls.run_tool(main, __doc__, words, NAME)
