@@ -168,8 +168,11 @@ def run(*words):
 
 def repository_is_taken(folder):
     """Whether tools/take makes a repository whose rooms name nothing that isn't there, and puts newer rooms into one that has grown."""
-    mine, crates = f"{folder}/mine", rooms.rooms()
+    mine, crates = f"{folder}/taken", rooms.rooms()
     made = run("tools/take", mine)
+    if made.returncode:
+        print(f"tools/take ends with {made.returncode}: {made.stderr}")
+        return False
     taken = lambda: {it.partition(":")[0].split()[0]: it.partition(":")[2].split() for it in calls.read_text(f"{mine}/crates.txt").splitlines()}
     first = taken()
     well = {"it is made": made.returncode == 0 and made.stdout.startswith(f"{mine}: {len(first) - 1} rooms of natukeri "),
