@@ -27,7 +27,8 @@ pub use table_cases::{
 };
 pub use worked_cases::{
     cases_of_order_are_legal, cases_of_ram_are_legal, cases_with_faults_are_legal,
-    corner_cases_are_legal, failures_have_their_price, marks_at_a_cut, simple_cases_are_legal,
+    corner_cases_are_legal, failures_have_their_price, marks_at_a_cut, marks_that_are_asked_for,
+    simple_cases_are_legal,
 };
 pub use wrong_cases::{
     wrong_copies_are_refuted, wrong_jobs_are_refuted, wrong_posts_are_refuted,

@@ -2,6 +2,7 @@
 ghost use Rattle.std.specs.Prelude.{[], ◌∷◌, ◌≡◌, None, Some, true, ◌++◌};
 ghost use Rattle.block_config.specs.DemoConfig.{demo_config};
 ghost use Rattle.block_machine.specs.Words.{Content, Erased, Ask, BlockSkipped, CancelWriteAll, Canceled, Fine, Found, GetIndex, HistoryFull, IndexIs, IntegrityFailed, NotOk, NotStarted, Off, Post, Protected, PutRam, ReadAll, ReadAllJob, ReadJob, Restored, SetIndex, SetLock, SetRam, Sync, Write, WriteAll, WriteAllJob};
+ghost use Rattle.block_machine.specs.Accepted.{AsksFor};
 ghost use Rattle.block_machine.specs.Legal.{IsLegal};
 ghost use Rattle.block_machine.specs.History.{IsAllowedAt};
 ghost use Rattle.block_machine.specs.Prices.{prices_in_faults, prices_in_refusals};
@@ -68,4 +69,12 @@ pub fn marks_at_a_cut()
     ensures settled { IsAllowedAt demo_config write_then_read 10 (at 2 0) (Content bytes_1) }
     ensures no_longer { ¬ IsAllowedAt demo_config write_then_read 10 (at 2 0) Erased }
     ensures unknown { ¬ IsAllowedAt demo_config write_then_read 10 (at 9 0) Erased }
+{}
+
+/// A request to write a content asks for that one, of its block alone.
+pub fn marks_that_are_asked_for()
+    ensures own { AsksFor (Write 2 (Some bytes_1) 0) 2 (Content bytes_1) }
+    ensures other_content { ¬ AsksFor (Write 2 (Some bytes_1) 0) 2 (Content bytes_2) }
+    ensures other_block { ¬ AsksFor (Write 2 (Some bytes_1) 0) 3 (Content bytes_1) }
+    ensures erased { ¬ AsksFor (Write 2 (Some bytes_1) 0) 2 Erased }
 {}

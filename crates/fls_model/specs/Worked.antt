@@ -1,9 +1,9 @@
 -- What the worked cases take.
-use Rattle.std.specs.Prelude.{ℕ, List, [], ◌∷◌, Option, Some}
+use Rattle.std.specs.Prelude.{ℕ, Bool, List, [], ◌∷◌, Option, Some, None}
 use Rattle.nv_base.specs.Plan.{Planning, no_planning}
 use Rattle.fls_model.specs.declared.flash.FlashAnswer.TheVariants.{Done}
 use Rattle.fls_model.specs.Op.{Program}
-use Rattle.fls_model.specs.Told.{ToldBytes, Change}
+use Rattle.fls_model.specs.Told.{Told, ToldBytes, Change}
 
 -- a plan of a cut at the nth operation from now, with 7 bytes of it done
 abbrev pub planned_at : ℕ → Planning
@@ -20,6 +20,10 @@ behind keep withheld = record no_planning { came = keep ∷ []; withheld = withh
 -- a flash of no bytes that has this list, with room for so many more
 abbrev pub listing : Option (List Change) → ℕ → ToldBytes
 listing changes room = record { now = []; changes = changes; room = room }
+
+-- a flash that tells no bytes and counted so many cuts, off or on
+abbrev pub cut_so_often : ℕ → Bool → Told
+cut_so_often cuts off = record { geometry = record { page = 2; sector = 4; sectors = 1 }; bytes = None; ops = 0; faults = 0; cuts = cuts; off = off; planning = no_planning }
 
 -- a program of no bytes
 abbrev pub one_change : List Change

@@ -15,4 +15,4 @@ pub use call::{Call, program_call};
 pub use flash::{AttachFault, Flash, FlashAnswer};
 pub use image::may_leave;
 pub use memory::{MemFlash, mem_flash};
-pub use worked::{planned_cases, room_cases, worked_cases};
+pub use worked::{answer_cases, planned_cases, room_cases, worked_cases};

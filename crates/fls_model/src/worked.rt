@@ -1,10 +1,13 @@
 // Worked cases of the definitions.
-ghost use Rattle.std.specs.Prelude.{◌≡◌, [], ◌∷◌, Some, None};
+ghost use Rattle.std.specs.Prelude.{◌≡◌, [], ◌∷◌, Some, None, false, true};
+ghost use Rattle.nv_base.specs.Count.{Rose};
+ghost use Rattle.nv_base.specs.Held.{more_writes};
 ghost use Rattle.fls_model.specs.Op.{after_op, MayLeave, Program, Erase};
 ghost use Rattle.nv_base.specs.Plan.{Planning, planned, no_planning};
 ghost use Rattle.fls_model.specs.Plan.{PlanGoes};
-ghost use Rattle.fls_model.specs.Step.{IsChanged};
-ghost use Rattle.fls_model.specs.Worked.{planned_at, planning_to_keep, behind, listing, one_change};
+ghost use Rattle.fls_model.specs.Read.{IsRead};
+ghost use Rattle.fls_model.specs.Step.{HasCause, IsChanged};
+ghost use Rattle.fls_model.specs.Worked.{cut_so_often, planned_at, planning_to_keep, behind, listing, one_change};
 ghost use Rattle.fls_model.specs.declared.flash.FlashAnswer.TheVariants.{Done, Off};
 
 /// Worked cases of what operations do, and of what a cut may and may not leave.
@@ -40,4 +43,18 @@ pub fn room_cases()
     ensures full { IsChanged (Program 0 []) Done (listing (Some []) 0) (listing None 0) }
     ensures not_told { ¬ IsChanged (Program 0 []) Done (listing (Some []) 1) (listing None 0) }
     ensures two_places { ¬ IsChanged (Program 0 []) Done (listing (Some []) 2) (listing (Some one_change) 0) }
+{}
+
+/// Worked cases of counts and of answers: a count of faults that stands didn't rise, the power goes off with a cut that is counted,
+/// and while it is off nothing is read.
+pub fn answer_cases()
+    ensures rises { Rose 3 4 }
+    ensures stands { ¬ Rose 3 3 }
+    ensures cut { HasCause Off (cut_so_often 3 false) (cut_so_often 4 true) }
+    ensures without_a_cut { ¬ HasCause Off (cut_so_often 3 false) (cut_so_often 3 true) }
+    ensures read { IsRead 0 (cut_so_often 3 false) [] Done [] (cut_so_often 3 false) }
+    ensures read_while_off { ¬ IsRead 0 (cut_so_often 3 true) [] Done [] (cut_so_often 3 true) }
+    ensures writes { more_writes 1 7 ≡ 8 }
+    ensures last_write { more_writes 1 4294967295 ≡ 4294967295 }
+    ensures past_the_last { more_writes 1 4294967296 ≡ 4294967296 }
 {}

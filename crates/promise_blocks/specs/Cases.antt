@@ -15,6 +15,10 @@ use Rattle.promise_blocks.specs.Payment.{Worn}
 abbrev pub failed_write : List Entry
 failed_write = Found [] 0 ∷ Ask 0 (Write 3 (Some (replicate 20 1)) 0) Accepted ∷ Pick 3 WriteJob (TookContent (replicate 20 1) 0) 0 ∷ Post 3 NotOk None 0 7 ∷ []
 
+-- a second one behind it fails likewise, with no further operation
+abbrev pub failed_twice : List Entry
+failed_twice = failed_write ++ Ask 0 (Write 3 (Some (replicate 20 1)) 0) Accepted ∷ Pick 3 WriteJob (TookContent (replicate 20 1) 0) 7 ∷ Post 3 NotOk None 0 7 ∷ []
+
 -- it is worn out for no number; or for that of the block, 192, from so many operations on, for its urgent jobs or for its others
 abbrev pub never_worn : Worn
 never_worn operations number urgent = ⊥

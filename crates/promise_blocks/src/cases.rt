@@ -3,17 +3,22 @@ ghost use Rattle.std.specs.Prelude.{true, false};
 ghost use Rattle.block_machine.specs.block_config.DemoConfig.{demo_config};
 ghost use Rattle.promise_blocks.specs.Payment.{IsPaid, every_block};
 ghost use Rattle.promise_blocks.specs.Operations.{AreOfJobs, AreStartsTold};
-ghost use Rattle.promise_blocks.specs.Cases.{failed_write, never_worn, worn_from, written_once, picked_again, MayHave, second_below, two_parts};
+ghost use Rattle.promise_blocks.specs.Cases.{failed_write, failed_twice, never_worn, worn_from, written_once, picked_again, MayHave, second_below, two_parts};
 
-/// Two faults pay for a write that was tried twice, and so does a device that was worn out for it by then.
+/// Two faults pay for a write that was tried twice, and four for two, and so does a device that was worn out for it by then.
+#[tactic(auto, using(crate::proofs::PaidCases::of_both))]
 pub fn failures_that_are_paid()
     ensures faults { IsPaid every_block demo_config never_worn 3 5 failed_write }
+    ensures of_both { IsPaid every_block demo_config never_worn 3 7 failed_twice }
     ensures worn { IsPaid every_block demo_config (worn_from 7 true) 3 3 failed_write }
 {}
 
-/// One fault doesn't, nor does a device that is worn out later, or for jobs alone that aren't urgent, while this write is.
+/// One fault doesn't, nor do two or three for two of them, nor does a device that is worn out later, or for jobs alone that aren't
+/// urgent, while this write is.
 pub fn failures_that_are_not_paid()
     ensures one_fault { IsPaid every_block demo_config never_worn 3 4 failed_write → ⊥ }
+    ensures two_for_both { IsPaid every_block demo_config never_worn 3 5 failed_twice → ⊥ }
+    ensures three_for_both { IsPaid every_block demo_config never_worn 3 6 failed_twice → ⊥ }
     ensures worn_later { IsPaid every_block demo_config (worn_from 8 true) 3 3 failed_write → ⊥ }
     ensures worn_for_others { IsPaid every_block demo_config (worn_from 7 false) 3 3 failed_write → ⊥ }
 {}

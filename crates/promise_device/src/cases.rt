@@ -1,5 +1,6 @@
 // Whose operations they are, and whose room it is.
 ghost use Rattle.std.specs.Prelude.{◌≡◌, ℕ, [], ◌∷◌, ◌++◌, replicate, true, false};
+ghost use Rattle.nv_base.specs.Count.{last_count};
 ghost use Rattle.fls_model.specs.Op.{Program, Erase};
 ghost use Rattle.fls_model.specs.declared.flash.FlashAnswer.TheVariants.{Done, Failed, Off};
 ghost use Rattle.promise_device.specs.FlashRun.{AreSeen, IsChain, CountsAll};
@@ -44,7 +45,8 @@ pub fn answers_of_another_flash()
     ensures not_planned { AreSeen never 0 blank (erase program) (2 ∷ []) (erase (answered Failed)) → ⊥ }
 {}
 
-/// The flash counts each operation but those of which a planned cut let nothing be done.
+/// The flash counts each operation but those of which a planned cut let nothing be done. That a count stands at its end at the exit
+/// alone excuses none.
 pub fn counts_of_the_flash()
     ensures all { CountsAll (counted 2 (erase (answered Done))) [] }
     ensures in_part { CountsAll (counted 2 (erase program)) (1 ∷ []) }
@@ -52,6 +54,7 @@ pub fn counts_of_the_flash()
     ensures one_missed { CountsAll (counted 1 (erase (answered Done))) [] → ⊥ }
     ensures one_more { CountsAll (counted 2 (erase program)) (0 ∷ []) → ⊥ }
     ensures none_in_part { CountsAll (counted 1 (erase program)) (1 ∷ []) → ⊥ }
+    ensures at_its_end { CountsAll (counted last_count (erase program)) [] → ⊥ }
 {}
 
 /// Over a bank of eight free pages the four that are kept are ready, also beside the job that takes the other four, which has as
