@@ -8,10 +8,10 @@ use Rattle.nv_base.specs.declared.job.DeviceOp.{DeviceOp}
 use Rattle.nv_base.specs.declared.job.DeviceOp.TheVariants.{Read, Write, Invalidate, Erase}
 use Rattle.nv_base.specs.Held.{never_written}
 use Rattle.memif.specs.declared.answer.JobResult.{JobResult}
-use Rattle.memif.specs.Told.{Part, First, Figures, no_figures, Slot, no_slot, slot_at, Job, Open, figures_at, most_of, most_open, op_of, is_open}
+use Rattle.memif.specs.Told.{Part, First, Figures, no_figures, Slot, no_slot, slot_at, Job, Open, figures_at, most_of, most_open, op_of}
 use Rattle.memif.specs.Marks.{IsPossible}
 use Rattle.memif.specs.Clock.{FindsNow}
-use Rattle.memif.specs.Calls.{InOrder, IsOf, FreesReady, RoomIsLeft, urgent_first, is_first, pages_needed, is_read}
+use Rattle.memif.specs.Calls.{InOrder, IsOf, FreesReady, RoomIsLeft, urgent_first, is_first, job_first, pages_needed, is_read}
 use Rattle.fls_model.specs.Attach.{AreBytesOf}
 use Rattle.fls_model.specs.Told.{Told, bytes_now}
 use Rattle.fls_told.specs.Device.{FlashDevice, slot_with}
@@ -184,7 +184,7 @@ module _ (m : Making) (entry : Told) (s : Parts) (sound : IsSound m entry s) whe
   frees_ready : FreesReady (told_of m entry s) (clock_of m entry s)
   frees_ready started on pages spare = omega arith
 
-  needs : (o : Option EaJob) → IfSome o (IsJob m s) → is_open (stand_of s.content o s.last s.given) ≡ true → is_read (stand_of s.content o s.last s.given) ≡ false → 1 ≤ pages_needed (fixed_for m) (stand_of s.content o s.last s.given)
+  needs : (o : Option EaJob) → IfSome o (IsJob m s) → job_first (fixed_for m) (stand_of s.content o s.last s.given) ≡ true → is_read (stand_of s.content o s.last s.given) ≡ false → 1 ≤ pages_needed (fixed_for m) (stand_of s.content o s.last s.given)
   needs None is opened no_read = cc opened
   needs (Some j) is opened no_read = by_op j.op no_read
     where

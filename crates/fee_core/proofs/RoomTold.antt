@@ -1,7 +1,8 @@
 -- What a device tells of its room and its turns.
 use Rattle.std.specs.Prelude.{◌&&◌, IfSome, is_some, min, option_map}
 use Rattle.std.proofs.Common.{◌≡◌, ◌≤◌, ◌+◌, Bool, true, false, List, ℕ, Option, Some, None, refl, ◌∙◌, subst, arith}
-use Rattle.memif.specs.Calls.{FreesReady, RoomIsLeft, pages_needed, pages_open, pages_urgent}
+use Rattle.memif.specs.Told.{Fixed, Stand, Open, Ended, is_open}
+use Rattle.memif.specs.Calls.{FreesReady, RoomIsLeft, job_first, pages_needed, pages_open, pages_urgent}
 use Rattle.fls_model.specs.Told.{Told, ToldBytes}
 use Rattle.fee_log.specs.Log.{IsLogState}
 use Rattle.fee_course.specs.declared.course.Course.{Course}
@@ -64,15 +65,19 @@ free_told m entry w sound banks log started on s spare =
     let most = now_is w.parts.fls.flash.bytes (λ x. min m.reserve (free_pages m w.parts.operations x) ≤ d.ready + pages_urgent d.fixed d.stand) image is all in
     omega (arith, few, most)
 
+open_first : (f : Fixed) (stand : Stand) → job_first f stand ≡ true → is_open stand ≡ true
+open_first f (Open j) first = refl
+open_first f (Ended result given) first = cc first
+
 -- and enough for a job that needs no more
 pub enough_told : (m : Making) (entry : Told) (w : Whole) → Sound m entry w → IsBanksState w.parts.banks → IsLogState w.parts.banks.log → RoomIsLeft (told_in m entry w) (clock_in m entry w)
-enough_told m entry w sound banks log started on shut open' other s spare needed =
+enough_told m entry w sound banks log started on shut first other s spare needed =
     let up = sound.parts.off started ∙ on in
     let (told, (image, is, few)) = free_now (flash_device (device_of m entry w.parts)) s spare in
     let d = told_in m entry w in
     let all = room_is_enough m entry w.parts w.numbers w.reserve w.ops
     (record { sound = subst (λ (x : Bool). IsSound m entry w.parts w.numbers w.reserve w.ops x) up sound.parts; started = started; banks = banks; log = log })
-    (none_open w.parts.started w.parts.banks.course w.parts.banks _ started shut) sound.follows open' other in
+    (none_open w.parts.started w.parts.banks.course w.parts.banks _ started shut) sound.follows (open_first d.fixed d.stand first) other in
     now_is w.parts.fls.flash.bytes (λ x. pages_needed d.fixed d.stand ≤ free_pages m w.parts.operations x → d.left ≤ pages_open d.fixed d.stand) image is all (omega (arith, few, needed))
 
 -- as its fields show it, w, of what is known, v

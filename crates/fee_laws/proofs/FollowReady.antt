@@ -1,5 +1,5 @@
 -- What the bytes of a device over banks have free is ready for urgent writes, as far as it is kept.
-use Rattle.std.specs.Prelude.{IsTrue, ◌&&◌, is_some, min, nat_le, if◌then◌else◌}
+use Rattle.std.specs.Prelude.{IsTrue, ◌&&◌, is_some, min, nat_le, take, if◌then◌else◌}
 use Rattle.std.specs.Option.{option_map_or}
 use Rattle.std.proofs.Common.{◌≡◌, ◌⊎◌, inl, inr, ◌≤◌, ◌+◌, ℕ, Bool, true, false, List, Option, Some, None, refl, ap, ◌∙◌, arith}
 use Rattle.nv_base.specs.declared.instance.DeviceNumber.{DeviceNumber}
@@ -23,7 +23,7 @@ use Rattle.fee_told.specs.Figures.{ready_of}
 use Rattle.fee_told.specs.Slots.{banks_with, may_told}
 use Rattle.fee_told.specs.SlotLaws.{IsHeld}
 use Rattle.fee_laws.specs.declared.job.FeeJob.{FeeJob}
-use Rattle.fee_laws.specs.Inside.{Parts, body_of, device_of, memory_of, stand_of}
+use Rattle.fee_laws.specs.Inside.{Parts, body_of, device_of, mark_of, memory_of, stand_of}
 use Rattle.fee_laws.specs.Turn.{IsOn}
 use Rattle.fee_laws.specs.Work.{pages_free, pages_of_op, seal_turns, claimed, takes_append, is_waiting, fits_in, is_urgent_job}
 use Rattle.fee_laws.specs.Follows.{FollowsBytes}
@@ -31,6 +31,7 @@ use Rattle.fee_laws.specs.FollowLaws.{FreeIsReady}
 use Rattle.fee_laws.proofs.Before.{copied, each_now, held_before, legal, now_at, power}
 use Rattle.fee_laws.proofs.FollowFree.{free_there, own_few}
 use Rattle.fee_laws.proofs.FollowRoom.{claims}
+use Rattle.fee_laws.proofs.Order.{urgent_is}
 use Rattle.fee_laws.proofs.WornShown.{active_is, behind_by, none_is}
 use Rattle.fee_switch_laws.specs.Space.{free_pages}
 use Rattle.fee_format.specs.declared.rec_head.RecHead.{RecHead}
@@ -100,7 +101,8 @@ module _ (m : Making) (entry : Told) (s : Parts) (listed : List (DeviceNumber ×
   hidden_by j job true urgent =
       let its = claims m entry s listed kept count on bytes follows (Some j) job in
       let own = own_few m entry s listed kept count on bytes follows (Some j) job in
-      let all = ap (λ (u : Bool). if u then pages_open (fixed_of (device_of m entry s)) (stand_of s.content (Some j) s.last s.given) else 0) urgent in
+      let all = ap (λ (u : Bool). if u then pages_open (fixed_of (device_of m entry s)) (stand_of s.content (Some j) s.last s.given) else 0)
+      (urgent_is m (record { number = j.number.0; mark = mark_of j.op (take j.length s.content); urgent = j.urgent }) ∙ urgent) in
       inl (omega (arith, its, own, all))
   hidden_by j job false calm = inr (
     ap (λ (x : Bool). if x then pages_of_op s.banks.geometry.page j.op j.length else 0) (none_begins (takes_append s.banks.course) j.urgent (is_waiting s.banks j) (fits_in 0 s.banks j) calm),

@@ -9,7 +9,7 @@ use Rattle.nv_base.specs.declared.mark.Mark.{Mark}
 use Rattle.memif.specs.declared.answer.DeviceTurn.TheVariants as turn
 use Rattle.memif.specs.declared.answer.JobResult.{JobResult}
 use Rattle.memif.specs.declared.answer.JobResult.TheVariants.{JobFailed, JobPending}
-use Rattle.memif.specs.Told.{DeviceTold, First, Job, Slot, Stand, Ended, is_open, length_of, slot_at, is_urgent}
+use Rattle.memif.specs.Told.{DeviceTold, First, Job, Slot, Stand, Ended, is_open, length_of, slot_at}
 use Rattle.memif.specs.Calls.{JobTurns, EndsAs, Nearer, Reads, ReadsAt, Gives, urgent_first}
 use Rattle.fls_model.specs.Told.{Told, ToldBytes, bytes_now}
 use Rattle.fls_jobs.specs.declared.answer.FlsResult.{FlsResult}
@@ -178,9 +178,6 @@ module _ (m : Making) (entry : Told) (s : Parts) (listed : List (DeviceNumber ×
   calm_by true e' = let op = job_of.urgent e' in let read = is.op in cc (op, read)
   calm_by false e' = e'
 
-  calm_before : is_urgent (told_of d).stand ≡ false
-  calm_before = subst (λ (o : Option FeeJob). is_urgent (at o) ≡ false) (sym is.job) (calm_by j.urgent refl)
-
   not_urgent : urgent_first (fixed_in m) (at s.job) ≡ false
   not_urgent = subst (λ (o : Option FeeJob). urgent_first (fixed_in m) (at o) ≡ false) (sym is.job) (urgent_is m asks ∙ calm_by j.urgent refl)
 
@@ -225,7 +222,7 @@ module _ (m : Making) (entry : Told) (s : Parts) (listed : List (DeviceNumber ×
       read = λ read. (refl, same_slots);
       nearer = inl lower;
       ready = λ calm. if_else (urgent_first (fixed_in m) (at s.job)) (Nearer (told_of d) (told_of e)) ((told_of d).ready ≤ (told_of e).ready) (λ urgent. (let calm' = not_urgent in absurd (cc (urgent, calm')))) (λ calm'. ready_same);
-      seals = λ still sealing. record { switching = sealing.switching; ready = λ calm. (let same = ready_same in let had = sealing.ready calm_before in omega (arith, same, had)) };
+      seals = λ still sealing. record { switching = sealing.switching; ready = λ calm. (let same = ready_same in let had = sealing.ready not_urgent in omega (arith, same, had)) };
       worn = inl refl;
       turn_taken = takes_one m entry s t (λ on. on) falls_at;
     })

@@ -76,7 +76,7 @@ pages_open f (Open j) = record_pages f j
 pages_open f (Ended result given) = 0
 
 abbrev pub pages_urgent : Fixed → Stand → ℕ
-pages_urgent f stand = if is_urgent stand then pages_open f stand else 0
+pages_urgent f stand = if urgent_first f stand then pages_open f stand else 0
 
 -- the free pages that the open job needs: one that isn't urgent leaves those that are kept
 abbrev pub pages_needed : Fixed → Stand → ℕ
@@ -88,10 +88,16 @@ pages_needed f stand = pages_open f stand + (if is_urgent stand then 0 else f.re
 abbrev pub FreesReady : DeviceTold → Clock → Type 0
 FreesReady d c = d.started ≡ true → d.first.off ≡ false → (s : ℕ) → c.spare d.ops s → min d.fixed.reserve s ≤ d.ready + pages_urgent d.fixed d.stand
 
--- With no switch open a job other than a read takes no more turns than the pages of its record, where the pages that it needs are free.
+-- a job of the first part is open
+abbrev pub job_first : Fixed → Stand → Bool
+job_first f (Open j) = is_first (part_of f j)
+job_first f (Ended result given) = false
+
+-- With no switch open a job of the first part other than a read takes no more turns than the pages of its record, where the pages that
+-- it needs are free.
 abbrev pub RoomIsLeft : DeviceTold → Clock → Type 0
 RoomIsLeft d c =
-    d.started ≡ true → d.first.off ≡ false → d.switching ≡ false → is_open d.stand ≡ true → is_read d.stand ≡ false
+    d.started ≡ true → d.first.off ≡ false → d.switching ≡ false → job_first d.fixed d.stand ≡ true → is_read d.stand ≡ false
     → (s : ℕ) → c.spare d.ops s → pages_needed d.fixed d.stand ≤ s → d.left ≤ pages_open d.fixed d.stand
 
 -- behind any call but a turn: the clock is as it was
@@ -126,7 +132,7 @@ pub record Opens (j : Job) (old new : DeviceTold) : Type 0 where
   pub left_low : old.left ≤ new.left
   pub left_high : new.left ≤ old.left + most_of (figures_at old.fixed j.number) (op_of j.mark)
   -- beside an open switch by its pages and an owed gate, and once more where it is urgent, so that its number is copied anew
-  pub left_beside : old.fixed.two ≡ false → old.switching ≡ true → new.left ≤ old.left + (if j.urgent then 2 else 1) * (record_pages old.fixed j + 1)
+  pub left_beside : part_of old.fixed j ≡ First → old.switching ≡ true → new.left ≤ old.left + (if j.urgent then 2 else 1) * (record_pages old.fixed j + 1)
   pub ready : IfElse (urgent_first old.fixed (Open j)) (IsPrompt (figures_at old.fixed j.number).pages old new) ((old.ready ≤ new.ready))
 
 -- taken exactly where no refusal holds; refused with the first that holds, and then nothing changes
@@ -214,7 +220,7 @@ MayFail p j old new clock_new = Rose (part_at p old).faults (part_at p new).faul
 -- A switch goes on, and all pages that are kept are ready. So it is behind an operation that left it at its seal, up to the next one.
 pub record IsSealing (d : DeviceTold) : Type 0 where
   pub switching : d.switching ≡ true
-  pub ready : is_urgent d.stand ≡ false → d.fixed.reserve ≤ d.ready
+  pub ready : urgent_first d.fixed d.stand ≡ false → d.fixed.reserve ≤ d.ready
 
 -- the turn works on the part of the open job; with none open, on the first one, whose alone the device's own work is
 abbrev pub IsOf : Part → Fixed → Stand → Type 0

@@ -1,5 +1,5 @@
 -- A start of a job on the device of its number is one on the pair.
-use Rattle.std.specs.Prelude.{◌==◌, ◌&&◌}
+use Rattle.std.specs.Prelude.{◌==◌, ◌&&◌, ◌+◌, ◌*◌, is_some}
 use Rattle.std.proofs.Common.{◌≡◌, ◌≤◌, ℕ, Bool, true, false, if◌then◌else◌, List, Option, Some, None, Result, Ok, Err, refl, sym, ap, ◌∙◌, subst, arith}
 use Rattle.nv_base.specs.declared.mark.Mark.{Mark}
 use Rattle.memif.specs.declared.answer.DeviceRefusal.{DeviceRefusal}
@@ -7,7 +7,7 @@ use Rattle.memif.specs.declared.answer.DeviceRefusal.TheVariants.{Busy, Uninit}
 use Rattle.memif.specs.Told.{DeviceTold, Fixed, Figures, Slot, Part, First, Second, Stand, Open, figures_at, length_of, slot_at, is_open, most_of, op_of, IfElse}
 use Rattle.memif.specs.Marks.{Keeps, Doubts, DoubtsAt, IfTold}
 use Rattle.memif.specs.Clock.{Clock}
-use Rattle.memif.specs.Calls.{InOrder, Wish, Opens, Accepts, IsPrompt, refusal_of, length_refusal, urgent_first, is_first}
+use Rattle.memif.specs.Calls.{InOrder, Wish, Opens, Accepts, IsPrompt, record_pages, refusal_of, length_refusal, urgent_first, is_first}
 use Rattle.memif_pair.specs.Pair.{told_both, fixed_both, slots_both, is_second, numbers_in, stand_both}
 use Rattle.memif_pair.specs.Laws.{pair_clock}
 use Rattle.memif_pair.specs.Together.{AreTogether, IsOwnJob, OfPair, Looks, noted}
@@ -23,6 +23,9 @@ true_false is = cc is
 
 false_true : false ≡ true → ⊥
 false_true is = cc is
+
+second_first : Second ≡ First → ⊥
+second_first is = cc is
 
 -- REFUSALS
 abbrev refusal_by : Option ℕ → Bool → Bool → Option ℕ → Option DeviceRefusal
@@ -87,6 +90,9 @@ module _ (a : DeviceTold) (ca : Clock) (b : DeviceTold) (cb : Clock) (last : Boo
       most_here : most_of (figures_at (fixed_both a.fixed b.fixed) w.job.number) (op_of w.job.mark) ≡ most_of (figures_at a.fixed w.job.number) (op_of w.job.mark)
       most_here = ap (λ (x : Figures). most_of x (op_of w.job.mark)) figures_here ∙ most_same (figures_at a.fixed w.job.number) First (op_of w.job.mark)
 
+      pages_here : record_pages (fixed_both a.fixed b.fixed) w.job ≡ record_pages a.fixed w.job
+      pages_here = ap (λ (x : Figures). if is_some w.job.mark then x.pages else 0) figures_here
+
       urgent_here : urgent_first (fixed_both a.fixed b.fixed) (Open w.job) ≡ urgent_first a.fixed (Open w.job)
       urgent_here = ap (λ (p : Part). w.job.urgent && is_first p) (ap (λ (x : Figures). x.part) figures_here ∙ sym (t.part w.job.number))
 
@@ -104,7 +110,9 @@ module _ (a : DeviceTold) (ca : Clock) (b : DeviceTold) (cb : Clock) (last : Boo
         marks = marks_first w.job.mark opens.marks;
         left_low = (let low = opens.left_low in omega (arith, low));
         left_high = (let high = opens.left_high in let most = most_here in omega (arith, high, most));
-        left_beside = λ one. cc one;
+        left_beside = λ first switching.
+            subst (λ (p : ℕ). anew.left + b.left ≤ a.left + b.left + (if w.job.urgent then 2 else 1) * (p + 1)) (sym pages_here)
+            (let few = opens.left_beside (t.part w.job.number) switching in omega (arith, few));
         ready =
             subst (λ (u : Bool). IfElse u (IsPrompt (figures_at (fixed_both a.fixed b.fixed) w.job.number).pages (told_both a b last course) new_first) (a.ready ≤ anew.ready)) (sym urgent_here)
             (subst (λ (x : Figures). IfElse (urgent_first a.fixed (Open w.job)) (IsPrompt x.pages (told_both a b last course) new_first) (a.ready ≤ anew.ready)) (sym figures_here) opens.ready);
@@ -180,7 +188,7 @@ module _ (a : DeviceTold) (ca : Clock) (b : DeviceTold) (cb : Clock) (last : Boo
         marks = marks_second w.job.mark opens.marks;
         left_low = (let low = opens.left_low in omega (arith, low));
         left_high = (let high = opens.left_high in let most = most_there in omega (arith, high, most));
-        left_beside = λ one. cc one;
+        left_beside = λ first switching. absurd (second_first (sym (ap (λ (x : Figures). x.part) figures_there) ∙ first));
         ready = subst (λ (u : Bool). IfElse u (IsPrompt (figures_at (fixed_both a.fixed b.fixed) w.job.number).pages (told_both a b last course) new_second) (a.ready ≤ a.ready)) (sym never_urgent) (omega arith);
       }
 

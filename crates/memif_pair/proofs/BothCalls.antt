@@ -3,7 +3,7 @@ use Rattle.std.proofs.Common.{◌≡◌, Bool, List, subst}
 use Rattle.memif.specs.declared.answer.DeviceTurn.{DeviceTurn}
 use Rattle.memif.specs.Told.{DeviceTold}
 use Rattle.memif.specs.Clock.{Clock}
-use Rattle.memif.specs.Calls.{InOrder, Turns}
+use Rattle.memif.specs.Calls.{Turns}
 use Rattle.memif_pair.specs.Pair.{told_both}
 use Rattle.memif_pair.specs.Laws.{pair_clock}
 use Rattle.memif_pair.specs.Together.{AreTogether, IsUp, OfBoth, OfPair, PairGoes, PairTurns}
@@ -43,6 +43,7 @@ module _ {A B : Type 0} (ta : A → DeviceTold) (ca : A → Clock) (tb : B → D
   pub asked : (Says : DeviceTold → Type 0) → OfBoth Says t.last (ta t.first) (tb t.second) → Says (told_as ta tb s)
   asked Says of = subst (λ (d : BothState A B). Says (told_as ta tb d)) same (of t.course is.together)
 
-  pub ordered : ((last : Bool) (course : List Bool) → AreTogether (ta t.first) (tb t.second) last course → InOrder (told_both (ta t.first) (tb t.second) last course) (pair_clock (ca t.first) (tb t.second) (cb t.second) course))
-      → InOrder (told_as ta tb s) (clock_as ca tb cb s)
-  ordered order = subst (λ (d : BothState A B). InOrder (told_as ta tb d) (clock_as ca tb cb d)) same (order t.last t.course is.together)
+  pub looked : (Says : DeviceTold → Clock → Type 0)
+      → ((last : Bool) (course : List Bool) → AreTogether (ta t.first) (tb t.second) last course → Says (told_both (ta t.first) (tb t.second) last course) (pair_clock (ca t.first) (tb t.second) (cb t.second) course))
+      → Says (told_as ta tb s) (clock_as ca tb cb s)
+  looked Says says = subst (λ (d : BothState A B). Says (told_as ta tb d) (clock_as ca tb cb d)) same (says t.last t.course is.together)

@@ -84,6 +84,7 @@ module _ (answer : DeviceTurn) (a : DeviceTold) (ca : Clock) (b : DeviceTold) (c
             one = record { first = λ first. absurd (true_false (sym first ∙ closed)); second = λ second. refl };
             part = t.part;
             lengths = subst (λ (g : Fixed). LengthsStay a.fixed g) (sym fixed) t.lengths;
+            own = ap (λ (f : Fixed). f.own) fixed ∙ t.own;
             first_job = own_same false b bnew a.stand fixed t.first_job;
             second_job = own_same true b bnew bnew.stand fixed (second_job b cb bnew cb_new job.0 job.1 of answer turns);
           },
@@ -100,6 +101,7 @@ module _ (answer : DeviceTurn) (a : DeviceTold) (ca : Clock) (b : DeviceTold) (c
           one = one;
           part = λ n. ap (λ (f : Fixed). (figures_at f n).part) fixed ∙ t.part n;
           lengths = subst (λ (f : Fixed). LengthsStay f b.fixed) (sym fixed) t.lengths;
+          own = t.own;
           first_job = job;
           second_job = t.second_job;
         }

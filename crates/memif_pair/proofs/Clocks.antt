@@ -6,8 +6,8 @@ use Rattle.nv_base.specs.Count.{last_count}
 use Rattle.memif.specs.declared.answer.DeviceTurn.{DeviceTurn}
 use Rattle.memif.specs.declared.answer.DeviceTurn.TheVariants.{Idle, Worked, Off}
 use Rattle.memif.specs.Told.{DeviceTold, Held, First, Second, IfElse}
-use Rattle.memif.specs.Clock.{Clock, SameClock, Past, When, After, CutIn, GoesOff}
-use Rattle.memif_pair.specs.PairClock.{own, IsCourse, FoundBoth, FindsAfterBoth, FindsCutBoth, may_find_both, OffBoth, FailedBoth, WornBoth, OfSecond, reach, clock_both}
+use Rattle.memif.specs.Clock.{Clock, SameClock, Past, When, After, CutIn, GoesOff, Trait}
+use Rattle.memif_pair.specs.PairClock.{own, IsCourse, FoundBoth, FindsAfterBoth, FindsCutBoth, may_find_both, OffBoth, FailedBoth, WornBoth, OfSecond, SpareBoth, WasBoth, reach, clock_both}
 use Rattle.memif_pair.specs.Laws.{Goes}
 use Rattle.memif_pair.proofs.Courses.{own_few, own_front, own_push, own_grows, own_most, own_within, within, get_front, get_last, length_push}
 
@@ -151,8 +151,21 @@ module _ (of : ℕ → Bool) (a : DeviceTold) (ca : Clock) (anew : DeviceTold) (
         λ out. record { small = out.small; second = out.second; is = same ∙ out.is; failed = (failed_by out.second k few out.is).0 out.failed },
       )
 
+  -- a free page, and what an operation was, as the first device tells it
+  past_spare : (k s : ℕ) → k ≤ min (length course) last_count → SpareBoth next ca_new k s → SpareBoth course ca k s
+  past_spare k s le out =
+      let few : k ≤ length course = omega (arith, le) in
+      record { small = out.small; made = few; spare = past.spare (own false course k) s (most_first k) (subst (λ (n : ℕ). ca_new.spare n s) (same_own false k few) out.spare) }
+
+  past_was : (t : Trait) (k : ℕ) → k < min (length course) last_count → WasBoth next ca_new t k → WasBoth course ca t k
+  past_was t k lt out =
+      let few : k < length course = omega (arith, lt) in
+      let at : slice_get course k ≡ Some false = sym (same_get k few) ∙ out.is in
+      let early : own false course k < a.ops = (let less = own_within false course k false at refl in let all = is.first in omega (arith, less, all)) in
+      record { small = out.small; is = at; was = past.was t (own false course k) early (subst (λ (n : ℕ). ca_new.was t n) (same_own false k (omega (arith, few))) out.was) }
+
   pub first_past : Past (min (length course) last_count) (clock_both of course ca cb) (clock_both of next ca_new cb)
-  first_past = record { after = past_after; cut = past_cut; failed = past_failed; worn = λ k n urgent le. past_worn k n urgent; of_second = past_second; spare = λ k s le none. none; was = λ t k lt none. none }
+  first_past = record { after = past_after; cut = past_cut; failed = past_failed; worn = λ k n urgent le. past_worn k n urgent; of_second = past_second; spare = past_spare; was = past_was }
 
   -- THE OPERATION OF THIS TURN
   same_bool : (p q : Bool) → ◌≡◌ {A = Option Bool} (Some p) (Some q) → p ≡ q
@@ -209,6 +222,13 @@ module _ (of : ℕ → Bool) (a : DeviceTold) (ca : Clock) (anew : DeviceTold) (
       by : (q : Bool) → q ≡ false → IfElse q (cb.failed (own true next k)) (ca_new.failed a.ops) → ca_new.failed a.ops
       by true same out = cc
       by false same out = out
+
+  -- what it was
+  pub first_was : (t : Trait) (k : ℕ) → min (length course) last_count ≤ k → k < min (length next) last_count → WasBoth next ca_new t k → ca_new.was t a.ops
+  first_was t k le lt out =
+      let now = is_now k le lt in
+      let first : own false next k ≡ a.ops = ap (own false next) now.at ∙ (same_own false (length course) (omega arith) ∙ is.first) in
+      subst (λ (n : ℕ). ca_new.was t n) first out.was
 
   -- WHERE THE POWER WENT OFF
   module _ (answer : DeviceTurn) (off : (k : ℕ) → ca_new.off_in k → (ca.off_in k × ((k < a.ops) ⊎ (last_count ≤ k))) ⊎ GoesOff answer a.ops anew.ops k) where
@@ -306,8 +326,14 @@ same_both of course ca ca_new cb cb_new same other = record {
   failed = λ k. (failed_same of course ca_new ca cb_new cb (λ j. (same.failed j).0) (λ j. (other.failed j).0) k, failed_same of course ca ca_new cb cb_new (λ j. (same.failed j).1) (λ j. (other.failed j).1) k);
   worn = λ k n urgent. (worn_same of course ca_new ca cb_new cb (λ j x b. (same.worn j x b).0) (λ j x b. (other.worn j x b).0) k n urgent, worn_same of course ca ca_new cb cb_new (λ j x b. (same.worn j x b).1) (λ j x b. (other.worn j x b).1) k n urgent);
   of_second = λ k. (λ is. is, λ is. is);
-  spare = λ k s. (λ is. is, λ is. is);
-  was = λ t k. (λ is. is, λ is. is);
+  spare = λ k s. (
+    λ out. record { small = out.small; made = out.made; spare = (same.spare (own false course k) s).0 out.spare },
+    λ out. record { small = out.small; made = out.made; spare = (same.spare (own false course k) s).1 out.spare },
+  );
+  was = λ t k. (
+    λ out. record { small = out.small; is = out.is; was = (same.was t (own false course k)).0 out.was },
+    λ out. record { small = out.small; is = out.is; was = (same.was t (own false course k)).1 out.was },
+  );
 }
 
 pub same_self : (c : Clock) → SameClock c c

@@ -54,6 +54,16 @@ own_within p (c ∷ cs) zero q at one =
     omega (arith, here)
 own_within p (c ∷ cs) (suc k) q at one = let rest = own_within p cs k q at one in omega (arith, rest)
 
+-- an operation counts where it is one of its own
+pub own_step : (p : Bool) (cs : List Bool) (k : ℕ) (q : Bool) → slice_get cs k ≡ Some q → own p cs (suc k) ≡ own p cs k + one_if p q
+own_step p [] k q at = cc
+own_step p (c ∷ cs) zero q at =
+    let same : c ≡ q = cc in
+    let here : one_if p c ≡ one_if p q = ap (one_if p) same in
+    let none = own_few p cs zero in
+    omega (arith, none, here)
+own_step p (c ∷ cs) (suc k) q at = let rest = own_step p cs k q at in omega (arith, rest)
+
 pub within : (cs : List Bool) (k : ℕ) (q : Bool) → slice_get cs k ≡ Some q → k < length cs
 within [] k q at = cc
 within (c ∷ cs) zero q at = omega arith

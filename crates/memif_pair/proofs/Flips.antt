@@ -9,7 +9,7 @@ use Rattle.memif.specs.Calls.{InOrder}
 use Rattle.memif_pair.specs.Pair.{told_both, is_second, ArePair}
 use Rattle.memif_pair.specs.PairClock.{one_if, own, IsCourse, FoundBoth, reach, clock_both}
 use Rattle.memif_pair.specs.Laws.{Goes, SecondTicks, pair_clock}
-use Rattle.memif_pair.proofs.Courses.{get_front}
+use Rattle.memif_pair.proofs.Courses.{get_front, own_front}
 use Rattle.memif_pair.proofs.Ticking.{possible_both}
 use Rattle.memif_pair.proofs.Clocks.{first_past, first_cut, first_failed, first_off, is_now}
 
@@ -176,6 +176,12 @@ module _ (answer : DeviceTurn) (a : DeviceTold) (ca : Clock) (b : DeviceTold) (c
     | inr more ↦ ap (λ cs. slice_get cs k) more.1 ∙ get_front course true k lt
   ]
 
+  first_same : (k : ℕ) → k ≤ length course → own false next k ≡ own false course k
+  first_same k le = elim goes.one [
+    | inl still ↦ ap (λ cs. own false cs k) still.1
+    | inr more ↦ ap (λ cs. own false cs k) more.1 ∙ own_front false course true k le
+  ]
+
   before : (k : ℕ) → min (length course) last_count ≤ k → min (length (flip course)) last_count ≤ k
   before k le = let same = length_flip course in omega (arith, same, le)
 
@@ -189,6 +195,12 @@ module _ (answer : DeviceTurn) (a : DeviceTold) (ca : Clock) (b : DeviceTold) (c
     past : Past (min (length (flip course)) last_count) (clock_both (opposite of) (flip course) cb ca) (clock_both (opposite of) (flip next) cb_new ca)
     past = first_past (opposite of) b cb bnew cb_new a ca (flip course) (flip next) there moves ticks.past
 
+    -- its operation is no one of the first device
+    second_now : (k : ℕ) → min (length (flip course)) last_count ≤ k → k < min (length (flip next)) last_count → slice_get next k ≡ Some false → ⊥
+    second_now k le lt first =
+        let now = is_now (opposite of) b cb bnew cb_new a ca (flip course) (flip next) there moves ticks.past k le lt in
+        let second : slice_get next k ≡ Some true = subst (λ (cs : List Bool). slice_get cs k ≡ Some true) (flip_twice next) (get_flip (flip next) k false now.last) in cc (first, second)
+
     second_past : Past (min (length course) last_count) from to
     second_past = record {
       after = λ k m le finds. (flips_back of course ca cb).may_find (After k) m (past.after k m (let same = length_flip course in omega (arith, same, le)) ((flips of next ca cb_new).may_find (After k) m finds));
@@ -199,8 +211,8 @@ module _ (answer : DeviceTurn) (a : DeviceTold) (ca : Clock) (b : DeviceTold) (c
       );
       worn = λ k n urgent le worn. (flips_back of next ca cb_new).worn k n urgent (past.worn k n urgent (let same = length_flip course in omega (arith, same, le)) ((flips of course ca cb).worn k n urgent worn));
       of_second = λ k lt. let same = same_get k (omega (arith, lt)) in (λ one. record { small = one.small; is = sym same ∙ one.is }, λ one. record { small = one.small; is = same ∙ one.is });
-      spare = λ k s le none. none;
-      was = λ t k lt none. none;
+      spare = λ k s le out. let few : k ≤ length course = omega (arith, le) in record { small = out.small; made = few; spare = subst (λ (n : ℕ). ca.spare n s) (first_same k few) out.spare };
+      was = λ t k lt out. let few : k < length course = omega (arith, lt) in record { small = out.small; is = sym (same_get k few) ∙ out.is; was = subst (λ (n : ℕ). ca.was t n) (first_same k (omega (arith, few))) out.was };
     }
 
     second_off : (k : ℕ) → to.off_in k → (from.off_in k × ((k < min (length course) last_count) ⊎ (last_count ≤ k))) ⊎ GoesOff answer (min (length course) last_count) (min (length next) last_count) k
@@ -223,7 +235,7 @@ module _ (answer : DeviceTurn) (a : DeviceTold) (ca : Clock) (b : DeviceTold) (c
       failed = λ k le lt out.
           let now = is_now (opposite of) b cb bnew cb_new a ca (flip course) (flip next) there moves ticks.past k (before k le) (behind k lt) in
           ticks.failed b.ops (omega arith) (let rose = now.rose in omega (arith, rose)) (first_failed (opposite of) b cb bnew cb_new a ca (flip course) (flip next) there moves ticks.past k (before k le) (behind k lt) ((flips of next ca cb_new).failed k out));
-      kept = λ k le lt none. absurd none;
+      kept = λ k le lt out. absurd (second_now k (before k le) (behind k lt) out.is);
       part = λ k le lt.
           let now = is_now (opposite of) b cb bnew cb_new a ca (flip course) (flip next) there moves ticks.past k (before k le) (behind k lt) in
           (λ one. refl, λ same. record { small = now.small; is = subst (λ (cs : List Bool). slice_get cs k ≡ Some true) (flip_twice next) (get_flip (flip next) k false now.last) });

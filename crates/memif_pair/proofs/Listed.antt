@@ -75,6 +75,7 @@ made_both a b paired =
         one = record { first = λ on. refl; second = λ on. absurd (let wrong : true ≡ false = sym on ∙ closed_b in cc wrong) };
         part = paired.part;
         lengths = lengths_are a.fixed.numbers 0 b.fixed.numbers paired.pair.apart paired.ascend;
+        own = paired.own;
         first_job = no_own false b a.stand closed_a;
         second_job = no_own true b b.stand closed_b;
       };

@@ -52,7 +52,7 @@ most_closed f (Open j) closed = cc
 most_closed f (Ended result given) closed = refl
 
 -- URGENT JOBS
-urgent_of : (a b : DeviceTold) (stand : Stand) → IsFirstJob b stand → urgent_first (fixed_both a.fixed b.fixed) stand ≡ false → urgent_first a.fixed stand ≡ false
+pub urgent_of : (a b : DeviceTold) (stand : Stand) → IsFirstJob b stand → urgent_first (fixed_both a.fixed b.fixed) stand ≡ false → urgent_first a.fixed stand ≡ false
 urgent_of a b (Open j) of none =
     let first : part_of (fixed_both a.fixed b.fixed) j ≡ First = ap (λ (x : Figures). x.part) (figures_first a.fixed b.fixed j.number of) in
     by j.urgent (is_first (part_of a.fixed j)) (ap (λ (p : Part). j.urgent && is_first p) (sym first) ∙ none)

@@ -3,13 +3,14 @@ use Rattle.std.specs.Prelude.{not, ◌&&◌}
 use Rattle.std.proofs.Common.{◌≡◌, ◌⊎◌, ◌≤◌, Bool, true, false, List, refl, sym, ap, ◌∙◌, subst, inl, inr, arith}
 use Rattle.memif.specs.declared.answer.DeviceTurn.{DeviceTurn}
 use Rattle.memif.specs.declared.answer.DeviceTurn.TheVariants.{Idle, Worked, Off}
-use Rattle.memif.specs.Told.{DeviceTold, Fixed, Part, First, Second, Stand, Open, Ended, is_open, nothing_open, IfElse}
+use Rattle.memif.specs.Told.{DeviceTold, Fixed, Part, First, Second, Stand, Open, Ended, is_open, is_urgent, nothing_open, IfElse}
 use Rattle.memif.specs.Marks.{KeepsAll}
 use Rattle.memif.specs.Clock.{Clock, SameClock, Ticks}
-use Rattle.memif.specs.Calls.{InOrder, IsOf, IsOff, IsCut, Turns, TurnsAs, Works, JobTurns, is_read, urgent_first, TurnsReady, Nearer}
+use Rattle.memif.specs.Calls.{InOrder, IsOf, IsOff, IsCut, IsSealing, Turns, TurnsAs, Works, JobTurns, is_read, urgent_first, TurnsReady, Nearer}
 use Rattle.memif_pair.specs.Pair.{told_both, fixed_both, is_second, ArePair, stand_both}
 use Rattle.memif_pair.specs.PairClock.{IsCourse}
 use Rattle.memif_pair.specs.Laws.{Goes, OwnTurns, pair_clock}
+use Rattle.memif_pair.proofs.Seals.{seals_first}
 use Rattle.memif_pair.proofs.Ticking.{first_ticks}
 use Rattle.memif_pair.proofs.Clocks.{same_both, same_self}
 use Rattle.memif_pair.proofs.Turning.{keeps_both, part_both, pair_new, course_new}
@@ -20,6 +21,10 @@ use Rattle.memif_pair.proofs.Together.{order_rest, urgent_closed}
 never_read : (s : Stand) → is_open s ≡ false → is_read s ≡ false
 never_read (Open j) closed = cc closed
 never_read (Ended r given) closed = refl
+
+never_urgent : (s : Stand) → is_open s ≡ false → is_urgent s ≡ true → ⊥
+never_urgent (Open j) closed urgent = cc closed
+never_urgent (Ended r given) closed urgent = cc urgent
 
 of_first : (f : Fixed) (p : Part) (s : Stand) → is_open s ≡ false → IsOf p f s → p ≡ First
 of_first f p (Open j) closed of = cc closed
@@ -79,6 +84,13 @@ module _ (a : DeviceTold) (ca : Clock) (anew : DeviceTold) (ca_new : Clock) (b :
         subst (λ (u : Bool). IfElse u (Nearer old new) (a.ready ≤ anew.ready)) (sym not_urgent)
         (subst (λ (u : Bool). IfElse u (Nearer a anew) (a.ready ≤ anew.ready)) (urgent_closed a.fixed a.stand closed) here)
 
+    -- where it was at its seal, it is so in both
+    sealing_was : IsSealing old → IsSealing a
+    sealing_was was = record { switching = was.switching; ready = λ calm. was.ready not_urgent }
+
+    sealing_now : IsSealing anew → IsSealing new
+    sealing_now now = record { switching = now.switching; ready = λ calm. now.ready (urgent_closed anew.fixed anew.stand (ap is_open own.0 ∙ closed)) }
+
     works_rest : Works First old new (pair_clock ca_new b cb next)
     works_rest = record {
       only = λ i. record new { fixed = fixed_both (fixed i) b.fixed; started = (ap (λ (d : DeviceTold). d.started) works.only) i && b.started; tells = (ap (λ (d : DeviceTold). d.tells) works.only) i && b.tells; starts = (ap (λ (d : DeviceTold). d.starts) works.only) i };
@@ -89,7 +101,7 @@ module _ (a : DeviceTold) (ca : Clock) (anew : DeviceTold) (ca_new : Clock) (b :
       read = λ read. absurd (let wrong : true ≡ false = sym read ∙ never_read old.stand no_job in cc wrong);
       nearer = elim works.nearer [ inl less ↦ inl (omega (arith, less)) | inr rose ↦ inr rose ];
       ready = ready_rests;
-      seals = λ k ops small none. absurd none;
+      seals = λ k ops small was either. sealing_now (seals_first a anew ca_new b course next is goes (course_new a ca anew ca_new b cb course next pair is goes fixed) works.seals k ops small was (elim either [ inl le ↦ inl le | inr sealing ↦ inr (sealing_was sealing) ]));
     }
 
   cut_rest : IsCut First a anew → IsCut First old new
@@ -117,13 +129,13 @@ module _ (a : DeviceTold) (ca : Clock) (anew : DeviceTold) (ca_new : Clock) (b :
 
   first_works : nothing_open a ≡ false → (p : Part) → p ≡ First → Works p a anew ca_new → Ticks p Worked a ca anew ca_new → InOrder b cb
       → (q : Part) × Works q old new (pair_clock ca_new b cb next) × Ticks q Worked old (pair_clock ca b cb course) new (pair_clock ca_new b cb next)
-  first_works some First at works ticks order = (First, works_rest some works, first_ticks Worked a ca anew ca_new b cb order course next last last pair is goes ticks)
+  first_works some First at works ticks order = (First, works_rest some works, first_ticks Worked a ca anew ca_new b cb order course next last last pair is goes (λ urgent. absurd (never_urgent a.stand closed urgent)) ticks)
   first_works some Second at works ticks order = cc at
 
   first_off : (p : Part) → p ≡ First → IsOff p a ca anew ca_new ⊎ (IsCut p a anew × Ticks p Off a ca anew ca_new) → InOrder b cb
       → (q : Part) × (IsOff q old (pair_clock ca b cb course) new (pair_clock ca_new b cb next) ⊎ (IsCut q old new × Ticks q Off old (pair_clock ca b cb course) new (pair_clock ca_new b cb next)))
   first_off First at (inl off) order = (First, inl (off.0, is_first_of old.fixed old.stand no_job, still_rest off.2, clock_rests off.3 off.2))
-  first_off First at (inr cut) order = (First, inr (cut_rest cut.0, first_ticks Off a ca anew ca_new b cb order course next last last pair is goes cut.1))
+  first_off First at (inr cut) order = (First, inr (cut_rest cut.0, first_ticks Off a ca anew ca_new b cb order course next last last pair is goes (λ urgent. absurd (never_urgent a.stand closed urgent)) cut.1))
   first_off Second at off order = cc at
 
   of_off : (p : Part) → IsOff p a ca anew ca_new ⊎ (IsCut p a anew × Ticks p Off a ca anew ca_new) → p ≡ First

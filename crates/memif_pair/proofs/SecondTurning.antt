@@ -1,6 +1,6 @@
 -- A turn of the second device with a job open is a turn of the pair.
-use Rattle.std.specs.Prelude.{not, min, nat_lt, ◌&&◌, ◌==◌}
-use Rattle.std.proofs.Common.{◌≡◌, ◌⊎◌, ℕ, ◌≤◌, Bool, true, false, if◌then◌else◌, List, length, Option, Some, None, refl, sym, ap, ◌∙◌, subst, inl, inr, arith}
+use Rattle.std.specs.Prelude.{not, min, nat_lt, slice_get, ◌&&◌, ◌==◌}
+use Rattle.std.proofs.Common.{◌≡◌, ◌⊎◌, ℕ, ◌≤◌, ◌<◌, ◌+◌, Bool, true, false, if◌then◌else◌, List, length, Option, Some, None, refl, sym, ap, ◌∙◌, subst, inl, inr, arith}
 use Rattle.std.proofs.lemmas.Bool.{cases_lt}
 use Rattle.nv_base.specs.Count.{last_count}
 use Rattle.nv_base.specs.declared.mark.Mark.{Mark}
@@ -16,6 +16,7 @@ use Rattle.memif_pair.specs.Pair.{told_both, fixed_both, slots_both, is_second, 
 use Rattle.memif_pair.specs.PairClock.{IsCourse, WornBoth, own, reach, clock_both}
 use Rattle.memif_pair.specs.Laws.{Goes, SecondTurns, pair_clock}
 use Rattle.memif_pair.specs.Together.{IsOwnJob}
+use Rattle.memif_pair.proofs.Courses.{get_last, length_push}
 use Rattle.memif_pair.proofs.Ticking.{slot_is}
 use Rattle.memif_pair.proofs.Clocks.{same_both, same_self}
 use Rattle.memif_pair.proofs.Flips.{flip, flip_twice, length_flip, course_flip, goes_flip, pair_flip, second_ticks}
@@ -69,6 +70,17 @@ module _ (a : DeviceTold) (ca : Clock) (b : DeviceTold) (cb : Clock) (bnew : Dev
   stays same = elim goes.one [
     | inl still ↦ (let e = ap length still.1 in omega (arith, e))
     | inr more ↦ absurd (let one = more.0 in omega (arith, one, same))
+  ]
+
+  -- one that this turn makes is none of the first device
+  none_first : (k : ℕ) → new.ops ≡ k + 1 → new.ops < last_count → old.ops ≤ k → slice_get next k ≡ Some false → ⊥
+  none_first k ops small le first = elim goes.one [
+    | inl still ↦ (let e = ap length still.1 in omega (arith, e, ops, le))
+    | inr more ↦
+        let e = ap length more.1 in
+        let l = length_push course true in
+        let at : k ≡ length course = omega (arith, e, l, ops, small) in
+        let second : slice_get next k ≡ Some true = ap (slice_get next) at ∙ (ap (λ cs. slice_get cs (length course)) more.1 ∙ get_last course true) in cc (first, second)
   ]
 
   part_behind : (cut : Bool) → PartTurns cut b.ops bnew.ops b.first bnew.first → PartTurns cut old.ops new.ops b.first bnew.first
@@ -153,7 +165,10 @@ module _ (a : DeviceTold) (ca : Clock) (b : DeviceTold) (cb : Clock) (bnew : Dev
       read = read_behind works;
       nearer = elim works.nearer [ inl less ↦ inl (omega (arith, less)) | inr rose ↦ inr rose ];
       ready = λ calm. subst (λ (u : Bool). IfElse u (Nearer old new) (a.ready ≤ a.ready)) (sym never_urgent) (omega arith);
-      seals = λ k ops small none. absurd none;
+      seals = λ k ops small was either. elim either [
+        | inl le ↦ absurd (none_first k ops small le was.is)
+        | inr sealing ↦ record { switching = sealing.switching; ready = λ calm. sealing.ready never_urgent }
+      ];
     }
 
     -- a cut, and a turn while the power is off

@@ -2,14 +2,14 @@
 use Rattle.std.specs.Prelude.{is_some}
 use Rattle.std.proofs.Common.{◌≡◌, ℕ, Bool, true, false, if◌then◌else◌, List, Option, Some, None, refl, sym, ap, ◌∙◌, subst, arith}
 use Rattle.memif.specs.declared.answer.DeviceTurn.{DeviceTurn}
-use Rattle.memif.specs.Told.{DeviceTold, Fixed, Slot, Held, no_slot, slot_at, length_of}
+use Rattle.memif.specs.Told.{DeviceTold, Fixed, Slot, Held, no_slot, slot_at, length_of, is_urgent}
 use Rattle.memif.specs.Marks.{IsPossible}
-use Rattle.memif.specs.Clock.{Clock, ArePossible}
+use Rattle.memif.specs.Clock.{Clock, ArePossible, TakesKept}
 use Rattle.memif.specs.Calls.{InOrder}
-use Rattle.memif_pair.specs.Pair.{told_both, is_second, ArePair, numbers_in, in_both, listed_in, slots_both}
+use Rattle.memif_pair.specs.Pair.{told_both, is_second, ArePair, numbers_in, in_both, listed_in, slots_both, stand_both}
 use Rattle.memif_pair.specs.Laws.{FirstTicks}
 use Rattle.memif_pair.proofs.Numbers.{at_map, merged_length, slot_none}
-use Rattle.memif_pair.proofs.Clocks.{first_past, first_part, first_cut, first_failed, first_off, is_now}
+use Rattle.memif_pair.proofs.Clocks.{first_past, first_part, first_cut, first_failed, first_off, first_was, is_now}
 
 -- what stands for a number in both is what stands for it in its own device
 pub slot_is : (f g : Fixed) (s t : List Slot) (n : ℕ)
@@ -42,7 +42,7 @@ possible_both a b last course (Some s) (Some t) first second both pair one two m
 
 pub first_ticks : (answer : DeviceTurn) (a : DeviceTold) (ca : Clock) (a_new : DeviceTold) (ca_new : Clock) (b : DeviceTold) (cb : Clock) → InOrder b cb
     → FirstTicks answer a ca a_new ca_new b cb
-first_ticks answer a ca a_new ca_new b cb order course next last last_new pair is goes ticks =
+first_ticks answer a ca a_new ca_new b cb order course next last last_new pair is goes alone ticks =
     let of = is_second b.fixed.numbers in
     record {
       past = first_past of a ca a_new ca_new b cb course next is goes ticks.past;
@@ -57,5 +57,8 @@ first_ticks answer a ca a_new ca_new b cb order course next last last_new pair i
           let now = is_now of a ca a_new ca_new b cb course next is goes ticks.past k le lt in
           ticks.failed a.ops (omega arith) (let rose = now.rose in omega (arith, rose)) (first_failed of a ca a_new ca_new b cb course next is goes ticks.past k le lt out);
       part = first_part of a ca a_new ca_new b cb course next is goes ticks.past;
-      kept = λ k le lt none. absurd none;
+      kept = λ k le lt out.
+          let now = is_now of a ca a_new ca_new b cb course next is goes ticks.past k le lt in
+          let urgent = ticks.kept a.ops (omega arith) (let rose = now.rose in omega (arith, rose)) (first_was of a ca a_new ca_new b cb course next is goes ticks.past TakesKept k le lt out) in
+          ap (λ (x : Bool). is_urgent (stand_both x a.stand b.stand)) (alone urgent) ∙ urgent;
     }

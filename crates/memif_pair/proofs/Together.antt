@@ -94,6 +94,7 @@ together_both a a_new b b_new last last_new course t fixed ops fixed_b ops_b one
   one = one;
   part = λ n. ap (λ (f : Fixed). (figures_at f n).part) fixed ∙ t.part n;
   lengths = subst (λ (f : Fixed). LengthsStay f b_new.fixed) (sym fixed) (subst (λ (g : Fixed). LengthsStay a.fixed g) (sym fixed_b) t.lengths);
+  own = ap (λ (f : Fixed). f.own) fixed_b ∙ t.own;
   first_job = own_same false b b_new a_new.stand fixed_b first;
   second_job = own_same true b b_new b_new.stand fixed_b second;
 }

@@ -12,7 +12,7 @@ use Rattle.memif.specs.declared.answer.JobResult.TheVariants.{JobOk, JobFailed}
 use Rattle.memif.specs.Told.{DeviceTold, Fixed, Slot, Part, First, Second, Stand, Job, Open, Ended, slot_at, length_of, is_open, nothing_open, part_of, Figures, IfElse}
 use Rattle.memif.specs.Marks.{Keeps, SettlesAs, KeepsAll, Settles, IfTold}
 use Rattle.memif.specs.Clock.{Clock, SameClock, Ticks}
-use Rattle.memif.specs.Calls.{InOrder, IsOf, IsOff, IsCut, Turns, TurnsAs, Works, PartTurns, JobTurns, EndsAs, Gives, Reads, ReadsAt, is_read, urgent_first, is_first, TurnsReady, Nearer}
+use Rattle.memif.specs.Calls.{InOrder, IsOf, IsOff, IsCut, IsSealing, Turns, TurnsAs, Works, PartTurns, JobTurns, EndsAs, Gives, Reads, ReadsAt, is_read, urgent_first, is_first, TurnsReady, Nearer}
 use Rattle.memif_pair.specs.Pair.{told_both, fixed_both, slots_both, is_second, ArePair, numbers_in, in_both, listed_in}
 use Rattle.memif_pair.specs.PairClock.{IsCourse, WornBoth, own, all_own, reach}
 use Rattle.memif_pair.specs.Laws.{Goes, pair_clock}
@@ -20,7 +20,8 @@ use Rattle.memif_pair.proofs.Courses.{length_push, own_few, own_push}
 use Rattle.memif_pair.proofs.Numbers.{merged_first}
 use Rattle.memif_pair.proofs.Ticking.{slot_is, first_ticks}
 use Rattle.memif_pair.proofs.Clocks.{same_both, same_self}
-use Rattle.memif_pair.proofs.Orders.{figures_first, order_first, IsFirstJob}
+use Rattle.memif_pair.proofs.Orders.{figures_first, order_first, urgent_of, IsFirstJob}
+use Rattle.memif_pair.proofs.Seals.{seals_first}
 
 pub same_if : (t : Bool) (n : ℕ) → (if t then n else n) ≡ n
 same_if true n = refl
@@ -193,7 +194,7 @@ module _ (a : DeviceTold) (ca : Clock) (anew : DeviceTold) (ca_new : Clock) (b :
         let both : part_of old.fixed j ≡ First = ap (λ (x : Figures). x.part) (figures_first a.fixed b.fixed j.number of) in
         ap (λ (p : Part). j.urgent && is_first p) (both ∙ part)
 
-    module _ (on : a.stand ≡ Open j) (up : b.started ≡ true) (works : Works First a anew ca_new) where
+    module _ (on : a.stand ≡ Open j) (up : b.started ≡ true) (own_job : IsFirstJob b anew.stand) (works : Works First a anew ca_new) where
       part_is : First ≡ part_of a.fixed j
       part_is = (subst (λ (s : Stand). IsOf First a.fixed s) on works.of).1
 
@@ -217,6 +218,16 @@ module _ (a : DeviceTold) (ca : Clock) (anew : DeviceTold) (ca_new : Clock) (b :
             λ i. slots_both (fixed i) b.fixed (own.1 i) b.slots,
           )
 
+      -- where it was at its seal, it is so in both
+      sealing_was : IsSealing old → IsSealing a
+      sealing_was was = record {
+        switching = was.switching;
+        ready = λ calm. was.ready (ap (urgent_first old.fixed) on ∙ (urgent_same part_is ∙ (sym (ap (urgent_first a.fixed) on) ∙ calm)));
+      }
+
+      sealing_now : IsSealing anew → IsSealing new
+      sealing_now now = record { switching = now.switching; ready = λ calm. now.ready (urgent_of anew b anew.stand own_job calm) }
+
       pub works_both : Works First old new (pair_clock ca_new b cb next)
       works_both = record {
         only = λ i. record new { fixed = fixed_both (fixed i) b.fixed; started = started_same i && b.started; tells = (ap (λ (d : DeviceTold). d.tells) works.only) i && b.tells; starts = (ap (λ (d : DeviceTold). d.starts) works.only) i };
@@ -228,7 +239,7 @@ module _ (a : DeviceTold) (ca : Clock) (anew : DeviceTold) (ca_new : Clock) (b :
         read = read_both;
         nearer = elim works.nearer [ inl less ↦ inl (omega (arith, less)) | inr rose ↦ inr rose ];
         ready = ready_both;
-        seals = λ k ops small none. absurd none;
+        seals = λ k ops small was either. sealing_now (seals_first a anew ca_new b course next is goes course_new works.seals k ops small was (elim either [ inl le ↦ inl le | inr sealing ↦ inr (sealing_was sealing) ]));
       }
 
     -- a cut, and a turn while the power is off
@@ -256,30 +267,30 @@ module _ (a : DeviceTold) (ca : Clock) (anew : DeviceTold) (ca_new : Clock) (b :
       | inr more ↦ absurd (let none = ap (λ (d : DeviceTold). d.ops) still in omega (arith, more.0, none))
     ]
 
-    turned : (answer : DeviceTurn) → InOrder b cb → a.stand ≡ Open j → b.started ≡ true → TurnsAs answer a ca anew ca_new → TurnsAs answer old (pair_clock ca b cb course) new (pair_clock ca_new b cb next)
-    turned Idle order on up turns = absurd (none (a.stand) on turns.0)
+    turned : (answer : DeviceTurn) → InOrder b cb → a.stand ≡ Open j → b.started ≡ true → IsFirstJob b anew.stand → TurnsAs answer a ca anew ca_new → TurnsAs answer old (pair_clock ca b cb course) new (pair_clock ca_new b cb next)
+    turned Idle order on up own_job turns = absurd (none (a.stand) on turns.0)
       where
         none : (s : Stand) → s ≡ Open j → (not (is_open s) && not a.switching) ≡ true → ⊥
         none (Open k) is wrong = cc
         none (Ended r given) is wrong = cc
-    turned Worked order on up turns = (open_both on, first_of turns.1.0 turns.1.1 turns.1.2)
+    turned Worked order on up own_job turns = (open_both on, first_of turns.1.0 turns.1.1 turns.1.2)
       where
         first_of : (p : Part) → Works p a anew ca_new → Ticks p Worked a ca anew ca_new
             → (q : Part) × Works q old new (pair_clock ca_new b cb next) × Ticks q Worked old (pair_clock ca b cb course) new (pair_clock ca_new b cb next)
-        first_of First works ticks = (First, works_both on up works, first_ticks Worked a ca anew ca_new b cb order course next false false pair is goes ticks)
+        first_of First works ticks = (First, works_both on up own_job works, first_ticks Worked a ca anew ca_new b cb order course next false false pair is goes (λ urgent. refl) ticks)
         first_of Second works ticks = (let wrong : true ≡ false = sym (subst (λ (s : Stand). IsOf Second a.fixed s) on works.of).0 ∙ pair.first in cc)
-    turned Off order on up turns = (open_both on, off_of turns.1.0 turns.1.1)
+    turned Off order on up own_job turns = (open_both on, off_of turns.1.0 turns.1.1)
       where
         off_of : (p : Part) → IsOff p a ca anew ca_new ⊎ (IsCut p a anew × Ticks p Off a ca anew ca_new)
             → (q : Part) × (IsOff q old (pair_clock ca b cb course) new (pair_clock ca_new b cb next) ⊎ (IsCut q old new × Ticks q Off old (pair_clock ca b cb course) new (pair_clock ca_new b cb next)))
         off_of First (inl still) = (First, inl (still.0, subst (λ (s : Stand). IsOf First old.fixed s) (sym on) (tt, sym (ap (λ (x : Figures). x.part) (figures_first a.fixed b.fixed j.number of))), still_both still.2, clock_same still.3 still.2))
-        off_of First (inr cut) = (First, inr (cut_both on cut.0, first_ticks Off a ca anew ca_new b cb order course next false false pair is goes cut.1))
+        off_of First (inr cut) = (First, inr (cut_both on cut.0, first_ticks Off a ca anew ca_new b cb order course next false false pair is goes (λ urgent. refl) cut.1))
         off_of Second (inl still) = (let wrong : true ≡ false = sym (subst (λ (s : Stand). IsOf Second a.fixed s) on still.1).0 ∙ pair.first in cc)
         off_of Second (inr cut) = (let wrong : true ≡ false = sym (subst (λ (s : Stand). IsOf Second a.fixed s) on cut.0.of).0 ∙ pair.first in cc)
 
     pub turns_both : (answer : DeviceTurn) → InOrder b cb → is_open b.stand ≡ false → b.started ≡ true → a.stand ≡ Open j → IsFirstJob b anew.stand → Turns answer a ca anew ca_new
         → Turns answer old (pair_clock ca b cb course) new (pair_clock ca_new b cb next)
     turns_both answer order closed up on job turns = (
-      turned answer order on up turns.0,
+      turned answer order on up job turns.0,
       order_first anew ca_new b cb next pair_new course_new job closed turns.1 order,
     )

@@ -1,7 +1,7 @@
 -- Laws of a pair of devices.
 use Rattle.std.specs.Prelude.{◌≡◌, ◌++◌, ◌∷◌, ◌+◌, ◌⊎◌, ℕ, Bool, true, false, List, []}
 use Rattle.memif.specs.declared.answer.DeviceTurn.{DeviceTurn}
-use Rattle.memif.specs.Told.{DeviceTold, Job, Open, First, Second, is_open, nothing_open, length_of}
+use Rattle.memif.specs.Told.{DeviceTold, Job, Open, First, Second, is_open, is_urgent, nothing_open, length_of}
 use Rattle.memif.specs.Clock.{Clock, Ticks}
 use Rattle.memif.specs.Calls.{Turns}
 use Rattle.memif_pair.specs.Pair.{told_both, is_second, numbers_in, ArePair}
@@ -14,11 +14,12 @@ pair_clock ca b cb course = clock_both (is_second b.fixed.numbers) course ca cb
 pub record Goes (second : Bool) (ops ops_new : ℕ) (course next : List Bool) : Type 0 where
   pub one : ((ops_new ≡ ops) × (next ≡ course)) ⊎ ((ops_new ≡ ops + 1) × (next ≡ course ++ second ∷ []))
 
--- what a turn of the first device tells by its clock the pair tells by its own
+-- What a turn of the first device tells by its clock the pair tells by its own. Where an urgent job of that device is open, it had the
+-- last one.
 abbrev pub FirstTicks : DeviceTurn → DeviceTold → Clock → DeviceTold → Clock → DeviceTold → Clock → Type 0
 FirstTicks answer a ca a_new ca_new b cb =
     (course next : List Bool) (last last_new : Bool) → ArePair a b → IsCourse a b course → Goes false a.ops a_new.ops course next
-    → Ticks First answer a ca a_new ca_new
+    → (is_urgent a.stand ≡ true → last ≡ false) → Ticks First answer a ca a_new ca_new
     → Ticks First answer (told_both a b last course) (pair_clock ca b cb course) (told_both a_new b last_new next) (pair_clock ca_new b cb next)
 
 -- a turn of the first device with a job open is a turn of the pair, whose jobs are open only while both are started

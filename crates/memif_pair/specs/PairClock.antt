@@ -2,7 +2,7 @@
 use Rattle.std.specs.Prelude.{◌≡◌, ◌<◌, ◌≤◌, ◌+◌, ℕ, zero, suc, Bool, true, false, if◌then◌else◌, nat_lt, List, [], ◌∷◌, length, slice_get, Some}
 use Rattle.nv_base.specs.Count.{last_count}
 use Rattle.memif.specs.Told.{DeviceTold, Held, IfElse}
-use Rattle.memif.specs.Clock.{When, After, CutIn, Clock}
+use Rattle.memif.specs.Clock.{When, After, CutIn, Clock, Trait}
 
 -- THE COURSE
 abbrev pub one_if : Bool → Bool → ℕ
@@ -81,7 +81,18 @@ pub record OfSecond (course : List Bool) (k : ℕ) : Type 0 where
   pub small : k < last_count
   pub is : slice_get course k ≡ Some true
 
--- of the free pages, and of what an operation is by itself, it tells nothing
+-- banks are the first device's alone: the pages that it has free then
+pub record SpareBoth (course : List Bool) (a : Clock) (k pages : ℕ) : Type 0 where
+  pub small : k < last_count
+  pub made : k ≤ length course
+  pub spare : a.spare (own false course k) pages
+
+-- and the operation was one of that device, and such a one
+pub record WasBoth (course : List Bool) (a : Clock) (t : Trait) (k : ℕ) : Type 0 where
+  pub small : k < last_count
+  pub is : slice_get course k ≡ Some false
+  pub was : a.was t (own false course k)
+
 abbrev pub clock_both : (ℕ → Bool) → List Bool → Clock → Clock → Clock
 clock_both of course a b = record {
   may_find = may_find_both of course a b;
@@ -89,6 +100,6 @@ clock_both of course a b = record {
   failed = FailedBoth course a b;
   worn = WornBoth of course a b;
   of_second = OfSecond course;
-  spare = λ k s. ⊥;
-  was = λ t k. ⊥;
+  spare = SpareBoth course a;
+  was = WasBoth course a;
 }

@@ -25,6 +25,8 @@ pub record AreTogether (a b : DeviceTold) (last : Bool) (course : List Bool) : T
   -- all numbers of the first device are of its one part, and those of the second one have their lengths in the pair too
   pub part : (n : ℕ) → (figures_at a.fixed n).part ≡ First
   pub lengths : (n : ℕ) → is_second b.fixed.numbers n ≡ true → length_of (numbers_in a.fixed b.fixed) n ≡ length_of b.fixed.numbers n
+  -- own work is the first device's alone
+  pub own : b.fixed.own ≡ 0
   pub first_job : IsOwnJob false b a.stand
   pub second_job : IsOwnJob true b b.stand
 

@@ -2,7 +2,7 @@
 ghost use Rattle.std.specs.Prelude.{◌≡◌, None, Some, Bool, List, length, false};
 ghost use Rattle.nv_base.specs.declared.mark.Mark.TheVariants as mark;
 ghost use Rattle.memif.specs.Told.{is_open, is_urgent, status_of};
-ghost use Rattle.memif.specs.Calls.{Accepts, Arms, Cancels, InOrder, StartsUp};
+ghost use Rattle.memif.specs.Calls.{Accepts, Arms, Cancels, FreesReady, InOrder, RoomIsLeft, StartsUp};
 ghost use Rattle.memif_pair.specs.Pair.{stand_both, told_both};
 ghost use Rattle.memif_pair.specs.Laws.{pair_clock};
 ghost use Rattle.memif_pair.specs.Together.{AreTogether, Looks, OfPair, answer_both, noted, status_both};
@@ -14,6 +14,8 @@ use nv_base::DeviceNumber;
 pub fn status<A: MemDevice, B: MemDevice>(first: &A, second: &B) -> MemStatus
     ensures status { (last : Bool) (course : List Bool) → AreTogether (A.told first.now) (B.told second.now) last course → result ≡ status_of (told_both (A.told first.now) (B.told second.now) last course) }
     ensures order { (last : Bool) (course : List Bool) → AreTogether (A.told first.now) (B.told second.now) last course → InOrder (told_both (A.told first.now) (B.told second.now) last course) (pair_clock (A.clock first.now) (B.told second.now) (B.clock second.now) course) }
+    ensures ready { (last : Bool) (course : List Bool) → AreTogether (A.told first.now) (B.told second.now) last course → FreesReady (told_both (A.told first.now) (B.told second.now) last course) (pair_clock (A.clock first.now) (B.told second.now) (B.clock second.now) course) }
+    ensures room { (last : Bool) (course : List Bool) → AreTogether (A.told first.now) (B.told second.now) last course → RoomIsLeft (told_both (A.told first.now) (B.told second.now) last course) (pair_clock (A.clock first.now) (B.told second.now) (B.clock second.now) course) }
 {
     let one = first.status();
     let two = second.status();

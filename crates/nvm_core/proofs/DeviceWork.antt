@@ -250,7 +250,7 @@ module _ (c : Configuration) (s : State) (room : ℕ → Type 0) (d b : DeviceTo
           let t = test (needed (costs_in d.fixed) urgent number) in
           let wanted : memif_needed b.fixed b.stand ≡ needed (costs_in d.fixed) urgent number =
           ap (λ (x : DeviceTold). memif_needed x.fixed b.stand) begun.accepts.1.only ∙ ap (memif_needed d.fixed) at.is ∙ ap (λ (k : Bool). (if k then (figures_at d.fixed number).pages else 0) + (if urgent then 0 else d.fixed.reserve)) some in
-          let raise = starts_raise b clock d begun.wish t simple.one on (ap (λ (j : memif.Job). is_some j.mark) job_is ∙ some) begun.accepts roomy
+          let raise = starts_raise b clock d begun.wish t (simple.first begun.wish.job.number) on (ap (λ (j : memif.Job). is_some j.mark) job_is ∙ some) begun.accepts roomy
           (λ yes. let (x, spare, fits) = free (needed (costs_in d.fixed) urgent number) (has (needed (costs_in d.fixed) urgent number) yes) in (x, spare, omega (arith, wanted, fits))) in
           let same : begun_adds (costs_in d.fixed) test c before s (Some number) ≡ start_raises d.fixed t d.switching begun.wish.job =
           ap (λ (o : Option Job). option_map_or (λ j. try_adds (costs_in d.fixed) (test (needed (costs_in d.fixed) (rank_of c j).immediate number)) before.busy (rank_of c j).immediate (kind_of j) number) o 0) at.hand
@@ -265,13 +265,10 @@ left_where_on : (d : DeviceTold) → is_off d ≡ false → left_on d ≡ d.left
 left_where_on d on = ap (λ (b : Bool). if b then 0 else d.left) on
 
 module _ (c : Configuration) (s : State) (room : ℕ → ℕ → Type 0) (worn : Worn) (d b n : DeviceTold) (clock_b clock_n : Clock) (answer : Turned) (turns : TurnsDevice answer b clock_b n clock_n)
-    (begun : HalfBegins c s (room d.ops) d b) (leaves : LeavesDevice d b) (on : is_off d ≡ false) (simple : IsSimple d.fixed) (m : Move) (behind : m.behind ≡ moment_in n) (entry : m.entry ≡ asked_by answer b.stand n.stand n.ops)
+    (begun : HalfBegins c s (room d.ops) d b) (leaves : LeavesDevice d b) (on : is_off d ≡ false) (m : Move) (behind : m.behind ≡ moment_in n) (entry : m.entry ≡ asked_by answer b.stand n.stand n.ops)
     (hand : (j : memif.Job) → b.stand ≡ Open j → (job : Job) × (s.hand ≡ Some job) × (j.urgent ≡ (rank_of c job).immediate)) (is_worn : (k : ℕ) (urgent : Bool) → clock_n.worn n.ops k urgent → worn n.ops k urgent) where
   on_b : is_off b ≡ false
   on_b = ap is_off leaves ∙ on
-
-  two_b : b.fixed.two ≡ false
-  two_b = ap (λ (x : DeviceTold). x.fixed.two) leaves ∙ simple.one
 
   ops_now : m.behind.ops ≡ n.ops
   ops_now = ap (λ (x : Moment). x.ops) behind
@@ -296,7 +293,7 @@ module _ (c : Configuration) (s : State) (room : ℕ → ℕ → Type 0) (worn :
       let own : b.fixed.own ≡ d.fixed.own = ap (λ (x : DeviceTold). x.fixed.own) leaves in
       let before = left_where_on d on in
       let between = left_where_on b on_b in
-      elim (turns_take_left n clock_n answer b clock_b two_b on_b turns).0 [
+      elim (turns_take_left n clock_n answer b clock_b on_b turns).0 [
         | inl calm ↦ omega (arith, ops_now, ops, before, between, raise, calm)
         | inr (inl (rose, sum)) ↦ let loss = loss_if_risen (costs_in d.fixed) (moment_in d) m (risen_in rose) in omega (arith, ops_now, ops, own, before, between, raise, sum, loss)
         | inr (inr (off, no_read, one)) ↦
@@ -330,7 +327,7 @@ module _ (c : Configuration) (s : State) (room : ℕ → ℕ → Type 0) (worn :
 
   pub works_behind : IsWorked (costs_in d.fixed) room worn c (moment_in d) s (work_in d) m (record { begins = begun.begins; behind = work_in n })
   works_behind =
-      let taken = (turns_take_left n clock_n answer b clock_b two_b on_b turns).1 in record {
+      let taken = (turns_take_left n clock_n answer b clock_b on_b turns).1 in record {
         begins = begun.may;
         adds = adds_up;
         ends = λ k is. elim (taken.goes k (sym begun.tried ∙ is)) [ inl goes ↦ inl goes | inr over ↦ inr (over.0, why k over.1) ];

@@ -4,9 +4,9 @@ use Rattle.std.proofs.Common.{◌≡◌, ◌⊎◌, inl, inr, ℕ, ◌+◌, ◌*
 use Rattle.nvm_laws.specs.nv_base.Count.{Rose, next_count}
 use Rattle.nvm_laws.specs.nv_base.Marks.{instance_of}
 use Rattle.nvm_laws.specs.memif.Told as device
-use Rattle.nvm_laws.specs.memif.Told.{DeviceTold, Fixed, Part, First, Second, HasPart, Stand, Open, Ended, faults_of, is_off, is_open, length_of, part_at, most_open, figures_at, most_of, op_of}
+use Rattle.nvm_laws.specs.memif.Told.{DeviceTold, Fixed, Part, First, Second, Stand, Open, Ended, faults_of, is_off, is_open, length_of, part_at, most_open, figures_at, most_of, op_of}
 use Rattle.nvm_laws.specs.memif.Clock.{Clock}
-use Rattle.nvm_laws.specs.memif.Calls.{Wish, AcceptsAs, Opens, InOrder, IsOf, IsCut, JobTurns, EndsAs, Writes, MayFail, RoomIsLeft, Turns, Works, is_read, length_refusal, record_pages, pages_needed, pages_open, refusal_of}
+use Rattle.nvm_laws.specs.memif.Calls.{Wish, AcceptsAs, Opens, InOrder, IsCut, JobTurns, EndsAs, Writes, MayFail, RoomIsLeft, Turns, Works, is_first, is_read, job_first, length_refusal, record_pages, pages_needed, pages_open, refusal_of}
 use Rattle.nvm_laws.specs.memif.declared.answer.DeviceTurn.TheVariants as turn
 use Rattle.nvm_laws.specs.memif.declared.answer.DeviceRefusal.{DeviceRefusal}
 use Rattle.nvm_laws.specs.memif.declared.answer.DeviceRefusal.TheVariants.{Busy, Uninit}
@@ -48,22 +48,16 @@ raised f j false true was now high beside free = let less = free refl refl in om
 raised f j false false was now high beside free = high
 
 pub starts_raise : (new : DeviceTold) (clock : Clock) → StartsRaise new clock
-starts_raise new clock old w room one on record_is (none, opens) roomy free =
-    raised old.fixed w.job old.switching room old.left new.left opens.left_high (opens.left_beside one)
+starts_raise new clock old w room first on record_is (none, opens) roomy free =
+    raised old.fixed w.job old.switching room old.left new.left opens.left_high (opens.left_beside first)
     (λ closed has.
     let (s, spare, fits) = free has in
     let same : pages_open new.fixed new.stand ≡ record_pages old.fixed w.job = ap (λ (d : DeviceTold). pages_open d.fixed d.stand) opens.only in
     let less = roomy (ap (λ (d : DeviceTold). d.started) opens.only ∙ (taken_by (is_open old.stand) old.started (length_refusal w.length (length_of old.fixed.numbers w.job.number)) none).1)
     (ap (λ (d : DeviceTold). d.first.off) opens.only ∙ first_on old.first.off old.second.off on) (ap (λ (d : DeviceTold). d.switching) opens.only ∙ closed)
-    (ap (λ (d : DeviceTold). is_open d.stand) opens.only) (ap (λ (d : DeviceTold). is_read d.stand) opens.only ∙ not_read w.job record_is) s spare fits in omega (arith, less, same))
+    (ap (λ (d : DeviceTold). job_first d.fixed d.stand) opens.only ∙ ap is_first first) (ap (λ (d : DeviceTold). is_read d.stand) opens.only ∙ not_read w.job record_is) s spare fits in omega (arith, less, same))
 
 -- THE DEVICE'S TURN
--- the device has no other part
-of_first : (p : Part) (f : Fixed) (stand : Stand) → f.two ≡ false → IsOf p f stand → p ≡ First
-of_first First f stand one of = refl
-of_first Second f (Open j) one of = let two = of.0 in cc
-of_first Second f (Ended result given) one of = of
-
 on_left : (off : Bool) (left : ℕ) → (if off then 0 else left) ≤ left
 on_left true left = omega arith
 on_left false left = omega arith
@@ -210,15 +204,15 @@ idle_closed (Open j) switching nothing = cc
 idle_closed (Ended result given) switching nothing = refl
 
 pub turns_take_left : (new : DeviceTold) (clock : Clock) → TurnsTakeLeft new clock
-turns_take_left new clock turned.Idle old clock_old one on turns =
+turns_take_left new clock turned.Idle old clock_old on turns =
     (idle_takes old new on (idle_closed old.stand old.switching turns.0.0) turns.0.1, same_tries old new clock (ap (λ (d : DeviceTold). d.stand) turns.0.1))
-turns_take_left new clock turned.Worked old clock_old one on turns =
+turns_take_left new clock turned.Worked old clock_old on turns =
     let p = turns.0.1.0 in
     (worked_takes p old new clock on turns.0.1.1 turns.1, worked_tries p old new clock turns.0.1.1)
-turns_take_left new clock turned.Off old clock_old one on turns =
+turns_take_left new clock turned.Off old clock_old on turns =
     let p = turns.0.1.0 in elim turns.0.1.1 [
       | inl off ↦ absurd (is_on (is_off old) on (part_off p old off.0))
       | inr comes ↦ (cut_takes p old new comes.0, same_tries old new clock (cut_stand p old new comes.0))
     ]
-turns_take_left new clock turned.Picked old clock_old one on turns = absurd turns
-turns_take_left new clock turned.Posted old clock_old one on turns = absurd turns
+turns_take_left new clock turned.Picked old clock_old on turns = absurd turns
+turns_take_left new clock turned.Posted old clock_old on turns = absurd turns

@@ -1,11 +1,12 @@
 -- The device's work, in the promise's words.
-use Rattle.std.specs.Prelude.{◌≡◌, ℕ, false, not, if◌then◌else◌, List}
+use Rattle.std.specs.Prelude.{◌≡◌, ℕ, not, if◌then◌else◌, List}
 use Rattle.nvm_laws.specs.memif.Told.{DeviceTold, Fixed, faults_of, figures_at, most_of, nothing_open}
 use Rattle.nvm_laws.specs.block_machine.Words.{Configuration}
 use Rattle.nvm_laws.specs.block_machine.State.{State}
 use Rattle.nvm_laws.specs.promise_blocks.Payment.{Worn}
 use Rattle.nvm_laws.specs.job_programs.Program.{operation, works}
 use Rattle.nvm_found.specs.Found.{ReadAtOnce}
+use Rattle.nvm_core.specs.DueWrites.{AreFirst}
 use Rattle.nvm_core.specs.Operations.{left_on, number_tried}
 use Rattle.nvm_laws.specs.promise_blocks.Moves.{Moment, Move}
 use Rattle.nvm_laws.specs.promise_blocks.Work.{Costs, Work, Effort, AreWorked, work_behind}
@@ -19,9 +20,9 @@ costs_in f = record {
   reserve = f.reserve;
 }
 
--- a device of one part, whose reads take a turn each
+-- a device whose numbers are all of its first part, and whose reads take a turn each
 pub record IsSimple (f : Fixed) : Type 0 where
-  pub one : f.two ≡ false
+  pub first : AreFirst f
   pub reads : ReadAtOnce f
 
 -- what is open at the device

@@ -3,7 +3,7 @@ use Rattle.std.specs.Prelude.{◌≡◌, ◌⊎◌, ◌≤◌, ◌+◌, ◌*◌,
 use Rattle.nvm_laws.specs.nv_base.Count.{Rose}
 use Rattle.nvm_laws.specs.nv_base.Marks.{instance_of}
 use Rattle.nvm_laws.specs.memif.Told as device
-use Rattle.nvm_laws.specs.memif.Told.{DeviceTold, Fixed, Stand, Open, Ended, figures_at, most_of, op_of, faults_of, is_off}
+use Rattle.nvm_laws.specs.memif.Told.{DeviceTold, Fixed, First, Stand, Open, Ended, figures_at, part_of, most_of, op_of, faults_of, is_off}
 use Rattle.nvm_laws.specs.memif.Clock.{Clock}
 use Rattle.nvm_laws.specs.memif.Calls.{Wish, AcceptsAs, InOrder, RoomIsLeft, is_read, record_pages, pages_needed}
 use Rattle.nvm_laws.specs.block_machine.Words.{Mark, Wrote}
@@ -27,10 +27,10 @@ abbrev pub start_raises : Fixed → (room switching : Bool) → device.Job → �
 start_raises f room true j = (if j.urgent then 2 else 1) * (record_pages f j + 1)
 start_raises f room false j = if room then record_pages f j else most_of (figures_at f j.number) (op_of j.mark)
 
--- of any device of one part, by any test that answers yes only where the pages that it needs are free
+-- of any job of the device's first part, by any test that answers yes only where the pages that it needs are free
 abbrev pub StartsRaise : DeviceTold → Clock → Type 0
 StartsRaise new clock =
-    (old : DeviceTold) (w : Wish) (room : Bool) → old.fixed.two ≡ false → is_off old ≡ false → is_some w.job.mark ≡ true → AcceptsAs w (Ok tt) old new → RoomIsLeft new clock
+    (old : DeviceTold) (w : Wish) (room : Bool) → part_of old.fixed w.job ≡ First → is_off old ≡ false → is_some w.job.mark ≡ true → AcceptsAs w (Ok tt) old new → RoomIsLeft new clock
     → (room ≡ true → (s : ℕ) × clock.spare new.ops s × (pages_needed new.fixed new.stand ≤ s)) → new.left ≤ old.left + start_raises old.fixed room old.switching w.job
 
 -- THE DEVICE'S TURN
@@ -53,8 +53,8 @@ pub record TryTurns (old new : DeviceTold) (clock : Clock) : Type 0 where
   pub goes : (n : ℕ) → number_tried old.stand ≡ Some n → (number_tried new.stand ≡ Some n) ⊎ ((number_tried new.stand ≡ None) × IsTryOver n old new clock)
   pub none : number_tried old.stand ≡ None → number_tried new.stand ≡ None
 
--- so it is of any device of one part whose power is on
+-- so it is of any device whose power is on
 abbrev pub TurnsTakeLeft : DeviceTold → Clock → Type 1
 TurnsTakeLeft new clock =
-    (answer : Turned) (old : DeviceTold) (clock_old : Clock) → old.fixed.two ≡ false → is_off old ≡ false → TurnsDevice answer old clock_old new clock
+    (answer : Turned) (old : DeviceTold) (clock_old : Clock) → is_off old ≡ false → TurnsDevice answer old clock_old new clock
     → TakesLeft old new × TryTurns old new clock

@@ -2,9 +2,9 @@
 use Rattle.std.specs.Option.{option_map_or}
 use Rattle.std.proofs.Common.{◌≡◌, inl, inr, ℕ, ◌≤◌, Bool, true, false, Option, Some, None, refl, sym, ap, ◌∙◌, subst, arith, if◌then◌else◌}
 use Rattle.std.proofs.lemmas.Bool.{cases_Bool, cases_lt, or_parts}
-use Rattle.memif.specs.Told.{DeviceTold, Part, First, Second, Stand, Open, Ended as Closed, is_off, is_open, is_urgent, length_of, IfElse}
+use Rattle.memif.specs.Told.{DeviceTold, Fixed, Part, First, Second, Stand, Open, Ended as Closed, figures_at, is_off, is_open, is_urgent, length_of, IfElse}
 use Rattle.memif.specs.Clock.{Clock, SameClock, Seals, Ticks}
-use Rattle.memif.specs.Calls.{IsSealing, Opens, Wish, Works, length_refusal, refusal_of}
+use Rattle.memif.specs.Calls.{IsPrompt, IsSealing, Opens, Wish, Works, length_refusal, refusal_of, urgent_first}
 use Rattle.memif.specs.declared.answer.DeviceTurn.TheVariants as turn
 use Rattle.memif.specs.declared.answer.DeviceRefusal.TheVariants as refusal
 use Rattle.memif.proofs.Turning.{is_off_at_off, works_rest}
@@ -26,6 +26,11 @@ use Rattle.nvm_laws.proofs.DueTurning.{freed, never_picked}
 closed_standard : (s : Stand) → is_open s ≡ false → is_urgent s ≡ false
 closed_standard (Open j) closed = cc
 closed_standard (Closed r given) closed = refl
+
+-- none is urgent in the first part then
+pub none_first : (f : Fixed) (s : Stand) → is_urgent s ≡ false → urgent_first f s ≡ false
+none_first f (Open j) standard = rw standard refl
+none_first f (Closed r given) standard = refl
 
 never_urgent : (s : Stand) → is_open s ≡ false → is_urgent s ≡ true → ⊥
 never_urgent s closed urgent = let standard = closed_standard s closed in cc
@@ -79,9 +84,9 @@ module _ (old : DeviceTold) (clock : Clock) (new : DeviceTold) (clock_new : Cloc
       let ops : new.ops ≡ old.ops = ap (λ (d : DeviceTold). d.ops) same in
       subst IsSealing (sym same) (sealed (sym (ap is_off same) ∙ on) k later (omega (arith, ops, last)) (omega (arith, ops, few)) ((clocks.was Seals k).0 seals))
 
-  -- what is open may change, where an urgent job stays open, or more is ready
+  -- what is open may change, where an urgent job of the first part stays open, or more is ready
   open_seals : new ≡ record old { slots = new.slots; stand = new.stand; left = new.left; ready = new.ready; wait = new.wait } → SameClock clock clock_new
-      → (is_urgent new.stand ≡ false → (is_urgent old.stand ≡ false) × (old.ready ≤ new.ready)) → KeepsSeal old clock new clock_new
+      → (urgent_first new.fixed new.stand ≡ false → (urgent_first old.fixed old.stand ≡ false) × (old.ready ≤ new.ready)) → KeepsSeal old clock new clock_new
   open_seals leaves clocks calm since sealed on k later last few seals =
       let ops : new.ops ≡ old.ops = ap (λ (d : DeviceTold). d.ops) leaves in
       let reserve : new.fixed.reserve ≡ old.fixed.reserve = ap (λ (d : DeviceTold). d.fixed.reserve) leaves in
@@ -94,10 +99,12 @@ module _ (old : DeviceTold) (clock : Clock) (new : DeviceTold) (clock_new : Cloc
       }
 
   -- the start of an operation
-  opens_calm : (w : Wish) → refusal_of old w.job.number w.length ≡ None → Opens w.job old new → is_urgent new.stand ≡ false → (is_urgent old.stand ≡ false) × (old.ready ≤ new.ready)
+  opens_calm : (w : Wish) → refusal_of old w.job.number w.length ≡ None → Opens w.job old new → urgent_first new.fixed new.stand ≡ false → (urgent_first old.fixed old.stand ≡ false) × (old.ready ≤ new.ready)
   opens_calm w free opens standard =
-      let own : w.job.urgent ≡ false = sym (ap (λ (d : DeviceTold). is_urgent d.stand) opens.only) ∙ standard in
-      (closed_standard old.stand (closed (is_open old.stand) free), rw own at opens.ready)
+      let own : urgent_first old.fixed (Open w.job) ≡ false = sym (ap (λ (d : DeviceTold). urgent_first d.fixed d.stand) opens.only) ∙ standard in (
+        none_first old.fixed old.stand (closed_standard old.stand (closed (is_open old.stand) free)),
+        subst (λ (u : Bool). IfElse u (IsPrompt (figures_at old.fixed w.job.number).pages old new) (old.ready ≤ new.ready)) own opens.ready,
+      )
     where
       closed : (t : Bool) → (if t then Some refusal.Busy else (if old.started then length_refusal w.length (length_of old.fixed.numbers w.job.number) else Some refusal.Uninit)) ≡ None → t ≡ false
       closed true busy = cc
@@ -115,7 +122,7 @@ module _ (old : DeviceTold) (clock : Clock) (new : DeviceTold) (clock_new : Cloc
 pub first_halves_keep_seal : (old : DeviceTold) (clock : Clock) (new : DeviceTold) (clock_new : Clock) → FirstHalvesKeepSeal old clock new clock_new
 first_halves_keep_seal old clock new clock_new (Ended turned.Picked) desk desk_new before after hand hand_new half at paired leaves clocks =
     open_seals old clock new clock_new leaves clocks (λ standard. (
-      picks_standard desk.config (state_of desk) hand old half.0 half.1.kind half.1.taken paired half.1.allowed.1,
+      none_first old.fixed old.stand (picks_standard desk.config (state_of desk) hand old half.0 half.1.kind half.1.taken paired half.1.allowed.1),
       (freed old new (is_open old.stand) refl at.1).1,
     ))
 first_halves_keep_seal old clock new clock_new (Ended turned.Posted) desk desk_new before after hand hand_new half at paired leaves clocks =

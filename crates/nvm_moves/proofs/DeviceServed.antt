@@ -24,7 +24,7 @@ use Rattle.nvm_core.specs.nvm_laws.Due.{IsDueNext, pages_now, post_first}
 use Rattle.nvm_core.specs.nvm_figures.Urgent.{pages_of}
 use Rattle.nvm_core.proofs.memif.Turning.{works_fixed}
 use Rattle.nvm_core.proofs.nvm_laws.DueBlocks.{same_pages}
-use Rattle.nvm_core.proofs.nvm_laws.Traits.{urgent_in_hand}
+use Rattle.nvm_core.proofs.nvm_laws.Traits.{none_first, urgent_in_hand}
 use Rattle.promise_run.specs.Turns.{entry_list}
 use Rattle.nvm_moves.proofs.DueAsked.{IsStandard}
 use Rattle.nvm_moves.proofs.TurnEntries.{AddsOne, state_behind}
@@ -79,10 +79,6 @@ not_urgent c s hand d paired standard = elim (cases_Bool (is_urgent d.stand)) [
   | inl urgent ↦ absurd (never_both (urgent_in_hand c s hand d paired urgent) (standard_hand c s standard))
   | inr is ↦ is
 ]
-
-none_first : (f : Fixed) (stand : Stand) → is_urgent stand ≡ false → urgent_first f stand ≡ false
-none_first f (Open j) is = rw is refl
-none_first f (Closed r given) is = refl
 
 -- what is ready stays ready
 ready_on : (f : Fixed) (stand : Stand) (N L : Type 0) → is_urgent stand ≡ false → IfElse (urgent_first f stand) N L → L

@@ -49,5 +49,5 @@ device_works answer c s hand hand_b d b n clock_b clock_n m leaves goes started 
     let lasts = device_lasts answer b clock_b n clock_n turns in
     let begun = half_begins c s (HadPages clock_n d.ops) hand hand_b d b simple on clock_b room (λ pages is. (is.0, lasts.past.spare b.ops is.0 (omega arith) (subst (λ (k : ℕ). clock_n.spare k is.0) (sym same) is.1), is.2)) goes started paired in (
       begun.begins,
-      works_behind c s (HadPages clock_n) (worn_so_far n clock_n) d b n clock_b clock_n answer turns begun leaves on simple m behind entry (hand_is_open c s hand_b b paired started) (λ k urgent is. (omega arith, is)),
+      works_behind c s (HadPages clock_n) (worn_so_far n clock_n) d b n clock_b clock_n answer turns begun leaves on m behind entry (hand_is_open c s hand_b b paired started) (λ k urgent is. (omega arith, is)),
     )

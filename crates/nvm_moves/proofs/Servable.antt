@@ -1,13 +1,14 @@
 -- What may go on at a device is ready there.
-use Rattle.std.proofs.Common.{◌≡◌, inl, inr, ℕ, Bool, true, false, Option, refl, sym, ◌∙◌, arith}
+use Rattle.std.proofs.Common.{◌≡◌, inl, inr, ℕ, Bool, true, false, if◌then◌else◌, Option, refl, sym, ap, ◌∙◌, arith}
 use Rattle.nvm_core.specs.memif.Told.{DeviceTold}
 use Rattle.nvm_core.specs.memif.Clock.{Clock, Seals}
-use Rattle.nvm_core.specs.memif.Calls.{FreesReady, InOrder, pages_urgent}
+use Rattle.nvm_core.specs.memif.Calls.{FreesReady, InOrder, pages_open, pages_urgent}
 use Rattle.nvm_core.specs.memif.Trials.{Lasts}
 use Rattle.nvm_core.specs.nv_desk.Desk.{DeskState, state_of}
 use Rattle.nvm_core.specs.job_progress.Hand.{HandState}
 use Rattle.nvm_core.specs.job_progress.JobInHand.{IsPaired}
 use Rattle.nvm_core.specs.nvm_laws.Traits.{IsSealedSince}
+use Rattle.nvm_core.proofs.nvm_laws.Traits.{none_first}
 use Rattle.nvm_moves.specs.Seen.{IsOn}
 use Rattle.nvm_moves.specs.Served.{MayGoOn}
 use Rattle.nvm_moves.proofs.DueAsked.{IsRoomy}
@@ -22,12 +23,12 @@ still_on false u on goes = refl
 pub roomy : (since : ℕ) (desk : DeskState) (hand : Option HandState) (d last : DeviceTold) (clock end : Clock) → IsOn desk d → IsSealedSince since d clock → InOrder d clock → FreesReady d clock → IsPaired desk.config (state_of desk) hand d → d.started ≡ true
     → Lasts d clock last end → IsRoomy (λ n. MayGoOn end d.fixed.reserve since d.ops n) desk.config (state_of desk) d
 roomy since desk hand d last clock end is_on sealed order frees paired up lasts on standard n room =
-    let calm = not_urgent desk.config (state_of desk) hand d paired standard in
+    let calm = none_first d.fixed d.stand (not_urgent desk.config (state_of desk) hand d paired standard) in
     let first = still_on d.first.off (state_of desk).off on is_on.power in
     elim room [
       | inl (free, spare, few) ↦
           let has = frees up first free (lasts.past.spare d.ops free (omega arith) spare) in
-          let none : pages_urgent d.fixed d.stand ≡ 0 = rw calm refl in omega (arith, has, none, few)
+          let none : pages_urgent d.fixed d.stand ≡ 0 = ap (λ (u : Bool). if u then pages_open d.fixed d.stand else 0) calm in omega (arith, has, none, few)
       | inr (seal, few) ↦
           let off = first_off d clock order is_on.one ∙ first in
           let at = seal.is_last in

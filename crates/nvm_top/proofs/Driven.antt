@@ -196,6 +196,10 @@ reserve_up c making entry m s t same starts made =
     let config : t.desk.config ≡ c = ap (λ x. x.desk.config) same ∙ ap (λ x. x.desk.config) starts.only ∙ ap (λ x. x.desk.config) made.only in
     ap (λ (f : Fixed). f.reserve) fixed ∙ ap (λ (x : Configuration). (making_of x).reserve) (sym config)
 
+-- its numbers are all of its one part, and a read takes a turn
+simple_up : (c : Configuration) (making : Making) (entry : Told) (m : StackState Device (List PlainBlock)) → IsMadeStack c cap making entry m → IsSimple (told_of m.device).fixed
+simple_up c making entry m made = record { first = made.parts; reads = λ n. subst (λ (f : Fixed). (figures_at f n).read ≤ 1) (sym made.fixed) (reads_take_one c n) }
+
 -- what it makes of its work is the configuration's, and no try is open
 work_up : (c : Configuration) (making : Making) (entry : Told) (m s t : StackState Device (List PlainBlock)) → IsLegalConfig c → InOrder (told_of t.device) (told_clock t.device) → IsTied t.desk t.hand (told_of t.device) → t ≡ s → StartsUp told_of m s → IsMadeStack c cap making entry m
     → ((payer_by told_of told_clock t).work.costs ≡ costs_of (told_by told_of t).configuration) × IsBegun (nat_lt 0 (told_by told_of t).faults) (payer_by told_of told_clock t).work
@@ -203,10 +207,10 @@ work_up c making entry m s t legal order tied same starts made =
     let fixed : (told_of t.device).fixed ≡ fixed_by c = ap (λ x. (told_of x.device).fixed) same ∙ starts.finds.up.restarted.fixed ∙ made.fixed in
     let config : t.desk.config ≡ c = ap (λ x. x.desk.config) same ∙ ap (λ x. x.desk.config) starts.only ∙ ap (λ x. x.desk.config) made.only in
     let none : t.hand ≡ None = ap (λ x. x.hand) same ∙ ap (λ x. x.hand) starts.only in
-    let simple : IsSimple (told_of t.device).fixed = subst IsSimple (sym fixed) (record { one = refl; reads = reads_take_one c }) in
+    let simple : IsSimple (told_of t.device).fixed = subst IsSimple (made.fixed ∙ sym fixed) (simple_up c making entry m made) in
     let leaves =
     subst (λ (x : StackState Device (List PlainBlock)). ((told_of x.device).left ≡ 0) ⊎ (nat_lt 0 (faults_of (told_of x.device)) ≡ true)) (sym same)
-    (first_leaves starts.marks (told_of m.device) (told_of s.device) starts.finds (subst IsSimple (sym made.fixed) (record { one = refl; reads = reads_take_one c }))) in (
+    (first_leaves starts.marks (told_of m.device) (told_of s.device) starts.finds (simple_up c making entry m made)) in (
       ap costs_in fixed ∙ costs_are_figures c legal made.one_device ∙ ap costs_of (sym config),
       start_work told_of told_clock (record t { ready = false }) t refl order (subst (λ (h : Option HandState). IsPaired t.desk.config (state_of t.desk) h (told_of t.device)) none tied.paired)
           (nat_lt 0 (faults_of (told_of t.device))) (λ simple_too. leaves) (record { left = 0; trying = None })

@@ -170,7 +170,7 @@ begins_run c before s started (owes, pages, reserve, sealing, costs, begun) = re
   reserve = reserve;
   costs = costs;
   most = started.turns ∙ ap job_turns (sym started.configuration);
-  simple = record { one = begun.is.0.one; reads = begun.is.0.reads };
+  simple = begun.is.0;
   left = begun.left;
   few = begun.few;
   is = begun.is.1 started.fresh.ready;
