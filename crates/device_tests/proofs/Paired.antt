@@ -2,14 +2,14 @@
 use Rattle.std.specs.Prelude.{is_some, not, ◌==◌, ◌&&◌}
 use Rattle.std.proofs.Common.{◌≡◌, ℕ, Bool, true, false, if◌then◌else◌, List, [], ◌∷◌, Some, None, refl, sym, ap, ◌∙◌, subst, arith}
 use Rattle.std.proofs.lemmas.Bool.Decides.{nat_tests}
-use Rattle.memif_pair.specs.nv_base.declared.instance.DeviceNumber.{DeviceNumber}
-use Rattle.memif_pair.specs.nv_base.Lengths.{AreLengths}
-use Rattle.memif_pair.specs.memif.Told.{DeviceTold, First, Fixed, figures_at, is_open, length_of, no_figures, nothing_open}
-use Rattle.memif_pair.specs.memif.Plain.{plain_figures, plain_fixed, plain_store}
-use Rattle.memif_pair.specs.Pair.{is_second}
-use Rattle.memif_pair.specs.Both.{ArePaired}
-use Rattle.ea_slots.specs.ea_told.Making.{Making}
-use Rattle.ea_slots.specs.Whole.{IsMadeOf}
+use Rattle.memif_fee_ea.specs.memif_pair.nv_base.declared.instance.DeviceNumber.{DeviceNumber}
+use Rattle.memif_fee_ea.specs.memif_pair.nv_base.Lengths.{AreLengths}
+use Rattle.memif_fee_ea.specs.memif_pair.memif.Told.{DeviceTold, First, Fixed, figures_at, is_open, length_of, no_figures, nothing_open}
+use Rattle.memif_fee_ea.specs.memif_pair.memif.Plain.{plain_figures, plain_fixed, plain_store}
+use Rattle.memif_fee_ea.specs.memif_pair.Pair.{is_second}
+use Rattle.memif_fee_ea.specs.memif_pair.Both.{ArePaired}
+use Rattle.memif_fee_ea.specs.ea_slots.ea_told.Making.{Making}
+use Rattle.memif_fee_ea.specs.ea_slots.Whole.{IsMadeOf}
 
 apart_by : (x y : DeviceNumber × ℕ) (n : ℕ) → (x.0.0 == y.0.0) ≡ false → (b : Bool) → (y.0.0 == n) ≡ b → is_some (if b then Some y.1 else None) ≡ true → length_of (x ∷ []) n ≡ None
 apart_by x y n other true same there =

@@ -1,35 +1,33 @@
-// One device of two: one in memory, beside one over paired slots.
+// One device of two: one in memory beside one over paired slots, and one over a flash beside one over an EEPROM.
 ghost use Rattle.std.specs.Prelude.{◌≡◌, ◌∷◌, [], IfOk};
-ghost use Rattle.memif_pair.specs.memif.Plain.{plain_store};
-ghost use Rattle.ea_slots.specs.ea_told.Making.{HasSlots};
-ghost use Rattle.ea_slots.specs.Whole.{IsMadeOf, told_in};
+ghost use Rattle.memif_fee_ea.specs.memif_pair.memif.Plain.{plain_store};
+ghost use Rattle.memif_fee_ea.specs.ea_slots.ea_told.Making.{HasSlots};
+ghost use Rattle.memif_fee_ea.specs.ea_slots.Whole.{IsMadeOf, told_in};
 
 use crate::harms::cutter;
+use crate::pairs::{FLASH_A, try_pair};
 use crate::slots::{SMALL, one_number};
-use crate::steps::{Content, NUMBER, turns};
+use crate::steps::{Content, NUMBER, gives, turns};
 use crate::trial::Trial;
-use ea_slots::ea_told::fls_model::Flash;
-use ea_slots::ea_told::memif::{DeviceRefusal, JobResult, MemDevice, MemIf, PlainStore};
-use ea_slots::ea_told::nv_base::{DeviceNumber, lengths_of};
-use ea_slots::{Ea, Origin};
-use memif_pair::Both;
+use memif_fee_ea::ea_slots::{Ea, Origin};
+use memif_fee_ea::fls_model::Flash;
+use memif_fee_ea::memif::{DeviceRefusal, JobResult, MemDevice, MemIf, PlainStore};
+use memif_fee_ea::memif_pair::Both;
+use memif_fee_ea::nv_base::{DeviceNumber, lengths_of};
 use std::alloc::{AllocError, Global};
 use std::marker::Brand;
 
-// The number of the device in memory; that of the other one is above it.
-const IN_MEMORY: DeviceNumber = DeviceNumber(64);
-
-// One that neither of them has.
-const IN_NEITHER: DeviceNumber = DeviceNumber(192);
+// One that no device has.
+const IN_NEITHER: DeviceNumber = DeviceNumber(320);
 
 const OLD: Content = [0x11, 0x22, 0x33, 0x44];
 
 const NEW: Content = [0x55, 0x66, 0x77, 0x88];
 
 fn device_in_memory(alloc: Global) -> Result<PlainStore, AllocError>
-    ensures { IfOk result (λ p. p ≡ plain_store ((IN_MEMORY, 4) ∷ [])) }
+    ensures { IfOk result (λ p. p ≡ plain_store ((FLASH_A, 4) ∷ [])) }
 {
-    let numbers = lengths_of(alloc, &[(IN_MEMORY, 4)])?;
+    let numbers = lengths_of(alloc, &[(FLASH_A, 4)])?;
     PlainStore::make(alloc, &numbers)
 }
 
@@ -38,7 +36,7 @@ fn both_of<F: Flash, O: Origin>(
     in_memory: PlainStore,
     over_slots: Ea<F, O>,
 ) -> Both<PlainStore, Ea<F, O>>
-    requires in_memory { in_memory ≡ plain_store ((IN_MEMORY, 4) ∷ []) }
+    requires in_memory { in_memory ≡ plain_store ((FLASH_A, 4) ∷ []) }
     requires over_slots { IsMadeOf O.making (told_in over_slots) }
     requires slots { HasSlots O.making }
     requires number { O.making.numbers ≡ (NUMBER, 4) ∷ [] }
@@ -83,13 +81,6 @@ fn writes<D: MemDevice>(
         && device.ops() == before.saturating_add(count.1)
 }
 
-// Whether a read gives this content, in one turn.
-fn gives<D: MemDevice>(device: &mut D, number: DeviceNumber, content: &Content) -> bool {
-    device.start_read(number, 4).is_ok()
-        && turns(device) == 1
-        && device.take_data() == content.as_slice()
-}
-
 // Whether the power of the second part goes off at the second operation of a write.
 fn is_cut<D: MemDevice>(device: &mut D) -> bool {
     device.arm(1, 2, 0);
@@ -105,9 +96,13 @@ fn is_refused<D: MemDevice>(device: &mut D) -> bool {
     )
 }
 
-// Whether each number is its own device's: the content of the one takes no operation, the other one's is kept over a power cut.
+// Whether each number is its own device's: what the other one holds is kept over a power cut of this one. Two writes of the first
+// one's take so many turns and operations.
 #[derive(Clone, Copy)]
-struct EachOnItsOwn;
+struct EachOnItsOwn {
+    old: (u32, u64),
+    new: (u32, u64),
+}
 
 impl Trial for EachOnItsOwn {
     fn try_with<D: MemDevice + Drop>(&self, _alloc: Global, device: D) -> Option<D> {
@@ -115,21 +110,37 @@ impl Trial for EachOnItsOwn {
         device.start().ok()?;
         let holds = is_refused(&mut device)
             && writes(&mut device, NUMBER, &OLD, (5, 5))
-            && writes(&mut device, IN_MEMORY, &OLD, (1, 0))
-            && writes(&mut device, IN_MEMORY, &NEW, (1, 0))
+            && writes(&mut device, FLASH_A, &OLD, self.old)
+            && writes(&mut device, FLASH_A, &NEW, self.new)
             && is_cut(&mut device);
         device.start().ok()?;
-        let kept = gives(&mut device, NUMBER, &OLD) && gives(&mut device, IN_MEMORY, &NEW);
+        let kept = gives(&mut device, NUMBER, &OLD) && gives(&mut device, FLASH_A, &NEW);
         (holds && kept).then_some(device)
     }
 }
 
+// The device in memory makes no operation.
 fn each_holds(alloc: Global) -> Option<()> {
-    try_over(alloc, cutter(alloc)?, &EachOnItsOwn)?;
+    let in_memory = EachOnItsOwn {
+        old: (1, 0),
+        new: (1, 0),
+    };
+    try_over(alloc, cutter(alloc)?, &in_memory)?;
+    Some(())
+}
+
+// The first write of a flash makes a bank of it.
+fn each_holds_on_flashes(alloc: Global) -> Option<()> {
+    let on_flash = EachOnItsOwn {
+        old: (11, 11),
+        new: (4, 4),
+    };
+    try_pair(alloc, cutter(alloc)?, cutter(alloc)?, &on_flash)?;
     Some(())
 }
 
 #[test]
 fn each_number_on_its_own_device(rt: HostRuntime) {
     assert!(rt; each_holds(rt.alloc()).is_some());
+    assert!(rt; each_holds_on_flashes(rt.alloc()).is_some());
 }

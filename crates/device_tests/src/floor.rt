@@ -1,13 +1,15 @@
-// The floor: two devices behind one interface, a run of calls, and work, over a device in memory and over one of paired slots.
+// The floor: two devices behind one interface, a run of calls, and work, over a device in memory, over one of paired slots, and over
+// one of a flash and an EEPROM.
+use crate::pairs::{FLASH_A, try_pair};
 use crate::slots::{one_number, try_over};
 use crate::steps::NUMBER;
 use crate::trial::Trial;
-use ea_slots::ea_told::fls_model::mem_flash;
-use ea_slots::ea_told::memif::{
+use memif_fee_ea::fls_model::mem_flash;
+use memif_fee_ea::memif::{
     DeviceCall, DeviceStep, DeviceTurn, JobResult, MemDevice, MemIf, PlainStore, Rest, erase,
     make_turns, run_calls, start_up,
 };
-use ea_slots::ea_told::nv_base::bytes_of;
+use memif_fee_ea::nv_base::{DeviceNumber, bytes_of};
 use std::alloc::{AllocError, Global};
 
 fn make_store(alloc: Global) -> Option<PlainStore> {
@@ -15,12 +17,21 @@ fn make_store(alloc: Global) -> Option<PlainStore> {
     PlainStore::make(alloc, &numbers).ok()
 }
 
-// A trial with a device over paired slots, and with one in memory.
-fn is_tried<T: Trial>(alloc: Global, over_slots: &T, in_memory: &T) -> Option<()> {
+// A trial with a device of a flash and an EEPROM.
+fn is_tried_of_both<T: Trial>(alloc: Global, trial: &T) -> Option<()> {
+    let flash = mem_flash(alloc, &[], 40).ok()?;
+    let eeprom = mem_flash(alloc, &[], 40).ok()?;
+    try_pair(alloc, flash, eeprom, trial)?;
+    Some(())
+}
+
+// A trial with a device over paired slots, by itself and beside a flash, with one in memory, and on a number of the flash.
+fn is_tried<T: Trial>(alloc: Global, over_slots: &T, in_memory: &T, on_flash: &T) -> Option<()> {
     let flash = mem_flash(alloc, &[], 40).ok()?;
     try_over(alloc, flash, over_slots)?;
     in_memory.try_with(alloc, make_store(alloc)?)?;
-    Some(())
+    is_tried_of_both(alloc, over_slots)?;
+    is_tried_of_both(alloc, on_flash)
 }
 
 // Makes turns of one of two devices until it doesn't work.
@@ -35,15 +46,17 @@ fn turn_second<A: MemDevice, B: MemDevice>(devices: &mut MemIf<A, B>) {
 
 // Whether a content that one device of two takes is read back.
 #[derive(Clone, Copy)]
-struct ReadBack;
+struct ReadBack {
+    number: DeviceNumber,
+}
 
 impl Trial for ReadBack {
     fn try_with<D: MemDevice + Drop>(&self, alloc: Global, device: D) -> Option<D> {
         let mut devices = MemIf::make(PlainStore::without_numbers(alloc), device);
         devices.start(1).ok()?;
-        devices.start_write(1, NUMBER, b"abcd", false).ok()?;
+        devices.start_write(1, self.number, b"abcd", false).ok()?;
         turn_second(&mut devices);
-        devices.start_read(1, NUMBER, 4).ok()?;
+        devices.start_read(1, self.number, 4).ok()?;
         turn_second(&mut devices);
         let is_read = devices.take_data(1) == b"abcd".as_slice();
         let (_, device) = devices.into_parts();
@@ -53,15 +66,21 @@ impl Trial for ReadBack {
 
 #[test]
 fn a_job_of_one_device_of_two(rt: HostRuntime) {
-    assert!(rt; is_tried(rt.alloc(), &ReadBack, &ReadBack).is_some());
+    let with_slots = ReadBack { number: NUMBER };
+    let on_flash = ReadBack { number: FLASH_A };
+    assert!(rt; is_tried(rt.alloc(), &with_slots, &with_slots, &on_flash).is_some());
 }
 
 // An urgent write, a cancel and so many turns.
-fn urgent_calls(alloc: Global, turns: usize) -> Result<Vec<DeviceCall>, AllocError> {
+fn urgent_calls(
+    alloc: Global,
+    number: DeviceNumber,
+    turns: usize,
+) -> Result<Vec<DeviceCall>, AllocError> {
     let content = bytes_of(alloc, b"abcd")?;
     let mut calls = Vec::new(alloc);
     calls.push(DeviceCall::Write {
-        number: NUMBER,
+        number,
         content,
         urgent: true,
     })?;
@@ -75,6 +94,7 @@ fn urgent_calls(alloc: Global, turns: usize) -> Result<Vec<DeviceCall>, AllocErr
 // Whether an urgent write isn't canceled, and is done in so many turns.
 #[derive(Clone, Copy)]
 struct UrgentWrite {
+    number: DeviceNumber,
     turns: usize,
 }
 
@@ -95,7 +115,7 @@ impl Trial for UrgentWrite {
     fn try_with<D: MemDevice + Drop>(&self, alloc: Global, device: D) -> Option<D> {
         let mut device = device;
         start_up(&mut device).ok()?;
-        let calls = urgent_calls(alloc, self.turns).ok()?;
+        let calls = urgent_calls(alloc, self.number, self.turns).ok()?;
         let steps = run_calls(alloc, &mut device, calls.as_slice()).ok()?;
         ends_last(steps.as_slice()).then_some(device)
     }
@@ -103,14 +123,25 @@ impl Trial for UrgentWrite {
 
 #[test]
 fn runs_calls_but_no_cancel_of_an_urgent_job(rt: HostRuntime) {
-    let over_slots = UrgentWrite { turns: 5 };
-    let in_memory = UrgentWrite { turns: 1 };
-    assert!(rt; is_tried(rt.alloc(), &over_slots, &in_memory).is_some());
+    let over_slots = UrgentWrite {
+        number: NUMBER,
+        turns: 5,
+    };
+    let in_memory = UrgentWrite {
+        number: NUMBER,
+        turns: 1,
+    };
+    let on_flash = UrgentWrite {
+        number: FLASH_A,
+        turns: 11,
+    };
+    assert!(rt; is_tried(rt.alloc(), &over_slots, &in_memory, &on_flash).is_some());
 }
 
 // Whether a device is started, erases a number in so many turns, and comes to rest then.
 #[derive(Clone, Copy)]
 struct Work {
+    number: DeviceNumber,
     turns: u64,
 }
 
@@ -118,7 +149,7 @@ impl Trial for Work {
     fn try_with<D: MemDevice + Drop>(&self, _alloc: Global, device: D) -> Option<D> {
         let mut device = device;
         start_up(&mut device).ok()?;
-        let turns = erase(&mut device, NUMBER).ok()?;
+        let turns = erase(&mut device, self.number).ok()?;
         let rests = matches!(make_turns(&mut device), Rest::Idle);
         (rests && turns == self.turns).then_some(device)
     }
@@ -126,7 +157,17 @@ impl Trial for Work {
 
 #[test]
 fn work_over_any_device(rt: HostRuntime) {
-    let over_slots = Work { turns: 4 };
-    let in_memory = Work { turns: 1 };
-    assert!(rt; is_tried(rt.alloc(), &over_slots, &in_memory).is_some());
+    let over_slots = Work {
+        number: NUMBER,
+        turns: 4,
+    };
+    let in_memory = Work {
+        number: NUMBER,
+        turns: 1,
+    };
+    let on_flash = Work {
+        number: FLASH_A,
+        turns: 10,
+    };
+    assert!(rt; is_tried(rt.alloc(), &over_slots, &in_memory, &on_flash).is_some());
 }

@@ -2,8 +2,8 @@
 // failed. Each check is None where something isn't as expected, or for want of memory.
 use crate::slots::makes_over;
 use crate::steps::{Content, Step};
-use ea_slots::ea_told::fls_model::{Flash, MemFlash, mem_flash};
 use fls_devices::{Cutter, FaultScript};
+use memif_fee_ea::fls_model::{Flash, MemFlash, mem_flash};
 use std::alloc::{AllocError, Global};
 
 const OLDER: Content = [1, 2, 3, 4];
@@ -22,14 +22,14 @@ const ERASE: u32 = 1;
 
 const GATE: u32 = 5;
 
-// How many bytes of an operation are done: none, a part of a page, all but one, all. An erase is done where some are.
-const KEEPS: [u32; 4] = [0, 8, 15, 16];
+/// How many bytes of an operation are done: none, a part of a page, all but one, all. An erase is done where some are.
+pub(crate) const KEEPS: [u32; 4] = [0, 8, 15, 16];
 
-// An operation of a write that is cut or fails, counted from 1, with so many bytes of it done.
+/// An operation of a write that is cut or fails, counted from 1, with so many bytes of it done.
 #[derive(Clone, Copy)]
-struct Harm {
-    nth: u32,
-    keep: u32,
+pub(crate) struct Harm {
+    pub(crate) nth: u32,
+    pub(crate) keep: u32,
 }
 
 impl Harm {

@@ -1,12 +1,12 @@
 // A device over paired slots of a small flash, with one number.
 ghost use Rattle.std.specs.Prelude.{◌≡◌, ◌∷◌, [], IfOk};
-ghost use Rattle.ea_slots.specs.ea_told.Making.{HasSlots};
+ghost use Rattle.memif_fee_ea.specs.ea_slots.ea_told.Making.{HasSlots};
 
 use crate::steps::{NUMBER, Step, Steps};
 use crate::trial::Trial;
-use ea_slots::ea_told::fls_model::Flash;
-use ea_slots::ea_told::nv_base::{Geometry, Lengths, lengths_of};
-use ea_slots::{Ea, Origin};
+use memif_fee_ea::ea_slots::{Ea, Origin};
+use memif_fee_ea::fls_model::Flash;
+use memif_fee_ea::nv_base::{Geometry, Lengths, lengths_of};
 use std::alloc::{AllocError, Global};
 use std::marker::Brand;
 

@@ -1,7 +1,7 @@
 // What is done with a device, a step at a time, and whether each comes to what is expected of it.
 use crate::trial::Trial;
-use ea_slots::ea_told::memif::{DeviceTurn, JobResult, MemDevice, PlainMark};
-use ea_slots::ea_told::nv_base::DeviceNumber;
+use memif_fee_ea::memif::{DeviceTurn, JobResult, MemDevice, PlainMark};
+use memif_fee_ea::nv_base::DeviceNumber;
 use std::alloc::Global;
 
 /// The number that is written.
@@ -84,7 +84,7 @@ fn makes<D: MemDevice>(device: &mut D, step: Step) -> bool {
         Step::Worn(content) => {
             device.start_write(NUMBER, &content, false).is_ok() && is_worn(device)
         }
-        Step::Read(content) => gives(device, &content),
+        Step::Read(content) => gives(device, NUMBER, &content),
         Step::IsInvalid => matches!(device.mark_kind(NUMBER), Some(PlainMark::Invalid)),
         Step::IsErased => matches!(device.mark_kind(NUMBER), Some(PlainMark::Erased)),
     }
@@ -93,7 +93,7 @@ fn makes<D: MemDevice>(device: &mut D, step: Step) -> bool {
 /// How many turns work until nothing is open or the power is off.
 pub(crate) fn turns<D: MemDevice>(device: &mut D) -> u32 {
     let mut worked: u32 = 0;
-    for _ in 0..20 {
+    for _ in 0..60 {
         match device.turn() {
             DeviceTurn::Worked => worked = worked.saturating_add(1),
             DeviceTurn::Idle | DeviceTurn::Off => return worked,
@@ -142,9 +142,9 @@ fn is_worn<D: MemDevice>(device: &mut D) -> bool {
     left == 1 && worked == 1 && after == before && device.result() == JobResult::JobFailed
 }
 
-// Whether a read gives this content, in one turn.
-fn gives<D: MemDevice>(device: &mut D, content: &Content) -> bool {
-    device.start_read(NUMBER, 4).is_ok()
+/// Whether a read gives this content, in one turn.
+pub(crate) fn gives<D: MemDevice>(device: &mut D, number: DeviceNumber, content: &Content) -> bool {
+    device.start_read(number, 4).is_ok()
         && turns(device) == 1
         && device.take_data() == content.as_slice()
 }

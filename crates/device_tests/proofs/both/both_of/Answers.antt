@@ -1,5 +1,5 @@
 use Rattle.std.proofs.Common.{refl}
-use Rattle.ea_slots.specs.Whole.{told_in}
+use Rattle.memif_fee_ea.specs.ea_slots.Whole.{told_in}
 use Rattle.device_tests.proofs.Paired.{paired}
 use Rattle.device_tests.proofs.both.both_of.Goals as goal
 
