@@ -1,6 +1,6 @@
 -- A request on all blocks is picked.
-use Rattle.std.proofs.Common.{◌≡◌, ℕ, ◌+◌, Bool, true, false, List, [], ◌∷◌, refl, sym, subst, Option, Some, None, if◌then◌else◌, ap, ◌∙◌, arith}
-use Rattle.block_machine.specs.nv_base.History.{Listed}
+use Rattle.std.proofs.Common.{◌≡◌, ℕ, ◌+◌, Bool, true, false, List, [], ◌∷◌, refl, sym, subst, Option, Some, None, if◌then◌else◌, ap, ◌∙◌}
+use Rattle.nv_recorder.specs.Recorder.{Recorded}
 use Rattle.block_machine.specs.Words.{Configuration, JobKind, ReqResult, Pick, TookNothing, Post}
 use Rattle.block_machine.specs.State.{State, Job, Sweep, jobs_of}
 use Rattle.block_machine.specs.Blocks.{desc_of, block_at}
@@ -75,7 +75,7 @@ room_to_begin d ops is may = has_room d (Pick 0 (sweep_kind may.sweep.writes) To
     (may_begin d.config d.history.cap (after d.config d.history.entries) may.sweep ops may.is may.driving) refl
 
 -- what is kept stands behind it
-pub begun_kept : (d : Inside) (h : Listed) (k : Kept) (kind : JobKind) (ops : ℕ) → IsKept d → (may : MayBegin (shown d) ops)
+pub begun_kept : (d : Inside) (h : Recorded) (k : Kept) (kind : JobKind) (ops : ℕ) → IsKept d → (may : MayBegin (shown d) ops)
     → (AreSweeps d.config d.kept.sweep (Some may.sweep) → kind ≡ sweep_kind may.sweep.writes)
     → h ≡ with_entry d.history (Pick 0 kind TookNothing ops)
     → (Begins (after d.config d.history.entries) may.sweep
@@ -85,10 +85,10 @@ begun_kept d h k kind ops is may kind_is added agrees =
     let s = after d.config d.history.entries in
     let b = begins d.config s may.sweep may.is in
     let same = kind_is (kept_sweep d.config d.kept.sweep s may.sweep b.sweep is.agrees.sweep) in
-    allowed_kept d h k d.rooms d.places (Pick 0 (sweep_kind may.sweep.writes) TookNothing ops) is
+    allowed_kept d h k d.places (Pick 0 (sweep_kind may.sweep.writes) TookNothing ops) is
     (may_begin d.config d.history.cap s may.sweep ops may.is may.driving) refl
     (begun_sound d.config s may.sweep ops is.sound may.is) (rw same at added)
-    (begun_step d.config k s may.sweep ops may.is (agrees b)) (omega arith) refl
+    (begun_step d.config k s may.sweep ops may.is (agrees b))
     (stay_ready d _ is (ap (λ n. jobs_of (picked d.config s TookNothing n)) may.is))
 
 -- THE END OF A SWEEP
@@ -165,7 +165,7 @@ room_to_finish d answer ops is may =
     (may_finish d.config d.history.cap s may.sweep ops (ends d.config s may.sweep may.is).hand may.is may.driving) refl
 
 -- what is kept stands behind it
-pub ended_kept : (d : Inside) (h : Listed) (k : Kept) (answer : ReqResult) (ops : ℕ) → IsKept d → (may : MayFinish (shown d) answer ops)
+pub ended_kept : (d : Inside) (h : Recorded) (k : Kept) (answer : ReqResult) (ops : ℕ) → IsKept d → (may : MayFinish (shown d) answer ops)
     → h ≡ with_entry d.history (Post 0 (sweep_result may.sweep) None 0 ops)
     → (Ends d.config (after d.config d.history.entries) may.sweep
     → Agrees d.config k (posted_next d.config (after d.config d.history.entries) (sweep_result may.sweep) None (EndSweep may.sweep)))
@@ -173,8 +173,8 @@ pub ended_kept : (d : Inside) (h : Listed) (k : Kept) (answer : ReqResult) (ops 
 ended_kept d h k answer ops is may added agrees =
     let s = after d.config d.history.entries in
     let x = ends d.config s may.sweep may.is in
-    allowed_kept d h k d.rooms d.places (Post 0 (sweep_result may.sweep) None 0 ops) is
+    allowed_kept d h k d.places (Post 0 (sweep_result may.sweep) None 0 ops) is
     (may_finish d.config d.history.cap s may.sweep ops x.hand may.is may.driving) refl
     (finished_sound d.config s may.sweep ops is.sound x may.is) added
-    (finished_step d.config k s may.sweep ops x.hand may.is (agrees x)) (omega arith) refl
+    (finished_step d.config k s may.sweep ops x.hand may.is (agrees x))
     (stay_ready d _ is (ap (λ o. jobs_of (posted d.config s (sweep_result may.sweep) None o)) x.hand ∙ ap (λ n. jobs_of (posted_next d.config s (sweep_result may.sweep) None n)) may.is))

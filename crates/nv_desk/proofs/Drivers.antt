@@ -3,7 +3,7 @@ use Rattle.std.specs.Option.{option_and_then, option_map_or}
 use Rattle.std.proofs.lemmas.Bool.{and_parts}
 use Rattle.std.proofs.lemmas.List.Sums.{sum_by-cons}
 use Rattle.std.proofs.Common.{◌≢◌, option_map, ◌&&◌, Bool, false, sym, ◌∙◌, get_or, ◌≡◌, ◌≤◌, ◌<◌, ℕ, ◌+◌, true, List, ◌∷◌, ◌++◌, length, refl, ap, arith, subst, Option, Some, None, IfSome, IsSome, option_to_list}
-use Rattle.block_machine.specs.nv_base.History.{Listed}
+use Rattle.nv_recorder.specs.Recorder.{Recorded}
 use Rattle.block_machine.specs.block_config.Block.{record_count}
 use Rattle.block_machine.specs.block_config.declared.block.BlockKind.{BlockKind}
 use Rattle.block_machine.specs.block_config.declared.block.BlockKind.TheVariants.{Native, Redundant, Dataset}
@@ -22,7 +22,7 @@ use Rattle.block_states.specs.States.{rooms_of}
 use Rattle.block_states.proofs.Started.{rooms_have_lengths}
 use Rattle.nv_desk.specs.declared.desk.Desk.TheInside.{Inside}
 use Rattle.nv_desk_state.specs.declared.kept.Kept.{Kept}
-use Rattle.nv_desk.specs.Rooms.{Roomy, HasPlace, CanPost, with_entry}
+use Rattle.nv_desk.specs.Rooms.{HasPlace, CanNote, with_entry}
 use Rattle.nv_desk_state.specs.Kept.{Agrees}
 use Rattle.nv_desk.specs.Sound.{IsPendingJob, IsSound}
 use Rattle.nv_desk.specs.Desk.{IsKept, shown}
@@ -33,10 +33,9 @@ use Rattle.nv_desk.proofs.Ready.{back_length, ended_ready}
 use Rattle.job_pending.specs.Pending.{Pending, Agree, IsHeld, IsOther, StandsApart}
 use Rattle.block_laws.proofs.JobLists.{each_more}
 
--- there is room for the entry, and for a content with it
+-- there is room for the entry
 pub record HasRoom (d : Inside) (e : Entry) : Type 0 where
   pub place : HasPlace d.history
-  pub rooms : 1 ≤ d.rooms.count
   pub fewer : reserved_entries d.config (changed_by d.config (after d.config d.history.entries) e) + 1 ≤ reserved_entries d.config
       (after d.config d.history.entries)
 
@@ -44,7 +43,6 @@ pub room_for : (d : Inside) (e : Entry) → IsKept d → reserved_entries d.conf
     (changed_by d.config (after d.config d.history.entries) e) < reserved_entries d.config (after d.config d.history.entries) → HasRoom d e
 room_for d e is less = record {
   place = record { below = omega (arith, is.fits, less); room = omega (arith, is.memory, less) };
-  rooms = omega (arith, is.rooms, less);
   fewer = omega (arith, less);
 }
 
@@ -53,28 +51,28 @@ pub has_room : (d : Inside) (e : Entry) → IsKept d → IsAllowed d.config d.hi
 has_room d e is allowed uses = room_for d e is (driver_entries_are_reserved d.config d.history.cap (after d.config d.history.entries) e is.sound.consistent allowed uses)
 
 -- what is kept stands behind it
-pub driver_kept : (d : Inside) (h : Listed) (k : Kept) (r : Roomy) (p : Ready) (e : Entry) → IsKept d → HasRoom d e
+pub driver_kept : (d : Inside) (h : Recorded) (k : Kept) (p : Ready) (e : Entry) → IsKept d → HasRoom d e
     → IsSound d.config (step d.config (after d.config d.history.entries) e)
     → h ≡ with_entry d.history e → Agrees d.config k (changed_by d.config (after d.config d.history.entries) e)
-    → d.rooms.count ≤ r.count + 1 → r.longest ≡ d.rooms.longest → StandReady d (changed_by d.config (after d.config d.history.entries) e) p
-    → IsKept (record d { history = h; kept = k; rooms = r; places = p })
-driver_kept d h k r p e is has sound added agrees count longest places =
+    → StandReady d (changed_by d.config (after d.config d.history.entries) e) p
+    → IsKept (record d { history = h; kept = k; places = p })
+driver_kept d h k p e is has sound added agrees places =
     let left = reserved_entries d.config (changed_by d.config (after d.config d.history.entries) e) in
-    let reserved = ap (λ (x : Listed). x.reserved) added in
-    entry_kept d h k r p e left is
-    (record { entries = ap (λ (x : Listed). x.entries) added; cap = ap (λ (x : Listed). x.cap) added; memory = omega (arith, reserved, has.fewer, is.memory) })
-    agrees sound (omega arith) (omega (arith, has.fewer, is.fits)) (omega (arith, has.fewer, is.rooms, count)) (omega (arith, longest)) places
+    let reserved = ap (λ (x : Recorded). x.reserved) added in
+    entry_kept d h k p e left is
+    (record { entries = ap (λ (x : Recorded). x.entries) added; cap = ap (λ (x : Recorded). x.cap) added; memory = omega (arith, reserved, has.fewer, is.memory); longest = ap (λ (x : Recorded). x.longest) added })
+    agrees sound (omega arith) (omega (arith, has.fewer, is.fits)) places
 
 -- so it does behind one that the machine allows
-pub allowed_kept : (d : Inside) (h : Listed) (k : Kept) (r : Roomy) (p : Ready) (e : Entry) → IsKept d
+pub allowed_kept : (d : Inside) (h : Recorded) (k : Kept) (p : Ready) (e : Entry) → IsKept d
     → IsAllowed d.config d.history.cap (after d.config d.history.entries) e → uses_reserved e ≡ true
     → (IsConsistent d.config (step d.config (after d.config d.history.entries) e) → IsSound d.config (step d.config (after d.config d.history.entries) e))
     → h ≡ with_entry d.history e → Agrees d.config k (changed_by d.config (after d.config d.history.entries) e)
-    → d.rooms.count ≤ r.count + 1 → r.longest ≡ d.rooms.longest → StandReady d (changed_by d.config (after d.config d.history.entries) e) p
-    → IsKept (record d { history = h; kept = k; rooms = r; places = p })
-allowed_kept d h k r p e is allowed uses sound added agrees count longest places = driver_kept d h k r p e is (has_room d e is allowed uses)
+    → StandReady d (changed_by d.config (after d.config d.history.entries) e) p
+    → IsKept (record d { history = h; kept = k; places = p })
+allowed_kept d h k p e is allowed uses sound added agrees places = driver_kept d h k p e is (has_room d e is allowed uses)
     (sound (allowed_steps_stay_consistent d.config d.history.cap (after d.config d.history.entries) e is.sound.consistent allowed))
-    added agrees count longest places
+    added agrees places
 
 given_fits : (c : Configuration) (n id : ℕ) (given : Option (List ℕ)) → IfSome given (λ x. length x ≡ (desc_of c id).length)
     → ((id : ℕ) → (desc_of c id).length ≤ n) → IfSome given (λ x. length x ≤ n)
@@ -83,11 +81,10 @@ given_fits c n id (Some x) whole most = omega (arith, whole, most id)
 
 -- there is room for a Post that gives nothing or a content of its block's length
 pub can_post : (d : Inside) (e : Entry) (id : ℕ) (given : Option (List ℕ)) → IsKept d → HasRoom d e
-    → IfSome given (λ x. length x ≡ (desc_of d.config id).length) → CanPost d.history d.rooms given
+    → IfSome given (λ x. length x ≡ (desc_of d.config id).length) → CanNote d.history given
 can_post d e id given is has whole = record {
   place = has.place;
-  some = omega (arith, has.rooms);
-  fits = given_fits d.config d.rooms.longest id given whole is.longest;
+  fits = given_fits d.config d.history.longest id given whole is.longest;
 }
 
 -- THE JOB IN HAND
@@ -139,6 +136,17 @@ pub content_fits : (c : Configuration) (s : State) (n : ℕ) (j : Job) → IsSou
     → ((id : ℕ) → (desc_of c id).length ≤ n) → IfSome j.content (λ x. length x.0 ≤ n)
 content_fits c s n j sound is most = fits_by n (desc_of c (job_block j)).length j.content (most (job_block j))
     (first_by (IsPendingJob c s) s.hand s.waiting j is sound.jobs).content
+
+-- and so it has where it is written
+noted_by : (n : ℕ) (o : Option (List ℕ × ℕ)) (x : List ℕ) → IfSome o (λ y. length y.0 ≤ n) → option_map (λ y. y.0) o ≡ Some x → length x ≤ n
+noted_by n None x fits is = cc
+noted_by n (Some y) x fits is = let e : y.0 ≡ x = cc in subst (λ (z : List ℕ). length z ≤ n) e fits
+
+pub content_noted : (n : ℕ) (hand : Option Job) (content : Option (List ℕ)) → IfSome hand (λ h. IfSome h.content (λ x. length x.0 ≤ n))
+    → IfSome content (λ x. option_map (λ y. y.0) (option_and_then (λ j. j.content) hand) ≡ Some x) → IfSome content (λ x. length x ≤ n)
+content_noted n hand None fits is = tt
+content_noted n None (Some x) fits is = cc
+content_noted n (Some h) (Some x) fits is = noted_by n h.content x fits is
 
 -- what holds of it holds of the one that is kept
 pub in_hand : (P : Job → Type 0) (hand o : Option Job) (j : Job) → hand ≡ o → o ≡ Some j → P j → IfSome hand P

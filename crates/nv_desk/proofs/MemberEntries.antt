@@ -93,7 +93,7 @@ pub record MemberPick (d : Inside) (took : Took) (ops : ℕ) (sw : Sweep) (id : 
   pub member : IsAtMember (after d.config d.history.entries) sw id
   pub ram : sw.writes ≡ true → HasRam d.config id
   pub whole : IfSome (content_after None (taken_with None took)) (λ x. length x.0 ≡ (desc_of d.config id).length)
-  pub takes : CanTake d.rooms None took
+  pub takes : CanTake d.history.longest None took
   pub place : IsReady d.config d.places id
 
 pub member_pick : (d : Inside) (id : ℕ) (took : Took) (ops : ℕ) → IsKept d → IsLegalConfig d.config → FillsRooms d.kept
@@ -111,7 +111,7 @@ member_pick d id took ops is legal fills may =
       member = x;
       ram = some;
       whole = whole;
-      takes = record { rooms = has.rooms; own = tt; copied = copied_fits (desc_of d.config id).length d.rooms.longest None took (is.longest id) whole };
+      takes = record { own = tt; copied = copied_fits (desc_of d.config id).length d.history.longest None took (is.longest id) whole };
       place = is.ready id (let known = member_known d.config d.kept s may.sweep id (omega (arith, legal.blocks_low)) is.agrees x in omega (arith, known, is.agrees.places)) (rw (x.hand, x.waiting) tt);
     }
 

@@ -2,7 +2,7 @@
 use Rattle.std.proofs.Common.{◌≡◌, ◌≢◌, ◌≤◌, ◌<◌, ℕ, ◌+◌, ◌^◌, List, [], ◌∷◌, ◌++◌, length, option_to_list, refl, sym, ap, ◌∙◌, subst, arith, Option, Some, None, IfSome, Bool, false, IsTrue, ◌↔◌}
 use Rattle.std.specs.Option.{option_map_or}
 use Rattle.std.proofs.lemmas.List.Sums.{sum_by-cons}
-use Rattle.block_machine.specs.nv_base.History.{Listed}
+use Rattle.nv_recorder.specs.Recorder.{Recorded}
 use Rattle.block_machine.specs.Words.{Configuration, JobKind, Taken, Pick}
 use Rattle.block_machine.specs.State.{State, Job, jobs_of}
 use Rattle.block_machine.specs.Blocks.{desc_of, job_block, kind_of, rank_of}
@@ -23,7 +23,7 @@ use Rattle.nv_desk.specs.declared.desk.Desk.TheInside.{Inside}
 use Rattle.nv_desk.specs.Desk.{DeskState, IsKept, shown, state_of}
 use Rattle.nv_desk.specs.Picks.{CanTake, IsInterruption, MayPickNext, copied_of, own_first, took_of}
 use Rattle.nv_desk.specs.Places.{Ready, IsReady, AreReady, taken_from}
-use Rattle.nv_desk.specs.Rooms.{Roomy, with_entry}
+use Rattle.nv_desk.specs.Rooms.{with_entry}
 use Rattle.nv_desk.proofs.Contents.{FillsRooms, copied_fits, job_takes, own_same, ram_is_whole}
 use Rattle.nv_desk.proofs.Drivers.{HasRoom, has_room}
 use Rattle.nv_desk.proofs.Entries.{StandReady}
@@ -120,7 +120,7 @@ pub record JobPick (d : Inside) (took : Took) (ops : ℕ) (j : Job) : Type 0 whe
   pub room : HasRoom d (Pick (job_block j) (kind_of j) (taken_with j.content took) ops)
   pub ready : IsNext d.config (after d.config d.history.entries) j
   pub whole : IfSome (content_after j.content (taken_with j.content took)) (λ x. length x.0 ≡ (desc_of d.config (job_block j)).length)
-  pub takes : CanTake d.rooms j.content took
+  pub takes : CanTake d.history.longest j.content took
   pub place : j.content ≡ None → IsReady d.config d.places (job_block j)
 
 pub job_pick : (d : Inside) (took : Took) (ops : ℕ) → IsKept d → FillsRooms d.kept → (may : MayPickNext (shown d) took ops) → JobPick d took ops may.job
@@ -137,9 +137,8 @@ job_pick d took ops is fills may =
       ready = r;
       whole = whole;
       takes = record {
-        rooms = has.rooms;
-        own = content_within d.rooms.longest n j.content (is.longest (job_block j)) r.pending.content;
-        copied = copied_fits n d.rooms.longest j.content took (is.longest (job_block j)) whole;
+        own = content_within d.history.longest n j.content (is.longest (job_block j)) r.pending.content;
+        copied = copied_fits n d.history.longest j.content took (is.longest (job_block j)) whole;
       };
       place = next_place d.config d.kept.jobs s j d.places is.agrees.jobs may.is r.pending.pending (is.sound.places may.allowed.0.started) is.ready;
     }
@@ -156,13 +155,13 @@ pub whole_own : (d : Inside) (t : Take) (lent : List ℕ) (j : Job) → taken_wi
     → IfSome (content_after j.content (taken_with j.content (took_of (own_first t j.content) lent))) (λ x. length x.0 ≡ (desc_of d.config (job_block j)).length)
 whole_own d t lent j one whole = rw one whole
 
-own_by : (r : Roomy) (t : Take) (lent : List ℕ) (content : Option (List ℕ × ℕ)) → CanTake r content (took_of t lent) → CanTake r content (took_of (own_first t content) lent)
-own_by r (take.Copied store) lent (Some x) can = record { rooms = can.rooms; own = can.own; copied = tt }
+own_by : (r : ℕ) (t : Take) (lent : List ℕ) (content : Option (List ℕ × ℕ)) → CanTake r content (took_of t lent) → CanTake r content (took_of (own_first t content) lent)
+own_by r (take.Copied store) lent (Some x) can = record { own = can.own; copied = tt }
 own_by r (take.Copied store) lent None can = can
 own_by r t lent content can = can
 
-pub takes_own : (d : Inside) (t : Take) (lent : List ℕ) (j : Job) → CanTake d.rooms j.content (took_of t lent) → CanTake d.rooms j.content (took_of (own_first t j.content) lent)
-takes_own d t lent j can = own_by d.rooms t lent j.content can
+pub takes_own : (d : Inside) (t : Take) (lent : List ℕ) (j : Job) → CanTake d.history.longest j.content (took_of t lent) → CanTake d.history.longest j.content (took_of (own_first t j.content) lent)
+takes_own d t lent j can = own_by d.history.longest t lent j.content can
 
 -- the places behind it
 pub pick_places : (d : Inside) (places : Ready) (block : ℕ) (kind : JobKind) (t own : Take) (lent : List ℕ) (ops at : ℕ) (x j : Job) → IsKept d
@@ -185,7 +184,7 @@ pick_places d places block kind t own lent ops at x j is next same takes on one 
     })
 
 -- its entry, by the job that it is of
-pub entry_of : (h new : Listed) (block : ℕ) (kind : JobKind) (t : Taken) (x j : Job) (took : Took) (ops : ℕ) → block ≡ job_block x → kind ≡ kind_of x
+pub entry_of : (h new : Recorded) (block : ℕ) (kind : JobKind) (t : Taken) (x j : Job) (took : Took) (ops : ℕ) → block ≡ job_block x → kind ≡ kind_of x
     → t ≡ taken_with x.content took → x ≡ j → new ≡ with_entry h (Pick block kind t ops)
     → new ≡ with_entry h (Pick (job_block j) (kind_of j) (taken_with j.content took) ops)
 entry_of h new block kind t x j took ops at is takes same adds =

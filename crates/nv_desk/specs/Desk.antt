@@ -31,19 +31,18 @@ abbrev pub state_of : DeskState → State
 state_of d = after d.config d.entries
 
 -- What is kept stands for the state after the history. The reserved entries fit under the cap, and there is memory for
--- them, and for one content with each. The content of a job has the place of its block. Until the next entry there is memory
--- for a start-up's and an Off behind it, and each place stands ready, once it was taken.
+-- them. The content of a job has the place of its block. Until the next entry there is memory for a start-up's and an Off
+-- behind it, and each place stands ready, once it was taken.
 pub record IsKept (d : Inside) : Type 0 where
   pub agrees : Agrees d.config d.kept (after d.config d.history.entries)
   pub sound : IsSound d.config (after d.config d.history.entries)
   pub fits : length d.history.entries + reserved_entries d.config (after d.config d.history.entries) ≤ d.history.cap
   pub memory : reserved_entries d.config (after d.config d.history.entries) ≤ d.history.reserved
-  pub rooms : reserved_entries d.config (after d.config d.history.entries) ≤ d.rooms.count
   pub one_each : length d.places ≡ length d.config.blocks + 1
   pub ready : AreReady d.config (jobs_of (after d.config d.history.entries)) d.places
   pub prepared : d.prepared ≤ length d.history.entries
-  pub place : d.prepared ≡ length d.history.entries → (2 ≤ d.history.reserved) × (1 ≤ d.rooms.count) × AllReady d.config d.places
-  pub longest : (id : ℕ) → (desc_of d.config id).length ≤ d.rooms.longest
+  pub place : d.prepared ≡ length d.history.entries → (2 ≤ d.history.reserved) × AllReady d.config d.places
+  pub longest : (id : ℕ) → (desc_of d.config id).length ≤ d.history.longest
   pub within : d.history.cap < 2 ^ 32
   pub read_share : d.read_share ≡ sweep_entries d.config (sweep_at d.config 0 false)
   pub write_share : d.write_share ≡ sweep_entries d.config (sweep_at d.config 0 true)

@@ -7,4 +7,6 @@ pub mod Picks
 pub mod Places
 pub mod Rooms
 pub mod Sound
+pub use Rattle.nv_recorder.specs.Event as Event
+pub use Rattle.nv_recorder.specs.Latest as Latest
 pub use Rattle.nv_recorder.specs.Recorder as Recorder

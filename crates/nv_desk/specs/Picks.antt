@@ -10,7 +10,6 @@ use Rattle.job_pending.specs.declared.take.Take.{Take}
 use Rattle.job_pending.specs.declared.take.Take.TheVariants as take
 use Rattle.job_pending.specs.Take.{Took, taken_with}
 use Rattle.nv_desk.specs.Desk.{DeskState, state_of}
-use Rattle.nv_desk.specs.Rooms.{Roomy}
 
 -- the copy of a content that is lent, if a job takes one
 abbrev pub copied_of : Take → (lent : List ℕ) → Option (List ℕ)
@@ -35,11 +34,10 @@ abbrev pub own_first : Take → Option (List ℕ × ℕ) → Take
 own_first (take.Copied store) (Some x) = take.Own
 own_first t content = t
 
--- there is room in the history for what a Pick takes
-pub record CanTake (r : Roomy) (content : Option (List ℕ × ℕ)) (took : Took) : Type 0 where
-  pub rooms : 1 ≤ r.count
-  pub own : IfSome content (λ x. length x.0 ≤ r.longest)
-  pub copied : IfSome (copied_in took) (λ x. length x ≤ r.longest)
+-- what a Pick takes has room in the history
+pub record CanTake (longest : ℕ) (content : Option (List ℕ × ℕ)) (took : Took) : Type 0 where
+  pub own : IfSome content (λ x. length x.0 ≤ longest)
+  pub copied : IfSome (copied_in took) (λ x. length x ≤ longest)
 
 -- a job waits, and it may be picked now with this
 pub record MayPickNext (d : DeskState) (took : Took) (ops : ℕ) : Type 0 where

@@ -12,8 +12,9 @@ ghost use Rattle.nv_desk_state.specs.Pending.{AreSweeps};
 use crate::Desk;
 use crate::memory::add;
 use crate::pick::add_pick;
-use block_machine::nv_base::{Entry, JobKind, ReqResult, Taken};
+use block_machine::nv_base::{Entry, JobKind, ReqResult};
 use nv_desk_state::PendingSweep;
+use nv_recorder::TakenKind;
 
 impl Desk {
     /// The request on all blocks is picked, and its sweep begins. It takes no memory.
@@ -23,7 +24,7 @@ impl Desk {
     {
         let job = sweep_kind(&self.kept.sweep);
         self.kept.pick_sweep();
-        add_pick(&mut self.history, 0, job, Taken::Nothing, ops);
+        add_pick(&mut self.history, 0, job, TakenKind::Nothing, None, ops);
     }
 
     /// The sweep ends, and block id 0 is posted with its result, which is this. It takes no memory.

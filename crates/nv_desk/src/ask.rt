@@ -54,7 +54,7 @@ impl Desk {
         ensures err { OnErr result (self.new ≡ self.old) }
     {
         let reserved = self.kept.reserved() as u32;
-        take_memory(alloc, &mut self.history, &mut self.rooms, reserved)?;
+        take_memory(alloc, &mut self.history, reserved)?;
         self.history.add(Entry::Ask {
             caller,
             request,
@@ -74,7 +74,7 @@ impl Desk {
         let _sizes = self.config.queue_sizes();
         let needed = self.needed(&request);
         let reserved = self.kept.reserved() as u32 + needed;
-        take_memory(alloc, &mut self.history, &mut self.rooms, reserved)?;
+        take_memory(alloc, &mut self.history, reserved)?;
         let asked_for = in_place(&request, &mut self.places);
         let job = Job::accepted(self.history.len(), asked_for, needed);
         self.kept.accept(&self.config, job);
@@ -96,7 +96,7 @@ impl Desk {
         ensures err { OnErr result (self.new ≡ self.old) }
     {
         let reserved = self.kept.reserved() as u32;
-        take_memory(alloc, &mut self.history, &mut self.rooms, reserved)?;
+        take_memory(alloc, &mut self.history, reserved)?;
         self.kept.change(&request);
         self.history.add(acceptance(caller, request));
         Ok(())
@@ -112,7 +112,7 @@ impl Desk {
         let request = sweep_request(writes);
         let needed = self.needed(&request);
         let reserved = self.kept.reserved() as u32 + needed;
-        take_memory(alloc, &mut self.history, &mut self.rooms, reserved)?;
+        take_memory(alloc, &mut self.history, reserved)?;
         self.kept.begin_sweep(self.history.len(), writes, needed);
         self.history.add(acceptance(caller, request));
         Ok(())

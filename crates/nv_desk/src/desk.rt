@@ -1,16 +1,16 @@
 // The desk.
-ghost use Rattle.std.specs.Prelude.{◌≡◌, ◌≤◌, ◌-◌, true, length, slice_get, option_copied, IfOk};
+ghost use Rattle.std.specs.Prelude.{◌≡◌, ◌≤◌, ◌-◌, true, length, slice_get, option_map, IfOk};
 ghost use Rattle.nv_desk.specs.Desk.{first_desk};
+ghost use Rattle.nv_recorder.specs.Latest.{last_of};
 ghost use Rattle.nv_recorder.specs.Recorder.{keeps};
 
 use crate::longest::longest_content;
 use crate::memory::take_memory;
 use crate::places::Places;
-use crate::rooms::Rooms;
 use block_machine::block_config::Config;
-use block_machine::nv_base::{Entry, History};
+use block_machine::nv_base::History;
 use nv_desk_state::{Kept, sweep_share};
-use nv_recorder::Recorder;
+use nv_recorder::{Last, Recorder};
 use std::alloc::{AllocError, Global};
 use std::marker::Model;
 
@@ -21,7 +21,6 @@ pub struct Desk {
     pub(crate) config: Config,
     pub(crate) history: Recorder,
     pub(crate) kept: Kept,
-    pub(crate) rooms: Rooms,
     pub(crate) places: Places,
     pub(crate) prepared: u32,
     pub(crate) read_share: u32,
@@ -46,16 +45,14 @@ impl Desk {
     {
         let kept = Kept::make(alloc, &config)?;
         let places = Places::make(alloc, &config)?;
-        let mut rooms = Rooms::new(alloc, longest_content(&config));
-        let mut history = Recorder::make(alloc, cap);
-        take_memory(alloc, &mut history, &mut rooms, 1)?;
+        let mut history = Recorder::make(alloc, cap, longest_content(&config))?;
+        take_memory(alloc, &mut history, 1)?;
         let read_share = sweep_share(&config, false);
         let write_share = sweep_share(&config, true);
         Ok(Desk {
             config,
             history,
             kept,
-            rooms,
             places,
             prepared: 0,
             read_share,
@@ -72,8 +69,8 @@ impl Desk {
     }
 
     /// The last entry, if there is one.
-    pub fn last(&self) -> Option<&Entry>
-        ensures { option_copied result ≡ slice_get self.now.entries (length self.now.entries - 1) }
+    pub fn last(&self) -> Option<Last<'_>>
+        ensures { option_map last_of result ≡ slice_get self.now.entries (length self.now.entries - 1) }
     {
         self.history.last()
     }

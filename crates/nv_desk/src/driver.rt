@@ -1,19 +1,19 @@
 // The driver's entries.
-ghost use Rattle.std.specs.Prelude.{◌≡◌, ◌≤◌, ◌<◌, ◌+◌, ◌++◌, ◌∷◌, [], length, unwrap_or, option_copied, IfSome};
+ghost use Rattle.std.specs.Prelude.{◌≡◌, ◌≤◌, ◌<◌, ◌+◌, ◌++◌, ◌∷◌, [], length, unwrap_or, option_copied, option_map, Some, IfSome};
 ghost use Rattle.std.specs.Option.{option_and_then, option_map_or};
 ghost use Rattle.block_machine.specs.Blocks.{job_block, mark_of};
 ghost use Rattle.block_machine.specs.Legal.{IsDriving};
 ghost use Rattle.block_machine.specs.nv_base.declared.mark.Mark.TheVariants as Mark;
 ghost use Rattle.nv_desk.specs.Desk.{state_of};
 ghost use Rattle.nv_desk.specs.Driver.{MayAdd, MayEnd, block_now, mark_now};
-ghost use Rattle.nv_desk.specs.Rooms.{CanPost, with_entry};
+ghost use Rattle.nv_desk.specs.Rooms.{CanNote, with_entry};
+ghost use Rattle.nv_recorder.specs.Event.{mark_of as mark_with};
 
 use crate::Desk;
-use crate::memory::add;
-use crate::rooms::Rooms;
-use block_machine::nv_base::{Bytes, Entry, Instance, JobKind, Mark, ReqResult};
+use crate::memory::{add, note};
+use block_machine::nv_base::{Entry, Instance, JobKind, ReqResult};
 use job_pending::PendingJobs;
-use nv_recorder::Recorder;
+use nv_recorder::{Event, MarkKind, Recorder};
 
 impl Desk {
     /// The power is off. It takes no memory.
@@ -30,16 +30,14 @@ impl Desk {
         requires { MayAdd self.old (Entry.Wrote instance (mark_now (state_of self.old)) ops) }
         ensures { self.new ≡ record self.old { entries = self.old.entries ++ Entry.Wrote instance (mark_now (state_of self.old)) ops ∷ [] } }
     {
-        let mark = mark_in_hand(&self.kept.jobs, &mut self.rooms);
+        let (mark, content) = mark_in_hand(&self.kept.jobs);
+        let event = Event::Wrote {
+            instance,
+            mark,
+            ops,
+        };
+        note(&mut self.history, event, content);
         self.kept.wrote(instance.index);
-        add(
-            &mut self.history,
-            Entry::Wrote {
-                instance,
-                mark,
-                ops,
-            },
-        );
     }
 
     /// The job in hand ends with this result, and gives a content of its block's length or nothing. `refused` counts the
@@ -54,37 +52,29 @@ impl Desk {
         let block = block_in_hand(&self.kept.jobs);
         let content = self.kept.end(&self.config, answer, given);
         self.places.put(block, content);
-        let (history, rooms) = (&mut self.history, &mut self.rooms);
-        add_post(history, rooms, block, answer, given, refused, ops);
+        add_post(&mut self.history, block, answer, given, refused, ops);
     }
 }
 
-/// Adds a Post, with what it gives as bytes of its own.
+/// Adds a Post, with what it gives.
 pub fn add_post(
     history: &mut Recorder,
-    rooms: &mut Rooms,
     block: u16,
     answer: ReqResult,
     given: Option<&[u8]>,
     refused: u8,
     ops: u64,
 )
-    requires { CanPost history.old rooms.old (option_copied given) }
-    ensures added { history.new ≡ with_entry history.old (Entry.Post block answer (option_copied given.entry) refused ops) }
-    ensures longest { rooms.new.longest ≡ rooms.old.longest }
-    ensures count { rooms.old.count ≤ rooms.new.count + 1 }
+    requires { CanNote history.old (option_copied given) }
+    ensures { history.new ≡ with_entry history.old (Entry.Post block answer (option_copied given.entry) refused ops) }
 {
-    let given = content_of(given, rooms);
-    add(
-        history,
-        Entry::Post {
-            block,
-            result: answer,
-            given,
-            refused,
-            ops,
-        },
-    );
+    let event = Event::Post {
+        block,
+        result: answer,
+        refused,
+        ops,
+    };
+    note(history, event, given);
 }
 
 // The block of the job in hand, or 0.
@@ -97,32 +87,17 @@ fn block_in_hand(jobs: &PendingJobs) -> u16
     }
 }
 
-// A content as bytes of their own.
-fn content_of(given: Option<&[u8]>, rooms: &mut Rooms) -> Option<Bytes>
-    requires some { 0 < rooms.old.count }
-    requires fits { IfSome (option_copied given) (λ x. length x ≤ rooms.old.longest) }
-    ensures content { result ≡ option_copied given.entry }
-    ensures longest { rooms.new.longest ≡ rooms.old.longest }
-    ensures count { rooms.old.count ≤ rooms.new.count + 1 }
-{
-    let given = given?;
-    Some(rooms.fill(given))
-}
-
-// The mark that the job in hand writes, as bytes of their own.
-fn mark_in_hand(jobs: &PendingJobs, rooms: &mut Rooms) -> Mark
-    requires some { 0 < rooms.old.count }
-    requires fits { IfSome jobs.now.hand (λ h. IfSome h.content (λ x. length x.0 ≤ rooms.old.longest)) }
-    ensures mark { result ≡ unwrap_or (option_and_then mark_of jobs.now.hand) Mark.Erased }
-    ensures longest { rooms.new.longest ≡ rooms.old.longest }
-    ensures count { rooms.old.count ≤ rooms.new.count + 1 }
+// The mark that the job in hand writes, and its content, if it has one.
+fn mark_in_hand(jobs: &PendingJobs) -> (MarkKind, Option<&[u8]>)
+    ensures mark { mark_with result.0 (option_copied result.1) ≡ unwrap_or (option_and_then mark_of jobs.now.hand) Mark.Erased }
+    ensures content { IfSome (option_copied result.1) (λ x. option_map (λ y. y.0) (option_and_then (λ j. j.content) jobs.now.hand) ≡ Some x) }
 {
     let Some(job) = jobs.hand() else {
-        return Mark::Erased;
+        return (MarkKind::Erased, None);
     };
     match (job.kind(), job.content()) {
-        (JobKind::Write, Some(content)) => Mark::Content(rooms.fill(content)),
-        (JobKind::Invalidate, _) => Mark::Invalid,
-        _ => Mark::Erased,
+        (JobKind::Write, Some(content)) => (MarkKind::Content, Some(content)),
+        (JobKind::Invalidate, _) => (MarkKind::Invalid, None),
+        _ => (MarkKind::Erased, None),
     }
 }

@@ -29,10 +29,10 @@ impl Desk {
         self.kept.blocks.fills_its_rooms();
         let _sizes = self.config.queue_sizes();
         let job = member_kind(&self.kept.sweep);
+        let (taken, content) = taken_of(take, lent, None);
+        add_pick(&mut self.history, block, job, taken, content, ops);
         let copy = copy_of(take, lent, block, &mut self.places);
-        let taken = taken_of(take, lent, None, &mut self.rooms);
         self.kept.pick_member(&self.config, block, take, copy);
-        add_pick(&mut self.history, block, job, taken, ops);
     }
 
     /// The next member, this block, is posted without a Pick, with this result, and gives a content of its length or nothing.
@@ -52,8 +52,7 @@ impl Desk {
             } }
     {
         self.kept.post_member(&self.config, block, answer, given);
-        let (history, rooms) = (&mut self.history, &mut self.rooms);
-        add_post(history, rooms, block, answer, given, refused, ops);
+        add_post(&mut self.history, block, answer, given, refused, ops);
     }
 }
 

@@ -1,5 +1,5 @@
 // The Pick of a job.
-ghost use Rattle.std.specs.Prelude.{◌≡◌, ◌≤◌, ◌<◌, ◌+◌, ◌++◌, ◌∷◌, [], length, get_or, Some, None, IfSome, IsSomeAnd, option_copied};
+ghost use Rattle.std.specs.Prelude.{◌≡◌, ◌≤◌, ◌<◌, ◌+◌, ◌++◌, ◌∷◌, [], ℕ, length, get_or, Some, None, IfSome, IsSomeAnd, option_copied};
 ghost use Rattle.block_machine.specs.State.{Job as MachineJob};
 ghost use Rattle.block_machine.specs.Blocks.{job_block, kind_of};
 ghost use Rattle.block_machine.specs.Next.{next_in};
@@ -7,15 +7,15 @@ ghost use Rattle.job_pending.specs.Take.{content_taken, taken_with};
 ghost use Rattle.nv_desk.specs.Desk.{state_of};
 ghost use Rattle.nv_desk.specs.Picks.{MayPickNext, CanTake, content_in, copied_of, own_first, took_of};
 ghost use Rattle.nv_desk.specs.Places.{taken_from};
-ghost use Rattle.nv_desk.specs.Rooms.{HasPlace, with_entry};
+ghost use Rattle.nv_desk.specs.Rooms.{CanNote, with_entry};
+ghost use Rattle.nv_recorder.specs.Event.{taken_of};
 
 use crate::Desk;
-use crate::memory::add;
+use crate::memory::note;
 use crate::places::Places;
-use crate::rooms::Rooms;
-use block_machine::nv_base::{Bytes, Entry, JobKind, Taken};
+use block_machine::nv_base::{Bytes, Entry, JobKind};
 use job_pending::{Job, Take};
-use nv_recorder::Recorder;
+use nv_recorder::{Event, Recorder, TakenKind};
 
 impl Desk {
     /// The next job comes in hand with what it takes of a content that is lent; one that is in hand is interrupted. It takes
@@ -35,27 +35,32 @@ impl Desk {
         let block = next.block();
         let job = next.kind();
         let take = own_first(take, next);
+        let (taken, content) = taken_of(take, lent, Some(next));
+        add_pick(&mut self.history, block, job, taken, content, ops);
         let copy = copy_of(take, lent, block, &mut self.places);
-        let taken = taken_of(take, lent, Some(next), &mut self.rooms);
         self.kept.pick(&self.config, take, copy);
-        add_pick(&mut self.history, block, job, taken, ops);
     }
 }
 
-/// Adds a Pick.
-pub fn add_pick(history: &mut Recorder, block: u16, job: JobKind, taken: Taken, ops: u64)
-    requires { HasPlace history.old }
-    ensures { history.new ≡ with_entry history.old (Entry.Pick block job taken ops) }
+/// Adds a Pick, with what it takes.
+pub fn add_pick(
+    history: &mut Recorder,
+    block: u16,
+    job: JobKind,
+    taken: TakenKind,
+    content: Option<&[u8]>,
+    ops: u64,
+)
+    requires { CanNote history.old (option_copied content) }
+    ensures { history.new ≡ with_entry history.old (Entry.Pick block job (taken_of taken (option_copied content.entry)) ops) }
 {
-    add(
-        history,
-        Entry::Pick {
-            block,
-            job,
-            taken,
-            ops,
-        },
-    );
+    let event = Event::Pick {
+        block,
+        job,
+        taken,
+        ops,
+    };
+    note(history, event, content);
 }
 
 // What a job takes that has a content of its own.
@@ -80,41 +85,34 @@ pub fn copy_of(take: Take, lent: &[u8], block: u16, places: &mut Places) -> Opti
     }
 }
 
-/// What the Pick of a job takes, or of none that has a content of its own, as bytes for the history.
-pub fn taken_of(take: Take, lent: &[u8], job: Option<&Job>, rooms: &mut Rooms) -> Taken
-    requires { CanTake rooms.old (content_in (option_copied job)) (took_of take lent.now) }
-    ensures taken { result ≡ taken_with (content_in (option_copied job.entry)) (took_of take lent.now) }
-    ensures longest { rooms.new.longest ≡ rooms.old.longest }
-    ensures count { rooms.old.count ≤ rooms.new.count + 1 }
+/// What the Pick of a job takes, or of none that has a content of its own.
+pub fn taken_of<'a>(
+    take: Take,
+    lent: &'a [u8],
+    job: Option<&'a Job>,
+) -> (TakenKind, Option<&'a [u8]>)
+    ensures taken { taken_of result.0 (option_copied result.1) ≡ taken_with (content_in (option_copied job.entry)) (took_of take lent.now) }
+    ensures fits { (longest : ℕ) → CanTake longest (content_in (option_copied job.entry)) (took_of take lent.now) → IfSome (option_copied result.1) (λ x. length x ≤ longest) }
 {
     match take {
-        Take::Nothing => Taken::Nothing,
-        Take::Own => own_of(job, rooms),
-        Take::Copied { store } => Taken::Content {
-            bytes: rooms.fill(lent),
-            store,
-        },
-        Take::Refused { count } => Taken::Refused { count },
-        Take::Stale { asked, got, count } => Taken::Stale { asked, got, count },
+        Take::Nothing => (TakenKind::Nothing, None),
+        Take::Own => own_of(job),
+        Take::Copied { store } => (TakenKind::Content { store }, Some(lent)),
+        Take::Refused { count } => (TakenKind::Refused { count }, None),
+        Take::Stale { asked, got, count } => (TakenKind::Stale { asked, got, count }, None),
     }
 }
 
-// The content that a job has already, as bytes of their own.
-fn own_of(job: Option<&Job>, rooms: &mut Rooms) -> Taken
-    requires some { 0 < rooms.old.count }
-    requires own { IfSome (content_in (option_copied job)) (λ x. length x.0 ≤ rooms.old.longest) }
-    ensures taken { result ≡ content_taken (content_in (option_copied job.entry)) }
-    ensures longest { rooms.new.longest ≡ rooms.old.longest }
-    ensures count { rooms.old.count ≤ rooms.new.count + 1 }
+// The content that a job has already.
+fn own_of(job: Option<&Job>) -> (TakenKind, Option<&[u8]>)
+    ensures taken { taken_of result.0 (option_copied result.1) ≡ content_taken (content_in (option_copied job.entry)) }
+    ensures fits { (longest : ℕ) → IfSome (content_in (option_copied job.entry)) (λ x. length x.0 ≤ longest) → IfSome (option_copied result.1) (λ x. length x ≤ longest) }
 {
     let Some(job) = job else {
-        return Taken::Nothing;
+        return (TakenKind::Nothing, None);
     };
     match job.content() {
-        Some(content) => Taken::Content {
-            bytes: rooms.fill(content),
-            store: job.store(),
-        },
-        None => Taken::Nothing,
+        Some(content) => (TakenKind::Content { store: job.store() }, Some(content)),
+        None => (TakenKind::Nothing, None),
     }
 }

@@ -4,6 +4,7 @@ ghost use Rattle.nv_desk.specs.Desk.{first_desk, state_of};
 ghost use Rattle.nv_recorder.specs.Recorder.{keeps};
 
 use crate::Desk;
+use crate::longest::longest_content;
 use crate::memory::take_memory;
 use crate::places::Places;
 use block_machine::nv_base::{Entry, History, Marks};
@@ -29,7 +30,7 @@ impl Desk {
             return Ok(());
         }
         let places = Places::make(alloc, &self.config)?;
-        take_memory(alloc, &mut self.history, &mut self.rooms, 1)?;
+        take_memory(alloc, &mut self.history, 1)?;
         self.places = places;
         self.prepared = self.history.len();
         Ok(())
@@ -46,8 +47,9 @@ impl Desk {
         ensures err { OnErr result (self.new ≡ self.old) }
     {
         let places = Places::make(alloc, &self.config)?;
-        let mut history = Recorder::make(alloc, self.history.cap());
-        take_memory(alloc, &mut history, &mut self.rooms, 1)?;
+        let longest = longest_content(&self.config);
+        let mut history = Recorder::make(alloc, self.history.cap(), longest)?;
+        take_memory(alloc, &mut history, 1)?;
         self.kept.forget();
         self.places = places;
         self.prepared = 0;

@@ -5,7 +5,7 @@ ghost use Rattle.block_machine.specs.Blocks.{job_block, names_ram};
 ghost use Rattle.block_machine.specs.Next.{next_of};
 ghost use Rattle.nv_desk_state.specs.Next.{IsNextEntry};
 ghost use Rattle.nv_desk.specs.Desk.{state_of};
-ghost use Rattle.nv_desk_copies.specs.Front.{StagesAll, AreSynchronized, CopiesStay, given_at};
+ghost use Rattle.nv_desk_copies.specs.Front.{StagesAll, AreSynchronized, CopiesStay, given_at, given_in};
 ghost use Rattle.nv_desk_copies.specs.Takes.{copies_out_next, IsCopied};
 ghost use Rattle.nv_desk_copies.specs.Picks.{MayPickNow, PicksNext};
 ghost use Rattle.nv_desk_copies.specs.Posts.{MayPostNow, MayPostSkipped, IsEndOf, IsPosted, IsPostedNext, answer_of, noted};
@@ -16,7 +16,7 @@ use crate::skipped::post_skipped;
 use crate::{Staging, Unread};
 use block_machine::block_config::Config;
 use block_machine::nv_base::{Entry, GivenFrom, ReqResult};
-use nv_desk::{Desk, longest_content};
+use nv_desk::{Desk, Event, Last, longest_content};
 use nv_desk_state::NextEntry;
 use ram_blocks::SyncCalls;
 use std::alloc::{AllocError, Global};
@@ -135,14 +135,25 @@ impl Front {
     pub fn last_given(&self) -> Option<&[u8]>
         ensures { option_copied result ≡ given_at self.now.desk.entries (length self.now.desk.entries - 1) }
     {
-        match self.desk.last() {
-            Some(
-                Entry::Post {
-                    given: Some(bytes),
-                    ..
-                },
-            ) => Some(bytes.as_slice()),
-            _ => None,
+        match self.desk.last()? {
+            Last::Added(entry) => given_by(entry),
+            Last::OfJob { event, content } => match event {
+                Event::Post { .. } => content,
+                Event::Pick { .. } | Event::Wrote { .. } => None,
+            },
         }
+    }
+}
+
+// What a Post gave.
+fn given_by(entry: &Entry) -> Option<&[u8]>
+    ensures { option_copied result ≡ given_in entry.now }
+{
+    match entry {
+        Entry::Post {
+            given: Some(bytes),
+            ..
+        } => Some(bytes.as_slice()),
+        _ => None,
     }
 }

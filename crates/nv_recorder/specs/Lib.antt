@@ -1,1 +1,4 @@
+pub mod Event
+pub mod Latest
 pub mod Recorder
+pub mod Rooms

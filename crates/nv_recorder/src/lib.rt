@@ -2,9 +2,17 @@
 //! the last one.
 //!
 //! It promises that each entry is counted, and that the last one is what was added last; what is kept of the others is
-//! there to be read, and what isn't is there for proofs alone. What the entries say is left to who adds them.
+//! there to be read, and what isn't is there for proofs alone. Contents are lent to it, and it copies only those that it
+//! keeps. What the entries say is left to who adds them.
 #![tactic(auto)]
 
+mod buffer;
+mod event;
+mod latest;
 mod recorder;
+mod rooms;
+mod told;
 
+pub use event::{Event, MarkKind, TakenKind};
+pub use latest::Last;
 pub use recorder::{ENDLESS, Recorder};

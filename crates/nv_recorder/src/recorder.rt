@@ -1,22 +1,29 @@
 // The entries of a history, or what is kept of them.
-ghost use Rattle.std.specs.Prelude.{◌≡◌, ◌≤◌, ◌<◌, ◌-◌, ◌++◌, ◌∷◌, [], true, length, slice_get, option_copied, OnOk, OnErr};
+ghost use Rattle.std.specs.Prelude.{◌≡◌, ◌≤◌, ◌<◌, ◌+◌, ◌-◌, ◌++◌, ◌∷◌, [], true, length, slice_get, option_copied, option_map, IfOk, IfSome, OnOk, OnErr};
+ghost use Rattle.nv_recorder.specs.Event.{entry_of};
+ghost use Rattle.nv_recorder.specs.Latest.{last_of};
 ghost use Rattle.nv_recorder.specs.Recorder.{keeps};
 
-use nv_base::{Entry, History, Trace};
+use crate::event::Event;
+use crate::latest::{Last, Latest};
+use crate::rooms::Rooms;
+use crate::told::Told;
+use nv_base::{Bytes, Entry, History};
 use std::alloc::{AllocError, Global};
 use std::marker::Model;
 
 /// The most entries that can be counted. So many are never kept.
 pub const ENDLESS: u32 = u32::MAX;
 
-/// The entries of a history in order, and how many there may be (its cap). A recorder of at most 2^32 - 2 entries keeps them all, in a
-/// history. One of 2^32 - 1 keeps their number and the last one: the others are there for proofs alone.
-/// Contracts see the entries, the cap, and for how many more entries memory is reserved.
+/// The entries of a history in order, how many there may be (its cap), and of how many bytes the content of each may be. A recorder
+/// of at most 2^32 - 2 entries keeps them all, in a history. One of 2^32 - 1 keeps their number and the last one: the others are
+/// there for proofs alone. Contracts see the entries, the cap, for how many more entries memory is reserved, and the bytes.
 #[derive(Drop)]
 pub struct Recorder {
     history: History,
-    last: Option<Entry>,
-    told: Trace<Entry>,
+    rooms: Rooms,
+    latest: Latest,
+    told: Told,
     keeps: bool,
     count: u32,
     reserved: u32,
@@ -24,30 +31,33 @@ pub struct Recorder {
 }
 
 impl Model for Recorder {
-    ghost use Rattle.nv_base.specs.History.{Listed};
-    ghost use Rattle.nv_recorder.specs.Recorder.{IsRecorded};
+    ghost use Rattle.nv_recorder.specs.Recorder.{IsRecorded, Recorded};
 
-    ghost Value = { Listed };
+    ghost Value = { Recorded };
 
-    ghost view = { λ r. record { entries = r.told.items; cap = r.cap; reserved = r.reserved } };
+    ghost view = { λ r. record { entries = r.told.items; cap = r.cap; reserved = r.reserved; longest = r.rooms.longest } };
 
-    ghost invariant = { λ r. IsRecorded r.history r.last r.told.items r.keeps r.count r.reserved r.cap };
+    ghost invariant = { λ r. IsRecorded r.history r.rooms r.latest r.told.items r.keeps r.count r.reserved r.cap };
 }
 
 impl Recorder {
-    /// No entries of at most `cap`.
-    pub fn make(alloc: Global, cap: u32) -> Recorder
-        ensures { result ≡ record { entries = []; cap = cap; reserved = 0 } }
+    /// No entries of at most `cap`, with contents of at most `longest` bytes. Where none is kept, it takes the memory of the last
+    /// one's content.
+    pub fn make(alloc: Global, cap: u32, longest: usize) -> Result<Recorder, AllocError>
+        ensures { IfOk result (λ r. r ≡ record { entries = []; cap = cap; reserved = 0; longest = longest }) }
     {
-        Recorder {
+        let keeps = cap < ENDLESS;
+        let latest = Latest::make(alloc, if keeps { 0 } else { longest })?;
+        Ok(Recorder {
             history: History::make(alloc, cap),
-            last: None,
-            told: Trace::new(),
-            keeps: cap < ENDLESS,
+            rooms: Rooms::new(alloc, longest),
+            latest,
+            told: Told::nothing(),
+            keeps,
             count: 0,
             reserved: 0,
             cap,
-        }
+        })
     }
 
     /// How many entries there are.
@@ -67,13 +77,15 @@ impl Recorder {
     }
 
     /// The last entry, if there is one.
-    pub fn last(&self) -> Option<&Entry>
-        ensures { option_copied result ≡ slice_get self.now.entries (length self.now.entries - 1) }
+    pub fn last(&self) -> Option<Last<'_>>
+        ensures { option_map last_of result ≡ slice_get self.now.entries (length self.now.entries - 1) }
     {
-        if self.keeps {
-            self.history.entry(self.count.saturating_sub(1))
-        } else {
-            self.last.as_ref()
+        if !self.keeps {
+            return self.latest.get();
+        }
+        match self.history.entry(self.count.saturating_sub(1)) {
+            Some(entry) => Some(Last::Added(entry)),
+            None => None,
         }
     }
 
@@ -101,9 +113,9 @@ impl Recorder {
         history
     }
 
-    /// Sees that memory stands for `count` more entries, those that are reserved already counted. Entries that aren't kept take
-    /// none. At Err nothing changed.
-    pub fn reserve(&mut self, count: u32) -> Result<(), AllocError>
+    /// Sees that memory stands for `count` more entries and the content of each, those that are reserved already counted. Entries that
+    /// aren't kept take none. At Err nothing changed.
+    pub fn reserve(&mut self, alloc: Global, count: u32) -> Result<(), AllocError>
         ensures same { record self.new { reserved = self.old.reserved } ≡ self.old }
         ensures room { OnOk result (count ≤ self.new.reserved) }
         ensures grows { self.old.reserved ≤ self.new.reserved }
@@ -114,6 +126,7 @@ impl Recorder {
         }
         if self.keeps {
             self.history.reserve(count)?;
+            self.rooms.provide(alloc, count)?;
         }
         self.reserved = count;
         Ok(())
@@ -131,7 +144,41 @@ impl Recorder {
         if self.keeps {
             self.history.add(entry);
         } else {
-            self.last = Some(entry);
+            self.latest.add(entry);
         }
     }
+
+    /// Adds the entry of a job, in memory that was reserved. Its content is lent: it is copied where the entry is kept, and else until
+    /// the next one is added.
+    pub fn note(&mut self, event: Event, content: Option<&[u8]>)
+        requires below { length self.old.entries < self.old.cap }
+        requires room { 0 < self.old.reserved }
+        requires fits { IfSome (option_copied content) (λ x. length x ≤ self.old.longest) }
+        ensures { self.new ≡ record self.old {
+          entries = self.old.entries ++ entry_of event (option_copied content.entry) ∷ [];
+          reserved = self.old.reserved - 1;
+        } }
+    {
+        self.told = self.told.with_lent(event, content);
+        self.count += 1;
+        self.reserved -= 1;
+        if self.keeps {
+            let content = owned(&mut self.rooms, content);
+            self.history.add(event.entry(content));
+        } else {
+            self.latest.note(event, content);
+        }
+    }
+}
+
+// A content as bytes of its own.
+fn owned(rooms: &mut Rooms, content: Option<&[u8]>) -> Option<Bytes>
+    requires some { 0 < rooms.old.count }
+    requires fits { IfSome (option_copied content) (λ x. length x ≤ rooms.old.longest) }
+    ensures content { result ≡ option_copied content.entry }
+    ensures longest { rooms.new.longest ≡ rooms.old.longest }
+    ensures count { rooms.old.count ≤ rooms.new.count + 1 }
+{
+    let content = content?;
+    Some(rooms.fill(content))
 }

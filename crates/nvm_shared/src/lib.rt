@@ -23,7 +23,7 @@ pub use locked::{Locked, LockedOf};
 pub use noted::NotedCopies;
 pub use opening::{NotShared, ShareFault, make, share};
 pub use shared::{Shared, SharedOf, StackPass, TellsGate, TellsTerms};
-pub(crate) use status_words::picked_by;
+pub(crate) use status_words::{picked_last, told_last};
 pub use status_words::{OFF_WORD, WORD_COUNT, told_by};
 pub use telling::{Telling, Tells};
 pub use terms::Terms;

@@ -1,5 +1,5 @@
 // The value under the lock.
-ghost use Rattle.std.specs.Prelude.{◌≡◌, ◌++◌, ◌∷◌, ◌≤◌, ◌↔◌, [], List, length, true, false, Bool, IfOk, OnErr, IsErrOf, None, Some, IsTrue, option_copied};
+ghost use Rattle.std.specs.Prelude.{◌≡◌, ◌++◌, ◌∷◌, ◌≤◌, ◌↔◌, [], List, length, true, false, Bool, IfOk, OnErr, IsErrOf, None, Some, IsTrue, option_copied, option_map};
 ghost use Rattle.nvm_core.specs.nv_base.declared.entry.Entry.TheVariants as Entry;
 ghost use Rattle.nvm_core.specs.nv_desk.declared.ask.AskFault.TheVariants as AskFault;
 ghost use Rattle.nvm_core.specs.memif.Told.{DeviceTold};
@@ -9,6 +9,7 @@ ghost use Rattle.nvm_core.specs.block_machine.StartUp.{at_first};
 ghost use Rattle.nvm_core.specs.block_machine.Reply.{fits};
 ghost use Rattle.nvm_core.specs.block_machine.Legal.{HasStore};
 ghost use Rattle.nvm_core.specs.nv_desk.Desk.{state_of};
+ghost use Rattle.nvm_core.specs.nv_desk.Latest.{last_of};
 ghost use Rattle.nvm_shared.specs.StatusWords.{picked_by, told_by};
 ghost use Rattle.nvm_shared.specs.Written.{AreWritten};
 ghost use Rattle.nvm_shared.specs.Behind.{HandIsPending};
@@ -28,11 +29,11 @@ ghost use Rattle.nvm_core.specs.Stack.{stack_with};
 
 use crate::telling::{Telling, Tells};
 use crate::terms::Terms;
-use crate::{picked_by, told_by};
+use crate::{picked_last, told_last};
 use nvm_core::job_progress::Hand;
 use nvm_core::memif::{DeviceTurn, MemDevice};
 use nvm_core::nv_base::{Entry, Reply, Request};
-use nvm_core::nv_desk::AskFault;
+use nvm_core::nv_desk::{AskFault, Last};
 use nvm_core::nv_desk_copies::Front;
 use nvm_core::nvm_laws::{Act, Turned};
 use nvm_core::ram_blocks::SyncCalls;
@@ -130,7 +131,7 @@ impl Locked {
         ensures some { (h : List MachineEntry) (e : MachineEntry) → self.now.desk.entries ≡ h ++ e ∷ [] → length h ≡ count → result ≡ told_by e }
     {
         match self.entry_behind(count) {
-            Some(entry) => told_by(entry),
+            Some(last) => told_last(last),
             None => None,
         }
     }
@@ -141,15 +142,15 @@ impl Locked {
         ensures some { (h : List MachineEntry) (e : MachineEntry) → self.now.desk.entries ≡ h ++ e ∷ [] → length h ≡ count → result ≡ picked_by e }
     {
         match self.entry_behind(count) {
-            Some(entry) => picked_by(entry),
+            Some(last) => picked_last(last),
             None => None,
         }
     }
 
     // The last entry, where it is the one behind so many others.
-    fn entry_behind(&self, count: u32) -> Option<&Entry>
-        ensures none { length self.now.desk.entries ≡ count → option_copied result ≡ None }
-        ensures some { (h : List MachineEntry) (e : MachineEntry) → self.now.desk.entries ≡ h ++ e ∷ [] → length h ≡ count → option_copied result ≡ Some e }
+    fn entry_behind(&self, count: u32) -> Option<Last<'_>>
+        ensures none { length self.now.desk.entries ≡ count → option_map last_of result ≡ None }
+        ensures some { (h : List MachineEntry) (e : MachineEntry) → self.now.desk.entries ≡ h ++ e ∷ [] → length h ≡ count → option_map last_of result ≡ Some e }
     {
         if count < self.front.desk.len() {
             self.front.desk.last()

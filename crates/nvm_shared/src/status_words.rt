@@ -1,15 +1,31 @@
 // The word that an entry changes.
 ghost use Rattle.std.specs.Prelude.{◌≡◌};
 ghost use Rattle.nvm_core.specs.nv_base.Result.{code_of};
+ghost use Rattle.nvm_core.specs.nv_desk.Latest.{last_of};
 ghost use Rattle.nvm_shared.specs.StatusWords.{told_by, picked_by, told_at, pending_block};
 
 use nvm_core::nv_base::{Entry, Reply, ReqResult, Request, result_code};
+use nvm_core::nv_desk::{Event, Last};
 
 /// The word of the power, behind those of the blocks. An Off gives it status 1.
 pub const OFF_WORD: u32 = 513;
 
 /// How many words there are.
 pub const WORD_COUNT: u32 = 514;
+
+/// The word that the last entry changes, and its status, if it changes one.
+pub(crate) fn told_last(last: Last<'_>) -> Option<(u32, u8)>
+    ensures { result ≡ told_by (last_of last.entry) }
+{
+    match last {
+        Last::Added(entry) => told_by(entry),
+        Last::OfJob { event, content: _ } => match event {
+            Event::Pick { block, .. } => told_at(ReqResult::Pending, block),
+            Event::Post { block, result, .. } => told_at(result, block),
+            Event::Wrote { .. } => None,
+        },
+    }
+}
 
 /// The word that an entry changes, and its status, if it changes one.
 pub fn told_by(entry: &Entry) -> Option<(u32, u8)>
@@ -28,8 +44,21 @@ pub fn told_by(entry: &Entry) -> Option<(u32, u8)>
     }
 }
 
-/// The block of a Pick.
-pub(crate) fn picked_by(entry: &Entry) -> Option<u16>
+/// The block of the last entry, if that is a Pick.
+pub(crate) fn picked_last(last: Last<'_>) -> Option<u16>
+    ensures { result ≡ picked_by (last_of last.entry) }
+{
+    match last {
+        Last::Added(entry) => picked_by(entry),
+        Last::OfJob { event, content: _ } => match event {
+            Event::Pick { block, .. } => Some(block),
+            Event::Wrote { .. } | Event::Post { .. } => None,
+        },
+    }
+}
+
+// The block of a Pick.
+fn picked_by(entry: &Entry) -> Option<u16>
     ensures { result ≡ picked_by entry.now }
 {
     match entry {

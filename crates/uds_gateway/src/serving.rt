@@ -12,7 +12,8 @@ use crate::answer::{answer_room, negative, posted_answer};
 use crate::turning::turns_to_post;
 use crate::{AskedFault, NegativeCode, ServeStop, asked_by, length_of};
 use nvm_moves::{
-    AskFault, Bytes, Config, Entry, MemDevice, Reply, Request, Stack, SyncCalls, Turned,
+    AskFault, Bytes, Config, Entry, Event, Last, MemDevice, Reply, Request, Stack, SyncCalls,
+    Turned,
 };
 use std::alloc::{AllocError, Global};
 
@@ -161,10 +162,27 @@ fn last_posted<D: MemDevice, C: SyncCalls + Drop>(
         → stack.now.desk.entries ≡ h ++ Post block posted given refused ops ∷ [] → vec_capacity room < length (unwrap_or given []) + 3) }
 {
     match stack.last() {
-        Some(Entry::Post { result, given, .. }) => match given {
-            Some(given) => posted_answer(room, request, *result, Some(given.as_slice())),
-            None => posted_answer(room, request, *result, None),
+        Some(Last::Added(entry)) => match entry {
+            Entry::Post {
+                result,
+                given: Some(given),
+                ..
+            } => posted_answer(room, request, *result, Some(given.as_slice())),
+            Entry::Post {
+                result,
+                given: None,
+                ..
+            } => posted_answer(room, request, *result, None),
+            _ => Ok(negative(room, request, NegativeCode::ConditionsNotCorrect)),
         },
-        _ => Ok(negative(room, request, NegativeCode::ConditionsNotCorrect)),
+        Some(Last::OfJob { event, content }) => match event {
+            Event::Post { result, .. } => posted_answer(room, request, result, content),
+            Event::Pick { .. } | Event::Wrote { .. } => Ok(negative(
+                room,
+                request,
+                NegativeCode::ConditionsNotCorrect,
+            )),
+        },
+        None => Ok(negative(room, request, NegativeCode::ConditionsNotCorrect)),
     }
 }

@@ -63,11 +63,10 @@ invariant_of-self-2 c =
     let new = new_job d.config d.history.cap s c.args.request c.accepted-job.result c.self.invariant.sound passed (ap job_block job)
     (ap (λ (j : Job). j.number) job) in
     let none = no_sweep d.config s c.self.invariant.sound.consistent passed.alone in
-    ask_kept d _ _ _ _ _ (Ask c.args.caller c.args.request Accepted) _ (needed d.config c.args.request) c.self.invariant
+    ask_kept d _ _ _ _ (Ask c.args.caller c.args.request Accepted) _ (needed d.config c.args.request) c.self.invariant
     c.take_memory.ensures.same c.in_ok-take_memory.ensures.entries (rw c.acceptance.ensures at c.add.ensures) allowed
     (job_agrees d.config c.accept.new.self s c.args.request c.accepted-job.result c.requires.kind job
     (c.accept.ensures s c.self.invariant.agrees new (ap (λ (j : Job). j.taken) job) none))
     (λ consistent. job_sound d.config d.history.cap s c.args.caller c.args.request c.self.invariant.sound consistent c.requires.kind allowed.started passed)
     (omega (arith, need, c.reserved.ensures.value d.config s c.self.invariant.agrees)) (job_reserves d.config s c.args.request c.requires.kind) passed.room
-    c.in_ok-take_memory.ensures.contents c.take_memory.ensures.longest
     (job_places d c.in_place-asked_for.new.places c.args.caller c.args.request c.self.invariant c.requires.kind c.in_place-asked_for.ensures.places)

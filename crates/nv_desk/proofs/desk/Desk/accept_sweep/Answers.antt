@@ -16,12 +16,11 @@ invariant_of-self-2 c =
     let need = (rw (← c.self.view_is) at c.needed-needed.ensures) ∙ ap (needed d.config) c.sweep_request-request.ensures in
     let passed = sweep_accepted d.config d.history.cap s c.args.writes allowed.replies in
     let count = c.len.ensures.count ∙ counted_still d c.take_memory.new.history c.take_memory.ensures.same in
-    ask_kept d _ _ _ _ d.places (Ask c.args.caller (sweep_request c.args.writes) Accepted) _ (needed d.config (sweep_request c.args.writes)) c.self.invariant
+    ask_kept d _ _ _ d.places (Ask c.args.caller (sweep_request c.args.writes) Accepted) _ (needed d.config (sweep_request c.args.writes)) c.self.invariant
     c.take_memory.ensures.same c.in_ok-take_memory.ensures.entries (rw (c.acceptance.ensures, c.sweep_request-request.ensures) at c.add.ensures) allowed
     (sweep_agrees d.config c.begin_sweep.new.self s c.args.writes
     (c.begin_sweep.ensures d.config s c.self.invariant.agrees (sym count) (need ∙ needed_sweep d.config c.args.writes)))
     (sweep_sound d.config s c.args.caller c.args.writes c.self.invariant.sound)
     (omega (arith, need, c.reserved.ensures.value d.config s c.self.invariant.agrees))
     (sweep_reserves d.config d.history.cap s c.args.writes c.self.invariant.sound passed) passed.room
-    c.in_ok-take_memory.ensures.contents c.take_memory.ensures.longest
     (stay_ready d _ c.self.invariant (sweep_jobs d.config s c.args.writes))

@@ -1,5 +1,5 @@
 use Rattle.std.proofs.Common.{length, ap, arith}
-use Rattle.block_machine.specs.nv_base.History.{Listed}
+use Rattle.nv_recorder.specs.Recorder.{Recorded}
 use Rattle.block_machine.specs.Words.{Ask}
 use Rattle.block_machine.specs.State.{jobs_of}
 use Rattle.block_machine.specs.Reply.{reserved_entries}
@@ -16,8 +16,8 @@ add-requires-clause-below c =
     let allowed = rw (← c.self.view_is) at c.requires.allowed in
     let room = (fitting_has_room d.config d.history.cap (after d.config d.history.entries) 1).0 allowed.room in
     let count = entries_are_counted d.config d.history.entries in
-    let entries = ap (λ (h : Listed). length h.entries) c.take_memory.ensures.same in
-    let cap = ap (λ (h : Listed). h.cap) c.take_memory.ensures.same in
+    let entries = ap (λ (h : Recorded). length h.entries) c.take_memory.ensures.same in
+    let cap = ap (λ (h : Recorded). h.cap) c.take_memory.ensures.same in
     omega (arith, room, count, entries, cap)
 
 pub invariant_of-self-2 : goal.invariant_of-self-2
@@ -25,9 +25,8 @@ invariant_of-self-2 c =
     let d = c.self.inside in
     let same = rw (← c.self.view_is) at c.requires.same in
     let allowed = rw (← c.self.view_is) at c.requires.allowed in
-    ask_kept d _ _ d.kept _ d.places (Ask c.args.caller c.args.request c.args.reply) _ 0 c.self.invariant
+    ask_kept d _ _ d.kept d.places (Ask c.args.caller c.args.request c.args.reply) _ 0 c.self.invariant
     c.take_memory.ensures.same c.in_ok-take_memory.ensures.entries c.add.ensures allowed (rw same c.self.invariant.agrees)
     (λ consistent. same_sound d.config _ c.args.caller c.args.request c.args.reply c.self.invariant.sound consistent same)
     (omega (arith, c.reserved-reserved.ensures.value d.config _ c.self.invariant.agrees)) (omega (arith, ap (reserved_entries d.config) same)) allowed.room
-    c.in_ok-take_memory.ensures.contents c.take_memory.ensures.longest
     (stay_ready d _ c.self.invariant (ap jobs_of same))

@@ -1,4 +1,4 @@
-use Rattle.std.proofs.Common.{◌≡◌, ◌∙◌, sym, ap, subst, arith, refl, Some}
+use Rattle.std.proofs.Common.{◌≡◌, ◌∙◌, sym, ap, subst, refl, option_copied}
 use Rattle.block_machine.specs.Words.{Pick}
 use Rattle.block_machine.specs.State.{Job}
 use Rattle.block_machine.specs.Blocks.{job_block, kind_of}
@@ -6,6 +6,7 @@ use Rattle.block_machine.specs.Steps.{after}
 use Rattle.block_laws.proofs.HistoryLaws.{entries_are_counted}
 use Rattle.job_pending.specs.declared.take.Take.{Take}
 use Rattle.job_pending.specs.Take.{taken_with}
+use Rattle.nv_recorder.specs.Event.{taken_of}
 use Rattle.nv_desk.specs.Picks.{own_first, took_of}
 use Rattle.nv_desk.proofs.Drivers.{allowed_kept}
 use Rattle.nv_desk.proofs.Ready.{copy_fits}
@@ -22,14 +23,6 @@ copy_of-copy-requires c =
     (copy_fits d.config d.places (job_block may.job) c.args.take c.args.lent.now may.job.content p.place
     (whole_own d c.args.take c.args.lent.now may.job (own_next d c.args.take c.args.lent.now c.args.ops may may.job may.is) p.whole))
 
-pub taken_of-taken-requires : goal.taken_of-taken-requires
-taken_of-taken-requires c =
-    let d = c.self.inside in
-    let may = rw (← c.self.view_is) at c.requires in
-    let p = job_pick d _ c.args.ops c.self.invariant c.fills_its_rooms.ensures may in
-    let same = some_is c.in-Some.next.now may.job (c.in-Some.ensures d.config _ _ c.self.invariant.agrees.jobs ∙ may.is) in
-    rw (c.own_first-take.ensures, same) (takes_own d c.args.take c.args.lent.now may.job p.takes)
-
 pub pick-requires : goal.pick-requires
 pick-requires c =
     let d = c.self.inside in
@@ -39,7 +32,15 @@ pick-requires c =
     (entries_are_counted d.config d.history.entries) c.self.invariant.fits c.self.invariant.within
 
 pub add_pick-requires : goal.add_pick-requires
-add_pick-requires c = (job_pick c.self.inside _ c.args.ops c.self.invariant c.fills_its_rooms.ensures (rw (← c.self.view_is) at c.requires)).room.place
+add_pick-requires c =
+    let d = c.self.inside in
+    let may = rw (← c.self.view_is) at c.requires in
+    let p = job_pick d _ c.args.ops c.self.invariant c.fills_its_rooms.ensures may in
+    let same = some_is c.in-Some.next.now may.job (c.in-Some.ensures d.config _ _ c.self.invariant.agrees.jobs ∙ may.is) in
+    record {
+      place = p.room.place;
+      fits = c.taken_of-taken.ensures.fits d.history.longest (rw (c.own_first-take.ensures, same) (takes_own d c.args.take c.args.lent.now may.job p.takes));
+    }
 
 pub invariant_of-self : goal.invariant_of-self
 invariant_of-self c =
@@ -54,15 +55,14 @@ invariant_of-self c =
     let taken = taken_with may.job.content took in
     let one = own_next d c.args.take lent c.args.ops may may.job may.is in
     let own : c.own_first-take.result ≡ own_first c.args.take may.job.content = c.own_first-take.ensures ∙ ap (λ (y : Job). own_first c.args.take y.content) same in
-    let takes : c.taken_of-taken.result ≡ taken_with x.content took = c.taken_of-taken.ensures.taken
+    let takes : taken_of c.taken_of-taken.result.0 (option_copied c.taken_of-taken.result.1) ≡ taken_with x.content took = c.taken_of-taken.ensures.taken
     ∙ ap (λ (u : Take). taken_with x.content (took_of u lent)) c.own_first-take.ensures
     ∙ subst (λ (y : Job). taken_with y.content (took_of (own_first c.args.take y.content) lent) ≡ taken_with y.content took) (sym same) one in
-    allowed_kept d _ _ _ _ (Pick (job_block may.job) (kind_of may.job) taken c.args.ops) c.self.invariant may.allowed refl
+    allowed_kept d _ _ _ (Pick (job_block may.job) (kind_of may.job) taken c.args.ops) c.self.invariant may.allowed refl
     (picked_sound d.config s may.job (job_block may.job) (kind_of may.job) took c.args.ops c.self.invariant.sound may.is p.ready p.whole)
     (entry_of _ _ _ _ _ x may.job took c.args.ops c.block-block.ensures c.kind-job.ensures takes same c.add_pick.ensures)
     (pick_step d.config c.pick.new.self s may.job (job_block may.job) (kind_of may.job) taken c.args.ops may.is
     (rw (c.copy_of-copy.ensures.copy, own, one) at (c.pick.ensures s may.job c.self.invariant.agrees may.is)))
-    (omega (arith, c.taken_of-taken.ensures.count)) c.taken_of-taken.ensures.longest
     (pick_places d c.copy_of-copy.new.places (job_block may.job) (kind_of may.job) c.args.take c.own_first-take.result lent c.args.ops c.block-block.result x may.job
     c.self.invariant may.is same c.own_first-take.ensures c.block-block.ensures one c.copy_of-copy.ensures.places)
 
@@ -74,7 +74,7 @@ returns c = rw (← c.self.view_is) (λ j next.
     let x = c.in-Some.next.now in
     let lent = c.args.lent.now in
     let is = c.in-Some.ensures d.config s.waiting s.hand c.self.invariant.agrees.jobs in
-    let takes : c.taken_of-taken.result ≡ taken_with x.content (took_of c.args.take lent) = c.taken_of-taken.ensures.taken
+    let takes : taken_of c.taken_of-taken.result.0 (option_copied c.taken_of-taken.result.1) ≡ taken_with x.content (took_of c.args.take lent) = c.taken_of-taken.ensures.taken
     ∙ ap (λ (u : Take). taken_with x.content (took_of u lent)) c.own_first-take.ensures
     ∙ own_next d c.args.take lent c.args.ops may x (sym is) in
     rw (entry_of _ _ _ _ _ x j (took_of c.args.take lent) c.args.ops c.block-block.ensures c.kind-job.ensures takes (some_is x j (is ∙ next)) c.add_pick.ensures) refl)

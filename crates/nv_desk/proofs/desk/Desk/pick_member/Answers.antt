@@ -1,9 +1,10 @@
-use Rattle.std.proofs.Common.{arith, refl, None}
-use Rattle.block_machine.specs.Words.{Pick}
+use Rattle.std.proofs.Common.{◌∙◌, ap, arith, refl, None}
+use Rattle.block_machine.specs.Words.{Pick, Taken}
 use Rattle.block_machine.specs.Sweeps.{member_kind}
 use Rattle.block_machine.specs.Steps.{after}
 use Rattle.job_pending.specs.Take.{taken_with}
 use Rattle.nv_desk.specs.Picks.{took_of}
+use Rattle.nv_desk.specs.Rooms.{with_entry}
 use Rattle.nv_desk_state.proofs.Members.{member_known}
 use Rattle.nv_desk.proofs.AllBlocks.{kept_sweep}
 use Rattle.nv_desk.proofs.Drivers.{allowed_kept}
@@ -15,9 +16,6 @@ copy_of-copy-requires c =
     let p = member_pick c.self.inside c.args.block _ c.args.ops c.self.invariant c.queue_sizes-sizes.ensures.legal c.fills_its_rooms.ensures (rw (← c.self.view_is) at c.requires) in
     member_fits c.self.inside c.args.block c.args.take c.args.lent.now p.place p.whole
 
-pub taken_of-taken-requires : goal.taken_of-taken-requires
-taken_of-taken-requires c = (member_pick c.self.inside c.args.block _ c.args.ops c.self.invariant c.queue_sizes-sizes.ensures.legal c.fills_its_rooms.ensures (rw (← c.self.view_is) at c.requires)).takes
-
 pub pick_member-requires : goal.pick_member-requires
 pick_member-requires c =
     let d = c.self.inside in
@@ -27,7 +25,9 @@ pick_member-requires c =
     (at_picked d.config s may.sweep c.args.block may.is)
 
 pub add_pick-requires : goal.add_pick-requires
-add_pick-requires c = (member_pick c.self.inside c.args.block _ c.args.ops c.self.invariant c.queue_sizes-sizes.ensures.legal c.fills_its_rooms.ensures (rw (← c.self.view_is) at c.requires)).room.place
+add_pick-requires c =
+    let p = member_pick c.self.inside c.args.block _ c.args.ops c.self.invariant c.queue_sizes-sizes.ensures.legal c.fills_its_rooms.ensures (rw (← c.self.view_is) at c.requires) in
+    record { place = p.room.place; fits = c.taken_of-taken.ensures.fits c.self.inside.history.longest p.takes }
 
 pub invariant_of-self : goal.invariant_of-self
 invariant_of-self c =
@@ -38,13 +38,12 @@ invariant_of-self c =
     let known = member_known d.config d.kept s may.sweep c.args.block (omega (arith, c.queue_sizes-sizes.ensures.legal.blocks_low)) c.self.invariant.agrees p.member in
     let kind = c.member_kind-job.ensures d.config may.sweep (kept_sweep d.config d.kept.sweep s may.sweep p.member.sweep c.self.invariant.agrees.sweep) in
     let took = took_of c.args.take c.args.lent.now in
-    allowed_kept d _ _ _ _ (Pick c.args.block (member_kind may.sweep.writes) (taken_with None took) c.args.ops) c.self.invariant may.allowed refl
+    allowed_kept d _ _ _ (Pick c.args.block (member_kind may.sweep.writes) (taken_with None took) c.args.ops) c.self.invariant may.allowed refl
     (member_sound d.config s may.sweep c.args.block (member_kind may.sweep.writes) took c.args.ops c.self.invariant.sound p.member may.is
     (omega (arith, known, c.self.invariant.agrees.places)) may.allowed.0.started p.ram p.whole)
-    (rw (kind, c.taken_of-taken.ensures.taken) at c.add_pick.ensures)
+    (rw kind at (c.add_pick.ensures ∙ ap (λ (t : Taken). with_entry d.history (Pick c.args.block c.member_kind-job.result t c.args.ops)) c.taken_of-taken.ensures.taken))
     (member_step d.config c.pick_member.new.self s may.sweep c.args.block (member_kind may.sweep.writes) took c.args.ops may.is
     (rw c.copy_of-copy.ensures.copy at (c.pick_member.ensures s may.sweep c.self.invariant.agrees p.member)))
-    (omega (arith, c.taken_of-taken.ensures.count)) c.taken_of-taken.ensures.longest
     (member_places d c.copy_of-copy.new.places (member_kind may.sweep.writes) c.args.take c.args.lent.now c.args.ops may.sweep c.args.block c.self.invariant p.member may.is
     c.copy_of-copy.ensures.places)
 

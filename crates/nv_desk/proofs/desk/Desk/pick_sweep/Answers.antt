@@ -4,7 +4,8 @@ use Rattle.nv_desk.proofs.AllBlocks.{begins, begun_kept, kept_sweep, room_to_beg
 use Rattle.nv_desk.proofs.desk.Desk.pick_sweep.Goals as goal
 
 pub add_pick-requires : goal.add_pick-requires
-add_pick-requires c = (room_to_begin c.self.inside c.args.ops c.self.invariant (rw (← c.self.view_is) at c.requires)).place
+add_pick-requires c =
+    record { place = (room_to_begin c.self.inside c.args.ops c.self.invariant (rw (← c.self.view_is) at c.requires)).place; fits = tt }
 
 pub invariant_of-self : goal.invariant_of-self
 invariant_of-self c =

@@ -1,4 +1,4 @@
-use Rattle.std.proofs.Common.{◌≡◌, ◌∙◌, ap, arith, refl, option_copied, Option}
+use Rattle.std.proofs.Common.{◌≡◌, ◌∙◌, ap, refl, option_copied, Option}
 use Rattle.std.specs.Option.{option_map_or}
 use Rattle.block_machine.specs.Words.{Post}
 use Rattle.block_machine.specs.State.{Job}
@@ -27,14 +27,13 @@ invariant_of-self c =
     let given = option_copied c.args.given in
     let block : c.block_in_hand-block.result ≡ block_now s = c.block_in_hand-block.ensures
     ∙ ap (λ (o : Option Job). option_map_or job_block o 0) c.self.invariant.agrees.jobs.hand in
-    driver_kept d _ _ _ _ (Post (block_now s) c.args.answer given c.args.refused c.args.ops) c.self.invariant
+    driver_kept d _ _ _ (Post (block_now s) c.args.answer given c.args.refused c.args.ops) c.self.invariant
     (room_to_end d c.args.answer given c.args.refused c.args.ops c.self.invariant may)
     (sound_post d.config s (block_now s) c.args.refused c.args.ops c.args.answer given h.job h.is c.self.invariant.sound
     (others_of h.job s.waiting (held_apart d.config d.kept.jobs s.waiting s.hand h.job c.self.invariant.agrees.jobs h.is)))
-    (rw block at c.add_post.ensures.added)
+    (rw block at c.add_post.ensures)
     (post_step d.config c.end-content.new.self s (block_now s) c.args.answer given c.args.refused c.args.ops h.job h.is
     (c.end-content.ensures.posted s h.job c.self.invariant.agrees h.is))
-    (omega (arith, c.add_post.ensures.count)) c.add_post.ensures.longest
     (post_places d _ (block_now s) c.args.answer given c.args.refused c.args.ops c.block_in_hand-block.result c.end-content.result h.job c.self.invariant h.is block
     c.end-content.ensures.content c.put.ensures)
 
@@ -42,4 +41,4 @@ pub returns : goal.returns
 returns c =
     let block : c.block_in_hand-block.result ≡ block_now (after c.self.inside.config c.self.inside.history.entries) = c.block_in_hand-block.ensures
     ∙ ap (λ (o : Option Job). option_map_or job_block o 0) c.self.invariant.agrees.jobs.hand in
-    rw (← c.self.view_is, c.add_post.ensures.added, block) refl
+    rw (← c.self.view_is, c.add_post.ensures, block) refl

@@ -1,4 +1,4 @@
-use Rattle.std.proofs.Common.{arith, refl, option_copied}
+use Rattle.std.proofs.Common.{refl, option_copied}
 use Rattle.block_machine.specs.Words.{Post}
 use Rattle.block_machine.specs.Steps.{after}
 use Rattle.nv_desk.proofs.Drivers.{has_room, can_post, allowed_kept}
@@ -26,14 +26,13 @@ invariant_of-self c =
     let may = rw (← c.self.view_is) at c.requires in
     let given = option_copied c.args.given in
     let x = at_posted d.config s may.sweep c.args.block may.is in
-    allowed_kept d _ _ _ d.places (Post c.args.block c.args.answer given c.args.refused c.args.ops) c.self.invariant may.allowed refl
+    allowed_kept d _ _ d.places (Post c.args.block c.args.answer given c.args.refused c.args.ops) c.self.invariant may.allowed refl
     (posted_sound d.config s may.sweep c.args.block c.args.answer given c.args.refused c.args.ops c.self.invariant.sound x may.is)
-    c.add_post.ensures.added
+    c.add_post.ensures
     (posted_step d.config c.post_member.new.self s may.sweep c.args.block c.args.answer given c.args.refused c.args.ops x.hand may.is
     (c.post_member.ensures s may.sweep c.self.invariant.agrees x))
-    (omega (arith, c.add_post.ensures.count)) c.add_post.ensures.longest
     (stay_ready d _ c.self.invariant
     (posted_jobs d.config s may.sweep c.args.block c.args.answer given c.args.refused c.args.ops x.hand may.is))
 
 pub returns : goal.returns
-returns c = rw (← c.self.view_is) (λ sw next. rw c.add_post.ensures.added refl)
+returns c = rw (← c.self.view_is) (λ sw next. rw c.add_post.ensures refl)

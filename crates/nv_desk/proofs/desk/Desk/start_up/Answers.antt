@@ -13,12 +13,10 @@ invariant_of-self c =
     let e = Found c.args.marks c.args.ops in
     let fits = rw (← c.self.view_is) at c.requires.fits in
     let room = c.self.invariant.place (rw (← c.self.view_is) at c.requires.prepared) in
-    entry_kept d c.add.new.self c.start_up.new.self d.rooms d.places e 1 c.self.invariant
+    entry_kept d c.add.new.self c.start_up.new.self d.places e 1 c.self.invariant
     (pushed d.history d.history c.add.new.self e 1 refl (omega (arith, room.0)) c.add.ensures)
     (c.start_up.ensures s c.self.invariant.agrees)
     (sound_found d.config s c.args.marks c.args.ops)
     (omega arith)
     (omega (arith, fits))
-    (omega (arith, room.1))
-    (omega arith)
-    (record { count = refl; ready = all_ready d.config [] d.places room.2 })
+    (record { count = refl; ready = all_ready d.config [] d.places room.1 })

@@ -1,7 +1,7 @@
 // Memory for the bytes of later entries.
 ghost use Rattle.std.specs.Prelude.{◌≡◌, ◌≤◌, ◌<◌, ◌-◌, ◌+◌, length, IfOk, OnOk};
 
-use block_machine::nv_base::{Bytes, BytesRoom};
+use nv_base::{Bytes, BytesRoom};
 use std::alloc::{AllocError, Global};
 use std::marker::Model;
 
@@ -15,7 +15,7 @@ pub struct Rooms {
 impl Model for Rooms {
     ghost use Rattle.std.specs.Prelude.{length, ◌≤◌};
     ghost use Rattle.std.specs.List.{All};
-    ghost use Rattle.nv_desk.specs.Rooms.{Roomy};
+    ghost use Rattle.nv_recorder.specs.Rooms.{Roomy};
 
     ghost Value = { Roomy };
 
@@ -46,13 +46,13 @@ impl Rooms {
     }
 
     /// Sees that so many lists have room. At Err there may be more rooms than before.
-    pub fn provide(&mut self, alloc: Global, count: u64) -> Result<(), AllocError>
+    pub fn provide(&mut self, alloc: Global, count: u32) -> Result<(), AllocError>
         ensures longest { self.new.longest ≡ self.old.longest }
         ensures grows { self.old.count ≤ self.new.count }
         ensures ok { OnOk result (count ≤ self.new.count) }
     {
-        let so_far = self.free.len() as u64;
-        for i in so_far..count {
+        let so_far = self.free.len();
+        for i in so_far..count as usize {
             self.grow(alloc)?;
         }
         Ok(())

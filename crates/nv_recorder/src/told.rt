@@ -1,0 +1,70 @@
+// All entries, for proofs alone.
+ghost use Rattle.std.specs.Prelude.{◌≡◌, [], ◌∷◌, ◌++◌, List, option_copied};
+ghost use Rattle.nv_base.specs.declared.entry.Entry.{Entry};
+ghost use Rattle.nv_recorder.specs.Event.{entry_of};
+
+use crate::Event;
+use nv_base::Entry;
+use std::marker::Model;
+
+/// All entries that were added, the oldest first. It has no bytes: contracts read it as `items`.
+#[derive(Drop)]
+pub struct Told {
+    pub ghost items: { List Entry },
+}
+
+impl Model for Told {
+    ghost use base.Fml.{ftrue};
+
+    ghost also_owns = { λ _. ftrue };
+}
+
+// It owns nothing.
+unsafe impl Send for Told {}
+
+impl Told {
+    /// No entry.
+    pub fn nothing() -> Told
+        ensures { result.items ≡ [] }
+    {
+        Told::picked()
+    }
+
+    /// With this entry behind the others.
+    pub fn with(&self, entry: &Entry) -> Told
+        ensures { result.items ≡ self.now.items ++ entry.now ∷ [] }
+    {
+        behind(self, entry)
+    }
+
+    /// With the entry of a job behind them, whose content is lent.
+    pub fn with_lent(&self, event: Event, content: Option<&[u8]>) -> Told
+        ensures { result.items ≡ self.now.items ++ entry_of event (option_copied content.entry) ∷ [] }
+    {
+        lent_behind(self, event, content)
+    }
+
+    // The entries that a proof picks.
+    fn picked() -> Told
+        ghost items: { List Entry }
+        ensures { result.items ≡ items }
+    {
+        Told {}
+    }
+}
+
+fn behind(told: &Told, entry: &Entry) -> Told
+    ghost items: { List Entry }
+    requires { items ≡ told.now.items ++ entry.now ∷ [] }
+    ensures { result.items ≡ told.now.items ++ entry.now ∷ [] }
+{
+    Told::picked()
+}
+
+fn lent_behind(told: &Told, event: Event, content: Option<&[u8]>) -> Told
+    ghost items: { List Entry }
+    requires { items ≡ told.now.items ++ entry_of event (option_copied content) ∷ [] }
+    ensures { result.items ≡ told.now.items ++ entry_of event (option_copied content.entry) ∷ [] }
+{
+    Told::picked()
+}
