@@ -1,19 +1,25 @@
 // Callers of a shared stack in threads of their own, with the driver beside them.
-ghost use Rattle.std.specs.Prelude.{◌≡◌, ◌≤◌, ◌∷◌, [], length, vec_len, IfOk, All};
+ghost use Rattle.std.specs.Prelude.{◌≡◌, ◌≤◌, ◌^◌, ◌∷◌, [], ℕ, false, length, vec_len, IfOk, All};
 ghost use Rattle.nvm_laws.specs.block_config.Lengths.{lengths_of};
 ghost use Rattle.nvm_laws.specs.block_machine.Words.{Configuration};
 ghost use Rattle.nvm_laws.specs.block_machine.Legal.{HasStore};
+ghost use Rattle.nvm_laws.specs.ram_blocks.Plain.{plain_blocks_of};
+ghost use Rattle.turn_gate.specs.Pass.{Has, knows};
+ghost use Rattle.nvm_shared.specs.Driving.{IsDriverOf};
+ghost use Rattle.nvm_shared.specs.Passes.{IsDriven};
 ghost use Rattle.script_callers.specs.declared.deed.Deed.TheVariants.{Ask, Await};
 ghost use Rattle.nvm_callers.specs.Callers.{MayRun};
 
 use crate::flagged_device::FlaggedDevice;
 use crate::flags::Flags;
 use crate::untold::make_untold;
-use nvm_callers::{Ending, Hold, NoHold, NoStores, run_callers};
+use nvm_callers::{Ending, Hold, NoHold, NoStores, Stores, run_callers};
 use nvm_laws::block_config::{Config, demo};
 use nvm_laws::memif::{MemDevice, PlainStore};
 use nvm_laws::nv_base::{Entry, History, Reply, Request, bytes_of};
+use nvm_laws::nv_desk::Desk;
 use nvm_laws::ram_blocks::{PlainSync, SyncCalls};
+use nvm_shared::{Driver, NotedCopies, Shared, StackPass};
 use script_callers::{Deed, DeedList, Program};
 use std::alloc::{AllocError, Global};
 use std::sync::Wait;
@@ -58,16 +64,21 @@ fn program_of(
     Ok(Program { caller, deeds })
 }
 
+fn is_ask(entry: Option<&Entry>) -> bool {
+    matches!(entry, Some(Entry::Ask { .. }))
+}
+
+fn is_post(entry: Option<&Entry>) -> bool {
+    matches!(entry, Some(Entry::Post { .. }))
+}
+
 // How many accepted requests and Posts a history has.
 fn count(history: &History) -> (u32, u32) {
-    let mut asks = 0;
-    let mut posts = 0;
+    let mut asks: u32 = 0;
+    let mut posts: u32 = 0;
     for place in 0..history.len() {
-        match history.entry(place) {
-            Some(Entry::Ask { .. }) => asks += 1,
-            Some(Entry::Post { .. }) => posts += 1,
-            _ => {}
-        }
+        asks = asks.saturating_add(is_ask(history.entry(place)) as u32);
+        posts = posts.saturating_add(is_post(history.entry(place)) as u32);
     }
     (asks, posts)
 }
@@ -90,6 +101,60 @@ fn no_stores(alloc: Global, count: usize) -> Result<Vec<NoStores>, AllocError>
     vec![in alloc; NoStores; count]
 }
 
+// How many accepted requests and Posts a desk's history has, where its entries are kept.
+fn kept_count(desk: &Desk) -> Option<(u32, u32)> {
+    if !desk.keeps_entries() {
+        return None;
+    }
+    Some(count(desk.history()))
+}
+
+// These callers over a shared stack: how they ended, and the entries of requests and the Posts at the end.
+fn serve<
+    R: Threads + Wait + Sync,
+    D: MemDevice + Drop,
+    C: NotedCopies + Drop,
+    S: Stores + Send + Drop,
+    H: Hold + Sync,
+>(
+    rt: &R,
+    alloc: Global,
+    shared: Shared,
+    pass: StackPass,
+    driver: Driver<D, C>,
+    stores: Vec<S>,
+    programs: &[Program],
+    hold: &H,
+) -> (Ending, Option<(u32, u32)>)
+    requires driver { IsDriverOf D.told D.clock C.told shared pass driver }
+    requires alone { (knows pass).parts ≡ 2 ^ 64 }
+    requires own { (k : ℕ) → Has (knows pass).own k → IsDriven (knows pass).seen k }
+    requires untold { shared.terms.tells ≡ false }
+    requires lock { C.is_of shared.gate × S.is_of shared.gate }
+    requires stores { vec_len stores ≡ length programs.now }
+    requires may { All (MayRun shared.terms.config) programs.now }
+{
+    let (pass, _driver, ending, _stores) = run_callers(
+        rt, alloc, &shared, pass, driver, stores, programs, hold,
+    );
+    let front = shared.close(pass);
+    (ending, kept_count(&front.desk))
+}
+
+type Parts = (PlainSync, Vec<Program>, Vec<NoStores>);
+
+// The application's copies, two callers, and a place for the stores of each.
+fn parts_of(alloc: Global, config: &Config) -> Result<Parts, AllocError>
+    ensures copies { IfOk result (λ r. r.0 ≡ plain_blocks_of config.now) }
+    ensures programs { IfOk result (λ r. (c : Configuration) → 2 ≤ length c.blocks → All (MayRun c) r.1.items) }
+    ensures stores { IfOk result (λ r. vec_len r.2 ≡ length r.1.items) }
+{
+    let copies = PlainSync::make(alloc, config)?;
+    let programs = two_programs(alloc)?;
+    let stores = no_stores(alloc, programs.len())?;
+    Ok((copies, programs, stores))
+}
+
 // These callers over a device; the entries of requests and the Posts at the end.
 fn run<R: Threads + Wait + Sync, D: MemDevice + Drop, H: Hold + Sync>(
     rt: &R,
@@ -102,28 +167,34 @@ fn run<R: Threads + Wait + Sync, D: MemDevice + Drop, H: Hold + Sync>(
     requires blocks { 2 ≤ length config.blocks }
 {
     let _blocks = config.blocks();
-    let copies = PlainSync::make(alloc, &config)?;
-    let programs = two_programs(alloc)?;
-    let stores = no_stores(alloc, programs.len())?;
-    let Ok((shared, pass, driver)) = make_untold(alloc, config, device, copies) else {
-        return Err(AllocError);
-    };
-    let (pass, _driver, ending, _stores) = run_callers(
-        rt,
-        alloc,
-        &shared,
-        pass,
-        driver,
-        stores,
-        programs.as_slice(),
-        hold,
-    );
-    let front = shared.close(pass);
-    if !front.desk.keeps_entries() {
-        return Err(AllocError);
+    let parts = parts_of(alloc, &config)?;
+    let (copies, programs, stores) = parts;
+    match make_untold(alloc, config, device, copies) {
+        Ok((shared, pass, driver)) => {
+            let (ending, counts) = serve(
+                rt,
+                alloc,
+                shared,
+                pass,
+                driver,
+                stores,
+                programs.as_slice(),
+                hold,
+            );
+            ended_with(ending, counts)
+        }
+        Err(_) => Err(AllocError),
     }
-    let (asks, posts) = count(front.desk.history());
-    Ok((ending, asks, posts))
+}
+
+fn ended_with(
+    ending: Ending,
+    counts: Option<(u32, u32)>,
+) -> Result<(Ending, u32, u32), AllocError> {
+    match counts {
+        Some((asks, posts)) => Ok((ending, asks, posts)),
+        None => Err(AllocError),
+    }
 }
 
 fn make_device(alloc: Global, config: &Config) -> Result<PlainStore, AllocError>

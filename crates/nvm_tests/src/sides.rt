@@ -1,11 +1,11 @@
 // A synchronized block over mirrors, the application in one thread and the driver's copies in another.
-ghost use Rattle.std.specs.Prelude.{◌≡◌};
-ghost use Rattle.ram_mirrors_sync.specs.Blocks.{AreSidesOf, IsSideIn};
+ghost use Rattle.std.specs.Prelude.{◌≡◌, true};
+ghost use Rattle.ram_mirrors_sync.specs.Blocks.{AreEndsOf, AreIn, AreSidesOf, IsSideIn};
 
 use crate::found::{Found, LOOKS};
-use nvm_laws::block_config::read;
+use nvm_laws::block_config::{Config, read};
 use nvm_laws::ram_blocks::{Copied, SyncCalls};
-use ram_mirrors_sync::{MirrorSync, Mirrors, Side, Sides, close, make};
+use ram_mirrors_sync::{Ends, MirrorSync, Mirrors, Side, Sides, close, make};
 use std::alloc::Global;
 use std::thread;
 use std::thread::{Threads, join_mut};
@@ -82,67 +82,126 @@ fn are_copied<R: Threads>(
     found.wrong == 0 && found.last == STORES && 0 < found.count
 }
 
-fn over_mirrors<R: Threads>(rt: &R, alloc: Global) -> bool {
-    let Ok(config) = read(alloc, BLOCKS.as_bytes()) else {
-        return false;
-    };
-    let Ok((mirrors, ends, mut sides)) = make::<()>(alloc, &config) else {
-        return false;
-    };
-    let Some(mut side) = sides.take(2) else {
-        return false;
-    };
-    let mut sync = MirrorSync::of(&mirrors, ends);
-    side.block() == 2
-        && !sides.has(2)
-        && are_copied(rt, &mirrors, &mut side, &mut sync)
-        && is_handed(&mirrors, &mut side, &mut sync)
+// Whether the side of block 2 is taken, and shares its mirrors with the driver's copies.
+fn are_shared<R: Threads>(
+    rt: &R,
+    mirrors: &Mirrors<()>,
+    sides: &mut Sides<()>,
+    sync: &mut MirrorSync<()>,
+) -> bool
+    requires own { AreSidesOf mirrors.now sides.old }
+{
+    match sides.take(2) {
+        Some(mut side) => !sides.has(2) && is_served(rt, mirrors, &mut side, sync),
+        None => false,
+    }
+}
+
+fn is_served<R: Threads>(
+    rt: &R,
+    mirrors: &Mirrors<()>,
+    side: &mut Side<()>,
+    sync: &mut MirrorSync<()>,
+) -> bool
+    requires own { IsSideIn mirrors.now side.old }
+{
+    side.block() == 2 && are_copied(rt, mirrors, side, sync) && is_handed(mirrors, side, sync)
+}
+
+fn over_mirrors<R: Threads>(rt: &R, alloc: Global, config: &Config) -> bool {
+    match make::<()>(alloc, config) {
+        Ok((mirrors, ends, mut sides)) => {
+            let mut sync = MirrorSync::of(&mirrors, ends);
+            are_shared(rt, &mirrors, &mut sides, &mut sync)
+        }
+        Err(_) => false,
+    }
+}
+
+fn over_blocks<R: Threads>(rt: &R, alloc: Global) -> bool {
+    match read(alloc, BLOCKS.as_bytes()) {
+        Ok(config) => over_mirrors(rt, alloc, &config),
+        Err(_) => false,
+    }
 }
 
 #[test]
 fn stores_reach_the_driver_and_what_was_read_the_application(rt: HostRuntime) {
-    assert!(rt; over_mirrors(&rt, rt.alloc()));
+    assert!(rt; over_blocks(&rt, rt.alloc()));
 }
 
-// Whether a side that was taken and put back is in, and all mirrors end.
-fn are_closed(alloc: Global) -> bool {
-    let Ok(config) = read(alloc, BLOCKS.as_bytes()) else {
-        return false;
-    };
-    let Ok((mirrors, ends, mut sides)) = make::<()>(alloc, &config) else {
-        return false;
-    };
+// Whether a side that was taken and put back is in.
+fn is_put_back(mirrors: &Mirrors<()>, sides: &mut Sides<()>) -> bool
+    requires own { AreSidesOf mirrors.now sides.old }
+    ensures own { AreSidesOf mirrors.now sides.new }
+    ensures all { result ≡ true → AreIn mirrors.now sides.new }
+{
     if let Some(side) = sides.take(2) {
         sides.put(side);
     }
-    if !sides.are_in(&mirrors) {
-        return false;
-    }
+    sides.are_in(mirrors)
+}
+
+// Whether all mirrors end with their sides.
+fn end(mirrors: Mirrors<()>, ends: Ends<()>, sides: Sides<()>) -> bool
+    requires ends { AreEndsOf mirrors ends }
+    requires sides { AreSidesOf mirrors sides }
+{
+    let mut sides = sides;
+    let put_back = is_put_back(&mirrors, &mut sides);
     let ends = MirrorSync::of(&mirrors, ends).into_ends();
-    close(mirrors, ends, sides);
-    true
+    if put_back {
+        close(mirrors, ends, sides);
+    }
+    put_back
+}
+
+fn are_closed(alloc: Global, config: &Config) -> bool {
+    match make::<()>(alloc, config) {
+        Ok((mirrors, ends, sides)) => end(mirrors, ends, sides),
+        Err(_) => false,
+    }
+}
+
+fn blocks_are_closed(alloc: Global) -> bool {
+    match read(alloc, BLOCKS.as_bytes()) {
+        Ok(config) => are_closed(alloc, &config),
+        Err(_) => false,
+    }
 }
 
 #[test]
 fn mirrors_end_with_all_their_sides(rt: HostRuntime) {
-    assert!(rt; are_closed(rt.alloc()));
+    assert!(rt; blocks_are_closed(rt.alloc()));
 }
 
 // Whether sides of nobody have no block's side in.
-fn nobody_has(alloc: Global) -> bool {
-    let Ok(config) = read(alloc, BLOCKS.as_bytes()) else {
-        return false;
-    };
-    let Ok((mirrors, _ends, sides)) = make::<()>(alloc, &config) else {
-        return false;
-    };
-    match Sides::none(alloc, &sides) {
-        Ok(none) => sides.has(2) && !none.has(2) && !none.has(3) && !none.are_in(&mirrors),
+fn nobody_has(alloc: Global, mirrors: &Mirrors<()>, sides: &Sides<()>) -> bool {
+    match Sides::none(alloc, sides) {
+        Ok(none) => has_none(mirrors, sides, &none),
+        Err(_) => false,
+    }
+}
+
+fn has_none(mirrors: &Mirrors<()>, sides: &Sides<()>, none: &Sides<()>) -> bool {
+    sides.has(2) && !none.has(2) && !none.has(3) && !none.are_in(mirrors)
+}
+
+fn no_side_is_in(alloc: Global, config: &Config) -> bool {
+    match make::<()>(alloc, config) {
+        Ok((mirrors, _ends, sides)) => nobody_has(alloc, &mirrors, &sides),
+        Err(_) => false,
+    }
+}
+
+fn no_block_is_in(alloc: Global) -> bool {
+    match read(alloc, BLOCKS.as_bytes()) {
+        Ok(config) => no_side_is_in(alloc, &config),
         Err(_) => false,
     }
 }
 
 #[test]
 fn sides_of_nobody_have_no_block(rt: HostRuntime) {
-    assert!(rt; nobody_has(rt.alloc()));
+    assert!(rt; no_block_is_in(rt.alloc()));
 }

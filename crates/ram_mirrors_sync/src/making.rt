@@ -36,7 +36,7 @@ pub fn make<N: Drop>(
 
 type Made<N> = Option<(Pair<N>, End<N>, Side<N>)>;
 
-// Puts a block's mirrors, ends and side behind those of the blocks before.
+// Puts a block's mirrors, ends and side behind those of the blocks before. Where one isn't taken, the others are.
 fn push_block<N: Drop>(
     made: Made<N>,
     pairs: &mut Vec<Option<Pair<N>>>,
@@ -47,18 +47,26 @@ fn push_block<N: Drop>(
     ensures ends { OnOk result (ends.new.items ≡ ends.old.items ++ option_map (λ m. m.1) made ∷ []) }
     ensures sides { OnOk result (sides.new.items ≡ sides.old.items ++ option_map (λ m. m.2) made ∷ []) }
 {
+    let (pair, end, side) = parts_of(made);
+    let first = push(pairs, pair);
+    let second = push(ends, end);
+    let third = push(sides, side);
+    first.and(second).and(third)
+}
+
+fn parts_of<N>(made: Made<N>) -> (Option<Pair<N>>, Option<End<N>>, Option<Side<N>>)
+    ensures { result ≡ (option_map (λ m. m.0) made, option_map (λ m. m.1) made, option_map (λ m. m.2) made) }
+{
     match made {
-        Some((pair, end, side)) => {
-            pairs.push(Some(pair))?;
-            ends.push(Some(end))?;
-            sides.push(Some(side))?;
-        }
-        None => {
-            pairs.push(None)?;
-            ends.push(None)?;
-            sides.push(None)?;
-        }
+        Some((pair, end, side)) => (Some(pair), Some(end), Some(side)),
+        None => (None, None, None),
     }
+}
+
+fn push<T: Drop>(list: &mut Vec<T>, item: T) -> Result<(), AllocError>
+    ensures { OnOk result (list.new.items ≡ list.old.items ++ item ∷ []) }
+{
+    list.push(item)?;
     Ok(())
 }
 
