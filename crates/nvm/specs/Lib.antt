@@ -1,3 +1,5 @@
+pub mod Closing
+pub mod Unit
 pub use Rattle.nvm_flash.specs.nv_base as nv_base
 pub use Rattle.nvm_flash.specs.fls_model as fls_model
 pub use Rattle.nvm_flash.specs.fls_devices as fls_devices

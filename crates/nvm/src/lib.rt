@@ -8,10 +8,12 @@
 #![tactic(auto)]
 
 mod unit;
+mod unit_stack;
 
 pub use fls_files;
 pub use nvm_flash;
 pub use nvm_flash::block_config::{Config, ConfigFault, read};
+pub use nvm_flash::fee_core::Origin;
 pub use nvm_flash::fls_devices::Cutter;
 pub use nvm_flash::fls_model::{AttachFault, Flash, FlashAnswer, MemFlash, mem_flash};
 pub use nvm_flash::memif::MemDevice;
@@ -19,8 +21,9 @@ pub use nvm_flash::nv_base::{
     Bytes, Entry, Geometry, History, Refusal, Reply, ReqResult, Request, bytes_of, refusal_number,
     result_code,
 };
-pub use nvm_flash::nv_desk::AskFault;
+pub use nvm_flash::nv_desk::{AskFault, Event, Last, MarkKind, TakenKind};
 pub use nvm_flash::nvm_core::Renewed;
 pub use nvm_flash::nvm_laws::{FoundAnswer, Turned};
 pub use nvm_flash::{MakeFault, fls_devices};
-pub use unit::{Unit, UnitStack, run_unit};
+pub use unit::{Unit, run_unit};
+pub use unit_stack::UnitStack;

@@ -1,36 +1,39 @@
 // A unit over a flash.
-ghost use Rattle.std.specs.Prelude.{◌≡◌, true, IfErr, OnErr, OnOk};
+ghost use Rattle.std.specs.Prelude.{◌≡◌, ◌≤◌, ℕ, true, List, IfErr, IfOk, OnErr};
+ghost use Rattle.nvm_flash.specs.block_config.Rules.{IsLegalConfig};
+ghost use Rattle.nvm_flash.specs.nv_base.declared.entry.Entry.{Entry};
 ghost use Rattle.nvm_flash.specs.nv_desk.Recorder.{endless};
-ghost use Rattle.nvm_flash.specs.Made.{ComesBack, IsOrigin};
+ghost use Rattle.nvm_flash.specs.fls_devices.Cutter.{cutting, told_cutting};
+ghost use Rattle.nvm_flash.specs.fls_model.Told.{Told};
+ghost use Rattle.nvm_flash.specs.Made.{ComesBack, IsMadeStack, IsOrigin};
+ghost use Rattle.nvm.specs.Unit.{HasRun, Stays};
 
+use crate::unit_stack::UnitStack;
 use nvm_flash::block_config::Config;
 use nvm_flash::fee_core::Origin;
 use nvm_flash::fls_model::Flash;
 use nvm_flash::memif::MemDevice;
 use nvm_flash::nv_desk::ENDLESS;
-use nvm_flash::nvm_core::Stack;
-use nvm_flash::ram_blocks::PlainSync;
-use nvm_flash::{FlashStack, MakeFault, give_back, make_stack, start_stack};
+use nvm_flash::{FlashStack, MakeFault, make_stack, start_stack};
 use std::alloc::Global;
 use std::marker::Brand;
 
-/// The stack of a unit, over whatever device it has.
-pub type UnitStack<D> = Stack<D, PlainSync>;
-
 /// What a unit does between switching on and switching off.
 pub trait Unit {
-    /// What one run makes of it: the unit before it and behind it.
-    ghost ran: { Self → Self → Type 0 };
+    /// What one run makes of it: the unit before it and behind it, and the entries of its stack.
+    ghost ran: { Self → Self → List Entry → Type 0 };
 
     /// Runs over a stack that is up: its first start-up stands. It has room for as many entries as can be counted, and keeps the last one.
-    fn run<D: MemDevice>(&mut self, alloc: Global, stack: &mut UnitStack<D>)
+    fn run<F: Flash, O: Origin>(&mut self, alloc: Global, stack: &mut UnitStack<F, O>)
         requires ready { stack.old.ready ≡ true }
         requires most { stack.old.desk.cap ≡ endless }
-        ensures { ran self.old self.new };
+        ensures ran { ran self.old self.new stack.new.desk.entries }
+        ensures stays { Stays stack.old stack.new };
 }
 
 /// Switches a unit on and off again: the stack of its configuration over a flash, of which so many power cuts can be planned, 0 for
-/// a real one; a start-up; what the unit does; and the flash comes back. At Ok the unit ran, at Err it did nothing.
+/// a real one; a start-up; what the unit does; and the flash comes back. At Ok the unit ran, and the flash is the one that was handed
+/// in, with what the entries of the run say. At Err it did nothing.
 pub fn run_unit<F: Flash, U: Unit>(
     alloc: Global,
     config: Config,
@@ -38,7 +41,7 @@ pub fn run_unit<F: Flash, U: Unit>(
     cuts: u32,
     unit: &mut U,
 ) -> Result<F, (MakeFault, F)>
-    ensures ran { OnOk result (U.ran unit.old unit.new) }
+    ensures ran { IfOk result (λ f. HasRun config (F.told flash) (F.told f) (U.ran unit.old unit.new)) }
     ensures stopped { IfErr result (λ e. ComesBack config e.0 (F.told flash) (F.told e.1)) }
     ensures untouched { OnErr result (unit.new ≡ unit.old) }
 {
@@ -54,12 +57,13 @@ fn run_over<F: Flash, U: Unit, O: Origin>(
     unit: &mut U,
 ) -> Result<F, (MakeFault, F)>
     requires { IsOrigin config (F.told flash) cuts O.making O.entry }
-    ensures ran { OnOk result (U.ran unit.old unit.new) }
+    ensures ran { IfOk result (λ f. HasRun config (F.told flash) (F.told f) (U.ran unit.old unit.new)) }
     ensures stopped { IfErr result (λ e. ComesBack config e.0 (F.told flash) (F.told e.1)) }
     ensures untouched { OnErr result (unit.new ≡ unit.old) }
 {
+    let _geometry = config.geometry();
     match make_stack::<F, O>(alloc, config, flash, cuts, ENDLESS) {
-        Ok(made) => match start_stack(made) {
+        Ok(made) => match switch_on(made, cuts) {
             Ok(started) => Ok(switch_off(alloc, started, unit)),
             Err(stopped) => Err(stopped),
         },
@@ -67,17 +71,36 @@ fn run_over<F: Flash, U: Unit, O: Origin>(
     }
 }
 
+// The first start-up of a stack that was made, of whose flash so many power cuts can be planned.
+fn switch_on<F: Flash, O: Origin>(
+    stack: FlashStack<F, O>,
+    cuts: u32,
+) -> Result<UnitStack<F, O>, (MakeFault, F)>
+    requires made { IsMadeStack stack.desk.config stack.desk.cap O.making O.entry stack }
+    requires legal { IsLegalConfig stack.desk.config }
+    requires origin { (inner : Told) × IsOrigin stack.desk.config inner cuts O.making O.entry }
+    ensures ready { IfOk result (λ s. s.ready ≡ true) }
+    ensures stays { IfOk result (λ s. Stays stack s) }
+    ensures stopped { IfErr result (λ e. (inner : Told) (n : ℕ) → IsOrigin stack.desk.config inner n O.making O.entry → ComesBack stack.desk.config e.0 inner (F.told e.1)) }
+{
+    stack.device().status();
+    match start_stack(stack) {
+        Ok(stack) => Ok(UnitStack::over(stack, cuts)),
+        Err(stopped) => Err(stopped),
+    }
+}
+
 // Lets the unit run, and takes the stack apart.
 fn switch_off<F: Flash, U: Unit, O: Origin>(
     alloc: Global,
-    stack: FlashStack<F, O>,
+    stack: UnitStack<F, O>,
     unit: &mut U,
 ) -> F
     requires ready { stack.ready ≡ true }
     requires most { stack.desk.cap ≡ endless }
-    ensures { U.ran unit.old unit.new }
+    ensures { (inner : Told) (cuts : ℕ) → O.entry ≡ told_cutting (cutting inner cuts) → HasRun stack.desk.config inner (F.told result) (U.ran unit.old unit.new) }
 {
     let mut stack = stack;
     unit.run(alloc, &mut stack);
-    give_back(stack.into_device())
+    stack.into_flash()
 }

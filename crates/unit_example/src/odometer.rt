@@ -1,8 +1,9 @@
 // What the unit does.
 ghost use Rattle.std.specs.Prelude.{◌≡◌, true};
 ghost use Rattle.nvm.specs.block_machine.Legal.{HasStore};
+ghost use Rattle.nvm.specs.Unit.{Stays};
 
-use nvm::{MemDevice, Reply, ReqResult, Request, Turned, Unit, UnitStack, bytes_of};
+use nvm::{Flash, Origin, Reply, ReqResult, Request, Turned, Unit, UnitStack, bytes_of};
 use std::alloc::Global;
 
 /// The block of the kilometres, one byte.
@@ -41,9 +42,9 @@ impl Odometer {
 
 impl Unit for Odometer {
     // nothing is asked of a run
-    ghost ran = { λ before behind. Unit {0} };
+    ghost ran = { λ before behind entries. Unit {0} };
 
-    fn run<D: MemDevice>(&mut self, alloc: Global, stack: &mut UnitStack<D>) {
+    fn run<F: Flash, O: Origin>(&mut self, alloc: Global, stack: &mut UnitStack<F, O>) {
         ask(alloc, stack, Request::ReadAll);
         cycles(stack, 0, START);
         self.found = kilometres(stack);
@@ -66,17 +67,19 @@ impl Unit for Odometer {
 }
 
 /// The 10 ms task: one turn, which changes the flash by one operation at most.
-fn task<D: MemDevice>(stack: &mut UnitStack<D>) -> Turned
+fn task<F: Flash, O: Origin>(stack: &mut UnitStack<F, O>) -> Turned
     requires { stack.old.ready ≡ true }
-    ensures { stack.new.ready ≡ true }
+    ensures ready { stack.new.ready ≡ true }
+    ensures stays { Stays stack.old stack.new }
 {
     stack.turn()
 }
 
 /// Cycles until a request is served or the power is off, at most so many. Answers how many it took. Looking at a status adds no entry.
-fn cycles<D: MemDevice>(stack: &mut UnitStack<D>, block: u16, most: u32) -> u32
+fn cycles<F: Flash, O: Origin>(stack: &mut UnitStack<F, O>, block: u16, most: u32) -> u32
     requires { stack.old.ready ≡ true }
-    ensures { stack.new.ready ≡ true }
+    ensures ready { stack.new.ready ≡ true }
+    ensures stays { Stays stack.old stack.new }
 {
     for cycle in 0..most {
         if !matches!(stack.status(block), ReqResult::Pending) {
@@ -90,18 +93,20 @@ fn cycles<D: MemDevice>(stack: &mut UnitStack<D>, block: u16, most: u32) -> u32
 }
 
 /// Asks for something. A request that isn't accepted is a fault of the program.
-fn ask<D: MemDevice>(alloc: Global, stack: &mut UnitStack<D>, request: Request) -> bool
+fn ask<F: Flash, O: Origin>(alloc: Global, stack: &mut UnitStack<F, O>, request: Request) -> bool
     requires ready { stack.old.ready ≡ true }
     requires store { HasStore stack.old.desk.config request }
-    ensures { stack.new.ready ≡ true }
+    ensures ready { stack.new.ready ≡ true }
+    ensures stays { Stays stack.old stack.new }
 {
     matches!(stack.ask(alloc, 0, request), Ok(Reply::Accepted))
 }
 
 /// Writes the kilometres.
-fn write<D: MemDevice>(alloc: Global, stack: &mut UnitStack<D>, kilometres: u8) -> bool
+fn write<F: Flash, O: Origin>(alloc: Global, stack: &mut UnitStack<F, O>, kilometres: u8) -> bool
     requires { stack.old.ready ≡ true }
-    ensures { stack.new.ready ≡ true }
+    ensures ready { stack.new.ready ≡ true }
+    ensures stays { Stays stack.old stack.new }
 {
     let Ok(content) = bytes_of(alloc, &[kilometres]) else {
         return false;
@@ -115,7 +120,7 @@ fn write<D: MemDevice>(alloc: Global, stack: &mut UnitStack<D>, kilometres: u8) 
 }
 
 /// What the unit's RAM has.
-fn kilometres<D: MemDevice>(stack: &UnitStack<D>) -> u8 {
+fn kilometres<F: Flash, O: Origin>(stack: &UnitStack<F, O>) -> u8 {
     match stack.ram(KILOMETRES).first() {
         Some(kilometres) => *kilometres,
         None => 0,

@@ -1,0 +1,22 @@
+use Rattle.std.proofs.Common.{ap, subst, sym, ◌∙◌}
+use Rattle.nvm_flash.specs.memif.Calls.{InOrder}
+use Rattle.nvm_flash.specs.fee_core.Tells.{told_clock}
+use Rattle.nvm_flash.specs.fee_told.Device.{Device, told_of}
+use Rattle.nvm_flash.proofs.nvm_device_laws.Called.{begins_kept}
+use Rattle.nvm.specs.Closing.{UnitState}
+use Rattle.nvm.specs.Unit.{Stays}
+use Rattle.nvm.proofs.UnitLaws.{begun_unit, starts_stay}
+use Rattle.nvm.proofs.unit.switch_on.Goals as goal
+
+pub over-requires : goal.over-requires
+over-requires g c =
+    let m = c.args.stack in let origin = c.requires.origin in
+    begun_unit g.O.Origin.making g.O.Origin.entry m c.in-Ok.stack c.requires.made (begins_kept (told_of m.device) (told_clock m.device))
+    (subst (λ (d : Device). InOrder (told_of d) (told_clock d)) c.device.ensures.device c.status.ensures.order)
+    c.in-Ok.ensures.started c.in-Ok.ensures.keeps origin.0 c.args.cuts c.requires.legal origin.1
+
+pub returns-in-Ok-clause-stays : goal.returns-in-Ok-clause-stays
+returns-in-Ok-clause-stays g c = subst (λ (s : UnitState). Stays c.args.stack s) (sym c.over.ensures) (starts_stay c.args.stack c.in-Ok.stack c.in-Ok.ensures.started)
+
+pub returns-in-Ok-clause-ready : goal.returns-in-Ok-clause-ready
+returns-in-Ok-clause-ready g c = ap (λ (s : UnitState). s.ready) c.over.ensures ∙ ap (λ (s : UnitState). s.ready) c.in-Ok.ensures.started.only
