@@ -13,10 +13,10 @@ use Rattle.lent_flash.specs.declared.lent.Lent.{Lent}
 use Rattle.nvm_c.specs.Exports.{Goes, IsAsked, IsNotOpened, IsOpened, IsOpenedOver, IsStopped, fault_code}
 use Rattle.nvm_c.specs.Held.{Kept, Ran, kept_as, origin_of}
 use Rattle.nvm_c.specs.Services.{answer_code, answer_value, number_of, request_of}
-use Rattle.nvm_c.specs.Unit.{UnitState, CameBack, Closes}
+use Rattle.nvm_c.specs.Unit.{UnitState, CameBack, ClosesWith}
 use Rattle.nvm_c.specs.Work.{Serves}
 use Rattle.nvm_c.specs.declared.services.Service.{Service}
-use Rattle.nvm_c.specs.declared.work.Outcome.TheVariants.{Asked, Closed, NotOpened, Shut}
+use Rattle.nvm_c.specs.declared.work.Outcome.TheVariants.{Asked, Closed, NotOpened}
 use Rattle.nvm_c.specs.declared.work.Task.TheVariants.{Ask}
 use Rattle.nvm_c.specs.declared.work.Work.TheVariants.{Open, Serve, Close}
 
@@ -53,14 +53,14 @@ asked None behind v service block number content request answer code value is_op
 asked (Some k) behind v service block number content request answer code value is_open is_number is_request is_code is_value ran =
     asked_by k behind v service block number content request answer code value is_number is_request is_code is_value ran.0 ran.1 ran.2
 
-closed_over : (k : Kept) (bytes : Option (List ℕ)) → CameBack (origin_of k).entry k.state bytes → IsSomeAnd bytes (Closes k.flash k.state)
+closed_over : (k : Kept) (bytes : Option (List ℕ)) → CameBack (origin_of k).entry k.state bytes → IsSomeAnd bytes (ClosesWith k.flash k.state)
 closed_over k None came = came
 closed_over k (Some image) came = came k.flash k.cuts refl
 
 -- WITHOUT A UNIT
 pub not_opened : (kept behind : Option Kept) (c : Configuration) (flash : Told) (cuts : ℕ) (why : MakeFault) (lent : Lent) (code : ℕ) → kept ≡ None → code ≡ fault_code why
     → Ran kept (Open c flash cuts) (NotOpened why lent) behind → IsNotOpened c flash code lent.bytes
-not_opened None behind c flash cuts why lent code none is_code ran = inl (why, ran.2.2.0, is_code, ran.2.2.1, ran.2.2.2)
+not_opened None behind c flash cuts why lent code none is_code ran = (why, ran.2.2.0, is_code, ran.2.2.1, ran.2.2.2)
 not_opened (Some k) behind c flash cuts why lent code none is_code ran = cc none
 
 pub stopped : (bytes back : Option (List ℕ)) (text : List ℕ) (c : Configuration) (flash : Told) (code : ℕ) → meaning_of text ≡ Ok c → IfSome bytes (λ b. flash ≡ flash_over b)
@@ -68,9 +68,9 @@ pub stopped : (bytes back : Option (List ℕ)) (text : List ℕ) (c : Configurat
 stopped None back text c flash code means over told failed = tt
 stopped (Some b) back text c flash code means over told failed = inr (inl (c, means, subst (λ (f : Told). IsNotOpened c f code back) over (told failed)))
 
-pub no_memory : (bytes back : Option (List ℕ)) (text : List ℕ) → IfSome bytes (λ b. IsStopped text b 4 back)
-no_memory None back text = tt
-no_memory (Some b) back text = inr (inr refl)
+pub no_memory : (bytes back : Option (List ℕ)) (text : List ℕ) → back ≡ bytes → IfSome bytes (λ b. IsStopped text b 4 back)
+no_memory None back text same = tt
+no_memory (Some b) back text same = inr (inr (refl, same))
 
 pub refused : (bytes : Option (List ℕ)) (text : List ℕ) (rule block : ℕ) → (Broken rule block ≡ Memory) ⊎ (meaning_of text ≡ Err (Broken rule block)) → IfSome bytes (λ b. IsStopped text b 1 bytes)
 refused None text rule block why = tt
@@ -84,16 +84,7 @@ opened bytes text c flash cuts code None means over told done = told done
 opened None text c flash cuts code (Some k) means over told done = tt
 opened (Some b) text c flash cuts code (Some k) means over told done = (c, means, subst (λ (f : Told). IsOpenedOver c f cuts k) over (told done))
 
--- the memory came back, of a unit that was shut at once
-shut_over : (s : UnitState) (entry : Told) (bytes : Option (List ℕ)) → CameBack entry s bytes → IsSome bytes
-shut_over s entry None came = absurd came
-shut_over s entry (Some image) came = refl
-
-pub shut : (kept behind : Option Kept) (c : Configuration) (flash : Told) (cuts : ℕ) (lent : Lent) → kept ≡ None → Ran kept (Open c flash cuts) (Shut lent) behind → IsSome lent.bytes
-shut None behind c flash cuts lent none ran = shut_over ran.2.1.0 _ lent.bytes ran.2.1.2
-shut (Some k) behind c flash cuts lent none ran = cc none
-
--- and of one that is closed
-pub closed : (kept behind : Option Kept) (lent : Lent) → Ran kept Close (Closed lent) behind → IfSome kept (λ k. IsSomeAnd lent.bytes (Closes k.flash k.state))
+-- of one that is closed
+pub closed : (kept behind : Option Kept) (lent : Lent) → Ran kept Close (Closed lent) behind → IfSome kept (λ k. IsSomeAnd lent.bytes (ClosesWith k.flash k.state))
 closed None behind lent ran = tt
 closed (Some k) behind lent ran = closed_over k lent.bytes ran.2.1

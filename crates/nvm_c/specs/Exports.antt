@@ -16,12 +16,12 @@ use Rattle.nvm.specs.nvm_flash.nvm_laws.declared.turned.Turned.{Turned}
 use Rattle.nvm.specs.nvm_flash.nvm_laws.declared.turned.Turned.TheVariants as turned
 use Rattle.nvm.specs.nvm_flash.nvm_laws.declared.turned.FoundAnswer.{FoundAnswer}
 use Rattle.nvm.specs.nvm_flash.nvm_laws.declared.turned.FoundAnswer.TheVariants as found
-use Rattle.script_player.specs.Calls.{Arms, Asks, Restarts, Turns}
+use Rattle.script_player.specs.Calls.{Asks, Restarts, Turns}
 use Rattle.lent_flash.specs.Flash.{flash_over}
 use Rattle.nvm_c.specs.Held.{Kept, origin_by}
 use Rattle.nvm_c.specs.Services.{answer_code, answer_value, number_of, request_of}
-use Rattle.nvm_c.specs.Unit.{UnitState, unit_told, given_last, Opens}
-use Rattle.nvm_c.specs.Work.{StaysDown}
+use Rattle.nvm_c.specs.Unit.{UnitState, unit_told, given_last, last_line, Opens}
+use Rattle.nvm_c.specs.Work.{PlansCut, StaysDown}
 use Rattle.nvm_c.specs.declared.services.Service.{Service}
 
 -- an open handle stays open, of the same opening, and its unit goes on so
@@ -59,9 +59,9 @@ turned_code turned.Off = 4
 abbrev pub IsTurned : ℕ → UnitState → UnitState → Type 0
 IsTurned code s t = ((answer : Turned) × (code ≡ turned_code answer) × Turns answer (unit_told s) (unit_told t)) ⊎ ((code ≡ 5) × StaysDown s t)
 
--- a power cut was planned, or the last start-up failed
+-- a power cut was planned; or none was, and nothing changed; or the last start-up failed
 abbrev pub IsPlanned : (nth keep code : ℕ) → UnitState → UnitState → Type 0
-IsPlanned nth keep code s t = ((code ≡ 0) × Arms nth keep (unit_told s) (unit_told t)) ⊎ ((code ≡ 5) × StaysDown s t)
+IsPlanned nth keep code s t = ((code ≡ 0) × PlansCut nth keep s t) ⊎ (((code ≡ 6) × (t ≡ s)) ⊎ ((code ≡ 5) × StaysDown s t))
 
 abbrev pub found_code : FoundAnswer → ℕ
 found_code found.Ready = 0
@@ -93,16 +93,15 @@ fault_code fault.Memory = 4
 fault_code fault.NoSecond = 5
 
 -- Of a configuration over a flash there is no unit: the stack says why, and the flash comes back as it was, or attached, in the memory
--- that comes back; or there was no memory.
+-- that comes back.
 abbrev pub IsNotOpened : Configuration → Told → (code : ℕ) → Option (List ℕ) → Type 0
-IsNotOpened c flash code back =
-    ((why : MakeFault) × (exit : Told) × (code ≡ fault_code why) × ComesBack c why flash exit × (back ≡ bytes_now exit)) ⊎ (code ≡ 4)
+IsNotOpened c flash code back = (why : MakeFault) × (exit : Told) × (code ≡ fault_code why) × ComesBack c why flash exit × (back ≡ bytes_now exit)
 
--- of a text over bytes: it is no configuration, and the bytes come back; or there is no unit of its configuration; or there was no memory
+-- of a text over bytes: it is no configuration, or there was no memory, and the bytes come back; or there is no unit of its configuration
 abbrev pub IsStopped : (text bytes : List ℕ) → (code : ℕ) → Option (List ℕ) → Type 0
 IsStopped text bytes code back =
     ((why : ConfigFault) × (meaning_of text ≡ Err why) × (code ≡ 1) × (back ≡ Some bytes))
-    ⊎ (((c : Configuration) × (meaning_of text ≡ Ok c) × IsNotOpened c (flash_over bytes) code back) ⊎ (code ≡ 4))
+    ⊎ (((c : Configuration) × (meaning_of text ≡ Ok c) × IsNotOpened c (flash_over bytes) code back) ⊎ ((code ≡ 4) × (back ≡ Some bytes)))
 
 -- CONTENTS
 -- so many bytes of a content stand at the front, where there is room for them; all else stays
@@ -117,8 +116,16 @@ pub record IsFilled (content : List ℕ) (size : ℕ) (old new : List ℕ) : Typ
 abbrev pub IsRam : (block code size : ℕ) → List ℕ → List ℕ → UnitState → Type 0
 IsRam block code size old new s = ((code ≡ 0) × IsFilled (block_at (state_of s.desk) block).ram size old new) ⊎ ((code ≡ 4) × (new ≡ old))
 
+-- of a content that there may be, or there was no memory
+abbrev pub IsShown : Option (List ℕ) → (code size : ℕ) → List ℕ → List ℕ → Type 0
+IsShown shown code size old new =
+    ((content : List ℕ) × (shown ≡ Some content) × (code ≡ 0) × IsFilled content size old new)
+    ⊎ (((shown ≡ None) × (code ≡ 1) × (new ≡ old)) ⊎ ((code ≡ 4) × (new ≡ old)))
+
 -- of what the last entry gave, if it gave something
 abbrev pub IsGiven : (code size : ℕ) → List ℕ → List ℕ → UnitState → Type 0
-IsGiven code size old new s =
-    ((content : List ℕ) × (given_last s ≡ Some content) × (code ≡ 0) × IsFilled content size old new)
-    ⊎ (((given_last s ≡ None) × (code ≡ 1) × (new ≡ old)) ⊎ ((code ≡ 4) × (new ≡ old)))
+IsGiven code size old new s = IsShown (given_last s) code size old new
+
+-- of the line of the last entry, if there is one
+abbrev pub IsLine : (code size : ℕ) → List ℕ → List ℕ → UnitState → Type 0
+IsLine code size old new s = IsShown (last_line s) code size old new

@@ -4,3 +4,4 @@ pub mod Work
 pub mod Held
 pub mod Services
 pub mod Exports
+pub mod Texts

@@ -1,5 +1,5 @@
 -- What is asked of the unit of a handle, and what comes of it.
-use Rattle.std.specs.Prelude.{◌≡◌, false, true, Option, None, Some, IsSome, IsSomeAnd, IfOk, length}
+use Rattle.std.specs.Prelude.{◌≡◌, ◌≤◌, ℕ, false, true, Option, None, Some, IsSome, IsSomeAnd, IfOk, length}
 use Rattle.nvm.specs.block_machine.Blocks.{block_at, status_of}
 use Rattle.nvm.specs.block_machine.Legal.{HasStore}
 use Rattle.nvm.specs.block_machine.Reply.{reply_of}
@@ -8,7 +8,7 @@ use Rattle.nvm.specs.nv_desk.Desk.{state_of}
 use Rattle.nvm.specs.nvm_flash.Made.{ComesBack, IsOrigin}
 use Rattle.nvm.specs.nvm_flash.promise_device.Making.{Making}
 use Rattle.script_player.specs.Calls.{Arms, Asks, Restarts, Turns}
-use Rattle.nvm_c.specs.Unit.{UnitState, unit_told, given_last, Opens, CameBack}
+use Rattle.nvm_c.specs.Unit.{UnitState, unit_told, given_last, last_line, Opens, CameBack}
 use Rattle.nvm_c.specs.declared.work.Task.{Task}
 use Rattle.nvm_c.specs.declared.work.Task.TheVariants as task
 use Rattle.nvm_c.specs.declared.work.Work.{Work}
@@ -26,13 +26,18 @@ CanDo x s = Unit {0}
 abbrev pub StaysDown : UnitState → UnitState → Type 0
 StaysDown s t = (s.ready ≡ false) × (t ≡ s)
 
+-- a power cut is planned: at an operation from the next one on, where the flash takes a plan
+abbrev pub PlansCut : (nth keep : ℕ) → UnitState → UnitState → Type 0
+PlansCut nth keep s t = (1 ≤ nth) × (1 ≤ (unit_told s).causes.takes) × Arms nth keep (unit_told s) (unit_told t)
+
 abbrev pub Does : Task → Outcome → UnitState → UnitState → Type 0
 Does (task.Ask request) (outcome.Asked answer) s t =
     (s.ready ≡ true) × Asks 0 request answer (unit_told s) (unit_told t) × IfOk answer (λ reply. reply ≡ reply_of s.desk.config s.desk.cap (state_of s.desk) request)
 Does (task.Ask request) outcome.Down s t = StaysDown s t
 Does task.Turn (outcome.Turned answer) s t = (s.ready ≡ true) × Turns answer (unit_told s) (unit_told t)
 Does task.Turn outcome.Down s t = StaysDown s t
-Does (task.Cut nth keep) outcome.Planned s t = (s.ready ≡ true) × Arms nth keep (unit_told s) (unit_told t)
+Does (task.Cut nth keep) outcome.Planned s t = (s.ready ≡ true) × PlansCut nth keep s t
+Does (task.Cut nth keep) outcome.NotPlanned s t = (s.ready ≡ true) × (t ≡ s)
 Does (task.Cut nth keep) outcome.Down s t = StaysDown s t
 Does task.Restart (outcome.Found answer) s t = Restarts answer (unit_told s) (unit_told t)
 Does (task.Status block) (outcome.StatusIs result) s t = (result ≡ status_of (state_of s.desk) block) × (t ≡ s)
@@ -40,6 +45,8 @@ Does (task.Ram block) (outcome.Content bytes) s t = (bytes ≡ (block_at (state_
 Does (task.Ram block) outcome.NoMemory s t = t ≡ s
 Does task.Given (outcome.Given bytes) s t = (bytes ≡ given_last s) × (t ≡ s)
 Does task.Given outcome.NoMemory s t = t ≡ s
+Does task.Line (outcome.Line text) s t = (text ≡ last_line s) × (t ≡ s)
+Does task.Line outcome.NoMemory s t = t ≡ s
 Does task.Entries (outcome.Count entries) s t = (entries ≡ length s.desk.entries) × (t ≡ s)
 Does x y s t = ⊥
 
@@ -53,8 +60,6 @@ abbrev pub Serves : Making → Told → Work → Outcome → Option UnitState �
 Serves making entry (work.Open config flash cuts) outcome.Opened before behind = IsSomeAnd behind (Opens config making entry)
 Serves making entry (work.Open config flash cuts) (outcome.NotOpened fault lent) before behind =
     (behind ≡ None) × IsSome lent.bytes × ((exit : Told) × ComesBack config fault flash exit × (lent.bytes ≡ bytes_now exit))
-Serves making entry (work.Open config flash cuts) (outcome.Shut lent) before behind =
-    (behind ≡ None) × ((s : UnitState) × Opens config making entry s × CameBack entry s lent.bytes)
 Serves making entry work.Close (outcome.Closed lent) (Some s) behind = (behind ≡ None) × CameBack entry s lent.bytes
 Serves making entry (work.Serve x) y (Some s) (Some t) = Does x y s t
 Serves making entry w y before behind = ⊥

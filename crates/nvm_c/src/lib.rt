@@ -3,22 +3,24 @@
 //!
 //! It promises of each call what the stack's own call promises, of what the handle keeps; that the memory holds the flash's bytes
 //! while the unit has it, byte for byte; and, where it is given back, that a run whose history the unit had keeps the promise. The
-//! standard's names, RAM blocks and callbacks are left to `c/nvm.c`, and what C owes the calls stands in `docs/C.md`.
+//! standard's names, RAM blocks and callbacks are left to `c/shim`, and what C owes the calls stands in `docs/C.md`.
 #![tactic(auto)]
 
 mod handle;
 mod looks;
 mod room;
 mod services;
+mod texts;
 mod turns;
 mod unit;
 mod unit_opening;
 mod work;
 
 pub use handle::Handle;
-pub use looks::{nvm_entries, nvm_given, nvm_ram, nvm_status};
+pub use looks::{nvm_entries, nvm_given, nvm_line, nvm_ram, nvm_status};
 pub use room::Room;
 pub use services::nvm_ask;
+pub use texts::{BlockFacts, nvm_block, nvm_check};
 pub use turns::{nvm_close, nvm_cut, nvm_open, nvm_restart, nvm_turn};
 pub use unit::LentUnit;
 pub use work::{Outcome, Work, serve};

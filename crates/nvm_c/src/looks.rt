@@ -3,7 +3,7 @@ ghost use Rattle.std.specs.Prelude.{◌≡◌, ◌≢◌, ◌⊎◌, ◌≤◌, 
 ghost use Rattle.nvm.specs.block_machine.Blocks.{block_at, status_of};
 ghost use Rattle.nvm.specs.nv_base.Result.{code_of};
 ghost use Rattle.nvm.specs.nv_desk.Desk.{state_of};
-ghost use Rattle.nvm_c.specs.Exports.{IsFilled, IsGiven, IsRam, Looks};
+ghost use Rattle.nvm_c.specs.Exports.{IsFilled, IsGiven, IsLine, IsRam, Looks};
 
 use crate::handle::{Handle, work_on};
 use crate::work::{Outcome, Task, Work};
@@ -89,6 +89,33 @@ pub extern "C" fn nvm_given(
         Outcome::Given { bytes } => match bytes {
             Some(bytes) => {
                 *size = fill(bytes.as_slice(), into);
+                0
+            }
+            None => 1,
+        },
+        _other => 4,
+    }
+}
+
+/// Copies the line of the last entry to the front of `into`, where it has room for it, and tells its size: as `play` prints it, with
+/// its newline. Each call adds one entry at most, so the lines that are taken behind each call that did are the history. 0: so it was
+/// done. 1: there is no entry. 4: there is no memory.
+#[unsafe(no_mangle)]
+pub extern "C" fn nvm_line(
+    alloc: Global,
+    handle: &mut Handle,
+    into: &mut [u8],
+    size: &mut usize,
+) -> u8
+    requires open { IsSome handle.old.kept }
+    ensures line { Looks handle.old.kept handle.new.kept (λ s. IsLine result size.new into.old into.new s) }
+{
+    *size = 0;
+    let task = Task::Line;
+    match work_on(alloc, handle, Work::Serve { task }) {
+        Outcome::Line { text } => match text {
+            Some(text) => {
+                *size = fill(text.as_slice(), into);
                 0
             }
             None => 1,

@@ -1,6 +1,6 @@
 // A unit is opened, makes turns, meets power cuts, and is closed.
 ghost use Rattle.std.specs.Prelude.{◌≡◌, ◌≢◌, None, IsSome, IsSomeAnd, IfSome};
-ghost use Rattle.nvm_c.specs.Unit.{Closes};
+ghost use Rattle.nvm_c.specs.Unit.{ClosesWith};
 ghost use Rattle.nvm_c.specs.Exports.{Goes, IsNotOpened, IsOpened, IsOpenedOver, IsPlanned, IsRestarted, IsStopped, IsTurned, fault_code, found_code, turned_code};
 
 use crate::handle::{Handle, work_on};
@@ -85,10 +85,6 @@ fn open_over(
             *back = lent;
             fault_code(fault)
         }
-        Outcome::Shut { lent } => {
-            *back = lent;
-            4
-        }
         _other => 4,
     }
 }
@@ -119,8 +115,8 @@ pub extern "C" fn nvm_turn(alloc: Global, handle: &mut Handle) -> u8
     }
 }
 
-/// Plans a power cut at the nth changing operation of the flash from now, with so many bytes of it done. 5: the last start-up
-/// failed.
+/// Plans a power cut at the nth changing operation of the flash from now, with so many bytes of it done. 0: it is planned. 5: the last
+/// start-up failed. 6: none is planned, since as many were as the unit was opened with, or `nth` is 0.
 #[unsafe(no_mangle)]
 pub extern "C" fn nvm_cut(alloc: Global, handle: &mut Handle, nth: u32, keep: u32) -> u8
     requires open { IsSome handle.old.kept }
@@ -129,6 +125,7 @@ pub extern "C" fn nvm_cut(alloc: Global, handle: &mut Handle, nth: u32, keep: u3
     let task = Task::Cut { nth, keep };
     match work_on(alloc, handle, Work::Serve { task }) {
         Outcome::Planned => 0,
+        Outcome::NotPlanned => 6,
         _other => 5,
     }
 }
@@ -163,7 +160,7 @@ pub extern "C" fn nvm_restart(alloc: Global, handle: &mut Handle) -> u8
 pub extern "C" fn nvm_close(alloc: Global, handle: &mut Handle, back: &mut Lent)
     requires open { IsSome handle.old.kept }
     ensures closed { handle.new.kept ≡ None }
-    ensures given_back { IfSome handle.old.kept (λ k. IsSomeAnd back.new.bytes (Closes k.flash k.state)) }
+    ensures given_back { IfSome handle.old.kept (λ k. IsSomeAnd back.new.bytes (ClosesWith k.flash k.state)) }
 {
     match work_on(alloc, handle, Work::Close) {
         Outcome::Closed { lent } => *back = lent,

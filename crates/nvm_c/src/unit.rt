@@ -1,16 +1,22 @@
 // A unit: a stack over memory that C lends, behind its first start-up.
-ghost use Rattle.std.specs.Prelude.{◌≡◌, true, IfOk, length};
+ghost use Rattle.std.specs.Prelude.{◌≡◌, false, true, IfOk, length, option_copied};
 ghost use Rattle.nvm.specs.block_machine.Blocks.{block_at, status_of};
 ghost use Rattle.nvm.specs.block_machine.Legal.{HasStore};
 ghost use Rattle.nvm.specs.block_machine.Reply.{reply_of};
 ghost use Rattle.nvm.specs.nv_desk.Desk.{state_of};
-ghost use Rattle.script_player.specs.Calls.{Arms, Asks, Restarts, Turns};
-ghost use Rattle.nvm_c.specs.Unit.{CameBack, IsUnit, Stands, given_last, unit_told};
+ghost use Rattle.nvm.specs.nv_desk.Event.{entry_of};
+ghost use Rattle.nvm_script.specs.Lines.{entry_line};
+ghost use Rattle.script_player.specs.Calls.{Asks, Restarts, Turns};
+ghost use Rattle.nvm_c.specs.Unit.{CameBack, IsUnit, Stands, TakenFrom, given_last, last_line, unit_told};
+ghost use Rattle.nvm_c.specs.Work.{PlansCut};
 
 use lent_flash::{Lent, LentFlash};
 use nvm::nvm_flash::fee_core::{Fee, Origin};
 use nvm::nvm_flash::{FlashStack, give_back};
-use nvm::{AskFault, Bytes, Cutter, FoundAnswer, Reply, ReqResult, Request, Turned, bytes_of};
+use nvm::{
+    AskFault, Bytes, Cutter, Event, FoundAnswer, Last, Reply, ReqResult, Request, Turned, bytes_of,
+};
+use nvm_script::entry_text;
 use script_player::{PlainStack, PlayedStack};
 use std::alloc::{AllocError, Global};
 use std::marker::Model;
@@ -18,11 +24,12 @@ use std::marker::Model;
 /// The stack of a unit.
 pub type LentStack<O> = FlashStack<LentFlash, O>;
 
-/// A stack, and whether its last start-up stands. Contracts see the stack.
+/// A stack, whether its last start-up stands, and how many power cuts may be planned yet. Contracts see the stack.
 #[derive(Drop)]
 pub struct LentUnit<O: Origin> {
     stack: PlainStack<Fee<Cutter<LentFlash>, O>>,
     up: bool,
+    plans: u32,
 }
 
 impl<O: Origin> Model for LentUnit<O> {
@@ -32,18 +39,19 @@ impl<O: Origin> Model for LentUnit<O> {
 
     ghost view = { λ u. u.stack };
 
-    ghost invariant = { λ u. IsUnit O.making O.entry u.up u.stack };
+    ghost invariant = { λ u. IsUnit O.making O.entry u.up u.plans u.stack };
 }
 
 impl<O: Origin> LentUnit<O> {
-    /// The unit of a stack whose first start-up stands.
-    pub(crate) fn over(stack: LentStack<O>) -> LentUnit<O>
-        requires { IsUnit O.making O.entry true stack }
+    /// The unit of a stack whose first start-up stands, and of whose flash so many power cuts can be planned.
+    pub(crate) fn over(stack: LentStack<O>, plans: u32) -> LentUnit<O>
+        requires { IsUnit O.making O.entry true plans stack }
         ensures { result ≡ stack }
     {
         LentUnit {
             stack: PlainStack::over(stack),
             up: true,
+            plans,
         }
     }
 
@@ -85,12 +93,19 @@ impl<O: Origin> LentUnit<O> {
         found
     }
 
-    /// Plans a power cut at its nth changing operation from now, with so many bytes of it done.
-    pub fn arm(&mut self, nth: u32, keep: u32)
+    /// Plans a power cut at its nth changing operation from now, with so many bytes of it done. Tells whether it did: no plan is
+    /// taken where as many were taken as there may be, nor of operation 0, and then nothing changed.
+    pub fn arm(&mut self, nth: u32, keep: u32) -> bool
         requires { self.old.ready ≡ true }
-        ensures { Arms nth keep (unit_told self.old) (unit_told self.new) }
+        ensures planned { result ≡ true → PlansCut nth keep self.old self.new }
+        ensures none { result ≡ false → self.new ≡ self.old }
     {
+        if nth == 0 || self.plans == 0 {
+            return false;
+        }
+        self.plans -= 1;
         self.stack.arm(nth, keep);
+        true
     }
 
     /// The status of a block.
@@ -117,6 +132,17 @@ impl<O: Origin> LentUnit<O> {
         }
     }
 
+    /// The line of the last entry, with its newline, where there is an entry.
+    pub fn last_line(&self, alloc: Global) -> Result<Option<Bytes>, AllocError>
+        ensures { IfOk result (λ line. line ≡ last_line self.now) }
+    {
+        match self.stack.stack().last() {
+            Some(Last::Added(entry)) => Ok(Some(entry_text(alloc, entry)?)),
+            Some(Last::OfJob { event, content }) => Ok(Some(job_line(alloc, event, content)?)),
+            None => Ok(None),
+        }
+    }
+
     /// How many entries the history has.
     pub fn entries(&self) -> u32
         ensures { result ≡ length self.now.desk.entries }
@@ -134,10 +160,30 @@ impl<O: Origin> LentUnit<O> {
 
     /// Takes it apart, and gives the memory back.
     pub fn close(self) -> Lent
-        ensures { CameBack O.entry self result.bytes }
+        ensures came { CameBack O.entry self result.bytes }
+        ensures taken { TakenFrom O.making O.entry self result.bytes }
     {
         self.stands();
         let LentUnit { stack, .. } = self;
         give_back(stack.into_stack().into_device()).into_lent()
+    }
+}
+
+// The line of an entry of a job, whose content stands beside it.
+fn job_line(alloc: Global, event: Event, content: Option<&[u8]>) -> Result<Bytes, AllocError>
+    ensures { IfOk result (λ line. line ≡ entry_line (entry_of event (option_copied content.entry))) }
+{
+    let content = copy_of(alloc, content)?;
+    let entry = event.entry(content);
+    entry_text(alloc, &entry)
+}
+
+// A copy of a content, if there is one.
+fn copy_of(alloc: Global, content: Option<&[u8]>) -> Result<Option<Bytes>, AllocError>
+    ensures { IfOk result (λ copy. copy ≡ option_copied content.entry) }
+{
+    match content {
+        Some(content) => Ok(Some(bytes_of(alloc, content)?)),
+        None => Ok(None),
     }
 }

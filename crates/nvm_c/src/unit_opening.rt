@@ -29,23 +29,23 @@ pub fn open<O: Origin>(
 {
     let _geometry = config.geometry();
     match make_stack::<LentFlash, O>(alloc, config, flash, cuts, ENDLESS) {
-        Ok(stack) => begin(stack),
+        Ok(stack) => begin(stack, cuts),
         Err(stopped) => Err(stopped),
     }
 }
 
 // The first start-up of a stack that was made.
-fn begin<O: Origin>(stack: LentStack<O>) -> Result<LentUnit<O>, (MakeFault, LentFlash)>
+fn begin<O: Origin>(stack: LentStack<O>, cuts: u32) -> Result<LentUnit<O>, (MakeFault, LentFlash)>
     requires made { IsMadeStack stack.desk.config stack.desk.cap O.making O.entry stack }
     requires most { stack.desk.cap ≡ endless }
     requires legal { IsLegalConfig stack.desk.config }
-    requires origin { (inner : Told) × (cuts : ℕ) × IsOrigin stack.desk.config inner cuts O.making O.entry }
+    requires origin { (inner : Told) × IsOrigin stack.desk.config inner cuts O.making O.entry }
     ensures started { IfOk result (λ s. StartsUp told_of stack s) }
     ensures stopped { IfErr result (λ e. (inner : Told) (cuts : ℕ) → IsOrigin stack.desk.config inner cuts O.making O.entry → ComesBack stack.desk.config e.0 inner e.1) }
 {
     stack.device().status();
     match start_stack(stack) {
-        Ok(stack) => Ok(LentUnit::over(stack)),
+        Ok(stack) => Ok(LentUnit::over(stack, cuts)),
         Err(stopped) => Err(stopped),
     }
 }

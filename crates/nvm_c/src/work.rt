@@ -36,25 +36,26 @@ pub enum Task {
     Status { block: u16 },
     Ram { block: u16 },
     Given,
+    Line,
     Entries,
 }
 
-/// What came of it. `Down`: the last start-up failed, and nothing was done. `Shut`: there was no memory to keep the unit in, and it
-/// was closed again.
+/// What came of it. `Down`: the last start-up failed, and nothing was done.
 #[derive(Drop)]
 pub enum Outcome {
     Opened,
     NotOpened { fault: MakeFault, lent: Lent },
-    Shut { lent: Lent },
     Down,
     NoMemory,
     Asked { answer: Result<Reply, AskFault> },
     Turned { turned: Turned },
     Planned,
+    NotPlanned,
     Found { found: FoundAnswer },
     StatusIs { result: ReqResult },
     Content { bytes: Bytes },
     Given { bytes: Option<Bytes> },
+    Line { text: Option<Bytes> },
     Count { entries: u32 },
     Closed { lent: Lent },
 }
@@ -100,7 +101,8 @@ fn open_room<O: Origin>(
             Ok(unit) => (Room::of(unit), Outcome::Opened),
             Err(failed) => (
                 Room::empty(),
-                Outcome::Shut {
+                Outcome::NotOpened {
+                    fault: MakeFault::Memory,
                     lent: failed.value.close(),
                 },
             ),
@@ -133,6 +135,10 @@ fn do_task<O: Origin>(alloc: Global, unit: &mut LentUnit<O>, task: Task) -> Outc
         },
         Task::Given => match unit.last_given(alloc) {
             Ok(bytes) => Outcome::Given { bytes },
+            Err(_) => Outcome::NoMemory,
+        },
+        Task::Line => match unit.last_line(alloc) {
+            Ok(text) => Outcome::Line { text },
             Err(_) => Outcome::NoMemory,
         },
         Task::Entries => Outcome::Count {
@@ -173,6 +179,9 @@ fn cut<O: Origin>(unit: &mut LentUnit<O>, nth: u32, keep: u32) -> Outcome
     if !unit.is_up() {
         return Outcome::Down;
     }
-    unit.arm(nth, keep);
-    Outcome::Planned
+    if unit.arm(nth, keep) {
+        Outcome::Planned
+    } else {
+        Outcome::NotPlanned
+    }
 }

@@ -1,4 +1,4 @@
-use Rattle.std.proofs.Common.{◌≡◌, ◌⊎◌, Err, subst}
+use Rattle.std.proofs.Common.{◌≡◌, ◌⊎◌, Err, refl, subst}
 use Rattle.nvm.specs.block_config.Reading.{meaning_of}
 use Rattle.nvm.specs.block_config.declared.fault.ConfigFault.{ConfigFault}
 use Rattle.nvm.specs.block_config.declared.fault.ConfigFault.TheVariants.{Memory}
@@ -14,7 +14,7 @@ returns-in-Ok-over-clause-stopped c =
     stopped c.args.flash.bytes c.open_over.new.back.bytes c.args.text.now c.in-Ok.config c.in-Ok-over.flash c.open_over.result c.in-Ok.ensures.ok c.in-Ok-over.ensures.over c.open_over.ensures.stopped
 
 pub returns-in-Err-clause-stopped : goal.returns-in-Err-clause-stopped
-returns-in-Err-clause-stopped c more = no_memory c.args.flash.bytes _ c.args.text.now
+returns-in-Err-clause-stopped c more = no_memory c.args.flash.bytes _ c.args.text.now c.in-Err.ensures.back
 
 pub returns-in-Err-Broken-clause-stopped : goal.returns-in-Err-Broken-clause-stopped
 returns-in-Err-Broken-clause-stopped c more =
@@ -22,4 +22,4 @@ returns-in-Err-Broken-clause-stopped c more =
     (subst (λ (f : ConfigFault). (f ≡ Memory) ⊎ (meaning_of c.args.text.now ≡ Err f)) c.in-Err-Broken.field-0-is c.in-Err-Broken.ensures.err)
 
 pub returns-in-Err-Memory-clause-stopped : goal.returns-in-Err-Memory-clause-stopped
-returns-in-Err-Memory-clause-stopped c more = no_memory c.args.flash.bytes _ c.args.text.now
+returns-in-Err-Memory-clause-stopped c more = no_memory c.args.flash.bytes _ c.args.text.now refl
