@@ -219,7 +219,7 @@ turns_made p q before line caller (suc n) old new some (es, turned, is, (ms, man
 
 pub drain_made : (p q : Seen) (before : List Step) (line caller : ℕ) (old new : StackTold) → Drains p q before old new → (¬ Rose old.faults new.faults → (state_of new).off ≡ false → new.busy ≡ false) → IsKept before new
     → IsMade p q before (record { line = line; caller = caller; kind = Drain }) old new
-drain_made p q before line caller old new (es, turned, is, (ms, moved)) closes kept =
+drain_made p q before line caller old new (es, turned, is, (ms, few, moved)) closes kept =
     turned_made p q before line caller Drain old new es ms moved.turns moved refl (λ no. no) (λ plan ops. refl) (λ id left. refl) (λ plan now. refl) turned
     (λ calm drain. closes calm.no_fault (power_on new.configuration new.entries calm.entries)) is kept
 

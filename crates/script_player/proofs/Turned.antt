@@ -1,7 +1,7 @@
 -- Turn after turn.
 use Rattle.std.specs.List.{list_all}
 use Rattle.std.specs.Option.{is_some}
-use Rattle.std.proofs.Common.{◌≡◌, ◌<◌, ◌+◌, ◌||◌, ℕ, zero, suc, Bool, true, false, IsTrue, List, [], ◌∷◌, ◌++◌, length, Option, Some, None, refl, sym, ap, ◌∙◌, subst, inl, inr, arith, append-nil, length-append}
+use Rattle.std.proofs.Common.{◌≡◌, ◌<◌, ◌≤◌, ◌+◌, ◌||◌, ℕ, zero, suc, Bool, true, false, IsTrue, List, [], ◌∷◌, ◌++◌, length, Option, Some, None, refl, sym, ap, ◌∙◌, subst, inl, inr, arith, append-nil, length-append}
 use Rattle.std.proofs.lemmas.Bool.{cases_Bool}
 use Rattle.uds_gateway.specs.nv_base.Count.{Rose}
 use Rattle.uds_gateway.specs.nvm_laws.declared.turned.Turned.{Turned}
@@ -116,9 +116,9 @@ one_turn_more p q r (suc n) before old mid new (es, was, are, (ms, many, moved))
 -- A DRAIN
 
 -- it ends
-pub drained : (p q : Seen) (before : List Step) (old new : StackTold) (es : List Entry) (ms : List Move) → HasTurned before old new es → AreMade p q es ms old new → IsTrue (is_at_rest (state_of new) || (state_of new).off) → Drains p q before old new
-drained p q before old new es ms turned moved ends =
-    (es, turned, record { played = turned.keeps.played; ends = subst (λ (s : State). IsTrue (is_at_rest s || s.off)) (state_grown old new es turned.grows) ends }, (ms, moved))
+pub drained : (p q : Seen) (before : List Step) (old new : StackTold) (es : List Entry) (ms : List Move) → HasTurned before old new es → length ms ≤ old.work + 1 → AreMade p q es ms old new → IsTrue (is_at_rest (state_of new) || (state_of new).off) → Drains p q before old new
+drained p q before old new es ms turned few moved ends =
+    (es, turned, record { played = turned.keeps.played; ends = subst (λ (s : State). IsTrue (is_at_rest s || s.off)) (state_grown old new es turned.grows) ends }, (ms, few, moved))
 
 none_in : (hand : Option Job) → is_some hand ≡ false → hand ≡ None
 none_in None none = refl

@@ -48,7 +48,7 @@ MakesTurns p q zero before old new = (new ≡ old) × MovesBy false [] p q
 MakesTurns p q (suc n) before old new = (es : List Entry) × HasTurned before old new es × AreTurns (state_of old) (suc n) es
     × ((moves : List Move) × (length moves ≡ suc n) × AreMade p q es moves old new)
 
--- turns, however many, until nothing is pending, or the power is off
+-- turns until nothing is pending, or the power is off; no more of them than there was work, and one
 abbrev pub Drains : Seen → Seen → List Step → StackTold → StackTold → Type 0
 Drains p q before old new = (es : List Entry) × HasTurned before old new es × IsDrain old.configuration (state_of old) es
-    × ((moves : List Move) × AreMade p q es moves old new)
+    × ((moves : List Move) × (length moves ≤ old.work + 1) × AreMade p q es moves old new)

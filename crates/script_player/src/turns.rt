@@ -26,7 +26,7 @@ pub fn make_turns<S: PlayedStack>(stack: &mut S, count: u32)
 }
 
 /// Makes turns until nothing is left to do or the power is off, or until one without a job in hand in which a fault was
-/// counted. Without a fault and with the power on nothing is open at the device behind it.
+/// counted: no more turns than there was work, and one. Without a fault and with the power on nothing is open at the device behind it.
 pub fn drain<S: PlayedStack>(stack: &mut S)
     requires { (S.told stack.old).ready ≡ true }
     ensures ready { (S.told stack.new).ready ≡ true }

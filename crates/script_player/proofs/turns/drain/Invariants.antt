@@ -1,4 +1,4 @@
-use Rattle.std.proofs.Common.{◌≡◌, ◌≤◌, true, List}
+use Rattle.std.proofs.Common.{◌≡◌, ◌≤◌, ◌+◌, true, List, length}
 use Rattle.uds_gateway.specs.block_machine.Words.{Entry}
 use Rattle.uds_gateway.specs.memif.Told.{Part, PartTold}
 use Rattle.uds_gateway.specs.script_walks.Words.{Step}
@@ -12,7 +12,7 @@ invariant-loop g l = record {
   counted : (g.S.PlayedStack.told l.initial.stack).faults ≤ (g.S.PlayedStack.told l.stack).faults;
   kept : (before : List Step) → IsKept before (g.S.PlayedStack.told l.initial.stack)
       → (es : List Entry) × HasTurned before (g.S.PlayedStack.told l.initial.stack) (g.S.PlayedStack.told l.stack) es
-      × ((ms : List Move) × AreMade (g.S.PlayedStack.seen l.initial.stack) (g.S.PlayedStack.seen l.stack) es ms (g.S.PlayedStack.told l.initial.stack) (g.S.PlayedStack.told l.stack)) × IsKept before (g.S.PlayedStack.told l.stack);
+      × ((ms : List Move) × (length ms + (g.S.PlayedStack.told l.stack).work ≤ (g.S.PlayedStack.told l.initial.stack).work) × AreMade (g.S.PlayedStack.seen l.initial.stack) (g.S.PlayedStack.seen l.stack) es ms (g.S.PlayedStack.told l.initial.stack) (g.S.PlayedStack.told l.stack)) × IsKept before (g.S.PlayedStack.told l.stack);
   keeps : (before : Part → PartTold) → g.S.PlayedStack.kept l.initial.stack before → g.S.PlayedStack.kept l.stack before;
   starts : g.S.PlayedStack.starts_found l.initial.stack → g.S.PlayedStack.starts_found l.stack;
 }
