@@ -1,12 +1,13 @@
-//! The program `nvm`: it makes the real input, output and flash, and runs the command of its words over them. All
-//! else is the commands'.
+//! The program `nvm`: it makes the real input and output, and what opens an image file of the system, and executes its
+//! words over them. All else is done by `nvm_top`.
 #![tactic(auto)]
 
+ghost use Rattle.std.specs.Prelude.{true, None};
+ghost use Rattle.fls_files.specs.FileFlash.{in_file};
+
 use fls_files::{FileFlash, ImageFault, ImageFile};
-use fls_model::mem_flash;
 use nv_streams::{StdSink, StdSource};
-use nvm_top::{Status, command};
-use nvm_words::{CommandKind, command_of, image_path};
+use nvm_top::{ImageOpener, Status, execute};
 use std::alloc::{AllocError, Global};
 use std::process::ExitCode;
 use std::{env, io};
@@ -25,25 +26,41 @@ fn words(rt: &HostRuntime) -> io::Result<Vec<String>> {
     Ok(words)
 }
 
-/// The image file of these words, which `dump` reads and the others change.
-fn image<'a>(
-    rt: &'a HostRuntime,
-    path: &'a str,
-    beside: &'a str,
-    words: &[String],
-) -> ImageFile<'a, HostRuntime> {
-    match command_of(rt.alloc(), words) {
-        Ok(Some(CommandKind::Dump)) => ImageFile::to_read(rt, path),
-        _ => ImageFile::to_change(rt, path, beside),
+/// The first word, which is the path of an image file, if the words name one.
+fn first(words: &[String]) -> &str {
+    match words.first() {
+        Some(word) => word.as_str(),
+        None => "",
     }
 }
 
-/// The name under which an image file is made, where nothing has its path, until it is whole.
-fn beside(alloc: Global, path: &str) -> Result<String, AllocError> {
+/// The name under which that file is made, where nothing has its path, until it is whole.
+fn beside(alloc: Global, words: &[String]) -> Result<String, AllocError> {
     let mut name = String::new(alloc);
-    name.push_str(path)?;
+    name.push_str(first(words))?;
     name.push_str(".new")?;
     Ok(name)
+}
+
+/// What opens an image file of the system, with the name under which that is made.
+#[derive(Drop)]
+struct SystemOpener<'a> {
+    rt: &'a HostRuntime,
+    beside: &'a str,
+}
+
+impl<'a> ImageOpener<'a> for SystemOpener<'a> {
+    type Image = FileFlash<ImageFile<'a, HostRuntime>>;
+
+    ghost opened = { λ _ _ _. (in_file true None).told };
+
+    fn image(self, path: &'a str, alone: bool) -> FileFlash<ImageFile<'a, HostRuntime>> {
+        FileFlash::over(if alone {
+            ImageFile::to_read(self.rt, path)
+        } else {
+            ImageFile::to_change(self.rt, path, self.beside)
+        })
+    }
 }
 
 /// Says which file is at fault, where the image file wasn't opened for that.
@@ -65,29 +82,21 @@ fn tell(rt: &HostRuntime, path: &str, beside: &str, flash: &FileFlash<ImageFile<
 }
 
 fn main(rt: HostRuntime) -> ExitCode {
-    let alloc = rt.alloc();
     let Ok(words) = words(&rt) else {
+        return ExitCode::from(Status::Memory.code());
+    };
+    let Ok(beside) = beside(rt.alloc(), &words) else {
         return ExitCode::from(Status::Memory.code());
     };
     let mut input = StdSource::make(rt.stdin());
     let mut output = StdSink::make(rt.stdout());
-    let Ok(path) = image_path(alloc, &words) else {
-        return ExitCode::from(Status::Memory.code());
+    let opener = SystemOpener {
+        rt: &rt,
+        beside: beside.as_str(),
     };
-    let status = match path {
-        Some(path) => match beside(alloc, path) {
-            Ok(beside) => {
-                let flash = FileFlash::over(image(&rt, path, beside.as_str(), &words));
-                let (status, flash) = command(&rt, alloc, &words, &mut input, &mut output, flash);
-                tell(&rt, path, beside.as_str(), &flash);
-                status
-            }
-            Err(_) => Status::Memory,
-        },
-        None => match mem_flash(alloc, &[], 0) {
-            Ok(flash) => command(&rt, alloc, &words, &mut input, &mut output, flash).0,
-            Err(_) => Status::Memory,
-        },
-    };
-    ExitCode::from(status.code())
+    let (code, image) = execute(&rt, rt.alloc(), &words, &mut input, &mut output, opener);
+    if let Ok(image) = image {
+        tell(&rt, first(&words), beside.as_str(), &image);
+    }
+    ExitCode::from(code)
 }

@@ -8,7 +8,6 @@ use Rattle.nvm_words.specs.declared.words.CommandKind.TheVariants.{Play, Run, Du
 use Rattle.nvm_lines.specs.declared.status.Status.TheVariants as status
 use Rattle.nvm_top.specs.Causes.{HasCauses}
 use Rattle.nvm_top.specs.Commands.{Ended, ended, KeepsCommand, KeepsOnly, KeepsPlay, KeepsRunCommand, KeepsUds}
-use Rattle.nvm_top.proofs.Images.{kept-same}
 use Rattle.nvm_top.proofs.WholeCalls.{alone}
 
 -- WANT OF MEMORY
@@ -20,7 +19,7 @@ no_cause reads writes left = record { read_fault = λ is. cc; write_fault = λ i
 pub wanting : (k : Option CommandKind) (left : Option (List ℕ)) (reads : ℕ) (written : Written) (writes : ℕ) (told : Told) → KeepsCommand k (ended status.Memory left left reads reads written written writes writes told told)
 wanting None left reads written writes told = record { line = refl; unread = refl; untouched = refl; causes = no_cause reads writes left }
 wanting (Some Check) left reads written writes told = record { by_input = refl; untouched = refl; causes = no_cause reads writes left }
-wanting (Some Dump) left reads written writes told = record { by_input = refl; kept = kept-same told; untouched = λ is. refl; causes = no_cause reads writes left }
+wanting (Some Dump) left reads written writes told = record { by_input = refl; kept = inl refl; untouched = λ is. refl; causes = no_cause reads writes left }
 wanting (Some Play) left reads written writes told = record { promise = inr (record { line = refl; flash = inl (alone told, λ is. cc is) }); untouched = λ is. refl; causes = no_cause reads writes left }
 wanting (Some Run) left reads written writes told = record { promise = inr (record { line = refl; flash = inl (alone told, λ is. cc is) }); untouched = λ is. refl; causes = no_cause reads writes left }
 wanting (Some (Soak seed count)) left reads written writes told = record { promise = inr (record { line = refl; flash = inl (alone told, λ is. cc is) }); untouched = λ is. refl; causes = no_cause reads writes left }

@@ -1,5 +1,5 @@
 -- What reading a flash gives and leaves.
-use Rattle.std.proofs.Common.{◌≡◌, ◌∙◌, ◌+◌, ℕ, List, [], ◌∷◌, ◌++◌, take, drop, Option, Some, None, IfSome, refl, sym, ap, subst}
+use Rattle.std.proofs.Common.{◌≡◌, ◌∙◌, ◌+◌, ◌⊎◌, ℕ, List, [], ◌∷◌, ◌++◌, take, drop, Option, Some, None, IfSome, refl, sym, ap, subst, inl, inr}
 use Rattle.std.proofs.Math.Seq.{take-add}
 use Rattle.nvm_flash.specs.nv_base.declared.geometry.Geometry.{Geometry}
 use Rattle.nvm_flash.specs.nv_base.Geometry.{size_of}
@@ -11,33 +11,33 @@ use Rattle.nvm_top.specs.Dump.{KeepsFlash}
 use Rattle.nvm_top.specs.Reading.{IsSectorStop}
 
 -- WHAT IS LEFT
-not_enlarged : (bytes : List ℕ) → bytes ≡ enlarged 0 bytes
-not_enlarged [] = refl
-not_enlarged (x ∷ xs) = refl
+-- of bytes, as of a flash of this shape
+abbrev Left : Geometry → ToldBytes → ToldBytes → Type 0
+Left g old new = (new.now ≡ old.now) ⊎ (new.now ≡ enlarged (size_of g) old.now)
 
-same_bytes : (o : Option ToldBytes) → IfBothTold o o (λ old new. (n : ℕ) × (new.now ≡ enlarged n old.now))
-same_bytes None = tt
-same_bytes (Some b) = (0, not_enlarged b.now)
+same_bytes : (g : Geometry) (o : Option ToldBytes) → IfBothTold o o (Left g)
+same_bytes g None = tt
+same_bytes g (Some b) = inl refl
 
-filled_bytes : (g : Geometry) (o o' : Option ToldBytes) → IfBothTold o o' (IsFilled g) → IfBothTold o o' (λ old new. (n : ℕ) × (new.now ≡ enlarged n old.now))
+filled_bytes : (g : Geometry) (o o' : Option ToldBytes) → IfBothTold o o' (IsFilled g) → IfBothTold o o' (Left g)
 filled_bytes g None None is = tt
-filled_bytes g (Some a) (Some b) is = (size_of g, is.bytes)
+filled_bytes g (Some a) (Some b) is = inr is.bytes
 filled_bytes g None (Some b) is = absurd is
 filled_bytes g (Some a) None is = absurd is
 
-kept-faults : (s t : Told) (n : ℕ) → KeepsFlash s t → KeepsFlash s (record t { faults = n })
-kept-faults s t n is = record { bytes = is.bytes; ops = is.ops; cuts = is.cuts }
+kept-faults : (g : Geometry) (s t : Told) (n : ℕ) → KeepsFlash g s t → KeepsFlash g s (record t { faults = n })
+kept-faults g s t n is = record { bytes = is.bytes; ops = is.ops; cuts = is.cuts }
 
-pub kept-same : (s : Told) → KeepsFlash s s
-kept-same s = record { bytes = same_bytes s.bytes; ops = refl; cuts = refl }
+pub kept-same : (g : Geometry) (s : Told) → KeepsFlash g s s
+kept-same g s = record { bytes = same_bytes g s.bytes; ops = refl; cuts = refl }
 
-pub kept-attached : (g : Geometry) (s t : Told) → IsAttached g s t → KeepsFlash s (powered t)
+pub kept-attached : (g : Geometry) (s t : Told) → IsAttached g s t → KeepsFlash g s (powered t)
 kept-attached g s t is = record { bytes = filled_bytes g s.bytes t.bytes is.bytes; ops = is.ops; cuts = is.cuts }
 
-pub kept-sector : (s t u : Told) (stop : Stop) → KeepsFlash s t → IsSectorStop t u stop → KeepsFlash s u
-kept-sector s t u FlashFault is at = subst (λ (v : Told). KeepsFlash s v) (sym at.1) (kept-faults s t u.faults is)
-kept-sector s t u Memory is at = subst (λ (v : Told). KeepsFlash s v) (sym at) is
-kept-sector s t u _ is at = absurd at
+pub kept-sector : (g : Geometry) (s t u : Told) (stop : Stop) → KeepsFlash g s t → IsSectorStop t u stop → KeepsFlash g s u
+kept-sector g s t u FlashFault is at = subst (λ (v : Told). KeepsFlash g s v) (sym at.1) (kept-faults g s t u.faults is)
+kept-sector g s t u Memory is at = subst (λ (v : Told). KeepsFlash g s v) (sym at) is
+kept-sector g s t u _ is at = absurd at
 
 -- WHY IT STOPS
 

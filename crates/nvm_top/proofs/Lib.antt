@@ -4,7 +4,9 @@ pub mod Complete
 pub mod Driven
 pub mod Dumps
 pub mod Early
+pub mod EndCases
 pub mod EndsTold
+pub mod Executions
 pub mod Images
 pub mod InMemory
 pub mod Outputs

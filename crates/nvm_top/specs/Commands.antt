@@ -14,7 +14,7 @@ use Rattle.nvm_lines.specs.declared.status.Status.{Status}
 use Rattle.nvm_lines.specs.declared.stop.Stop.{Stop}
 use Rattle.nvm_lines.specs.declared.stop.Stop.TheVariants as stop
 use Rattle.nvm_top.specs.Causes.{HasCauses}
-use Rattle.nvm_top.specs.Dump.{DumpsBy, KeepsFlash}
+use Rattle.nvm_top.specs.Dump.{DumpsBy, KeepsFlashBy}
 use Rattle.nvm_top.specs.Ends.{ChecksBy}
 use Rattle.nvm_lines.specs.Output.{Writes}
 use Rattle.nvm_top.specs.Play.{IsBeforeAttach, IsBeforeStart, StepsStopBy}
@@ -89,7 +89,7 @@ pub record KeepsCheck (e : Ended) : Type 0 where
 
 pub record KeepsDump (e : Ended) : Type 0 where
   pub by_input : WritesBy (DumpsBy e.left e.read_faults e.read_faults_after e.entry e.exit) e
-  pub kept : KeepsFlash e.entry e.exit
+  pub kept : KeepsFlashBy e.left e.entry e.exit
   pub untouched : IsBeforeStart e.status → e.exit ≡ e.entry
   pub causes : IsCaused e
 

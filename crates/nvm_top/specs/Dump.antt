@@ -37,8 +37,12 @@ DumpsFlash g banks s t _ lines = ⊥
 abbrev pub DumpsBy : Option (List ℕ) → (reads reads' : ℕ) (s t : Told) → Status → List (List ℕ) → Type 0
 DumpsBy left reads reads' s t x lines = ReadsBy left reads reads' x lines ⊎ ((c : Configuration) × IfSome left (λ bytes. HasConfig bytes c) × DumpsFlash c.geometry c.banks s t x lines)
 
--- a flash is left as it was: no changing operation was made, and its bytes are the same, or blank where it had none
-pub record KeepsFlash (s t : Told) : Type 0 where
-  pub bytes : IfBothTold s.bytes t.bytes (λ old new. (n : ℕ) × (new.now ≡ enlarged n old.now))
+-- a flash is left as it was: no changing operation was made, and its bytes are the same, or of this shape and blank where it had none
+pub record KeepsFlash (g : Geometry) (s t : Told) : Type 0 where
+  pub bytes : IfBothTold s.bytes t.bytes (λ old new. (new.now ≡ old.now) ⊎ (new.now ≡ enlarged (size_of g) old.now))
   pub ops : t.ops ≡ s.ops
   pub cuts : t.cuts ≡ s.cuts
+
+-- so it is, by the shape of the input's configuration, or nothing of it changed
+abbrev pub KeepsFlashBy : Option (List ℕ) → (s t : Told) → Type 0
+KeepsFlashBy left s t = (t ≡ s) ⊎ ((c : Configuration) × IfSome left (λ bytes. HasConfig bytes c) × KeepsFlash c.geometry s t)

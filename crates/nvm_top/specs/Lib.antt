@@ -1,11 +1,13 @@
 pub mod Causes
 pub mod Commands
 pub mod Dump
+pub mod EndCases
 pub mod Ends
 pub mod Flashes
 pub mod Measures
 pub mod Outputs
 pub mod Play
+pub mod Program
 pub mod Reading
 pub mod Runs
 pub mod Promised

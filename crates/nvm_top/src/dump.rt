@@ -4,7 +4,7 @@ ghost use Rattle.nvm_flash.specs.nv_base.Count.{Rose};
 ghost use Rattle.nvm_flash.specs.fee_image.Image.{layout_of};
 ghost use Rattle.nvm_flash.specs.nv_base.Geometry.{IsLegal, HasBanks, size_of};
 ghost use Rattle.nvm_top.specs.Causes.{HasCauses};
-ghost use Rattle.nvm_top.specs.Dump.{DumpsBy, DumpsFlash, IsDump, KeepsFlash};
+ghost use Rattle.nvm_top.specs.Dump.{DumpsBy, DumpsFlash, IsDump, KeepsFlash, KeepsFlashBy};
 ghost use Rattle.nvm_lines.specs.Output.{IsReport, Writes};
 ghost use Rattle.nvm_top.specs.Play.{IsBeforeStart};
 
@@ -25,7 +25,7 @@ pub(crate) fn dump<S: Source, K: Sink, F: Flash>(
 ) -> (Status, F)
     ensures by_input { Writes (DumpsBy (S.left input.old) (S.faults input.old) (S.faults input.new) (F.told flash) (F.told result.1)) (K.written output.old) (K.written output.new) result.0 }
     ensures causes { HasCauses result.0 (S.faults input.old) (S.faults input.new) (K.faults output.old) (K.faults output.new) (S.left input.new) }
-    ensures kept { KeepsFlash (F.told flash) (F.told result.1) }
+    ensures kept { KeepsFlashBy (S.left input.old) (F.told flash) (F.told result.1) }
     ensures untouched { IsBeforeStart result.0 → F.told result.1 ≡ F.told flash }
 {
     match read_configuration(alloc, input) {
@@ -49,7 +49,7 @@ fn dump_flash<K: Sink, F: Flash>(
     requires shared { HasBanks geometry banks }
     ensures text { Writes (DumpsFlash geometry banks (F.told flash.old) (F.told flash.new)) (K.written output.old) (K.written output.new) result }
     ensures write_fault { result ≡ Status.WriteFault → Rose (K.faults output.old) (K.faults output.new) }
-    ensures kept { KeepsFlash (F.told flash.old) (F.told flash.new) }
+    ensures kept { KeepsFlash geometry (F.told flash.old) (F.told flash.new) }
     ensures untouched { IsBeforeStart result → F.told flash.new ≡ F.told flash.old }
 {
     match read_image(alloc, geometry, flash) {

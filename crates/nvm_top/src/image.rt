@@ -50,7 +50,7 @@ pub fn read_image<F: Flash>(
     ensures size { IfOk result (λ image. length image.items ≡ size_of geometry) }
     ensures stop { IfErr result (IsAttachStop (size_of geometry) (F.told flash.old).bytes) }
     ensures end { IfErr result (λ stop. IsPlayEnd (size_of geometry) (F.told flash.old) (F.told flash.new) (status_of stop)) }
-    ensures kept { KeepsFlash (F.told flash.old) (F.told flash.new) }
+    ensures kept { KeepsFlash geometry (F.told flash.old) (F.told flash.new) }
 {
     let mut image = Vec::with_capacity(alloc, geometry.size() as usize)?;
     let mut sector = vec![in alloc; 0u8; geometry.sector as usize]?;

@@ -7,7 +7,7 @@ returns-clause-kept g c = rw (c.loop-k.invariant.flash, c.power_on.ensures) (kep
 
 pub returns-in_err-read_sector-clause-kept : goal.returns-in_err-read_sector-clause-kept
 returns-in_err-read_sector-clause-kept g c =
-    kept-sector (g.F.Flash.told c.args.flash.now) (g.F.Flash.told c.loop-k.flash) (g.F.Flash.told c.read_sector.new.flash) _ (rw (c.loop-k.invariant.flash, c.power_on.ensures) (kept-attached c.args.geometry _ _ c.in_default.ensures)) c.in_err-read_sector.ensures.err
+    kept-sector c.args.geometry (g.F.Flash.told c.args.flash.now) (g.F.Flash.told c.loop-k.flash) (g.F.Flash.told c.read_sector.new.flash) _ (rw (c.loop-k.invariant.flash, c.power_on.ensures) (kept-attached c.args.geometry _ _ c.in_default.ensures)) c.in_err-read_sector.ensures.err
 
 pub loop-k-preserved : goal.loop-k-preserved
 loop-k-preserved g c =
