@@ -38,6 +38,7 @@ TOOLS = [("lint", "what is wrong with a unit or a script, in words"),
          ("timeline", "a history as a drawing, in words or counted"),
          ("picture", "what an image file holds"), ("plan", "room, turns and wear of a configuration"),
          ("provision", "an image file of given values"),
+         ("header", "NvM_Cfg.h and NvM_Cfg.c of a unit, for software in C"),
          ("build", "the program and the judge of sweeps: proved, or without proofs"),
          ("take", "a repository of one's own, with what a program over the stack needs"),
          ("release", "a tarball and a Debian package of what the gate proved")]

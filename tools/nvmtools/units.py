@@ -24,7 +24,7 @@ FLAGS = ("readall", "writeall", "once", "protected", "resistant")
 TRIES = ("reads", "writes", "repeats")
 BLOCK_KEYS = ("kind", "length", "priority", "ram", "defaults", "nv", "rom", *FLAGS, *TRIES, "device")
 # the keys that the program's line doesn't have
-OURS = ("name", "id")
+OURS = ("name", "id", "did", "c")
 MANAGERS_OWN = {"kind": "redundant", "length": 2, "ram": "permanent", "name": "configuration id", "reads": 1, "writes": 1,
                 "priority": 255}
 # (a half of a character that takes two numbers is none)
@@ -174,6 +174,13 @@ def line_of(source):
     kept = [{key: value for key, value in block.items() if key not in OURS} if isinstance(block, dict) else block
             for block in source["blocks"]]
     return json.dumps({**source, "blocks": kept}, separators=(",", ":"))
+
+
+def line_with_mirrors(source):
+    """The same, in which the manager has the RAM of a synchronized block, a mirror, as C and Python have it."""
+    blocks = [{key: value for key, value in {**block, "ram": "permanent"}.items() if key != "repeats"}
+              if block.get("ram") == "sync" else block for block in source["blocks"]]
+    return line_of({**source, "blocks": blocks})
 
 
 def is_script(lines):
