@@ -16,17 +16,22 @@ use Rattle.nvm_flash.specs.promise_run.Halves.{beyond_end}
 use Rattle.nvm_flash.proofs.promise_run.Composition.{begins_well, halves_make_the_promise}
 use Rattle.nvm_flash.specs.Made.{IsOrigin, IsBack, one_part}
 use Rattle.nvm.specs.Closing.{UnitState, Closes, run_of}
+use Rattle.nvm.specs.Turned.{HasTurned}
+use Rattle.nvm.proofs.UnitMoves.{closed_turns}
 use Rattle.nvm_flash.proofs.FirstStart.{told_bridge}
 
--- by what is kept of a history over its device, and until the first operation
-pub closes : (inner : Told) (cuts : ℕ) (making : Making) (entry exit : Told) (s : UnitState)
+-- by its calls' moves, by what is kept of a history over its device, and until the first operation
+pub closes : (inner : Told) (cuts : ℕ) (making : Making) (entry exit : Told) (s : UnitState) → HasTurned s
     → (TellsSlots (told_of s.device) → KeepsOver s.desk.config s.desk.cap s.desk.entries (one_part (part_at entry)) (told_of s.device) (told_clock s.device))
     → ((told_of s.device).tells ≡ true → KeepsEarly s.desk.config s.desk.cap s.desk.entries (told_clock s.device))
     → IsOrigin s.desk.config inner cuts making entry → IsBack s.desk.config inner exit (part_at entry) (told_of s.device) (clock_of s.device) → Closes inner exit s
-closes inner cuts making entry exit s over early origin back = record {
+closes inner cuts making entry exit s turned over early origin back = record {
   geometry = back.geometry;
   no_plan = back.no_plan;
   operations = back.operations;
+  turns = λ course end fault.
+      closed_turns s turned inner exit back.operations course end (part_at entry) fault refl
+      (told_bridge (reading_of (making_of s.desk.config)) inner exit back.operations (part_at entry) s.device back.bridges);
   early = λ course end cutter told.
       begins_well (told_clock s.device) (run_of s inner exit back.operations course end) (part_at entry) (told_of s.device)
       (early (back.bridges.tells told)) (by_course course cutter) told;

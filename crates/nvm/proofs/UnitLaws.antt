@@ -40,7 +40,9 @@ use Rattle.nvm_flash.proofs.memif.Turning.{told_before}
 use Rattle.nvm_flash.proofs.FirstStart.{begins_up}
 use Rattle.nvm.proofs.Closing.{closes}
 use Rattle.nvm.proofs.Plans.{armed_takes, device_takes}
+use Rattle.nvm.proofs.UnitTurns.{begun_turned, copied_turned}
 use Rattle.nvm_flash.proofs.nvm_device_laws.DownCalls.{over_with}
+use Rattle.nvm.specs.Turned.{HasTurned}
 use Rattle.nvm.specs.Unit.{HasRun, IsDown, IsUnit, Stays, UnitHalf, UnitTurns, left_behind, takes_of}
 
 true_false : {t : Bool} → t ≡ true → t ≡ false → ⊥
@@ -50,32 +52,34 @@ true_false {t} on off = never (sym on ∙ off)
     never e = cc
 
 -- THE FIRST START-UP
-pub begun_unit : (making : Making) (entry : Told) (m s : UnitState) → IsMadeStack m.desk.config m.desk.cap making entry m → BeginsKept (told_of m.device) (told_clock m.device) → InOrder (told_of m.device) (told_clock m.device)
+pub begun_unit : (making : Making) (entry : Told) (m s : UnitState) → IsMadeStack m.desk.config m.desk.cap making entry m → BeginsKept (told_of m.device) (told_clock m.device) → InOrder (told_of m.device) (told_clock m.device) → InOrder (told_of s.device) (told_clock s.device)
     → StartsUp told_of m s → StartsKeep found.Ready m.desk (told_of m.device) (told_clock m.device) s.desk (told_of s.device) (told_clock s.device)
     → (inner : Told) (cuts : ℕ) → IsLegalConfig m.desk.config → IsOrigin m.desk.config inner cuts making entry → IsUnit making entry cuts s
-begun_unit making entry m s made begins order starts keeps inner cuts legal origin = record {
+begun_unit making entry m s made begins order order_new starts keeps inner cuts legal origin = record {
   made_for = origin.made_for ∙ ap (λ x. making_of x.desk.config) (sym starts.only);
   takes = ap (λ p. p.planning.takes) starts.finds.up.restarted.first.only ∙ ap (λ p. p.planning.takes) made.device.part ∙ ap (λ (t : Told). (part_at t).planning.takes) origin.over;
   up = λ ready.
       subst (λ (h : Option HandState). StackKeepsAsTold (one_part (part_at entry)) s.desk h (told_of s.device) (told_clock s.device)) (sym (ap (λ x. x.hand) starts.only))
       (begins_up m.desk.config making entry m s made begins order starts keeps inner cuts refl legal origin);
   down = λ off. absurd (true_false (ap (λ x. x.ready) starts.only) off);
+  turned = begun_turned making entry m s made starts order_new legal (begins_up m.desk.config making entry m s made begins order starts keeps inner cuts refl legal origin);
 }
 
 -- FROM CALL TO CALL
 -- a call of a stack whose last start-up stands, which leaves it so
 pub kept_unit : (making : Making) (entry : Told) (plans left : ℕ) (s t : UnitState) → IsUnit making entry plans s → s.ready ≡ true → t.ready ≡ s.ready → t.desk.config ≡ s.desk.config → takes_of t ≡ left
-    → StaysKept s.desk s.hand (told_of s.device) (told_clock s.device) t.desk t.hand (told_of t.device) (told_clock t.device) → IsUnit making entry left t
-kept_unit making entry plans left s t unit ready same config takes stays = record {
+    → StaysKept s.desk s.hand (told_of s.device) (told_clock s.device) t.desk t.hand (told_of t.device) (told_clock t.device) → HasTurned t → IsUnit making entry left t
+kept_unit making entry plans left s t unit ready same config takes stays turned = record {
   made_for = unit.made_for ∙ ap making_of (sym config);
   takes = takes;
   up = λ on. stays.kept (one_part (part_at entry)) (unit.up ready);
   down = λ off. absurd (true_false (same ∙ ready) off);
+  turned = turned;
 }
 
 -- a call that changes nothing but the application's copies
 pub copied_unit : (making : Making) (entry : Told) (plans : ℕ) (s t : UnitState) (copies : List PlainBlock) → IsUnit making entry plans s → t ≡ record s { copies = copies } → IsUnit making entry plans t
-copied_unit making entry plans s t copies unit only = subst (IsUnit making entry plans) (sym only) (record { made_for = unit.made_for; takes = unit.takes; up = unit.up; down = λ off. let was = unit.down off in record { started = was.started; keeps = was.keeps } })
+copied_unit making entry plans s t copies unit only = subst (IsUnit making entry plans) (sym only) (record { made_for = unit.made_for; takes = unit.takes; up = unit.up; down = λ off. let was = unit.down off in record { started = was.started; keeps = was.keeps }; turned = copied_turned s (record s { copies = copies }) copies unit.turned refl })
 
 -- whatever the last start-up came to, a further one has what it needs
 is_down : (making : Making) (entry : Told) (plans : ℕ) (s : UnitState) → IsUnit making entry plans s
@@ -89,8 +93,8 @@ is_down making entry plans s unit comes = by s.ready refl
 
 pub restarted_unit : (making : Making) (entry : Told) (plans : ℕ) (s t : UnitState) (answer : FoundAnswer) → IsUnit making entry plans s
     → ((x : DeskState) (h : Option HandState) → StackKeepsAsTold (one_part (part_at entry)) x h (told_of s.device) (told_clock s.device) → DownKeepsAsTold (one_part (part_at entry)) x (told_of s.device) (told_clock s.device))
-    → Restarts told_of answer s t → StartsKeep answer s.desk (told_of s.device) (told_clock s.device) t.desk (told_of t.device) (told_clock t.device) → IsUnit making entry plans t
-restarted_unit making entry plans s t found.Ready unit comes starts keeps =
+    → HasTurned t → Restarts told_of answer s t → StartsKeep answer s.desk (told_of s.device) (told_clock s.device) t.desk (told_of t.device) (told_clock t.device) → IsUnit making entry plans t
+restarted_unit making entry plans s t found.Ready unit comes turned starts keeps =
     let was = is_down making entry plans s unit comes in
     record {
       made_for = unit.made_for ∙ ap (λ x. making_of x.desk.config) (sym starts.only);
@@ -99,8 +103,9 @@ restarted_unit making entry plans s t found.Ready unit comes starts keeps =
           subst (λ (h : Option HandState). StackKeepsAsTold (one_part (part_at entry)) t.desk h (told_of t.device) (told_clock t.device)) (sym (ap (λ x. x.hand) starts.only))
           (keeps (one_part (part_at entry)) (λ now. inl (was.started (told_before (λ n a b. ComesFrom a b) (told_of s.device) (told_of t.device) starts.finds.up.restarted.marks now))) was.keeps);
       down = λ off. absurd (true_false (ap (λ x. x.ready) starts.only) off);
+      turned = turned;
     }
-restarted_unit making entry plans s t found.Failed unit comes fails keeps =
+restarted_unit making entry plans s t found.Failed unit comes turned fails keeps =
     let was = is_down making entry plans s unit comes in
     record {
       made_for = unit.made_for ∙ ap (λ x. making_of x.desk.config) (sym fails.only);
@@ -110,9 +115,10 @@ restarted_unit making entry plans s t found.Failed unit comes fails keeps =
         started = λ now. subst HasStarted (sym (ap (λ x. x.desk.entries) fails.only)) (was.started (told_before (λ n a b. ComesFrom a b) (told_of s.device) (told_of t.device) fails.fails.restarted.marks now));
         keeps = keeps (one_part (part_at entry)) was.keeps;
       };
+      turned = turned;
     }
-restarted_unit making entry plans s t found.NoRoom unit comes stays keeps = subst (IsUnit making entry plans) (sym stays.0) unit
-restarted_unit making entry plans s t found.Memory unit comes stays keeps = subst (IsUnit making entry plans) (sym stays) unit
+restarted_unit making entry plans s t found.NoRoom unit comes turned stays keeps = subst (IsUnit making entry plans) (sym stays.0) unit
+restarted_unit making entry plans s t found.Memory unit comes turned stays keeps = subst (IsUnit making entry plans) (sym stays) unit
 
 -- WHAT STAYS
 pub stays_same : (s t : UnitState) → t ≡ s → Stays s t
@@ -211,12 +217,15 @@ early_of making entry plans s unit tells = by s.ready refl
     by true is = (unit.up is).early tells
     by false is = (unit.down is).keeps.early tells
 
+pub unit_closes_by : (making : Making) (entry exit : Told) (plans : ℕ) (s : UnitState) → IsUnit making entry plans s → (inner : Told) (cuts : ℕ) → entry ≡ told_cutting (cutting inner cuts)
+    → IsBack s.desk.config inner exit (part_at entry) (told_of s.device) (clock_of s.device) → Closes inner exit s
+unit_closes_by making entry exit plans s unit inner cuts over back =
+    closes inner cuts making entry exit s unit.turned (over_of making entry plans s unit) (early_of making entry plans s unit) (record { made_for = unit.made_for; over = over }) back
+
 pub unit_closes : (making : Making) (entry exit : Told) (plans : ℕ) (s : UnitState) → IsUnit making entry plans s
     → ((c : Configuration) (inner : Told) (cuts : ℕ) → IsOrigin c inner cuts making entry → IsBack c inner exit (part_at entry) (told_of s.device) (clock_of s.device))
     → (inner : Told) (cuts : ℕ) → entry ≡ told_cutting (cutting inner cuts) → Closes inner exit s
-unit_closes making entry exit plans s unit back inner cuts over =
-    let origin : IsOrigin s.desk.config inner cuts making entry = record { made_for = unit.made_for; over = over } in
-    closes inner cuts making entry exit s (over_of making entry plans s unit) (early_of making entry plans s unit) origin (back s.desk.config inner cuts origin)
+unit_closes making entry exit plans s unit back inner cuts over = unit_closes_by making entry exit plans s unit inner cuts over (back s.desk.config inner cuts (record { made_for = unit.made_for; over = over }))
 
 -- a unit that ran, by what its call kept
 pub has_run : (s t : UnitState) (inner exit : Told) (R : List Entry → Type 0) → s.desk.cap ≡ endless → Stays s t → R t.desk.entries → Closes inner exit t → HasRun s.desk.config inner exit R

@@ -5,7 +5,8 @@ use Rattle.nvm_flash.specs.block_config.Config.{Configuration}
 use Rattle.nvm_flash.specs.fls_model.Told.{Told}
 use Rattle.nvm_flash.specs.promise_device.Making.{Making}
 use Rattle.nvm_flash.specs.fee_core.Tells.{told_clock}
-use Rattle.nvm_flash.specs.fee_told.Device.{told_of}
+use Rattle.nvm_flash.specs.fee_told.Device.{told_of, clock_of}
+use Rattle.nvm_flash.specs.fls_devices.Cutter.{cutting, told_cutting}
 use Rattle.nvm_flash.specs.fee_laws.Made.{part_at}
 use Rattle.nvm_flash.specs.promise_blocks.OverDevice.{HasStarted}
 use Rattle.nvm_flash.specs.promise_run.Promise.{making_of}
@@ -18,8 +19,9 @@ use Rattle.nvm_flash.specs.nvm_laws.declared.turned.Act.{Act}
 use Rattle.nvm_flash.specs.nvm_laws.declared.turned.Turned.{Turned}
 use Rattle.nvm_flash.specs.nvm_core.StartUps.{DownKeepsAsTold}
 use Rattle.nvm_flash.specs.nvm_core.Turns.{Turns, IsFirstHalf}
-use Rattle.nvm_flash.specs.Made.{one_part}
+use Rattle.nvm_flash.specs.Made.{IsBack, one_part}
 use Rattle.nvm.specs.Closing.{UnitState, Closes}
+use Rattle.nvm.specs.Turned.{HasTurned}
 
 -- behind a start-up that failed: one was made before, and a further one has what it needs
 pub record IsDown (entry : Told) (s : UnitState) : Type 0 where
@@ -34,12 +36,14 @@ takes_of s = (told_of s.device).first.planning.takes
 abbrev pub left_behind : (which nth takes : ℕ) → ℕ
 left_behind which nth takes = if which == 0 && nat_le 1 nth then takes - 1 else takes
 
--- at any time: its device was made for its configuration, its flash takes so many plans of power cuts yet, and what its calls keep is kept
+-- at any time: its device was made for its configuration, its flash takes so many plans of power cuts yet, what its calls keep is kept, and
+-- they made moves
 pub record IsUnit (making : Making) (entry : Told) (plans : ℕ) (s : UnitState) : Type 0 where
   pub made_for : making ≡ making_of s.desk.config
   pub takes : takes_of s ≡ plans
   pub up : s.ready ≡ true → StackKeepsAsTold (one_part (part_at entry)) s.desk s.hand (told_of s.device) (told_clock s.device)
   pub down : s.ready ≡ false → IsDown entry s
+  pub turned : HasTurned s
 
 -- what none of its calls changes
 pub record Stays (old new : UnitState) : Type 0 where
@@ -63,3 +67,9 @@ pub record HasRun (c : Configuration) (entry exit : Told) (Ran : List Entry → 
   pub most : stack.desk.cap ≡ endless
   pub ran : Ran stack.desk.entries
   pub closes : Closes entry exit stack
+
+-- At any time: were the flash, of which the device told what is so, taken from it, it would come back so.
+abbrev pub Stands : Told → UnitState → Type 0
+Stands entry s =
+    (inner exit : Told) (cuts : ℕ) → entry ≡ told_cutting (cutting inner cuts)
+    → IsBack s.desk.config inner exit (part_at entry) (told_of s.device) (clock_of s.device) → Closes inner exit s

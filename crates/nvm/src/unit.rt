@@ -33,7 +33,7 @@ pub trait Unit {
 
 /// Switches a unit on and off again: the stack of its configuration over a flash, of which so many power cuts can be planned, 0 for
 /// a real one; a start-up; what the unit does; and the flash comes back. At Ok the unit ran, and the flash is the one that was handed
-/// in, with what the entries of the run say. At Err it did nothing.
+/// in, with what the entries of the run say; and its calls kept what the steps of a script keep. At Err it did nothing.
 pub fn run_unit<F: Flash, U: Unit>(
     alloc: Global,
     config: Config,
@@ -85,7 +85,11 @@ fn switch_on<F: Flash, O: Origin>(
 {
     stack.device().status();
     match start_stack(stack) {
-        Ok(stack) => Ok(UnitStack::over(stack, cuts)),
+        Ok(stack) => {
+            let behind = stack.device();
+            let _status = behind.status();
+            Ok(UnitStack::over(stack, cuts))
+        }
         Err(stopped) => Err(stopped),
     }
 }

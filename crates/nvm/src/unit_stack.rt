@@ -10,7 +10,10 @@ ghost use Rattle.nvm_flash.specs.memif.Trials.{Lasts};
 ghost use Rattle.nvm_flash.specs.fls_devices.Cutter.{cutting, told_cutting};
 ghost use Rattle.nvm_flash.specs.fls_model.Told.{Told};
 ghost use Rattle.nvm_flash.specs.fee_core.Tells.{told_clock};
-ghost use Rattle.nvm_flash.specs.fee_told.Device.{told_of};
+ghost use Rattle.nvm_flash.specs.fee_told.Device.{told_of, clock_of};
+ghost use Rattle.nvm_flash.specs.fee_laws.Made.{part_at};
+ghost use Rattle.nvm_flash.specs.block_config.Config.{Configuration};
+ghost use Rattle.nvm_flash.specs.Made.{IsBack, IsOrigin};
 ghost use Rattle.nvm_flash.specs.nv_desk.Desk.{state_of};
 ghost use Rattle.nvm_flash.specs.ram_blocks.Copies.{next_number};
 ghost use Rattle.nvm_flash.specs.ram_blocks.Told.{IsSynchronized};
@@ -24,10 +27,12 @@ ghost use Rattle.nvm_flash.specs.nvm_core.Paying.{TurnPays};
 ghost use Rattle.nvm_flash.specs.nvm_core.StartUps.{Restarts, StartsKeep};
 ghost use Rattle.nvm_flash.specs.nvm_core.Work.{Lowers, TakesTurns};
 ghost use Rattle.nvm.specs.Closing.{Closes};
-ghost use Rattle.nvm.specs.Unit.{IsUnit, Stays, UnitTurns, left_behind, takes_of};
+ghost use Rattle.nvm.specs.Turned.{AsksMove, TurnsMove};
+ghost use Rattle.nvm.specs.Unit.{IsUnit, Stands, Stays, UnitTurns, left_behind, takes_of};
 
 use nvm_flash::fee_core::Origin;
 use nvm_flash::fls_model::Flash;
+use nvm_flash::memif::MemDevice;
 use nvm_flash::nv_base::{Entry, Reply, ReqResult, Request};
 use nvm_flash::nv_desk::AskFault;
 use nvm_flash::nvm_laws::{FoundAnswer, Turned};
@@ -36,7 +41,7 @@ use std::alloc::Global;
 use std::marker::Model;
 
 /// The stack of a unit over a flash, from its first start-up on. Contracts see the stack. Whatever a unit asks of it, its entries
-/// are those of one history, and what its flash comes back with is what they say.
+/// are those of one history, its calls keep what the steps of a script keep, and what its flash comes back with is what they say.
 #[derive(Drop)]
 pub struct UnitStack<F: Flash, O: Origin> {
     stack: FlashStack<F, O>,
@@ -56,8 +61,8 @@ impl<F: Flash, O: Origin> Model for UnitStack<F, O> {
 }
 
 impl<F: Flash, O: Origin> UnitStack<F, O> {
-    // That of a stack behind its first start-up, of whose flash so many power cuts can be planned.
-    pub(crate) fn over(stack: FlashStack<F, O>, plans: u32) -> UnitStack<F, O>
+    /// That of a stack behind its first start-up, of whose flash so many power cuts can be planned.
+    pub fn over(stack: FlashStack<F, O>, plans: u32) -> UnitStack<F, O>
         requires { IsUnit O.making O.entry plans stack }
         ensures { result ≡ stack }
     {
@@ -99,8 +104,11 @@ impl<F: Flash, O: Origin> UnitStack<F, O> {
         ensures keeps { StaysKept self.old.desk self.old.hand (told_of self.old.device) (told_clock self.old.device) self.new.desk self.new.hand (told_of self.new.device) (told_clock self.new.device) }
         ensures accepted { AcceptsDue told_of request result self.old self.new }
         ensures due { KeepsDue (now_of told_of self.old) (now_of told_of self.new) }
+        ensures moved { AsksMove caller request result self.old self.new }
         ensures stays { Stays self.old self.new }
     {
+        let device = self.stack.device();
+        let _status = device.status();
         self.stack.ask(alloc, caller, request)
     }
 
@@ -118,10 +126,16 @@ impl<F: Flash, O: Origin> UnitStack<F, O> {
         ensures due { TurnServesDue (now_of told_of self.old) (now_of told_of self.new) }
         ensures seals { KeepsSeal (told_of self.old.device) (told_clock self.old.device) (told_of self.new.device) (told_clock self.new.device) }
         ensures kept { TakesKeptInHand self.old.desk (told_of self.old.device) (told_of self.new.device) (told_clock self.new.device) }
+        ensures moved { TurnsMove self.old self.new }
         ensures ready { self.new.ready ≡ true }
         ensures stays { Stays self.old self.new }
     {
-        self.stack.turn()
+        let device = self.stack.device();
+        let _before = device.status();
+        let turned = self.stack.turn();
+        let behind = self.stack.device();
+        let _status = behind.status();
+        turned
     }
 
     /// A further start-up, at any time: what is pending is lost. At `NoRoom` and `Memory` nothing changed.
@@ -132,7 +146,10 @@ impl<F: Flash, O: Origin> UnitStack<F, O> {
         ensures down { StacksComeDown (told_of self.old.device) (told_clock self.old.device) }
         ensures stays { Stays self.old self.new }
     {
-        self.stack.restart(alloc)
+        let answer = self.stack.restart(alloc);
+        let behind = self.stack.device();
+        let _status = behind.status();
+        answer
     }
 
     /// Plans a power cut of the device's first part, 0, at its nth changing operation from now, with so many bytes of it done.
@@ -171,9 +188,18 @@ impl<F: Flash, O: Origin> UnitStack<F, O> {
         self.stack.refuse(block, count);
     }
 
-    // Takes it apart, and gives the flash back.
-    pub(crate) fn into_flash(self) -> F
-        ensures { (inner : Told) (cuts : ℕ) → O.entry ≡ told_cutting (cutting inner cuts) → Closes inner (F.told result) self }
+    /// Does nothing. Between any two calls what happened so far keeps the promise, whatever the flash holds then: so a unit need
+    /// not be closed.
+    pub fn stands(&self)
+        ensures { Stands O.entry self.now }
+    {
+        let _plans = self.plans;
+    }
+
+    /// Takes it apart, and gives the flash back.
+    pub fn into_flash(self) -> F
+        ensures closes { (inner : Told) (cuts : ℕ) → O.entry ≡ told_cutting (cutting inner cuts) → Closes inner (F.told result) self }
+        ensures back { (c : Configuration) (inner : Told) (cuts : ℕ) → IsOrigin c inner cuts O.making O.entry → IsBack c inner (F.told result) (part_at O.entry) (told_of self.device) (clock_of self.device) }
     {
         let UnitStack { stack, .. } = self;
         give_back(stack.into_device())

@@ -6,15 +6,13 @@ use Rattle.nvm.specs.fls_model.Told.{Told, bytes_now}
 use Rattle.nvm.specs.nv_desk.Recorder.{endless}
 use Rattle.nvm.specs.nvm_core.StartUps.{StartsUp}
 use Rattle.nvm.specs.nvm_core.nv_desk_copies.Front.{given_at}
-use Rattle.nvm.specs.nvm_flash.Made.{IsBack, IsMadeStack, IsOrigin, one_part}
+use Rattle.nvm.specs.nvm_flash.Made.{IsBack, IsMadeStack, IsOrigin}
 pub use Rattle.nvm.specs.Closing.{UnitState, Closes}
-use Rattle.nvm.specs.nvm_flash.fee_core.Tells.{told_clock}
+use Rattle.nvm.specs.Unit.{takes_of}
 use Rattle.nvm.specs.nvm_flash.fee_laws.Made.{part_at}
 use Rattle.nvm.specs.nvm_flash.fee_told.Device.{told_of, clock_of}
 use Rattle.nvm.specs.nvm_flash.promise_device.Making.{Making}
-use Rattle.nvm.specs.nvm_flash.promise_run.Promise.{making_of}
 use Rattle.nvm_script.specs.Lines.{entry_line}
-use Rattle.script_player.specs.PlainKept.{IsKept}
 use Rattle.script_player.specs.PlainTold.{told_by}
 use Rattle.script_player.specs.Told.{StackTold}
 
@@ -22,14 +20,10 @@ use Rattle.script_player.specs.Told.{StackTold}
 abbrev pub unit_told : UnitState → StackTold
 unit_told = told_by told_of
 
--- at any time: its device was made for its configuration, its history may have as many entries as can be counted, it knows whether its
--- last start-up stands, its flash takes as many plans of power cuts as it knows of, and what its calls keep is kept
-pub record IsUnit (making : Making) (entry : Told) (up : Bool) (plans : ℕ) (s : UnitState) : Type 0 where
-  pub made_for : making ≡ making_of s.desk.config
-  pub most : s.desk.cap ≡ endless
+-- at any time: it knows whether its last start-up stands, and its flash takes as many plans of power cuts as it knows of
+pub record IsLent (up : Bool) (plans : ℕ) (s : UnitState) : Type 0 where
   pub is_up : s.ready ≡ up
-  pub takes : plans ≤ (unit_told s).causes.takes
-  pub kept : IsKept s.ready (one_part (part_at entry)) s.desk s.hand (told_of s.device) (told_clock s.device)
+  pub takes : plans ≤ takes_of s
 
 -- it is opened: its stack was made for the configuration, and made its first start-up
 pub record Opens (c : Configuration) (making : Making) (entry : Told) (s : UnitState) : Type 0 where
@@ -49,12 +43,6 @@ last_line s = option_map entry_line (slice_get s.desk.entries (length s.desk.ent
 -- the flash comes back so, and these are its bytes
 abbrev pub ClosesWith : Told → UnitState → List ℕ → Type 0
 ClosesWith entry s bytes = (exit : Told) × (bytes_now exit ≡ Some bytes) × Closes entry exit s
-
--- At any time: were the flash, of which the device told what is so, taken from it, it would come back so.
-abbrev pub Stands : Told → UnitState → Type 0
-Stands entry s =
-    (inner exit : Told) (cuts : ℕ) → entry ≡ told_cutting (cutting inner cuts)
-    → IsBack s.desk.config inner exit (part_at entry) (told_of s.device) (clock_of s.device) → Closes inner exit s
 
 -- the memory comes back so, of a flash that told what its device was made over
 abbrev pub CameBack : Told → UnitState → Option (List ℕ) → Type 0

@@ -1,5 +1,5 @@
 // A unit: a stack over memory that C lends, behind its first start-up.
-ghost use Rattle.std.specs.Prelude.{◌≡◌, false, true, IfOk, length, option_copied};
+ghost use Rattle.std.specs.Prelude.{◌≡◌, ◌≤◌, false, true, IfOk, length, option_copied};
 ghost use Rattle.nvm.specs.block_machine.Blocks.{block_at, status_of};
 ghost use Rattle.nvm.specs.block_machine.Legal.{HasStore};
 ghost use Rattle.nvm.specs.block_machine.Reply.{reply_of};
@@ -7,49 +7,51 @@ ghost use Rattle.nvm.specs.nv_desk.Desk.{state_of};
 ghost use Rattle.nvm.specs.nv_desk.Event.{entry_of};
 ghost use Rattle.nvm_script.specs.Lines.{entry_line};
 ghost use Rattle.script_player.specs.Calls.{Asks, Restarts, Turns};
-ghost use Rattle.nvm_c.specs.Unit.{CameBack, IsUnit, Stands, TakenFrom, given_last, last_line, unit_told};
+ghost use Rattle.nvm.specs.Unit.{Stands, takes_of};
+ghost use Rattle.nvm_c.specs.Unit.{CameBack, TakenFrom, given_last, last_line, unit_told};
 ghost use Rattle.nvm_c.specs.Work.{PlansCut};
 
 use lent_flash::{Lent, LentFlash};
-use nvm::nvm_flash::fee_core::{Fee, Origin};
-use nvm::nvm_flash::{FlashStack, give_back};
+use nvm::nvm_flash::FlashStack;
+use nvm::nvm_flash::fee_core::Origin;
 use nvm::{
-    AskFault, Bytes, Cutter, Event, FoundAnswer, Last, Reply, ReqResult, Request, Turned, bytes_of,
+    AskFault, Bytes, Event, FoundAnswer, Last, Reply, ReqResult, Request, Turned, UnitStack,
+    bytes_of,
 };
 use nvm_script::entry_text;
-use script_player::{PlainStack, PlayedStack};
 use std::alloc::{AllocError, Global};
 use std::marker::Model;
 
-/// The stack of a unit.
+/// The stack that a unit is made of.
 pub type LentStack<O> = FlashStack<LentFlash, O>;
 
-/// A stack, whether its last start-up stands, and how many power cuts may be planned yet. Contracts see the stack.
+/// The stack of a unit, whether its last start-up stands, and how many power cuts may be planned yet. Contracts see the stack.
 #[derive(Drop)]
 pub struct LentUnit<O: Origin> {
-    stack: PlainStack<Fee<Cutter<LentFlash>, O>>,
+    unit: UnitStack<LentFlash, O>,
     up: bool,
     plans: u32,
 }
 
 impl<O: Origin> Model for LentUnit<O> {
-    ghost use Rattle.nvm_c.specs.Unit.{UnitState, IsUnit};
+    ghost use Rattle.nvm_c.specs.Unit.{UnitState, IsLent};
 
     ghost Value = { UnitState };
 
-    ghost view = { λ u. u.stack };
+    ghost view = { λ u. u.unit };
 
-    ghost invariant = { λ u. IsUnit O.making O.entry u.up u.plans u.stack };
+    ghost invariant = { λ u. IsLent u.up u.plans u.unit };
 }
 
 impl<O: Origin> LentUnit<O> {
     /// The unit of a stack whose first start-up stands, and of whose flash so many power cuts can be planned.
-    pub(crate) fn over(stack: LentStack<O>, plans: u32) -> LentUnit<O>
-        requires { IsUnit O.making O.entry true plans stack }
-        ensures { result ≡ stack }
+    pub(crate) fn over(unit: UnitStack<LentFlash, O>, plans: u32) -> LentUnit<O>
+        requires ready { unit.ready ≡ true }
+        requires plans { plans ≤ takes_of unit }
+        ensures { result ≡ unit }
     {
         LentUnit {
-            stack: PlainStack::over(stack),
+            unit,
             up: true,
             plans,
         }
@@ -69,7 +71,12 @@ impl<O: Origin> LentUnit<O> {
         ensures asks { Asks 0 request result (unit_told self.old) (unit_told self.new) }
         ensures replies { IfOk result (λ reply. reply ≡ reply_of self.old.desk.config self.old.desk.cap (state_of self.old.desk) request) }
     {
-        self.stack.ask(alloc, 0, request)
+        let before = self.unit.stack();
+        let _device = before.device();
+        let reply = self.unit.ask(alloc, 0, request)?;
+        let after = self.unit.stack();
+        let _behind = after.device();
+        Ok(reply)
     }
 
     /// One turn of the main function.
@@ -77,14 +84,19 @@ impl<O: Origin> LentUnit<O> {
         requires { self.old.ready ≡ true }
         ensures { Turns result (unit_told self.old) (unit_told self.new) }
     {
-        self.stack.turn()
+        let before = self.unit.stack();
+        let _device = before.device();
+        let turned = self.unit.turn();
+        let after = self.unit.stack();
+        let _behind = after.device();
+        turned
     }
 
     /// A further start-up.
     pub fn restart(&mut self, alloc: Global) -> FoundAnswer
         ensures { Restarts result (unit_told self.old) (unit_told self.new) }
     {
-        let found = self.stack.restart(alloc);
+        let found = self.unit.restart(alloc);
         match found {
             FoundAnswer::Ready => self.up = true,
             FoundAnswer::Failed => self.up = false,
@@ -104,7 +116,9 @@ impl<O: Origin> LentUnit<O> {
             return false;
         }
         self.plans -= 1;
-        self.stack.arm(nth, keep);
+        let before = self.unit.stack();
+        let _device = before.device();
+        self.unit.arm(0, nth, keep);
         true
     }
 
@@ -112,21 +126,21 @@ impl<O: Origin> LentUnit<O> {
     pub fn status(&self, block: u16) -> ReqResult
         ensures { result ≡ status_of (state_of self.now.desk) block }
     {
-        self.stack.stack().status(block)
+        self.unit.status(block)
     }
 
     /// A copy of a block's RAM.
     pub fn ram(&self, alloc: Global, block: u16) -> Result<Bytes, AllocError>
         ensures { IfOk result (λ bytes. bytes ≡ (block_at (state_of self.now.desk) block).ram) }
     {
-        bytes_of(alloc, self.stack.stack().ram(block))
+        bytes_of(alloc, self.unit.ram(block))
     }
 
     /// A copy of what the last entry gave, where that is a Post that gave something.
     pub fn last_given(&self, alloc: Global) -> Result<Option<Bytes>, AllocError>
         ensures { IfOk result (λ given. given ≡ given_last self.now) }
     {
-        match self.stack.stack().last_given() {
+        match self.unit.stack().last_given() {
             Some(given) => Ok(Some(bytes_of(alloc, given)?)),
             None => Ok(None),
         }
@@ -136,7 +150,7 @@ impl<O: Origin> LentUnit<O> {
     pub fn last_line(&self, alloc: Global) -> Result<Option<Bytes>, AllocError>
         ensures { IfOk result (λ line. line ≡ last_line self.now) }
     {
-        match self.stack.stack().last() {
+        match self.unit.stack().last() {
             Some(Last::Added(entry)) => Ok(Some(entry_text(alloc, entry)?)),
             Some(Last::OfJob { event, content }) => Ok(Some(job_line(alloc, event, content)?)),
             None => Ok(None),
@@ -147,7 +161,7 @@ impl<O: Origin> LentUnit<O> {
     pub fn entries(&self) -> u32
         ensures { result ≡ length self.now.desk.entries }
     {
-        self.stack.len()
+        self.unit.stack().len()
     }
 
     /// Does nothing. Between any two calls what happened so far keeps the promise, whatever the flash holds then: so a unit need
@@ -155,7 +169,7 @@ impl<O: Origin> LentUnit<O> {
     pub fn stands(&self)
         ensures { Stands O.entry self.now }
     {
-        let _up = self.up;
+        self.unit.stands();
     }
 
     /// Takes it apart, and gives the memory back.
@@ -163,9 +177,8 @@ impl<O: Origin> LentUnit<O> {
         ensures came { CameBack O.entry self result.bytes }
         ensures taken { TakenFrom O.making O.entry self result.bytes }
     {
-        self.stands();
-        let LentUnit { stack, .. } = self;
-        give_back(stack.into_stack().into_device()).into_lent()
+        let LentUnit { unit, .. } = self;
+        unit.into_flash().into_lent()
     }
 }
 

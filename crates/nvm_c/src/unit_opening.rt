@@ -13,7 +13,7 @@ use lent_flash::LentFlash;
 use nvm::nvm_flash::fee_core::Origin;
 use nvm::nvm_flash::nv_desk::ENDLESS;
 use nvm::nvm_flash::{make_stack, start_stack};
-use nvm::{Config, MakeFault, MemDevice};
+use nvm::{Config, MakeFault, MemDevice, UnitStack};
 use std::alloc::Global;
 
 /// The unit of a configuration over a flash, of which so many power cuts can be planned, behind its first start-up.
@@ -45,7 +45,12 @@ fn begin<O: Origin>(stack: LentStack<O>, cuts: u32) -> Result<LentUnit<O>, (Make
 {
     stack.device().status();
     match start_stack(stack) {
-        Ok(stack) => Ok(LentUnit::over(stack, cuts)),
+        Ok(stack) => {
+            let behind = stack.device();
+            let _status = behind.status();
+            let unit = UnitStack::over(stack, cuts);
+            Ok(LentUnit::over(unit, cuts))
+        }
         Err(stopped) => Err(stopped),
     }
 }

@@ -13,6 +13,7 @@ over-requires g c =
     let m = c.args.stack in let origin = c.requires.origin in
     begun_unit g.O.Origin.making g.O.Origin.entry m c.in-Ok.stack c.requires.made (begins_kept (told_of m.device) (told_clock m.device))
     (subst (λ (d : Device). InOrder (told_of d) (told_clock d)) c.device.ensures.device c.status.ensures.order)
+    (subst (λ (d : Device). InOrder (told_of d) (told_clock d)) c.device-behind.ensures.device c.status-status.ensures.order)
     c.in-Ok.ensures.started c.in-Ok.ensures.keeps origin.0 c.args.cuts c.requires.legal origin.1
 
 pub returns-in-Ok-clause-stays : goal.returns-in-Ok-clause-stays

@@ -1,20 +1,38 @@
 use Rattle.std.proofs.Common.{ap, ◌∙◌, subst}
 use Rattle.nvm_flash.specs.fee_core.Tells.{told_clock}
-use Rattle.nvm_flash.specs.fee_told.Device.{told_of}
+use Rattle.nvm_flash.specs.fee_told.Device.{Device, told_of}
+use Rattle.nvm_flash.specs.memif.Calls.{FreesReady, InOrder}
 use Rattle.nvm_flash.specs.nvm_laws.DueCalls.{KeepsDue}
 use Rattle.nvm_flash.specs.nvm_laws.Keeps.{StaysKept}
 use Rattle.nvm_flash.specs.nvm_core.Due.{AcceptsDue, now_of}
 use Rattle.nvm.specs.Closing.{UnitState}
 use Rattle.nvm.specs.Unit.{Stays}
 use Rattle.nvm.proofs.UnitLaws.{asked_stay, asked_takes, asked_up, kept_unit}
+use Rattle.nvm.specs.Turned.{AsksMove}
+use Rattle.nvm.proofs.UnitTurns.{asked_moves, asked_turned}
 use Rattle.nvm.proofs.unit_stack.UnitStack.ask.Goals as goal
 
 pub invariant_of-self : goal.invariant_of-self
 invariant_of-self g c =
     let s = c.self.inside.stack in let t = c.ask.new.self in
-    kept_unit g.O.Origin.making g.O.Origin.entry c.self.inside.plans c.self.inside.plans s t c.self.invariant (ap (λ (x : UnitState). x.ready) c.self.view_is ∙ c.requires.ready)
-    (asked_up s t c.args.caller c.args.request c.ask.result c.ask.ensures.ok c.ask.ensures.err) (asked_stay s t c.args.caller c.args.request c.ask.result c.ask.ensures.ok c.ask.ensures.err).config
-    (asked_takes s t c.args.caller c.args.request c.ask.result c.ask.ensures.ok c.ask.ensures.err ∙ c.self.invariant.takes) c.ask.ensures.keeps
+    let is = c.ask.ensures in
+    let ready = ap (λ (x : UnitState). x.ready) c.self.view_is ∙ c.requires.ready in
+    kept_unit g.O.Origin.making g.O.Origin.entry c.self.inside.plans c.self.inside.plans s t c.self.invariant ready
+    (asked_up s t c.args.caller c.args.request c.ask.result is.ok is.err) (asked_stay s t c.args.caller c.args.request c.ask.result is.ok is.err).config
+    (asked_takes s t c.args.caller c.args.request c.ask.result is.ok is.err ∙ c.self.invariant.takes) is.keeps
+    (asked_turned s t c.args.caller c.args.request c.self.invariant.turned ready (c.device-device.ensures.tied ready)
+    (subst (λ (d : Device). InOrder (told_of d) (told_clock d)) c.device-device.ensures.device c.status-status.ensures.order) (subst (λ (d : Device). FreesReady (told_of d) (told_clock d)) c.device-device.ensures.device c.status-status.ensures.ready)
+    is.keeps is.due c.ask.result is.ok is.err)
+
+pub returns-clause-moved : goal.returns-clause-moved
+returns-clause-moved g c =
+    let s = c.self.inside.stack in let t = c.ask.new.self in
+    let is = c.ask.ensures in
+    let ready = ap (λ (x : UnitState). x.ready) c.self.view_is ∙ c.requires.ready in
+    subst (λ (x : UnitState). AsksMove c.args.caller c.args.request c.ask.result x t) c.self.view_is
+    (asked_moves s t c.args.caller c.args.request c.self.invariant.turned ready (c.device-device.ensures.tied ready)
+    (subst (λ (d : Device). InOrder (told_of d) (told_clock d)) c.device-device.ensures.device c.status-status.ensures.order) (subst (λ (d : Device). FreesReady (told_of d) (told_clock d)) c.device-device.ensures.device c.status-status.ensures.ready)
+    is.keeps is.due c.ask.result is.ok)
 
 pub returns-clause-stays : goal.returns-clause-stays
 returns-clause-stays g c =

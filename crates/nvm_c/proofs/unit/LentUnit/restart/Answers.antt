@@ -1,26 +1,37 @@
 use Rattle.std.proofs.Common.{inl, inr, subst}
 use Rattle.nvm.specs.nvm_flash.nvm_laws.declared.turned.FoundAnswer.{FoundAnswer}
-use Rattle.nvm_c.specs.Unit.{IsUnit}
-use Rattle.nvm_c.proofs.UnitLaws.{restarted_unit, up_behind}
+use Rattle.script_player.specs.Calls.{Restarts}
+use Rattle.nvm_c.specs.Unit.{UnitState, IsLent, unit_told}
+use Rattle.nvm_c.proofs.UnitLaws.{restarted_lent, restarts_told, up_behind}
 use Rattle.nvm_c.proofs.unit.LentUnit.restart.Goals as goal
 
 pub invariant_of-self : goal.invariant_of-self
 invariant_of-self g c =
-    let making = g.O.Origin.making in let entry = g.O.Origin.entry in let up = c.self.inside.up in let new = c.restart-found.new.self in
-    subst (λ (answer : FoundAnswer). IsUnit making entry (up_behind answer up) c.self.inside.plans new) c.in-Ready.is
-    (restarted_unit making entry up c.self.inside.plans c.self.inside.stack new c.restart-found.result c.self.invariant c.restart-found.ensures.restarts c.restart-found.ensures.keeps)
+    let up = c.self.inside.up in let plans = c.self.inside.plans in let t = c.restart-found.new.self in
+    subst (λ (answer : FoundAnswer). IsLent (up_behind answer up) plans t) c.in-Ready.is (restarted_lent c.self.inside.unit t c.restart-found.result up plans c.self.invariant c.restart-found.ensures.restarts)
 
 pub invariant_of-self-in-Failed : goal.invariant_of-self-in-Failed
 invariant_of-self-in-Failed g c =
-    let making = g.O.Origin.making in let entry = g.O.Origin.entry in let up = c.self.inside.up in let new = c.restart-found.new.self in
-    subst (λ (answer : FoundAnswer). IsUnit making entry (up_behind answer up) c.self.inside.plans new) c.in-Failed.is
-    (restarted_unit making entry up c.self.inside.plans c.self.inside.stack new c.restart-found.result c.self.invariant c.restart-found.ensures.restarts c.restart-found.ensures.keeps)
+    let up = c.self.inside.up in let plans = c.self.inside.plans in let t = c.restart-found.new.self in
+    subst (λ (answer : FoundAnswer). IsLent (up_behind answer up) plans t) c.in-Failed.is (restarted_lent c.self.inside.unit t c.restart-found.result up plans c.self.invariant c.restart-found.ensures.restarts)
 
 pub invariant_of-self-in-NoRoom : goal.invariant_of-self-in-NoRoom
 invariant_of-self-in-NoRoom g c =
-    let making = g.O.Origin.making in let entry = g.O.Origin.entry in let up = c.self.inside.up in let new = c.restart-found.new.self in
-    let goes = restarted_unit making entry up c.self.inside.plans c.self.inside.stack new c.restart-found.result c.self.invariant c.restart-found.ensures.restarts c.restart-found.ensures.keeps in
+    let up = c.self.inside.up in let plans = c.self.inside.plans in let t = c.restart-found.new.self in
+    let goes = restarted_lent c.self.inside.unit t c.restart-found.result up plans c.self.invariant c.restart-found.ensures.restarts in
     elim (c.in-NoRoom.is) [
-      | inl is ↦ subst (λ (answer : FoundAnswer). IsUnit making entry (up_behind answer up) c.self.inside.plans new) is goes
-      | inr is ↦ subst (λ (answer : FoundAnswer). IsUnit making entry (up_behind answer up) c.self.inside.plans new) is goes
+      | inl is ↦ subst (λ (answer : FoundAnswer). IsLent (up_behind answer up) plans t) is goes
+      | inr is ↦ subst (λ (answer : FoundAnswer). IsLent (up_behind answer up) plans t) is goes
     ]
+
+pub returns-in-Ready : goal.returns-in-Ready
+returns-in-Ready g c =
+    subst (λ (x : UnitState). Restarts c.restart-found.result (unit_told x) (unit_told c.restart-found.new.self)) c.self.view_is (restarts_told c.self.inside.unit c.restart-found.new.self c.restart-found.result c.restart-found.ensures.restarts)
+
+pub returns-in-Failed : goal.returns-in-Failed
+returns-in-Failed g c =
+    subst (λ (x : UnitState). Restarts c.restart-found.result (unit_told x) (unit_told c.restart-found.new.self)) c.self.view_is (restarts_told c.self.inside.unit c.restart-found.new.self c.restart-found.result c.restart-found.ensures.restarts)
+
+pub returns-in-NoRoom : goal.returns-in-NoRoom
+returns-in-NoRoom g c =
+    subst (λ (x : UnitState). Restarts c.restart-found.result (unit_told x) (unit_told c.restart-found.new.self)) c.self.view_is (restarts_told c.self.inside.unit c.restart-found.new.self c.restart-found.result c.restart-found.ensures.restarts)
