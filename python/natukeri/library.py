@@ -45,7 +45,7 @@ def places() -> Iterator[str]:
     if told:
         yield told
         return
-    for place in (f"{HERE}/libnvm.so", f"{HERE}/../../../../lib/libnvm.so", f"{HERE}/../../crates/nvm_c/out/lib/libnvm.so"):
+    for place in (f"{HERE}/libnvm.so", f"{HERE}/../../../../lib/libnvm.so", f"{HERE}/../../.cache/lib/libnvm.so"):
         if os.path.exists(place):
             yield os.path.realpath(place)
     known = ctypes.util.find_library("nvm")

@@ -9,7 +9,7 @@ from nvmtools.calls import TOP, Stop
 
 ARCHIVE = f"{TOP}/crates/nvm_c/out/libnvm_c.a"
 # where they stand in this repository, for programs that take them from here, as the package for Python does
-MADE = f"{TOP}/crates/nvm_c/out/lib"
+MADE = f"{TOP}/.cache/lib"
 # raised where a name of the libraries for C goes, or means something else
 VERSION = 0
 EXPORTS = f"LIBNVM_{VERSION} {{\n    global: nvm_*; NvM_*; MemIf_*; Fee_*; Fls_*;\n    local: *;\n}};\n"
