@@ -65,7 +65,7 @@ memory_kept d h is same more =
       one_each = is.one_each;
       ready = rw entries is.ready;
       prepared = rw entries is.prepared;
-      place = λ now. let (entry, places) = is.place (rw entries at now) in (omega (arith, entry, more), places);
+      place = λ now. let entry = is.place (rw entries at now) in omega (arith, entry, more);
       longest = λ id. omega (arith, is.longest id, longest);
       within = rw cap is.within;
       read_share = is.read_share;

@@ -1,7 +1,9 @@
 pub mod AllBlocks
 pub mod Asks
+pub mod Coming
 pub mod Contents
 pub mod Drivers
+pub mod Dropping
 pub mod Entries
 pub mod HandingOut
 pub mod Jobs

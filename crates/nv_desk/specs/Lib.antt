@@ -2,6 +2,7 @@ pub mod AllBlocks
 pub mod Asks
 pub mod Desk
 pub mod Driver
+pub mod Incoming
 pub mod Members
 pub mod Picks
 pub mod Places
@@ -10,3 +11,4 @@ pub mod Sound
 pub use Rattle.nv_recorder.specs.Event as Event
 pub use Rattle.nv_recorder.specs.Latest as Latest
 pub use Rattle.nv_recorder.specs.Recorder as Recorder
+pub use Rattle.nv_recorder.specs.Request as Request

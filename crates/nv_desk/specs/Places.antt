@@ -1,9 +1,10 @@
 -- Where the content of a job that is pending stands: each block has one place, of its length, which a job takes with its content.
-use Rattle.std.specs.Prelude.{◌≡◌, ◌≤◌, ℕ, List, length, get_or, slice_set, IsSomeAnd, Option, Some, None}
+use Rattle.std.specs.Prelude.{◌≡◌, ◌≤◌, ℕ, ◌+◌, List, ◌++◌, length, get_or, option_to_list, slice_set, IfSome, IsSomeAnd, Option, Some, None}
 use Rattle.block_machine.specs.Words.{Configuration}
 use Rattle.block_machine.specs.State.{Job}
 use Rattle.block_machine.specs.Blocks.{desc_of, job_block}
-use Rattle.block_laws.specs.Consistent.{Each}
+use Rattle.block_laws.specs.Consistent.{AreApart, Each}
+use Rattle.job_pending.specs.Pending.{Agree, Pending}
 
 -- by id from 0: the bytes that stand ready for a block's next content, where no job has them
 abbrev pub Ready : Type 0
@@ -24,6 +25,19 @@ NoneHolds jobs id = Each (λ j. job_block j ≡ id → j.content ≡ None) jobs
 -- so it is of each block none of whose jobs has a content
 abbrev pub AreReady : Configuration → List Job → Ready → Type 0
 AreReady c jobs places = (id : ℕ) → id ≤ length c.blocks → NoneHolds jobs id → IsReady c places id
+
+-- the content of a job has its block's length
+abbrev pub IsWhole : Configuration → Job → Type 0
+IsWhole c j = IfSome j.content (λ x. length x.0 ≡ (desc_of c (job_block j)).length)
+
+-- these jobs are kept so, and the places of their contents beside them
+pub record AreHeld (c : Configuration) (p : Pending) (waiting : List Job) (held : Option Job) (places : Ready) : Type 0 where
+  pub agree : Agree c p waiting held
+  pub apart : AreApart waiting
+  pub slots : length p.slots ≡ length c.blocks + 1
+  pub count : length places ≡ length c.blocks + 1
+  pub whole : Each (IsWhole c) (option_to_list held ++ waiting)
+  pub ready : AreReady c (option_to_list held ++ waiting) places
 
 -- the place of a block's content, once that is taken from there, if there is one
 abbrev pub taken_from : Ready → ℕ → Option (List ℕ) → Ready

@@ -1,19 +1,22 @@
 // Requests.
-ghost use Rattle.std.specs.Prelude.{◌≡◌, ◌++◌, ◌∷◌, ◌≤◌, ◌↔◌, [], true, false, is_some, length, get_or, option_map, None, IsTrue, IfOk, IfSome, IsSomeAnd, OnOk, OnErr, IsErrOf};
-ghost use Rattle.block_machine.specs.Blocks.{asked_block, asked_content, job_kind};
+ghost use Rattle.std.specs.Prelude.{◌≡◌, ◌++◌, ◌∷◌, ◌≤◌, ◌↔◌, [], true, false, is_some, length, get_or, option_map, None, IsTrue, IfOk, IfSome, IsOk, IsSomeAnd, OnOk, OnErr, IsErrOf};
+ghost use Rattle.block_machine.specs.Blocks.{asked_block, asked_content, desc_of, job_kind};
 ghost use Rattle.block_machine.specs.Reply.{fits, reply_of};
 ghost use Rattle.block_machine.specs.Steps.{asked};
 ghost use Rattle.block_machine.specs.Legal.{IsAllowed, IsLegal, HasStore};
-ghost use Rattle.block_states.specs.States.{rooms_of};
+ghost use Rattle.nv_recorder.specs.Recorder.{keeps};
+ghost use Rattle.nv_recorder.specs.Request.{request_lent};
 ghost use Rattle.nv_desk.specs.Desk.{state_of, sweep_request};
+ghost use Rattle.nv_desk.specs.Incoming.{is_at_once, request_in, IsLent, MayCome};
 ghost use Rattle.nv_desk.specs.Places.{taken_from};
-ghost use Rattle.nv_desk_state.specs.Kept.{IsChange};
 
 use crate::Desk;
-use crate::memory::take_memory;
+use crate::effect::{Effect, change, effect_of};
+use crate::incoming::{Incoming, add_ask};
 use crate::places::Places;
-use block_machine::nv_base::{Bytes, Entry, Reply, Request};
+use block_machine::nv_base::{Entry, Reply, Request};
 use job_pending::Job;
+use nv_recorder::{LentRequest, RequestKind};
 use std::alloc::{AllocError, Global};
 use thiserror::Error;
 
@@ -41,117 +44,121 @@ impl From<AllocError> for AskFault {
 impl Desk {
     // Adds the entry of a request that changes nothing.
     #[tactic(auto, using(crate::proofs::Entries::memory_kept))]
-    fn note(
-        &mut self,
-        alloc: Global,
-        caller: u8,
-        request: Request,
-        reply: Reply,
-    ) -> Result<(), AllocError>
-        requires allowed { IsAllowed self.old.config self.old.cap (state_of self.old) (Entry.Ask caller request reply) }
-        requires same { asked self.old.config (state_of self.old) request reply ≡ state_of self.old }
-        ensures ok { OnOk result (self.new ≡ record self.old { entries = self.old.entries ++ Entry.Ask caller request reply ∷ [] }) }
+    fn note(&mut self, caller: u8, incoming: Incoming<'_>, reply: Reply) -> Result<(), AllocError>
+        requires allowed { IsAllowed self.old.config self.old.cap (state_of self.old) (Entry.Ask caller (request_in incoming) reply) }
+        requires same { asked self.old.config (state_of self.old) (request_in incoming) reply ≡ state_of self.old }
+        requires comes { MayCome self.old incoming }
+        ensures ok { OnOk result (self.new ≡ record self.old { entries = self.old.entries ++ Entry.Ask caller (request_in incoming.entry) reply ∷ [] }) }
         ensures err { OnErr result (self.new ≡ self.old) }
+        ensures lent { IsLent incoming.entry → IsOk result }
     {
         let reserved = self.kept.reserved() as u32;
-        take_memory(alloc, &mut self.history, reserved)?;
-        self.history.add(Entry::Ask {
-            caller,
-            request,
-            reply,
-        });
+        incoming.take_memory(&mut self.history, reserved)?;
+        add_ask(&mut self.history, caller, incoming, reply);
         Ok(())
     }
 
     // Accepts a request that makes a job.
     #[tactic(auto, using(crate::proofs::Entries::memory_kept))]
-    fn accept_job(&mut self, alloc: Global, caller: u8, request: Request) -> Result<(), AllocError>
-        requires kind { is_some (job_kind request) ≡ true }
-        requires allowed { IsAllowed self.old.config self.old.cap (state_of self.old) (Entry.Ask caller request Reply.Accepted) }
-        ensures ok { OnOk result (self.new ≡ record self.old { entries = self.old.entries ++ Entry.Ask caller request Reply.Accepted ∷ [] }) }
+    fn accept_job(&mut self, caller: u8, incoming: Incoming<'_>) -> Result<(), AllocError>
+        requires kind { is_some (job_kind (request_in incoming)) ≡ true }
+        requires allowed { IsAllowed self.old.config self.old.cap (state_of self.old) (Entry.Ask caller (request_in incoming) Reply.Accepted) }
+        requires comes { MayCome self.old incoming }
+        ensures ok { OnOk result (self.new ≡ record self.old { entries = self.old.entries ++ Entry.Ask caller (request_in incoming.entry) Reply.Accepted ∷ [] }) }
         ensures err { OnErr result (self.new ≡ self.old) }
+        ensures lent { IsLent incoming.entry → IsOk result }
     {
         let _sizes = self.config.queue_sizes();
-        let needed = self.needed(&request);
+        let request = incoming.lent();
+        let needed = self.needed(request);
         let reserved = self.kept.reserved() as u32 + needed;
-        take_memory(alloc, &mut self.history, reserved)?;
-        let asked_for = in_place(&request, &mut self.places);
+        incoming.take_memory(&mut self.history, reserved)?;
+        let asked_for = in_place(request, &mut self.places);
         let job = Job::accepted(self.history.len(), asked_for, needed);
         self.kept.accept(&self.config, job);
-        self.history.add(acceptance(caller, request));
+        add_ask(&mut self.history, caller, incoming, Reply::Accepted);
         Ok(())
     }
 
     // Accepts a request that changes a block at once, or cancels a WriteAll.
     #[tactic(auto, using(crate::proofs::Entries::memory_kept))]
-    fn accept_change(
-        &mut self,
-        alloc: Global,
-        caller: u8,
-        request: Request,
-    ) -> Result<(), AllocError>
-        requires kind { IsChange (rooms_of self.old.config) request }
-        requires allowed { IsAllowed self.old.config self.old.cap (state_of self.old) (Entry.Ask caller request Reply.Accepted) }
-        ensures ok { OnOk result (self.new ≡ record self.old { entries = self.old.entries ++ Entry.Ask caller request Reply.Accepted ∷ [] }) }
+    fn accept_change(&mut self, caller: u8, incoming: Incoming<'_>) -> Result<(), AllocError>
+        requires kind { is_at_once (request_in incoming) ≡ true }
+        requires allowed { IsAllowed self.old.config self.old.cap (state_of self.old) (Entry.Ask caller (request_in incoming) Reply.Accepted) }
+        requires comes { MayCome self.old incoming }
+        ensures ok { OnOk result (self.new ≡ record self.old { entries = self.old.entries ++ Entry.Ask caller (request_in incoming.entry) Reply.Accepted ∷ [] }) }
         ensures err { OnErr result (self.new ≡ self.old) }
+        ensures lent { IsLent incoming.entry → IsOk result }
     {
         let reserved = self.kept.reserved() as u32;
-        take_memory(alloc, &mut self.history, reserved)?;
-        self.kept.change(&request);
-        self.history.add(acceptance(caller, request));
+        incoming.take_memory(&mut self.history, reserved)?;
+        change(&mut self.kept, incoming.lent());
+        add_ask(&mut self.history, caller, incoming, Reply::Accepted);
         Ok(())
     }
 
     // Accepts a WriteAll, or else a ReadAll.
     #[tactic(auto, using(crate::proofs::Entries::memory_kept))]
-    fn accept_sweep(&mut self, alloc: Global, caller: u8, writes: bool) -> Result<(), AllocError>
-        requires { IsAllowed self.old.config self.old.cap (state_of self.old) (Entry.Ask caller (sweep_request writes) Reply.Accepted) }
-        ensures ok { OnOk result (self.new ≡ record self.old { entries = self.old.entries ++ Entry.Ask caller (sweep_request writes) Reply.Accepted ∷ [] }) }
+    fn accept_sweep(
+        &mut self,
+        caller: u8,
+        incoming: Incoming<'_>,
+        writes: bool,
+    ) -> Result<(), AllocError>
+        requires kind { request_in incoming ≡ sweep_request writes }
+        requires allowed { IsAllowed self.old.config self.old.cap (state_of self.old) (Entry.Ask caller (request_in incoming) Reply.Accepted) }
+        requires comes { MayCome self.old incoming }
+        ensures ok { OnOk result (self.new ≡ record self.old { entries = self.old.entries ++ Entry.Ask caller (request_in incoming.entry) Reply.Accepted ∷ [] }) }
         ensures err { OnErr result (self.new ≡ self.old) }
+        ensures lent { IsLent incoming.entry → IsOk result }
     {
-        let request = sweep_request(writes);
-        let needed = self.needed(&request);
+        let needed = self.needed(incoming.lent());
         let reserved = self.kept.reserved() as u32 + needed;
-        take_memory(alloc, &mut self.history, reserved)?;
+        incoming.take_memory(&mut self.history, reserved)?;
         self.kept.begin_sweep(self.history.len(), writes, needed);
-        self.history.add(acceptance(caller, request));
+        add_ask(&mut self.history, caller, incoming, Reply::Accepted);
         Ok(())
     }
 
-    // Accepts a content for a block's RAM.
-    fn accept_put(
-        &mut self,
-        alloc: Global,
-        caller: u8,
-        block: u16,
-        content: Bytes,
-    ) -> Result<(), AllocError>
-        requires { IsAllowed self.old.config self.old.cap (state_of self.old) (Entry.Ask caller (Request.PutRam block content) Reply.Accepted) }
-        ensures ok { OnOk result (self.new ≡ record self.old {
-          entries =
-              self.old.entries ++ Entry.Ask caller (Request.PutRam block content) Reply.Accepted ∷ [];
-        }) }
+    // Accepts a request that nothing refuses.
+    fn accept(&mut self, caller: u8, incoming: Incoming<'_>) -> Result<(), AllocError>
+        requires allowed { IsAllowed self.old.config self.old.cap (state_of self.old) (Entry.Ask caller (request_in incoming) Reply.Accepted) }
+        requires comes { MayCome self.old incoming }
+        ensures ok { OnOk result (self.new ≡ record self.old { entries = self.old.entries ++ Entry.Ask caller (request_in incoming.entry) Reply.Accepted ∷ [] }) }
         ensures err { OnErr result (self.new ≡ self.old) }
+        ensures lent { IsLent incoming.entry → IsOk result }
     {
-        self.accept_change(alloc, caller, Request::PutRam { block, content })
+        let effect = effect_of(incoming.lent());
+        match effect {
+            Effect::Job => self.accept_job(caller, incoming),
+            Effect::Sweep { writes } => self.accept_sweep(caller, incoming, writes),
+            Effect::Change => self.accept_change(caller, incoming),
+        }
     }
 
-    // Accepts a request that nothing refuses.
-    fn accept(&mut self, alloc: Global, caller: u8, request: Request) -> Result<(), AllocError>
-        requires { IsAllowed self.old.config self.old.cap (state_of self.old) (Entry.Ask caller request Reply.Accepted) }
-        ensures ok { OnOk result (self.new ≡ record self.old { entries = self.old.entries ++ Entry.Ask caller request Reply.Accepted ∷ [] }) }
+    // Takes a request whose entry fits, and replies.
+    fn take(&mut self, caller: u8, incoming: Incoming<'_>) -> Result<Reply, AllocError>
+        requires started { IsTrue (state_of self.old).started }
+        requires caller { caller ≤ 15 }
+        requires store { HasStore self.old.config (request_in incoming) }
+        requires fits { fits self.old.config self.old.cap (state_of self.old) 1 ≡ true }
+        requires comes { MayCome self.old incoming }
+        ensures reply { IfOk result (λ reply. reply ≡ reply_of self.old.config self.old.cap (state_of self.old) (request_in incoming.entry)) }
+        ensures ok { IfOk result (λ reply. self.new ≡ record self.old { entries = self.old.entries ++ Entry.Ask caller (request_in incoming.entry) reply ∷ [] }) }
+        ensures legal { OnOk result (IsLegal self.old.config self.old.cap self.old.entries → IsLegal self.new.config self.new.cap self.new.entries) }
         ensures err { OnErr result (self.new ≡ self.old) }
+        ensures lent { IsLent incoming.entry → IsOk result }
     {
-        match request {
-            Request::ReadAll => self.accept_sweep(alloc, caller, false),
-            Request::WriteAll => self.accept_sweep(alloc, caller, true),
-            Request::PutRam { block, content } => self.accept_put(alloc, caller, block, content),
-            Request::Read { .. }
-            | Request::Write { .. }
-            | Request::Restore { .. }
-            | Request::Erase { .. }
-            | Request::Invalidate { .. } => self.accept_job(alloc, caller, request),
-            _ => self.accept_change(alloc, caller, request),
+        let reply = self.reply(incoming.lent());
+        match reply {
+            Reply::Accepted => {
+                self.accept(caller, incoming)?;
+                Ok(Reply::Accepted)
+            }
+            reply => {
+                self.note(caller, incoming, reply)?;
+                Ok(reply)
+            }
         }
     }
 
@@ -171,75 +178,56 @@ impl Desk {
         if !self.fits(1) {
             return Err(AskFault::NoRoom);
         }
-        match self.reply(&request) {
-            Reply::Accepted => {
-                self.accept(alloc, caller, request)?;
-                Ok(Reply::Accepted)
-            }
-            reply => {
-                self.note(alloc, caller, request, reply)?;
-                Ok(reply)
-            }
-        }
+        let reply = self.take(caller, Incoming::Owned { alloc, request })?;
+        Ok(reply)
     }
-}
 
-fn acceptance(caller: u8, request: Request) -> Entry
-    ensures { result ≡ Entry.Ask caller request Reply.Accepted }
-{
-    Entry::Ask {
-        caller,
-        request,
-        reply: Reply::Accepted,
+    /// Takes a request whose content is lent, of a caller, 0 to 15, where entries aren't kept, and replies as `ask` does. The content
+    /// is at most as long as its block's; a request that brings none lends no bytes. It takes no memory: Ok comes exactly where its
+    /// entry fits under the cap, and else `NoRoom`, and nothing changed.
+    pub fn enter(&mut self, caller: u8, request: LentRequest<'_>) -> Result<Reply, AskFault>
+        requires counted { keeps self.old.cap ≡ false }
+        requires started { IsTrue (state_of self.old).started }
+        requires caller { caller ≤ 15 }
+        requires store { HasStore self.old.config (request_lent request) }
+        requires content { length request.content.now ≤ (desc_of self.old.config (asked_block (request_lent request))).length }
+        ensures reply { IfOk result (λ reply. reply ≡ reply_of self.old.config self.old.cap (state_of self.old) (request_lent request.entry)) }
+        ensures ok { IfOk result (λ reply. self.new ≡ record self.old { entries = self.old.entries ++ Entry.Ask caller (request_lent request.entry) reply ∷ [] }) }
+        ensures legal { OnOk result (IsLegal self.old.config self.old.cap self.old.entries → IsLegal self.new.config self.new.cap self.new.entries) }
+        ensures err { OnErr result (self.new ≡ self.old) }
+        ensures no_room { IsErrOf result AskFault.NoRoom ↔ fits self.old.config self.old.cap (state_of self.old) 1 ≡ false }
+        ensures total { IsErrOf result AskFault.Memory → ⊥ }
+    {
+        if !self.fits(1) {
+            return Err(AskFault::NoRoom);
+        }
+        let reply = self.take(caller, Incoming::Lent { request })?;
+        Ok(reply)
     }
 }
 
 // A request that makes a job, with its content in its block's place.
-fn in_place(request: &Request, places: &mut Places) -> Request
-    requires kind { is_some (job_kind request.now) ≡ true }
-    requires place { IfSome (asked_content request.now) (λ x. IsSomeAnd (get_or places.old (asked_block request.now) None) (λ bytes. length bytes ≡ length x.0)) }
-    ensures request { result ≡ request.now }
-    ensures places { places.new ≡ taken_from places.old (asked_block request.now) (option_map (λ x. x.0) (asked_content request.now)) }
+fn in_place(request: LentRequest<'_>, places: &mut Places) -> Request
+    requires kind { is_some (job_kind (request_lent request)) ≡ true }
+    requires place { IfSome (asked_content (request_lent request)) (λ x. IsSomeAnd (get_or places.old (asked_block (request_lent request)) None) (λ bytes. length bytes ≡ length x.0)) }
+    ensures request { result ≡ request_lent request.entry }
+    ensures places { places.new ≡ taken_from places.old (asked_block (request_lent request.entry)) (option_map (λ x. x.0) (asked_content (request_lent request.entry))) }
 {
-    match request {
-        Request::Read { block, ram } => Request::Read {
-            block: *block,
-            ram: *ram,
-        },
-        Request::Write {
+    match request.kind {
+        RequestKind::Read { block, ram } => Request::Read { block, ram },
+        RequestKind::Write { block, store } => Request::Write {
             block,
-            content: Some(content),
+            content: places.fill(block, request.content),
             store,
-        } => Request::Write {
-            block: *block,
-            content: places.fill(*block, content.as_slice()),
-            store: *store,
         },
-        Request::Write {
+        RequestKind::WriteRam { block, store } => Request::Write {
             block,
             content: None,
             store,
-        } => Request::Write {
-            block: *block,
-            content: None,
-            store: *store,
         },
-        Request::Restore { block, ram } => Request::Restore {
-            block: *block,
-            ram: *ram,
-        },
-        Request::Erase { block } => Request::Erase { block: *block },
-        Request::Invalidate { block } => Request::Invalidate { block: *block },
+        RequestKind::Restore { block, ram } => Request::Restore { block, ram },
+        RequestKind::Erase { block } => Request::Erase { block },
+        RequestKind::Invalidate { block } => Request::Invalidate { block },
         _ => Request::ReadAll,
-    }
-}
-
-fn sweep_request(writes: bool) -> Request
-    ensures { result ≡ sweep_request writes }
-{
-    if writes {
-        Request::WriteAll
-    } else {
-        Request::ReadAll
     }
 }

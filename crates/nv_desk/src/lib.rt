@@ -9,7 +9,10 @@ mod all_blocks;
 mod ask;
 mod desk;
 mod driver;
+mod drop_jobs;
+mod effect;
 mod in_hand;
+mod incoming;
 mod longest;
 mod members;
 mod memory;
@@ -24,4 +27,6 @@ mod told;
 pub use ask::AskFault;
 pub use desk::Desk;
 pub use longest::longest_content;
-pub use nv_recorder::{ENDLESS, Event, Last, MarkKind, TakenKind};
+pub use nv_recorder::{
+    Buffer, ENDLESS, Event, Last, LentRequest, MarkKind, RequestKind, TakenKind,
+};

@@ -1,6 +1,7 @@
 // Memory for entries that come later.
-ghost use Rattle.std.specs.Prelude.{◌≡◌, ◌≤◌, ◌<◌, ◌^◌, ◌+◌, OnOk, option_copied};
+ghost use Rattle.std.specs.Prelude.{◌≡◌, ◌≤◌, ◌<◌, ◌^◌, ◌+◌, false, IsOk, OnOk, option_copied};
 ghost use Rattle.nv_recorder.specs.Event.{entry_of};
+ghost use Rattle.nv_recorder.specs.Recorder.{keeps};
 ghost use Rattle.nv_desk.specs.Rooms.{CanNote, HasPlace, with_entry};
 
 use block_machine::nv_base::Entry;
@@ -13,6 +14,7 @@ pub fn take_memory(alloc: Global, history: &mut Recorder, reserved: u32) -> Resu
     ensures same { record history.new { reserved = history.old.reserved } ≡ history.old }
     ensures stays { history.old.reserved ≤ history.new.reserved }
     ensures entries { OnOk result (reserved + 1 ≤ history.new.reserved) }
+    ensures counted { keeps history.old.cap ≡ false → IsOk result }
 {
     history.reserve(alloc, reserved + 1)
 }

@@ -1,74 +1,70 @@
 // When each refusal holds of a request, and the reply.
-ghost use Rattle.std.specs.Prelude.{◌≡◌, ◌≤◌, ◌<◌, ◌^◌, ◌+◌, false, not, find};
+ghost use Rattle.std.specs.Prelude.{◌≡◌, ◌≤◌, ◌<◌, ◌^◌, ◌+◌, ◌↔◌, false, not, find, length, IsTrue};
 ghost use Rattle.std.specs.Option.{option_map_or};
-ghost use Rattle.block_machine.specs.Blocks.{block_at, desc_of, status_of, is_pending, names_rom, is_immediate};
+ghost use Rattle.block_machine.specs.Blocks.{asked_block, block_at, desc_of, status_of, is_pending, names_rom, is_immediate};
 ghost use Rattle.block_machine.specs.Reply.{holds, tested, needed, fits, answer_to, reply_of, can_cancel};
 ghost use Rattle.nv_desk.specs.Desk.{state_of};
+ghost use Rattle.nv_recorder.specs.Request.{request_lent};
 
 use crate::Desk;
 use crate::tested::tested;
-use block_machine::nv_base::{Refusal, Reply, ReqResult, Request};
-use job_pending::asked_block;
+use block_machine::nv_base::{Refusal, Reply, ReqResult};
 use nv_desk_state::{
     datasets, has_no_defaults, has_no_ram, is_dataset, is_once, is_permanent, length, priority,
     records, stored,
 };
+use nv_recorder::{LentRequest, RequestKind};
 
 impl Desk {
-    fn is_unknown(&self, request: &Request) -> bool
-        ensures { result ≡ holds self.now.config self.now.cap (state_of self.now) Refusal.UnknownBlock request.now }
+    fn is_unknown(&self, request: LentRequest<'_>) -> bool
+        ensures { result ≡ holds self.now.config self.now.cap (state_of self.now) Refusal.UnknownBlock (request_lent request.entry) }
     {
         let id = asked_block(request);
-        match request {
-            Request::Status { block } => self.config.blocks() < *block,
+        match request.kind {
+            RequestKind::Status { block } => self.config.blocks() < block,
             _ => id == 0 || self.config.blocks() < id,
         }
     }
 
-    fn is_wrong_type(&self, request: &Request) -> bool
-        ensures { result ≡ holds self.now.config self.now.cap (state_of self.now) Refusal.WrongType request.now }
+    fn is_wrong_type(&self, request: LentRequest<'_>) -> bool
+        ensures { result ≡ holds self.now.config self.now.cap (state_of self.now) Refusal.WrongType (request_lent request.entry) }
     {
-        match request {
-            Request::SetIndex { block, .. } | Request::GetIndex { block } => {
-                !is_dataset(&self.config, *block)
+        match request.kind {
+            RequestKind::SetIndex { block, .. } | RequestKind::GetIndex { block } => {
+                !is_dataset(&self.config, block)
             }
-            Request::Restore { block, .. } => is_dataset(&self.config, *block),
+            RequestKind::Restore { block, .. } => is_dataset(&self.config, block),
             _ => asked_block(request) == 1,
         }
     }
 
-    fn is_bad_index(&self, request: &Request) -> bool
-        ensures { result ≡ holds self.now.config self.now.cap (state_of self.now) Refusal.BadIndex request.now }
+    fn is_bad_index(&self, request: LentRequest<'_>) -> bool
+        ensures { result ≡ holds self.now.config self.now.cap (state_of self.now) Refusal.BadIndex (request_lent request.entry) }
     {
-        match request {
-            Request::SetIndex { block, index } => {
-                datasets(&self.config, *block) <= u64::from(*index)
+        match request.kind {
+            RequestKind::SetIndex { block, index } => {
+                datasets(&self.config, block) <= u64::from(index)
             }
             _ => false,
         }
     }
 
-    fn is_bad_length(&self, request: &Request) -> bool
-        ensures { result ≡ holds self.now.config self.now.cap (state_of self.now) Refusal.BadLength request.now }
+    fn is_bad_length(&self, request: LentRequest<'_>) -> bool
+        ensures { result ≡ holds self.now.config self.now.cap (state_of self.now) Refusal.BadLength (request_lent request.entry) }
     {
-        match request {
-            Request::Write {
-                block,
-                content: Some(content),
-                ..
-            }
-            | Request::PutRam { block, content } => {
-                content.len() != usize::from(length(&self.config, *block))
+        match request.kind {
+            RequestKind::Write { block, .. } | RequestKind::PutRam { block } => {
+                request.content.len() != usize::from(length(&self.config, block))
             }
             _ => false,
         }
     }
 
-    fn lacks_ram(&self, request: &Request) -> bool
-        ensures { result ≡ holds self.now.config self.now.cap (state_of self.now) Refusal.NoRam request.now }
+    fn lacks_ram(&self, request: LentRequest<'_>) -> bool
+        ensures { result ≡ holds self.now.config self.now.cap (state_of self.now) Refusal.NoRam (request_lent request.entry) }
     {
-        match request {
-            Request::PutRam { block, .. } => !is_permanent(&self.config, *block),
+        match request.kind {
+            RequestKind::PutRam { block } => !is_permanent(&self.config, block),
             _ => has_no_ram(&self.config, asked_block(request)),
         }
     }
@@ -86,11 +82,13 @@ impl Desk {
     }
 
     /// Whether the job of a request is immediate: a write of a block of priority 0.
-    pub(crate) fn is_immediate(&self, request: &Request) -> bool
-        ensures { result ≡ is_immediate self.now.config request.now }
+    pub(crate) fn is_immediate(&self, request: LentRequest<'_>) -> bool
+        ensures { result ≡ is_immediate self.now.config (request_lent request.entry) }
     {
-        match request {
-            Request::Write { block, .. } => priority(&self.config, *block) == 0,
+        match request.kind {
+            RequestKind::Write { block, .. } | RequestKind::WriteRam { block, .. } => {
+                priority(&self.config, block) == 0
+            }
             _ => false,
         }
     }
@@ -104,27 +102,27 @@ impl Desk {
         }
     }
 
-    fn is_queue_full(&self, request: &Request) -> bool
-        ensures { result ≡ holds self.now.config self.now.cap (state_of self.now) Refusal.QueueFull request.now }
+    fn is_queue_full(&self, request: LentRequest<'_>) -> bool
+        ensures { result ≡ holds self.now.config self.now.cap (state_of self.now) Refusal.QueueFull (request_lent request.entry) }
     {
         let immediate = self.is_immediate(request);
         self.kept.jobs.is_full(&self.config, immediate)
     }
 
     /// The entries that a request reserves, if it is accepted.
-    pub(crate) fn needed(&self, request: &Request) -> u32
-        ensures { result ≡ needed self.now.config request.now }
+    pub(crate) fn needed(&self, request: LentRequest<'_>) -> u32
+        ensures { result ≡ needed self.now.config (request_lent request.entry) }
     {
-        match request {
-            Request::Read { .. } | Request::Restore { .. } => 2,
-            Request::Write { block, .. } if self.is_immediate(request) => {
-                4 + u32::from(records(&self.config, *block))
-            }
-            Request::Write { block, .. }
-            | Request::Erase { block }
-            | Request::Invalidate { block } => 2 + u32::from(records(&self.config, *block)),
-            Request::ReadAll => self.read_share,
-            Request::WriteAll => self.write_share,
+        match request.kind {
+            RequestKind::Read { .. } | RequestKind::Restore { .. } => 2,
+            RequestKind::Write { block, .. } | RequestKind::WriteRam { block, .. }
+                if self.is_immediate(request) => { 4 + u32::from(records(&self.config, block)) }
+            RequestKind::Write { block, .. }
+            | RequestKind::WriteRam { block, .. }
+            | RequestKind::Erase { block }
+            | RequestKind::Invalidate { block } => 2 + u32::from(records(&self.config, block)),
+            RequestKind::ReadAll => self.read_share,
+            RequestKind::WriteAll => self.write_share,
             _ => 0,
         }
     }
@@ -138,8 +136,8 @@ impl Desk {
     }
 
     /// Whether a refusal holds of a request.
-    fn refuses(&self, refusal: Refusal, request: &Request) -> bool
-        ensures { result ≡ holds self.now.config self.now.cap (state_of self.now) refusal request.now }
+    fn refuses(&self, refusal: Refusal, request: LentRequest<'_>) -> bool
+        ensures { result ≡ holds self.now.config self.now.cap (state_of self.now) refusal (request_lent request.entry) }
     {
         let id = asked_block(request);
         match refusal {
@@ -164,8 +162,8 @@ impl Desk {
     }
 
     /// The first of its refusals that holds of a request.
-    fn first_refusal(&self, request: &Request) -> Option<Refusal>
-        ensures { result ≡ find (λ x. holds self.now.config self.now.cap (state_of self.now) x request.now) (tested request.now) }
+    fn first_refusal(&self, request: LentRequest<'_>) -> Option<Refusal>
+        ensures { result ≡ find (λ x. holds self.now.config self.now.cap (state_of self.now) x (request_lent request.entry)) (tested (request_lent request.entry)) }
     {
         let refusals = tested(request);
         for refusal in refusals {
@@ -177,23 +175,52 @@ impl Desk {
     }
 
     /// What is replied where nothing refuses the request.
-    fn answer_to(&self, request: &Request) -> Reply
-        ensures { result ≡ answer_to (state_of self.now) request.now }
+    fn answer_to(&self, request: LentRequest<'_>) -> Reply
+        ensures { result ≡ answer_to (state_of self.now) (request_lent request.entry) }
     {
-        match request {
-            Request::Status { block } => Reply::StatusIs(self.kept.blocks.facts(*block).status),
-            Request::GetIndex { block } => Reply::IndexIs(self.kept.blocks.facts(*block).index),
+        match request.kind {
+            RequestKind::Status { block } => Reply::StatusIs(self.kept.blocks.facts(block).status),
+            RequestKind::GetIndex { block } => Reply::IndexIs(self.kept.blocks.facts(block).index),
             _ => Reply::Accepted,
         }
     }
 
+    /// Whether the content of a request that is lent is at most as long as its block's, as `enter` asks.
+    pub fn content_fits(&self, request: LentRequest<'_>) -> bool
+        ensures { IsTrue result ↔ (length request.entry.content.now ≤ (desc_of self.now.config (asked_block (request_lent request.entry))).length) }
+    {
+        request.content.len() <= usize::from(length(&self.config, asked_block(request)))
+    }
+
     /// The reply to a request: the first refusal that holds, or else what it asks for.
-    pub(crate) fn reply(&self, request: &Request) -> Reply
-        ensures { result ≡ reply_of self.now.config self.now.cap (state_of self.now) request.now }
+    pub(crate) fn reply(&self, request: LentRequest<'_>) -> Reply
+        ensures { result ≡ reply_of self.now.config self.now.cap (state_of self.now) (request_lent request.entry) }
     {
         match self.first_refusal(request) {
             Some(refusal) => Reply::Refused(refusal),
             None => self.answer_to(request),
         }
+    }
+}
+
+// The block that a request names, or 0 where it names all.
+fn asked_block(request: LentRequest<'_>) -> u16
+    ensures { result ≡ asked_block (request_lent request.entry) }
+{
+    match request.kind {
+        RequestKind::Read { block, .. }
+        | RequestKind::Write { block, .. }
+        | RequestKind::WriteRam { block, .. }
+        | RequestKind::Restore { block, .. }
+        | RequestKind::Erase { block }
+        | RequestKind::Invalidate { block }
+        | RequestKind::SetIndex { block, .. }
+        | RequestKind::GetIndex { block }
+        | RequestKind::SetProtection { block, .. }
+        | RequestKind::SetLock { block, .. }
+        | RequestKind::SetRam { block, .. }
+        | RequestKind::PutRam { block }
+        | RequestKind::Status { block } => block,
+        RequestKind::ReadAll | RequestKind::WriteAll | RequestKind::CancelWriteAll => 0,
     }
 }

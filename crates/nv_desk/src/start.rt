@@ -1,9 +1,10 @@
 // Start-ups.
-ghost use Rattle.std.specs.Prelude.{◌≡◌, ◌≤◌, ◌+◌, ◌++◌, ◌∷◌, ◌↔◌, [], length, IsTrue, true, IfOk, OnOk, OnErr};
+ghost use Rattle.std.specs.Prelude.{◌≡◌, ◌≤◌, ◌+◌, ◌++◌, ◌∷◌, ◌↔◌, [], length, IsTrue, true, false, IfOk, IsOk, OnOk, OnErr};
 ghost use Rattle.nv_desk.specs.Desk.{first_desk, state_of};
 ghost use Rattle.nv_recorder.specs.Recorder.{keeps};
 
 use crate::Desk;
+use crate::drop_jobs::drop_jobs;
 use crate::longest::longest_content;
 use crate::memory::take_memory;
 use crate::places::Places;
@@ -20,18 +21,17 @@ impl Desk {
         self.history.cap() - self.history.len() >= 2
     }
 
-    /// Takes the memory of a start-up's entry, and of an Off behind it, and a new place for each content, where that isn't taken
-    /// since the last entry. At Err nothing changed.
+    /// Takes the memory of a start-up's entry, and of an Off behind it, where that isn't taken since the last entry: none where entries
+    /// are counted. At Err nothing changed.
     pub fn room_for_found(&mut self, alloc: Global) -> Result<(), AllocError>
         ensures ok { OnOk result (self.new ≡ record self.old { prepared = length self.old.entries }) }
         ensures err { OnErr result (self.new ≡ self.old) }
+        ensures counted { keeps self.old.cap ≡ false → IsOk result }
     {
         if self.prepared == self.history.len() {
             return Ok(());
         }
-        let places = Places::make(alloc, &self.config)?;
         take_memory(alloc, &mut self.history, 1)?;
-        self.places = places;
         self.prepared = self.history.len();
         Ok(())
     }
@@ -56,12 +56,14 @@ impl Desk {
         Ok(mem::replace(&mut self.history, history).into_history())
     }
 
-    /// A start-up found these marks: what was pending is gone. It takes no memory, since that was taken with no entry since.
+    /// A start-up found these marks: what was pending is gone, and each content is back in its block's place. It takes no memory, since
+    /// that of its entry was taken with no entry since.
     pub fn start_up(&mut self, marks: Marks, ops: u64)
         requires fits { length self.old.entries + 2 ≤ self.old.cap }
         requires prepared { self.old.prepared ≡ length self.old.entries }
         ensures { self.new ≡ record self.old { entries = self.old.entries ++ Entry.Found marks ops ∷ [] } }
     {
+        drop_jobs(&self.config, &mut self.kept.jobs, &mut self.places);
         self.kept.start_up(&self.config, &marks);
         self.history.add(Entry::Found { marks, ops });
     }

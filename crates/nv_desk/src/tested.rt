@@ -1,8 +1,10 @@
 // The refusals that a request is tested for.
 ghost use Rattle.std.specs.Prelude.{◌≡◌};
 ghost use Rattle.block_machine.specs.Reply.{tested};
+ghost use Rattle.nv_recorder.specs.Request.{request_lent};
 
-use block_machine::nv_base::{Refusal, Request};
+use block_machine::nv_base::Refusal;
+use nv_recorder::{LentRequest, RequestKind};
 
 static READ: [Refusal; 6] = [
     Refusal::UnknownBlock,
@@ -163,29 +165,26 @@ static ALL_BLOCKS: [Refusal; 3] = [
 static CANCEL: [Refusal; 2] = [Refusal::NotStarted, Refusal::NothingToCancel];
 
 /// The refusals that a request is tested for, ascending.
-pub fn tested(request: &Request) -> &'static [Refusal]
-    ensures { result.now ≡ tested request.now }
+pub fn tested(request: LentRequest<'_>) -> &'static [Refusal]
+    ensures { result.now ≡ tested (request_lent request.entry) }
 {
-    match request {
-        Request::Read { ram: false, .. } => &READ,
-        Request::Read { ram: true, .. } => &READ_RAM,
-        Request::Write {
-            content: Some(_),
-            ..
-        } => &WRITE,
-        Request::Write { content: None, .. } => &WRITE_RAM,
-        Request::Restore { ram: false, .. } => &RESTORE,
-        Request::Restore { ram: true, .. } => &RESTORE_RAM,
-        Request::Erase { .. } => &ERASE,
-        Request::Invalidate { .. } => &INVALIDATE,
-        Request::SetIndex { .. } => &SET_INDEX,
-        Request::GetIndex { .. } => &GET_INDEX,
-        Request::SetProtection { .. } => &SET_PROTECTION,
-        Request::SetLock { .. } => &SET_LOCK,
-        Request::SetRam { .. } => &SET_RAM,
-        Request::PutRam { .. } => &PUT_RAM,
-        Request::Status { .. } => &STATUS,
-        Request::ReadAll | Request::WriteAll => &ALL_BLOCKS,
-        Request::CancelWriteAll => &CANCEL,
+    match request.kind {
+        RequestKind::Read { ram: false, .. } => &READ,
+        RequestKind::Read { ram: true, .. } => &READ_RAM,
+        RequestKind::Write { .. } => &WRITE,
+        RequestKind::WriteRam { .. } => &WRITE_RAM,
+        RequestKind::Restore { ram: false, .. } => &RESTORE,
+        RequestKind::Restore { ram: true, .. } => &RESTORE_RAM,
+        RequestKind::Erase { .. } => &ERASE,
+        RequestKind::Invalidate { .. } => &INVALIDATE,
+        RequestKind::SetIndex { .. } => &SET_INDEX,
+        RequestKind::GetIndex { .. } => &GET_INDEX,
+        RequestKind::SetProtection { .. } => &SET_PROTECTION,
+        RequestKind::SetLock { .. } => &SET_LOCK,
+        RequestKind::SetRam { .. } => &SET_RAM,
+        RequestKind::PutRam { .. } => &PUT_RAM,
+        RequestKind::Status { .. } => &STATUS,
+        RequestKind::ReadAll | RequestKind::WriteAll => &ALL_BLOCKS,
+        RequestKind::CancelWriteAll => &CANCEL,
     }
 }

@@ -14,6 +14,7 @@ use crate::Desk;
 use block_machine::block_config::Config;
 use block_machine::nv_base::ReqResult;
 use job_pending::Job;
+use nv_recorder::LentRequest;
 
 impl Desk {
     /// The configuration.
@@ -54,6 +55,13 @@ impl Desk {
         self.kept.blocks.ram(block)
     }
 
+    /// Whether the RAM of a block is valid: a WriteAll writes it, where it is changed too.
+    pub fn ram_is_valid(&self, block: u16) -> bool
+        ensures { result ≡ (block_at (state_of self.now) block).valid }
+    {
+        self.kept.blocks.flags(block).valid
+    }
+
     /// The job in hand.
     pub fn hand(&self) -> Option<&Job>
         ensures { option_copied result ≡ (state_of self.now).hand }
@@ -74,7 +82,7 @@ impl Desk {
         ensures { result ≡ option_map_or (λ j. (rank_of self.now.config j).immediate) (state_of self.now).hand false }
     {
         match self.hand() {
-            Some(job) => !job.is_member() && self.is_immediate(job.request()),
+            Some(job) => !job.is_member() && self.is_immediate(LentRequest::of(job.request())),
             None => false,
         }
     }

@@ -141,6 +141,11 @@ impl Front {
                 Event::Post { .. } => content,
                 Event::Pick { .. } | Event::Wrote { .. } => None,
             },
+            Last::OfRequest {
+                caller: _,
+                request: _,
+                reply: _,
+            } => None,
         }
     }
 }

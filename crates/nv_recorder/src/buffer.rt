@@ -34,6 +34,13 @@ impl Buffer {
         })
     }
 
+    /// How many bytes have room.
+    pub fn room(&self) -> usize
+        ensures { result ≡ self.now.room }
+    {
+        self.bytes.len()
+    }
+
     /// The content.
     pub fn content(&self) -> &[u8]
         ensures { result.now ≡ self.now.content }

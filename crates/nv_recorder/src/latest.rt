@@ -2,28 +2,49 @@
 ghost use Rattle.std.specs.Prelude.{◌≡◌, ◌≤◌, length, Some, None, IfOk, IfSome, option_copied, option_map, if◌then◌else◌};
 ghost use Rattle.nv_recorder.specs.Event.{entry_of};
 ghost use Rattle.nv_recorder.specs.Latest.{last_of};
+ghost use Rattle.nv_recorder.specs.Request.{request_lent};
 
-use crate::Event;
 use crate::buffer::Buffer;
-use nv_base::Entry;
+use crate::{Event, LentRequest, RequestKind};
+use nv_base::{Entry, Reply};
 use std::alloc::{AllocError, Global};
 use std::marker::Model;
 
-/// An entry that is lent: one that was added, or one of a job, with its content beside it.
+/// An entry that is lent: one that was added, or one of a job or of a request, with its content beside it.
 pub enum Last<'a> {
     Added(&'a Entry),
     OfJob {
         event: Event,
         content: Option<&'a [u8]>,
     },
+    OfRequest {
+        caller: u8,
+        request: LentRequest<'a>,
+        reply: Reply,
+    },
+}
+
+/// What stands of the last entry beside a content: one that was added, or one of a job, which may have that content, or of a
+/// request, which has it.
+#[derive(Drop)]
+pub enum Held {
+    Nothing,
+    Added(Entry),
+    OfJob {
+        event: Event,
+        has: bool,
+    },
+    OfRequest {
+        caller: u8,
+        kind: RequestKind,
+        reply: Reply,
+    },
 }
 
 /// The last entry, with memory for the content of any. Contracts see the entry, and of how many bytes its content may be.
 #[derive(Drop)]
 pub struct Latest {
-    entry: Option<Entry>,
-    event: Option<Event>,
-    has: bool,
+    held: Held,
     content: Buffer,
 }
 
@@ -32,7 +53,7 @@ impl Model for Latest {
 
     ghost Value = { Kept };
 
-    ghost view = { λ l. record { entry = latest_of l.entry l.event l.has l.content.content; room = l.content.room } };
+    ghost view = { λ l. record { entry = latest_of l.held l.content.content; room = l.content.room } };
 }
 
 impl Latest {
@@ -41,9 +62,7 @@ impl Latest {
         ensures { IfOk result (λ l. l ≡ record { entry = None; room = room }) }
     {
         Ok(Latest {
-            entry: None,
-            event: None,
-            has: false,
+            held: Held::Nothing,
             content: Buffer::make(alloc, room)?,
         })
     }
@@ -52,8 +71,7 @@ impl Latest {
     pub fn add(&mut self, entry: Entry)
         ensures { self.new ≡ record self.old { entry = Some entry } }
     {
-        self.entry = Some(entry);
-        self.event = None;
+        self.held = Held::Added(entry);
     }
 
     /// This entry of a job was. It takes no memory.
@@ -61,27 +79,51 @@ impl Latest {
         requires { IfSome (option_copied content) (λ x. length x ≤ self.old.room) }
         ensures { self.new ≡ record self.old { entry = Some (entry_of event (option_copied content.entry)) } }
     {
-        self.entry = None;
-        self.event = Some(event);
-        self.has = content.is_some();
+        self.held = Held::OfJob {
+            event,
+            has: content.is_some(),
+        };
         if let Some(content) = content {
             self.content.put(content);
         }
+    }
+
+    /// The entry of this request was. It takes no memory.
+    pub fn note_request(&mut self, caller: u8, request: LentRequest<'_>, reply: Reply)
+        requires { length request.content.now ≤ self.old.room }
+        ensures { self.new ≡ record self.old { entry = Some (Entry.Ask caller (request_lent request.entry) reply) } }
+    {
+        self.held = Held::OfRequest {
+            caller,
+            kind: request.kind,
+            reply,
+        };
+        self.content.put(request.content);
     }
 
     /// Lends it.
     pub fn get(&self) -> Option<Last<'_>>
         ensures { option_map last_of result ≡ self.now.entry }
     {
-        match self.event {
-            Some(event) => Some(Last::OfJob {
-                event,
-                content: given(self.has, &self.content),
+        match &self.held {
+            Held::Nothing => None,
+            Held::Added(entry) => Some(Last::Added(entry)),
+            Held::OfJob { event, has } => Some(Last::OfJob {
+                event: *event,
+                content: given(*has, &self.content),
             }),
-            None => match &self.entry {
-                Some(entry) => Some(Last::Added(entry)),
-                None => None,
-            },
+            Held::OfRequest {
+                caller,
+                kind,
+                reply,
+            } => Some(Last::OfRequest {
+                caller: *caller,
+                request: LentRequest {
+                    kind: *kind,
+                    content: self.content.content(),
+                },
+                reply: *reply,
+            }),
         }
     }
 }

@@ -10,9 +10,12 @@ mod buffer;
 mod event;
 mod latest;
 mod recorder;
+mod request;
 mod rooms;
 mod told;
 
+pub use buffer::Buffer;
 pub use event::{Event, MarkKind, TakenKind};
 pub use latest::Last;
 pub use recorder::{ENDLESS, Recorder};
+pub use request::{LentRequest, RequestKind};

@@ -1,14 +1,16 @@
 // The entries of a history, or what is kept of them.
-ghost use Rattle.std.specs.Prelude.{◌≡◌, ◌≤◌, ◌<◌, ◌+◌, ◌-◌, ◌++◌, ◌∷◌, [], true, length, slice_get, option_copied, option_map, IfOk, IfSome, OnOk, OnErr};
+ghost use Rattle.std.specs.Prelude.{◌≡◌, ◌≤◌, ◌<◌, ◌+◌, ◌-◌, ◌++◌, ◌∷◌, [], true, false, length, slice_get, option_copied, option_map, IfOk, IfSome, IsOk, OnOk, OnErr};
 ghost use Rattle.nv_recorder.specs.Event.{entry_of};
 ghost use Rattle.nv_recorder.specs.Latest.{last_of};
 ghost use Rattle.nv_recorder.specs.Recorder.{keeps};
+ghost use Rattle.nv_recorder.specs.Request.{request_lent};
 
 use crate::event::Event;
 use crate::latest::{Last, Latest};
+use crate::request::LentRequest;
 use crate::rooms::Rooms;
 use crate::told::Told;
-use nv_base::{Bytes, Entry, History};
+use nv_base::{Bytes, Entry, History, Reply};
 use std::alloc::{AllocError, Global};
 use std::marker::Model;
 
@@ -120,6 +122,7 @@ impl Recorder {
         ensures room { OnOk result (count ≤ self.new.reserved) }
         ensures grows { self.old.reserved ≤ self.new.reserved }
         ensures err { OnErr result (self.new ≡ self.old) }
+        ensures counted { keeps self.old.cap ≡ false → IsOk result }
     {
         if count <= self.reserved {
             return Ok(());
@@ -130,6 +133,18 @@ impl Recorder {
         }
         self.reserved = count;
         Ok(())
+    }
+
+    /// Counts on `count` more entries, those that are reserved already counted, where entries aren't kept: they take no memory.
+    pub fn count_on(&mut self, count: u32)
+        requires counted { keeps self.old.cap ≡ false }
+        ensures same { record self.new { reserved = self.old.reserved } ≡ self.old }
+        ensures room { count ≤ self.new.reserved }
+        ensures grows { self.old.reserved ≤ self.new.reserved }
+    {
+        if self.reserved < count {
+            self.reserved = count;
+        }
     }
 
     /// Adds an entry behind the others, in memory that was reserved.
@@ -168,6 +183,24 @@ impl Recorder {
         } else {
             self.latest.note(event, content);
         }
+    }
+
+    /// Adds the entry of a request, whose content is lent, where entries aren't kept: it stands until the next one is added. It takes no
+    /// memory.
+    pub fn note_request(&mut self, caller: u8, request: LentRequest<'_>, reply: Reply)
+        requires counted { keeps self.old.cap ≡ false }
+        requires below { length self.old.entries < self.old.cap }
+        requires room { 0 < self.old.reserved }
+        requires fits { length request.content.now ≤ self.old.longest }
+        ensures { self.new ≡ record self.old {
+          entries = self.old.entries ++ Entry.Ask caller (request_lent request.entry) reply ∷ [];
+          reserved = self.old.reserved - 1;
+        } }
+    {
+        self.told = self.told.with_request(caller, request, reply);
+        self.count += 1;
+        self.reserved -= 1;
+        self.latest.note_request(caller, request, reply);
     }
 }
 

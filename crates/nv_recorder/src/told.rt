@@ -2,9 +2,10 @@
 ghost use Rattle.std.specs.Prelude.{◌≡◌, [], ◌∷◌, ◌++◌, List, option_copied};
 ghost use Rattle.nv_base.specs.declared.entry.Entry.{Entry};
 ghost use Rattle.nv_recorder.specs.Event.{entry_of};
+ghost use Rattle.nv_recorder.specs.Request.{request_lent};
 
-use crate::Event;
-use nv_base::Entry;
+use crate::{Event, LentRequest};
+use nv_base::{Entry, Reply};
 use std::marker::Model;
 
 /// All entries that were added, the oldest first. It has no bytes: contracts read it as `items`.
@@ -44,6 +45,13 @@ impl Told {
         lent_behind(self, event, content)
     }
 
+    /// With the entry of a request behind them, whose content is lent.
+    pub fn with_request(&self, caller: u8, request: LentRequest<'_>, reply: Reply) -> Told
+        ensures { result.items ≡ self.now.items ++ Entry.Ask caller (request_lent request.entry) reply ∷ [] }
+    {
+        request_behind(self, caller, request, reply)
+    }
+
     // The entries that a proof picks.
     fn picked() -> Told
         ghost items: { List Entry }
@@ -65,6 +73,14 @@ fn lent_behind(told: &Told, event: Event, content: Option<&[u8]>) -> Told
     ghost items: { List Entry }
     requires { items ≡ told.now.items ++ entry_of event (option_copied content) ∷ [] }
     ensures { result.items ≡ told.now.items ++ entry_of event (option_copied content.entry) ∷ [] }
+{
+    Told::picked()
+}
+
+fn request_behind(told: &Told, caller: u8, request: LentRequest<'_>, reply: Reply) -> Told
+    ghost items: { List Entry }
+    requires { items ≡ told.now.items ++ Entry.Ask caller (request_lent request) reply ∷ [] }
+    ensures { result.items ≡ told.now.items ++ Entry.Ask caller (request_lent request.entry) reply ∷ [] }
 {
     Told::picked()
 }

@@ -18,18 +18,21 @@ use Rattle.nvm_laws.specs.block_machine.Blocks.{job_block, kind_of, mark_by, mar
 use Rattle.nvm_laws.specs.promise_blocks.Payment.{Worn}
 use Rattle.nvm_core.specs.OperationStart.{LeavesDevice}
 use Rattle.nvm_laws.specs.job_programs.Program.{operation, works}
-use Rattle.nvm_laws.specs.job_progress.Hand.{HandState}
+use Rattle.nvm_laws.specs.block_machine.Steps.{after_from}
+use Rattle.nvm_laws.specs.job_progress.Hand.{HandState, with_start}
 use Rattle.nvm_laws.specs.nvm_device_laws.Turn.{settled_by, wrote_by}
 use Rattle.nvm_laws.specs.AtDevice.{Begins}
+use Rattle.nvm_laws.specs.Turns.{hand_by}
 use Rattle.nvm_laws.specs.declared.turned.Turned.{Turned}
 use Rattle.nvm_laws.specs.declared.turned.Turned.TheVariants as turned
 use Rattle.nvm_core.specs.BehindDevice.{TurnsDevice, asked_by}
 use Rattle.nvm_core.specs.Operations.{left_on, number_tried, start_raises, IsTryOver}
 use Rattle.nvm_core.proofs.Operations.{starts_raise, turns_take_left}
 use Rattle.nvm_laws.specs.promise_blocks.Moves.{Moment, Move, entry_list, is_found, is_picked, is_off as is_off_entry}
-use Rattle.nvm_laws.specs.promise_blocks.Work.{Costs, EndsTry, IsWorked, MayBegin, pages_needed as needed, begun_adds, loss_adds, has_risen, is_posted, is_written, try_adds}
-use Rattle.nvm_core.specs.DeviceWork.{IsSimple, costs_in, moment_in, work_in}
+use Rattle.nvm_laws.specs.promise_blocks.Work.{Costs, EndsTry, IsWorked, MayBegin, pages_needed as needed, begun_adds, loss_adds, has_risen, is_posted, is_written, tries_of, try_adds}
+use Rattle.nvm_core.specs.DeviceWork.{IsSimple, costs_in, moment_in, tries_left, work_in}
 use Rattle.nvm_core.proofs.AtOperation.{AtOperation, open_same}
+use Rattle.nvm_core.proofs.TriesLeft.{begun_takes, turned_few}
 
 -- NUMBERS AND TESTS
 pub none_some : {X : Type 0} (n : ℕ) → None ≡ Some n → X
@@ -147,49 +150,54 @@ settles_none : (stand : Stand) (ops : ℕ) → settled_by stand stand ops ≡ No
 settles_none (Open j) ops = refl
 settles_none (Ended result given) ops = refl
 
--- it posts nothing
-settled_posts : (old new : Stand) (ops : ℕ) → is_posted (settled_by old new ops) ≡ false
+-- it posts nothing, and picks nothing
+abbrev IsOther : Option Entry → Type 0
+IsOther e = (is_posted e ≡ false) × (is_picked e ≡ false)
+
+settled_posts : (old new : Stand) (ops : ℕ) → IsOther (settled_by old new ops)
 settled_posts (Open j) (Ended JobOk given) ops = wrote j.mark
   where
-    wrote : (mark : Option Mark) → is_posted (wrote_by j.number mark ops) ≡ false
-    wrote None = refl
-    wrote (Some m) = refl
-settled_posts (Open j) (Ended JobFailed given) ops = refl
-settled_posts (Open j) (Ended JobPending given) ops = refl
-settled_posts (Open j) (Ended JobCanceled given) ops = refl
-settled_posts (Open j) (Ended BlockInconsistent given) ops = refl
-settled_posts (Open j) (Ended BlockInvalid given) ops = refl
-settled_posts (Open j) (Open k) ops = refl
-settled_posts (Ended result given) new ops = refl
+    wrote : (mark : Option Mark) → IsOther (wrote_by j.number mark ops)
+    wrote None = (refl, refl)
+    wrote (Some m) = (refl, refl)
+settled_posts (Open j) (Ended JobFailed given) ops = (refl, refl)
+settled_posts (Open j) (Ended JobPending given) ops = (refl, refl)
+settled_posts (Open j) (Ended JobCanceled given) ops = (refl, refl)
+settled_posts (Open j) (Ended BlockInconsistent given) ops = (refl, refl)
+settled_posts (Open j) (Ended BlockInvalid given) ops = (refl, refl)
+settled_posts (Open j) (Open k) ops = (refl, refl)
+settled_posts (Ended result given) new ops = (refl, refl)
 
-asked_posts : (answer : Turned) (old new : Stand) (ops : ℕ) → is_posted (asked_by answer old new ops) ≡ false
-asked_posts turned.Off old new ops = refl
+asked_posts : (answer : Turned) (old new : Stand) (ops : ℕ) → IsOther (asked_by answer old new ops)
+asked_posts turned.Off old new ops = (refl, refl)
 asked_posts turned.Idle old new ops = settled_posts old new ops
 asked_posts turned.Worked old new ops = settled_posts old new ops
 asked_posts turned.Picked old new ops = settled_posts old new ops
 asked_posts turned.Posted old new ops = settled_posts old new ops
 
 -- A TURN BEHIND THE FIRST HALF
--- what the first half began: the device before it and between
-pub record HalfBegins (c : Configuration) (s : State) (room : ℕ → Type 0) (d b : DeviceTold) : Type 0 where
+-- what the first half began: the hand and the device before it and between
+pub record HalfBegins (c : Configuration) (s : State) (room : ℕ → Type 0) (hand hand_b : Option HandState) (d b : DeviceTold) : Type 0 where
   pub begins : Option ℕ
   pub tried : (if is_some begins then begins else number_tried d.stand) ≡ number_tried b.stand
-  pub may : (n : ℕ) → begins ≡ Some n → MayBegin c s (work_in d) n
+  pub may : (n : ℕ) → begins ≡ Some n → MayBegin c s (work_in hand d) n
+  pub tries : tries_left hand_b (is_open b.stand) + (if is_some begins then 1 else 0) ≤ tries_left hand (is_open d.stand)
   pub raises : (test : ℕ → Bool) → ((n : ℕ) → test n ≡ true → room n) → (before : Moment) → before.busy ≡ not (nothing_open d)
       → b.left ≤ d.left + begun_adds (costs_in d.fixed) test c before s begins + (if is_read b.stand then 1 else 0)
 
 module _ (c : Configuration) (s : State) (room : ℕ → Type 0) (d b : DeviceTold) where
-  pub same_begins : b ≡ d → HalfBegins c s room d b
-  same_begins same = record {
+  pub same_begins : (hand hand_b : Option HandState) → tries_left hand_b (is_open d.stand) ≡ tries_left hand (is_open d.stand) → b ≡ d → HalfBegins c s room hand hand_b d b
+  same_begins hand hand_b tries same = record {
     begins = None;
     tried = ap (λ (x : DeviceTold). number_tried x.stand) (sym same);
     may = λ n none. none_some n none;
+    tries = let stood : tries_left hand_b (is_open b.stand) ≡ tries_left hand_b (is_open d.stand) = ap (λ (x : DeviceTold). tries_left hand_b (is_open x.stand)) same in omega (arith, stood, tries);
     raises = λ test has before busy. let left : b.left ≡ d.left = ap (λ (x : DeviceTold). x.left) same in omega (arith, left);
   }
 
   -- the device took the operation of the job in hand
   module _ (simple : IsSimple d.fixed) (on : is_off d ≡ false) (clock : Clock) (roomy : RoomIsLeft b clock) (free : (n : ℕ) → room n → (x : ℕ) × clock.spare b.ops x × (n ≤ x))
-      (h : HandState) (begun : Begins h d b) (at : AtOperation c s b.stand) where
+      (h : HandState) (few : h.program.failures ≤ h.program.retries) (begun : Begins h d b) (at : AtOperation c s b.stand) where
     stand_is : b.stand ≡ Open begun.wish.job
     stand_is = ap (λ (x : DeviceTold). x.stand) begun.accepts.1.only
 
@@ -214,11 +222,12 @@ module _ (c : Configuration) (s : State) (room : ℕ → Type 0) (d b : DeviceTo
     number = number_of (record { block = job_block at.job; index = at.index })
 
     -- a read raises what is left by one turn
-    reads : is_some (mark_of at.job) ≡ false → HalfBegins c s room d b
+    reads : is_some (mark_of at.job) ≡ false → HalfBegins c s room (Some h) (Some (with_start h)) d b
     reads none = record {
       begins = None;
       tried = none_tried ∙ sym (ap number_tried at.is ∙ ap (λ (t : Bool). if t then Some number else None) none);
       may = λ n no_one. none_some n no_one;
+      tries = let takes = begun_takes h d b few begun in omega (arith, takes);
       raises = λ test has before busy.
           let high = begun.accepts.1.left_high in
           let mark : begun.wish.job.mark ≡ None = ap (λ (j : memif.Job). j.mark) job_is ∙ is_none (mark_of at.job) none in
@@ -232,7 +241,7 @@ module _ (c : Configuration) (s : State) (room : ℕ → Type 0) (d b : DeviceTo
         is_none (Some m) no_one = cc no_one
 
     -- a try of a record
-    tries : is_some (mark_of at.job) ≡ true → HalfBegins c s room d b
+    tries : is_some (mark_of at.job) ≡ true → HalfBegins c s room (Some h) (Some (with_start h)) d b
     tries some = record {
       begins = Some number;
       tried = sym (ap number_tried at.is ∙ ap (λ (t : Bool). if t then Some number else None) some);
@@ -245,6 +254,7 @@ module _ (c : Configuration) (s : State) (room : ℕ → Type 0) (d b : DeviceTo
         one = at.one;
         number_is = sym (some_same number n is);
       };
+      tries = begun_takes h d b few begun;
       raises = λ test has before busy.
           let urgent = (rank_of c at.job).immediate in
           let t = test (needed (costs_in d.fixed) urgent number) in
@@ -258,14 +268,14 @@ module _ (c : Configuration) (s : State) (room : ℕ → Type 0) (d b : DeviceTo
           ∙ ap (start_raises d.fixed t d.switching) (sym job_is) in omega (arith, raise, same);
     }
 
-    pub begins_half : HalfBegins c s room d b
+    pub begins_half : HalfBegins c s room (Some h) (Some (with_start h)) d b
     begins_half = elim (cases_Bool (is_some (mark_of at.job))) [ inl some ↦ tries some | inr none ↦ reads none ]
 
 left_where_on : (d : DeviceTold) → is_off d ≡ false → left_on d ≡ d.left
 left_where_on d on = ap (λ (b : Bool). if b then 0 else d.left) on
 
 module _ (c : Configuration) (s : State) (room : ℕ → ℕ → Type 0) (worn : Worn) (d b n : DeviceTold) (clock_b clock_n : Clock) (answer : Turned) (turns : TurnsDevice answer b clock_b n clock_n)
-    (begun : HalfBegins c s (room d.ops) d b) (leaves : LeavesDevice d b) (on : is_off d ≡ false) (m : Move) (behind : m.behind ≡ moment_in n) (entry : m.entry ≡ asked_by answer b.stand n.stand n.ops)
+    (hand_d hand_b : Option HandState) (begun : HalfBegins c s (room d.ops) hand_d hand_b d b) (leaves : LeavesDevice d b) (on : is_off d ≡ false) (m : Move) (behind : m.behind ≡ moment_in n) (entry : m.entry ≡ asked_by answer b.stand n.stand n.ops)
     (hand : (j : memif.Job) → b.stand ≡ Open j → (job : Job) × (s.hand ≡ Some job) × (j.urgent ≡ (rank_of c job).immediate)) (is_worn : (k : ℕ) (urgent : Bool) → clock_n.worn n.ops k urgent → worn n.ops k urgent) where
   on_b : is_off b ≡ false
   on_b = ap is_off leaves ∙ on
@@ -325,18 +335,20 @@ module _ (c : Configuration) (s : State) (room : ℕ → ℕ → Type 0) (worn :
       let (job, is, urgent) = hand j stands in
       inr (job, is, subst (λ (ops : ℕ). worn ops k (rank_of c job).immediate) (sym ops_now) (subst (λ (t : Bool). worn n.ops k t) urgent (is_worn k j.urgent was)))
 
-  pub works_behind : IsWorked (costs_in d.fixed) room worn c (moment_in d) s (work_in d) m (record { begins = begun.begins; behind = work_in n })
+  pub works_behind : IsWorked (costs_in d.fixed) room worn c (moment_in d) s (work_in hand_d d) m (record { begins = begun.begins; behind = work_in (hand_by b.stand n.stand hand_b) n })
   works_behind =
       let taken = (turns_take_left n clock_n answer b clock_b on_b turns).1 in record {
         begins = begun.may;
         adds = adds_up;
         ends = λ k is. elim (taken.goes k (sym begun.tried ∙ is)) [ inl goes ↦ inl goes | inr over ↦ inr (over.0, why k over.1) ];
         none = λ is. taken.none (sym begun.tried ∙ is);
-        over = λ posted. true_false (is_posted m.entry) posted (ap is_posted entry ∙ asked_posts answer b.stand n.stand n.ops);
+        over = λ posted. true_false (is_posted m.entry) posted (ap is_posted entry ∙ (asked_posts answer b.stand n.stand n.ops).0);
+        tries = let few = turned_few hand_b answer b clock_b n clock_n turns in let began = begun.tries in rw (ap is_picked entry ∙ (asked_posts answer b.stand n.stand n.ops).1) (omega (arith, few, began));
       }
 
 -- A TURN THAT IS ITS FIRST HALF ALONE
-module _ (c : Configuration) (s : State) (room : ℕ → ℕ → Type 0) (worn : Worn) (d n : DeviceTold) (m : Move) (behind : m.behind ≡ moment_in n) (leaves : LeavesDevice d n) where
+module _ (c : Configuration) (s : State) (room : ℕ → ℕ → Type 0) (worn : Worn) (hand hand_n : Option HandState) (d n : DeviceTold) (m : Move) (behind : m.behind ≡ moment_in n) (leaves : LeavesDevice d n)
+    (few : tries_left hand_n (is_open n.stand) ≤ (if is_picked m.entry then tries_of c (after_from c s (entry_list m.entry)) else tries_left hand (is_open d.stand))) where
   ops_same : m.behind.ops ≡ d.ops
   ops_same = ap (λ (x : Moment). x.ops) behind ∙ ap (λ (x : DeviceTold). x.ops) leaves
 
@@ -348,21 +360,23 @@ module _ (c : Configuration) (s : State) (room : ℕ → ℕ → Type 0) (worn :
       by false on = let here = left_where_on d on in let there = left_where_on n (ap is_off leaves ∙ on) in omega (arith, here, there, less)
 
   -- nothing changed
-  pub works_same : n ≡ d → (is_posted m.entry ≡ true → number_tried d.stand ≡ None) → IsWorked (costs_in d.fixed) room worn c (moment_in d) s (work_in d) m (record { begins = None; behind = work_in n })
+  pub works_same : n ≡ d → (is_posted m.entry ≡ true → number_tried d.stand ≡ None) → IsWorked (costs_in d.fixed) room worn c (moment_in d) s (work_in hand d) m (record { begins = None; behind = work_in hand_n n })
   works_same same over = record {
     begins = λ k is. none_some k is;
     adds = λ test has. let less = left_less (let left : n.left ≡ d.left = ap (λ (x : DeviceTold). x.left) same in omega (arith, left)) in omega (arith, ops_same, less);
     ends = λ k is. inl (ap (λ (x : DeviceTold). number_tried x.stand) same ∙ is);
     none = λ is. ap (λ (x : DeviceTold). number_tried x.stand) same ∙ is;
     over = over;
+    tries = omega (arith, few);
   }
 
   -- a Pick, which cancels what is open
-  pub works_picked : n.left ≤ d.left → number_tried n.stand ≡ None → is_picked m.entry ≡ true → is_posted m.entry ≡ false → IsWorked (costs_in d.fixed) room worn c (moment_in d) s (work_in d) m (record { begins = None; behind = work_in n })
+  pub works_picked : n.left ≤ d.left → number_tried n.stand ≡ None → is_picked m.entry ≡ true → is_posted m.entry ≡ false → IsWorked (costs_in d.fixed) room worn c (moment_in d) s (work_in hand d) m (record { begins = None; behind = work_in hand_n n })
   works_picked less none picked not_posted = record {
     begins = λ k is. none_some k is;
     adds = λ test has. let fewer = left_less less in omega (arith, ops_same, fewer);
     ends = λ k is. inr (none, inl (ap (λ (t : Bool). is_written k m.entry || (has_risen (faults_of d) m.behind.faults || (t || is_found m.entry))) picked ∙ ap (λ (t : Bool). is_written k m.entry || t) (or_true (has_risen (faults_of d) m.behind.faults)) ∙ or_true (is_written k m.entry)));
     none = λ is. none;
     over = λ posted. true_false (is_posted m.entry) posted not_posted;
+    tries = omega (arith, few);
   }

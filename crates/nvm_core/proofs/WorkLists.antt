@@ -51,6 +51,7 @@ module _ (f : Costs) (room : ℕ → ℕ → Type 0) (worn : Worn) (c : Configur
     ends = λ n is. inl is;
     none = λ is. is;
     over = λ posted. cc posted;
+    tries = omega arith;
   }
 
   pub ask_worked : (before : Moment) (s : State) (w : Work) (caller : ℕ) (r : Request) (reply : Reply) → AreWorkedTo f room worn c before s w w (record { entry = Some (Ask caller r reply); behind = before } ∷ [])

@@ -1,10 +1,12 @@
 -- The device's work, in the promise's words.
-use Rattle.std.specs.Prelude.{◌≡◌, ℕ, not, if◌then◌else◌, List}
-use Rattle.nvm_laws.specs.memif.Told.{DeviceTold, Fixed, faults_of, figures_at, most_of, nothing_open}
+use Rattle.std.specs.Prelude.{◌≡◌, ℕ, Bool, not, if◌then◌else◌, List, Option, Some, None}
+use Rattle.nvm_laws.specs.memif.Told.{DeviceTold, Fixed, faults_of, figures_at, is_open, most_of, nothing_open}
 use Rattle.nvm_laws.specs.block_machine.Words.{Configuration}
 use Rattle.nvm_laws.specs.block_machine.State.{State}
 use Rattle.nvm_laws.specs.promise_blocks.Payment.{Worn}
 use Rattle.nvm_laws.specs.job_programs.Program.{operation, works}
+use Rattle.nvm_laws.specs.job_progress.Hand.{HandState}
+use Rattle.nvm_laws.specs.nvm_figures.Drain.{tries_ahead}
 use Rattle.nvm_found.specs.Found.{ReadAtOnce}
 use Rattle.nvm_core.specs.DueWrites.{AreFirst}
 use Rattle.nvm_core.specs.Operations.{left_on, number_tried}
@@ -25,9 +27,14 @@ pub record IsSimple (f : Fixed) : Type 0 where
   pub first : AreFirst f
   pub reads : ReadAtOnce f
 
--- what is open at the device
-abbrev pub work_in : DeviceTold → Work
-work_in d = record { left = left_on d; trying = number_tried d.stand }
+-- of the job in hand, the tries that aren't started
+abbrev pub tries_left : Option HandState → (busy : Bool) → ℕ
+tries_left None busy = 0
+tries_left (Some h) busy = tries_ahead h.program busy
+
+-- what is open at the device, with this hand
+abbrev pub work_in : Option HandState → DeviceTold → Work
+work_in hand d = record { left = left_on d; trying = number_tried d.stand; tries = tries_left hand (is_open d.stand) }
 
 -- what is told of it at a moment
 abbrev pub moment_in : DeviceTold → Moment

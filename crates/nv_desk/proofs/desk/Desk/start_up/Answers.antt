@@ -1,7 +1,8 @@
-use Rattle.std.proofs.Common.{[], refl, arith}
+use Rattle.std.proofs.Common.{[], refl, arith, sym, ◌∙◌, None}
 use Rattle.block_machine.specs.Words.{Found}
 use Rattle.block_machine.specs.Steps.{after}
 use Rattle.nv_desk.proofs.Entries.{pushed, entry_kept}
+use Rattle.nv_desk.proofs.Dropping.{all_back, held_in, without_jobs}
 use Rattle.nv_desk.proofs.Ready.{all_ready}
 use Rattle.nv_desk.proofs.SoundDriver.{sound_found}
 use Rattle.nv_desk.proofs.desk.Desk.start_up.Goals as goal
@@ -13,10 +14,11 @@ invariant_of-self c =
     let e = Found c.args.marks c.args.ops in
     let fits = rw (← c.self.view_is) at c.requires.fits in
     let room = c.self.invariant.place (rw (← c.self.view_is) at c.requires.prepared) in
-    entry_kept d c.add.new.self c.start_up.new.self d.places e 1 c.self.invariant
-    (pushed d.history d.history c.add.new.self e 1 refl (omega (arith, room.0)) c.add.ensures)
-    (c.start_up.ensures s c.self.invariant.agrees)
+    let held = c.drop_jobs.ensures s.waiting s.hand (held_in d c.self.invariant) in
+    entry_kept d c.add.new.self c.start_up.new.self c.drop_jobs.new.places e 1 c.self.invariant
+    (pushed d.history d.history c.add.new.self e 1 refl (omega (arith, room)) c.add.ensures)
+    (c.start_up.ensures (record s { waiting = []; hand = None }) (without_jobs d.config d.kept s c.drop_jobs.new.jobs c.drop_jobs.new.places c.self.invariant.agrees held))
     (sound_found d.config s c.args.marks c.args.ops)
     (omega arith)
     (omega (arith, fits))
-    (record { count = refl; ready = all_ready d.config [] d.places room.1 })
+    (record { count = held.count ∙ sym c.self.invariant.one_each; ready = all_ready d.config [] c.drop_jobs.new.places (all_back d.config c.drop_jobs.new.jobs c.drop_jobs.new.places held) })

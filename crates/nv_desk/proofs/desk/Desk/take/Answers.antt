@@ -1,6 +1,6 @@
 use Rattle.std.proofs.Common.{rules}
 use Rattle.block_laws.proofs.HistoryLaws.{histories_stay_legal}
-use Rattle.nv_desk.proofs.desk.Desk.ask.Goals as goal
+use Rattle.nv_desk.proofs.desk.Desk.take.Goals as goal
 
 pub returns-in_ok-accept-in-Accepted-clause-legal : goal.returns-in_ok-accept-in-Accepted-clause-legal
 returns-in_ok-accept-in-Accepted-clause-legal c =
