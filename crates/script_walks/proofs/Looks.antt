@@ -44,36 +44,17 @@ not_1 n = ne_eqb 1 (suc (suc n)) (λ e. omega arith)
 no_order : (caller : ℕ) (steps : List Step) (h : List Entry) → program_of caller steps ≡ [] → asks_of caller h ≡ [] → IsInOrder sync_plain caller (program_of caller steps) h
 no_order caller steps h none nothing = rw none (record { requests = rw nothing refl; awaits = λ n. tt })
 
--- STALE
-
-stale_order : (caller : ℕ) → IsInOrder sync_plain caller (program_of caller stores_and_writes) (takes (TookStale 1 0 1))
-stale_order zero = record { requests = refl; awaits = λ n. tt }
-stale_order (suc zero) = record { requests = refl; awaits = awaits }
-  where
-    awaits : (n : ℕ) → KeepsAwait sync_plain 1 (length (requests_of sync_plain (take n (program_of 1 stores_and_writes)))) (takes (TookStale 1 0 1)) (slice_get (program_of 1 stores_and_writes) n)
-    awaits zero = tt
-    awaits (suc zero) = tt
-    awaits (suc (suc n)) = tt
-stale_order (suc (suc n)) = no_order (suc (suc n)) stores_and_writes (takes (TookStale 1 0 1)) (simp (not_1 n) refl) (simp (not_1 n) refl)
+-- A COPY AND ITS LOOK
 
 -- store 0 is there from the first
 no_store : (steps : List Step) (h : List Entry) → CanBeStored sync_plain steps 2 0 h
 no_store steps h place x at some is = absurd (omega (arith, is))
 
-pub stale_run : IsRun sync_plain stores_and_writes (saw 2 0) (takes (TookStale 1 0 1))
-stale_run = record {
-  one_start = refl;
-  order = stale_order;
-  stores = (tt, (tt, (tt, tt)));
-  in_order = one_look _;
-  shown = (tt, (tt, ((record { seen = (0, omega arith, refl); made = no_store stores_and_writes _ }, omega arith), tt)));
-}
+pub no_stale : IsRun sync_plain stores_and_writes (saw 2 0) (takes (TookStale 1 0 1)) → ⊥
+no_stale run = run.shown.1.1.0
 
 nothing_seen : (l : Look) → Contains [] l → ⊥
 nothing_seen l (k, few, is) = omega (arith, few)
-
-pub no_look : IsRun sync_plain stores_and_writes [] (takes (TookStale 1 0 1)) → ⊥
-no_look run = nothing_seen _ run.shown.1.1.0.0.seen
 
 pub no_content_look : IsRun sync_plain stores_and_writes [] (takes (TookContent bytes_1 1)) → ⊥
 no_content_look run = nothing_seen _ run.shown.1.1.0.seen
@@ -82,14 +63,11 @@ one_seen : (l m : Look) → Contains (l ∷ []) m → l ≡ m
 one_seen l m (zero, few, is) = is
 one_seen l m (suc k, few, is) = absurd (omega (arith, few))
 
-pub no_other_entry : IsRun sync_plain stores_and_writes (saw 1 0) (takes (TookStale 1 0 1)) → ⊥
-no_other_entry run = let same : 1 ≡ 2 = ap (λ (l : Look). l.entry) (one_seen _ _ run.shown.1.1.0.0.seen) in omega (arith, same)
+pub no_other_entry : IsRun sync_plain stores_and_writes (saw 1 1) (takes (TookContent bytes_1 1)) → ⊥
+no_other_entry run = let same : 1 ≡ 2 = ap (λ (l : Look). l.entry) (one_seen _ _ run.shown.1.1.0.seen) in omega (arith, same)
 
-pub no_other_store : IsRun sync_plain stores_and_writes (saw 2 1) (takes (TookStale 1 0 1)) → ⊥
-no_other_store run = let same : 1 ≡ 0 = ap (λ (l : Look). l.shown) (one_seen _ _ run.shown.1.1.0.0.seen) in omega (arith, same)
-
-pub no_new_stale : IsRun sync_plain stores_and_writes (saw 2 1) (takes (TookStale 1 1 1)) → ⊥
-no_new_stale run = let less : 1 < 1 = run.shown.1.1.0.1 in omega (arith, less)
+pub no_other_store : IsRun sync_plain stores_and_writes (saw 2 0) (takes (TookContent bytes_1 1)) → ⊥
+no_other_store run = let same : 0 ≡ 1 = ap (λ (l : Look). l.shown) (one_seen _ _ run.shown.1.1.0.seen) in omega (arith, same)
 
 -- STORES IN TIME
 

@@ -15,8 +15,7 @@ use Rattle.block_machine.specs.Words.{Request, Reply, TookNothing, TookContent, 
 use Rattle.block_machine.specs.Next.{next_of}
 use Rattle.block_machine.specs.StartUp.{at_first}
 use Rattle.block_machine.specs.Steps.{step, after}
-use Rattle.script_walks.specs.Walk.{TakesStore, copies_by, StoresGrow}
-use Rattle.script_walks.specs.Turn.{copies_next}
+use Rattle.script_walks.specs.Walk.{TakesStore, copies_by, copies_next, StoresGrow}
 use Rattle.script_walks.specs.Callers.{program_of, requests_of, asks_of, WaitedFor, KeepsAwait, KeepsAwaitBy, IsInOrder}
 use Rattle.script_walks.specs.Looks.{Look, AreInOrder, StepsStayMade, IsShown, CopyIsShown, CopiesAreShown}
 use Rattle.script_walks.specs.Runs.{is_found, IsRun, IsNextAsk, RunsGrow}
@@ -156,7 +155,7 @@ more_shown : (c : Configuration) (steps : List Step) (looks more : List Look) (b
 more_shown c steps looks more before block number is = record { seen = Contains-append_left looks more _ is.seen; made = is.made }
 
 more_looks : (c : Configuration) (steps : List Step) (looks more : List Look) (before : List Entry) (e : Entry) (copies : Bool) → CopyIsShown c steps looks before e copies → CopyIsShown c steps (looks ++ more) before e copies
-more_looks c steps looks more before (Pick block kind (TookStale asked got count) ops) copies is = (more_shown c steps looks more before block got is.0, is.1)
+more_looks c steps looks more before (Pick block kind (TookStale asked got count) ops) copies is = absurd is
 more_looks c steps looks more before (Pick block kind (TookContent bytes number) ops) true is = more_shown c steps looks more before block number is
 more_looks c steps looks more before (Pick block kind (TookContent bytes number) ops) false is = tt
 more_looks c steps looks more before (Pick block kind TookNothing ops) copies is = tt

@@ -15,9 +15,9 @@ use Rattle.block_laws.specs.Consistent.{Each}
 use Rattle.block_laws.proofs.HistoryLaws.{histories_go_on}
 use Rattle.block_laws.proofs.NextLaws.{next_is_waiting}
 use Rattle.script_walks.specs.Words.{Step}
-use Rattle.script_walks.specs.Walk.{stores_of, store_content, copies_by, TakesStore, TakesStores, is_played, is_due, begins_with_pick_or_post}
+use Rattle.script_walks.specs.Walk.{stores_of, store_content, copies_by, copies_next, TakesStore, TakesStores, TakesLast, TakesLasts, is_played, is_due, begins_with_pick_or_post}
 use Rattle.script_walks.specs.Stores.{IsNewest, AreNewest, CopiesOf, IsStored, TookStored, JobsTookStored}
-use Rattle.script_walks.specs.Turn.{copies_next, TakesNewest, IsOfTurn, IsOneOrNone}
+use Rattle.script_walks.specs.Turn.{TakesNewest, IsOfTurn, IsOneOrNone}
 use Rattle.script_walks.specs.StoreLaws.{TurnsKeepStored, KeepingGoesOn, TurnsGrow}
 use Rattle.script_walks.proofs.Jobs.{each_right, each_kept, hand_stored, waiting_stored}
 
@@ -185,10 +185,11 @@ member_copies c sw id = member_flag c sw.writes id
 
 -- THE ENTRY OF A TURN
 
--- it is played, takes what was stored, and so do the jobs behind it
+-- it is played, takes what was stored, a copy as the last one, and so do the jobs behind it
 record Keeps (c : Configuration) (before : List Step) (s : State) (e : Entry) : Type 0 where
   pub played : is_played e ≡ true
   pub takes : TakesStore c before (copies_by c (next_of c s)) e
+  pub last : TakesLast before e (copies_next c (next_of c s))
   pub jobs : JobsTookStored c before (step c s e)
 
 fresh_is_played : (block : ℕ) (kind : JobKind) (t : Taken) (ops : ℕ) → IsFresh t → is_played (Pick block kind t ops) ≡ true
@@ -235,22 +236,56 @@ pick_keeps c before s stores block kind t ops (PostMember sw id) is newest all m
 pick_keeps c before s stores block kind t ops (EndSweep sw) is newest all may takes = absurd may
 pick_keeps c before s stores block kind t ops Nothing is newest all may takes = absurd may
 
+right_of : (a b : Bool) → (a && b) ≡ true → b ≡ true
+right_of true b both = both
+right_of false b both = cc
+
+-- what is copied is synchronized RAM
+copied_synchronized : (c : Configuration) (s : State) (block : ℕ) (kind : JobKind) (t : Taken) (n : Next) → MayPick c s block kind t n → copies_next c n ≡ true → is_synchronized (desc_of c block).ram ≡ true
+copied_synchronized c s block kind t (PickJob j) may copies =
+    let named : (names_ram j.request && is_synchronized (desc_of c (job_block j)).ram) ≡ true = right_of (not (is_some j.content)) (names_ram j.request && is_synchronized (desc_of c (job_block j)).ram) copies in
+    subst (λ (id : ℕ). is_synchronized (desc_of c id).ram ≡ true) (sym may.same_block) (right_of (names_ram j.request) (is_synchronized (desc_of c (job_block j)).ram) named)
+copied_synchronized c s block kind t (PickMember sw id) may copies =
+    let named : (names_ram (member_job c sw id).request && is_synchronized (desc_of c (job_block (member_job c sw id))).ram) ≡ true = sym (member_copies c sw id) ∙ copies in
+    subst (λ (id : ℕ). is_synchronized (desc_of c id).ram ≡ true) (sym may.same_block) (right_of (names_ram (member_job c sw id).request) (is_synchronized (desc_of c (job_block (member_job c sw id))).ram) named)
+copied_synchronized c s block kind t (BeginSweep sw) may copies = absurd (cc copies)
+copied_synchronized c s block kind t (PostMember sw id) may copies = absurd may
+copied_synchronized c s block kind t (EndSweep sw) may copies = absurd may
+copied_synchronized c s block kind t Nothing may copies = absurd may
+
+-- the newest store is the last one
+pick_last : (c : Configuration) (before : List Step) (stores : List (ℕ × List ℕ)) (copies : Bool) (block : ℕ) (kind : JobKind) (t : Taken) (ops : ℕ)
+    → (copies ≡ true → IsNewest c before block (get_or stores block (0, []))) → TakesNewest stores copies block t → TakesLast before (Pick block kind t ops) copies
+pick_last c before stores true block kind (TookContent bytes number) ops newest is = subst (λ (x : ℕ × List ℕ). x.0 ≡ length (stores_of block before)) is (newest refl).number
+pick_last c before stores true block kind TookNothing ops newest is = tt
+pick_last c before stores true block kind (TookRefused count) ops newest is = tt
+pick_last c before stores true block kind (TookStale wanted got count) ops newest is = tt
+pick_last c before stores false block kind (TookContent bytes number) ops newest is = tt
+pick_last c before stores false block kind TookNothing ops newest is = tt
+pick_last c before stores false block kind (TookRefused count) ops newest is = tt
+pick_last c before stores false block kind (TookStale wanted got count) ops newest is = tt
+
 entry_keeps : (c : Configuration) (before : List Step) (s : State) (stores : List (ℕ × List ℕ)) (e : Entry) → AreNewest c before stores → JobsTookStored c before s → IsOfTurn c s stores e → Keeps c before s e
 entry_keeps c before s stores (Ask caller r reply) newest all turn = absurd turn
 entry_keeps c before s stores (Pick block kind t ops) newest all turn =
     let (played, takes, jobs) = pick_keeps c before s stores block kind t ops (next_of c s) refl newest all turn.may turn.newest in
-    record { played = played; takes = takes; jobs = jobs }
-entry_keeps c before s stores (Wrote i mark ops) newest all turn = record { played = refl; takes = none_taken _; jobs = wrote_stored c before s i mark s.hand refl all }
+    record {
+      played = played;
+      takes = takes;
+      last = pick_last c before stores (copies_next c (next_of c s)) block kind t ops (λ copies. newest block (copied_synchronized c s block kind t (next_of c s) turn.may copies)) turn.newest;
+      jobs = jobs;
+    }
+entry_keeps c before s stores (Wrote i mark ops) newest all turn = record { played = refl; takes = none_taken _; last = tt; jobs = wrote_stored c before s i mark s.hand refl all }
   where
     none_taken : (copies : Bool) → TakesStore c before copies (Wrote i mark ops)
     none_taken true = tt
     none_taken false = tt
-entry_keeps c before s stores (Post block r given refused ops) newest all turn = record { played = refl; takes = none_taken _; jobs = posted_stored c before s r given s.hand all }
+entry_keeps c before s stores (Post block r given refused ops) newest all turn = record { played = refl; takes = none_taken _; last = tt; jobs = posted_stored c before s r given s.hand all }
   where
     none_taken : (copies : Bool) → TakesStore c before copies (Post block r given refused ops)
     none_taken true = tt
     none_taken false = tt
-entry_keeps c before s stores (Off ops) newest all turn = record { played = refl; takes = none_taken _; jobs = all }
+entry_keeps c before s stores (Off ops) newest all turn = record { played = refl; takes = none_taken _; last = tt; jobs = all }
   where
     none_taken : (copies : Bool) → TakesStore c before copies (Off ops)
     none_taken true = tt
@@ -258,10 +293,10 @@ entry_keeps c before s stores (Off ops) newest all turn = record { played = refl
 entry_keeps c before s stores (Found marks ops) newest all turn = absurd turn
 
 pub turns_keep_stored : TurnsKeepStored
-turns_keep_stored c before s stores [] newest all turn = record { played = refl; stores = tt; jobs = all }
+turns_keep_stored c before s stores [] newest all turn = record { played = refl; stores = tt; last = tt; jobs = all }
 turns_keep_stored c before s stores (e ∷ []) newest all turn =
     let keeps = entry_keeps c before s stores e newest all turn.entry in
-    record { played = rw keeps.played refl; stores = (keeps.takes, tt); jobs = keeps.jobs }
+    record { played = rw keeps.played refl; stores = (keeps.takes, tt); last = (keeps.last, tt); jobs = keeps.jobs }
 turns_keep_stored c before s stores (e ∷ f ∷ es) newest all turn = absurd turn.entry
 
 -- MORE
@@ -269,6 +304,10 @@ turns_keep_stored c before s stores (e ∷ f ∷ es) newest all turn = absurd tu
 takes_more : (c : Configuration) (before : List Step) (s : State) (es more : List Entry) → TakesStores c before s es → TakesStores c before (after_from c s es) more → TakesStores c before s (es ++ more)
 takes_more c before s [] more takes next = next
 takes_more c before s (e ∷ es) more takes next = (takes.0, takes_more c before (step c s e) es more takes.1 next)
+
+last_more : (c : Configuration) (before : List Step) (s : State) (es more : List Entry) → TakesLasts c before s es → TakesLasts c before (after_from c s es) more → TakesLasts c before s (es ++ more)
+last_more c before s [] more last next = next
+last_more c before s (e ∷ es) more last next = (last.0, last_more c before (step c s e) es more last.1 next)
 
 all_more : (es more : List Entry) → list_all is_played es ≡ true → list_all is_played more ≡ true → list_all is_played (es ++ more) ≡ true
 all_more [] more one two = two
@@ -281,6 +320,7 @@ pub keeping_goes_on : KeepingGoesOn
 keeping_goes_on c before s es more one two = record {
   played = all_more es more one.played two.played;
   stores = takes_more c before s es more one.stores two.stores;
+  last = last_more c before s es more one.last two.last;
   jobs = subst (λ (t : State). JobsTookStored c before t) (sym (histories_go_on c s es more)) two.jobs;
 }
 

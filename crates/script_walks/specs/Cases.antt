@@ -1,9 +1,9 @@
 -- Scripts of the worked cases, and runs of several callers.
-use Rattle.std.specs.Prelude.{ℕ, List, [], ◌∷◌, ◌++◌, take, drop, None}
+use Rattle.std.specs.Prelude.{ℕ, true, List, [], ◌∷◌, ◌++◌, take, drop, None}
 use Rattle.script_walks.specs.Words.{Step, StepKind, AskStep, Store, Turn, Drain, Restart, Cut, Refuse, Await}
 use Rattle.block_machine.specs.block_config.Block.{plain_block}
-use Rattle.block_machine.specs.Words.{Fine, Request, Write, Status, Accepted, Refused, StatusIs, BlockPending, ReadJob, WriteJob, Taken, TookContent, Entry, Ask, Pick, Found, Configuration}
-use Rattle.block_machine.specs.Cases.{write, read, pick, pick_write, wrote, post, give, bytes_1, bytes_2, four, cap, config_of}
+use Rattle.block_machine.specs.Words.{Fine, BlockSkipped, Request, Write, SetRam, WriteAll, Status, Accepted, Refused, StatusIs, BlockPending, ReadJob, WriteJob, WriteAllJob, Taken, TookContent, Entry, Ask, Pick, Found, Configuration, Sync}
+use Rattle.block_machine.specs.Cases.{ok, write, read, pick, pick_write, wrote, post, give, bytes_1, bytes_2, four, cap, config_of}
 use Rattle.script_walks.specs.Walk.{IsWalkOf}
 use Rattle.script_walks.specs.Looks.{Look}
 use Rattle.block_machine.specs.Legal.{IsLegal}
@@ -71,6 +71,22 @@ stale_steps = does (Store 2 bytes_1) ∷ asks (Write 2 None 0) ∷ does (Turn 1)
 -- what caller 1's write takes in a run
 abbrev pub stored_pick : List ℕ → ℕ → List Entry
 stored_pick bytes n = Found [] 0 ∷ Ask 1 (Write 2 None 1) Accepted ∷ Pick 2 WriteJob (TookContent bytes n) 0 ∷ []
+
+-- COPIES OF A WRITEALL
+
+-- a synchronized block that WriteAll writes
+abbrev pub synced_member : Configuration
+synced_member = config_of (record (plain_block 4) { ram = Sync; writeall = true } ∷ [])
+
+-- caller 0 stores, says that the RAM changed, and writes all
+abbrev pub stores_and_writes_all : List Step
+stores_and_writes_all = does (Store 2 (four 10)) ∷ asks (SetRam 2 true) ∷ asks WriteAll ∷ drain ∷ []
+
+-- its member takes this store, is written and posted, and block 1 is skipped
+abbrev pub member_takes : List ℕ → ℕ → List Entry
+member_takes bytes number =
+    Found [] 0 ∷ ok (SetRam 2 true) ∷ ok WriteAll ∷ pick 0 WriteAllJob 0 ∷ Pick 2 WriteJob (TookContent bytes number) 0 ∷ wrote 2 0 bytes 10
+    ∷ post 2 Fine 10 ∷ post 1 BlockSkipped 10 ∷ post 0 Fine 10 ∷ []
 
 -- LOOKS
 

@@ -4,8 +4,7 @@ use Rattle.script_walks.specs.Words.{Step, Await}
 use Rattle.block_machine.specs.Words.{TookContent, TookStale, Entry, Pick, Configuration}
 use Rattle.block_machine.specs.Next.{next_of}
 use Rattle.block_machine.specs.Steps.{after}
-use Rattle.script_walks.specs.Walk.{store_by, stores_of}
-use Rattle.script_walks.specs.Turn.{copies_next}
+use Rattle.script_walks.specs.Walk.{store_by, stores_of, copies_next}
 use Rattle.script_walks.specs.Callers.{program_of, requests_of, asks_of, WaitedFor}
 
 -- A look of the driver at a block in the Pick that is this entry: the number of the newest store that it showed.
@@ -41,9 +40,9 @@ pub record IsShown (c : Configuration) (steps : List Step) (looks : List Look) (
   pub seen : Contains looks (record { entry = length before; block = block; shown = number })
   pub made : CanBeStored c steps block number before
 
--- A Pick that copies takes the store that a look in that very Pick showed; one that is stale was shown one that is too old.
+-- A Pick that copies takes the store that a look in that very Pick showed; so none is stale.
 abbrev pub CopyIsShown : Configuration → List Step → List Look → (before : List Entry) → Entry → (copies : Bool) → Type 0
-CopyIsShown c steps looks before (Pick block kind (TookStale asked got count) ops) copies = IsShown c steps looks before block got × (got < asked)
+CopyIsShown c steps looks before (Pick block kind (TookStale asked got count) ops) copies = ⊥
 CopyIsShown c steps looks before (Pick block kind (TookContent bytes number) ops) true = IsShown c steps looks before block number
 CopyIsShown c steps looks before e copies = Unit {0}
 

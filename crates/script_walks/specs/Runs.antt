@@ -7,8 +7,7 @@ use Rattle.block_machine.specs.Next.{next_of}
 use Rattle.block_machine.specs.Reply.{fits}
 use Rattle.block_machine.specs.StartUp.{at_first}
 use Rattle.block_machine.specs.Steps.{after}
-use Rattle.script_walks.specs.Walk.{TakesStore, TakesStores, copies_by, is_at_rest}
-use Rattle.script_walks.specs.Turn.{copies_next}
+use Rattle.script_walks.specs.Walk.{TakesStore, TakesStores, copies_by, copies_next, is_at_rest}
 use Rattle.script_walks.specs.Callers.{program_of, requests_of, asks_of, WaitedFor, IsInOrder}
 use Rattle.script_walks.specs.Looks.{Look, AreInOrder, CopyIsShown, CopiesAreShown}
 

@@ -6,15 +6,16 @@ use Rattle.block_machine.specs.State.{State}
 use Rattle.block_machine.specs.Steps.{step, after_from}
 use Rattle.ram_blocks.specs.Plain.{store_of, plain_blocks_of}
 use Rattle.script_walks.specs.Words.{Step, StepKind, AskStep, Store}
-use Rattle.script_walks.specs.Walk.{is_played, request_after, stores_of, last_store, TakesStores, AreTurns}
+use Rattle.script_walks.specs.Walk.{is_played, request_after, stores_of, last_store, TakesStores, TakesLasts, AreTurns}
 use Rattle.nvm_script.specs.Played.{CanBePlayed}
 use Rattle.script_walks.specs.Stores.{AreNewest, JobsTookStored}
 use Rattle.script_walks.specs.Turn.{IsTurn}
 
--- a turn is played, it takes what was stored before, and the jobs still took nothing else
+-- a turn is played, it takes what was stored before, a copy as the last one, and the jobs still took nothing else
 pub record KeepsStored (c : Configuration) (before : List Step) (s : State) (es : List Entry) : Type 0 where
   pub played : IsTrue (list_all is_played es)
   pub stores : TakesStores c before s es
+  pub last : TakesLasts c before s es
   pub jobs : JobsTookStored c before (after_from c s es)
 
 abbrev pub TurnsKeepStored : Type 0

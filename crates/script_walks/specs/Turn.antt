@@ -1,17 +1,10 @@
 -- What a turn may add.
-use Rattle.std.specs.Prelude.{◌≡◌, ◌&&◌, ◌||◌, ℕ, not, Bool, true, IsTrue, List, [], ◌∷◌, get_or, is_some, None}
+use Rattle.std.specs.Prelude.{◌≡◌, ◌||◌, ℕ, not, Bool, true, IsTrue, List, [], ◌∷◌, get_or, None}
 use Rattle.block_machine.specs.Words.{JobKind, Taken, TookContent, TookStale, Entry, Ask, Pick, Post, Found, Configuration}
 use Rattle.block_machine.specs.State.{State}
-use Rattle.block_machine.specs.Blocks.{desc_of, is_synchronized, names_ram, job_block}
-use Rattle.block_machine.specs.Next.{Next, PickJob, PickMember, next_of}
+use Rattle.block_machine.specs.Next.{next_of}
 use Rattle.block_machine.specs.Legal.{MayPick, MayPostNext}
-use Rattle.script_walks.specs.Walk.{is_due, begins_with_pick_or_post}
-
--- the next Pick copies synchronized RAM: the job names it, and has taken no content before
-abbrev pub copies_next : Configuration → Next → Bool
-copies_next c (PickJob j) = not (is_some j.content) && (names_ram j.request && is_synchronized (desc_of c (job_block j)).ram)
-copies_next c (PickMember sw id) = is_synchronized (desc_of c id).ram
-copies_next c next = not true
+use Rattle.script_walks.specs.Walk.{copies_next, is_due, begins_with_pick_or_post}
 
 -- what is copied is the newest store of the block, or that is older than the request asks for
 abbrev pub TakesNewest : List (ℕ × List ℕ) → Bool → ℕ → Taken → Type 0

@@ -1,5 +1,5 @@
 -- The histories that a script may have in `play`.
-use Rattle.std.specs.Prelude.{◌≡◌, ◌≤◌, ℕ, zero, suc, ◌==◌, ◌&&◌, ◌||◌, not, Bool, true, false, IsTrue, List, [], ◌∷◌, ◌++◌, length, fold, filter_map, flat_map, replicate, slice_get, option_map, is_none, unwrap_or, if◌then◌else◌, Option, Some, None}
+use Rattle.std.specs.Prelude.{◌≡◌, ◌≤◌, ℕ, zero, suc, ◌==◌, ◌&&◌, ◌||◌, not, Bool, true, false, IsTrue, List, [], ◌∷◌, ◌++◌, length, fold, filter_map, flat_map, replicate, slice_get, option_map, is_none, is_some, unwrap_or, if◌then◌else◌, Option, Some, None}
 use Rattle.std.specs.List.{list_all, enumerate_from}
 use Rattle.script_walks.specs.Words.{Step, StepKind, AskStep, Store, Turn, Drain, Restart}
 use Rattle.block_machine.specs.Words.{Request, Write, TookContent, TookStale, Entry, Ask, Pick, Post, Found, Configuration}
@@ -38,6 +38,11 @@ copies_by c (PickJob j) = names_ram j.request && is_synchronized (desc_of c (job
 copies_by c (PickMember sw id) = is_synchronized (desc_of c id).ram
 copies_by c next = false
 
+-- and it has taken no content before
+abbrev pub copies_next : Configuration → Next → Bool
+copies_next c (PickJob j) = not (is_some j.content) && copies_by c (PickJob j)
+copies_next c next = copies_by c next
+
 abbrev pub TakesStore : Configuration → List Step → Bool → Entry → Type 0
 TakesStore c steps true (Pick block kind (TookContent bytes number) ops) = store_content c steps block number ≡ Some bytes
 TakesStore c steps copies e = Unit {0}
@@ -46,6 +51,15 @@ TakesStore c steps copies e = Unit {0}
 abbrev pub TakesStores : Configuration → List Step → State → List Entry → Type 0
 TakesStores c steps s [] = Unit {0}
 TakesStores c steps s (e ∷ es) = TakesStore c steps (copies_by c (next_of c s)) e × TakesStores c steps (step c s e) es
+
+-- and of `play` what a Pick copies is the last store of its block before that step
+abbrev pub TakesLast : List Step → Entry → (copies : Bool) → Type 0
+TakesLast before (Pick block kind (TookContent bytes number) ops) true = number ≡ length (stores_of block before)
+TakesLast before e copies = Unit {0}
+
+abbrev pub TakesLasts : Configuration → List Step → State → List Entry → Type 0
+TakesLasts c before s [] = Unit {0}
+TakesLasts c before s (e ∷ es) = TakesLast before e (copies_next c (next_of c s)) × TakesLasts c before (step c s e) es
 
 -- PIECES
 
@@ -98,9 +112,9 @@ IsPieceBy c before s caller Drain piece = IsDrain c s piece
 IsPieceBy c before s caller Restart piece = IsRestart piece
 IsPieceBy c before s caller kind piece = piece ≡ []
 
--- and what is taken there was stored before
+-- and what is taken there was stored before, a copy as the last one
 abbrev pub IsPiece : Configuration → List Step → State → Step → List Entry → Type 0
-IsPiece c before s x piece = IsPieceBy c before s x.caller x.kind piece × TakesStores c before s piece
+IsPiece c before s x piece = IsPieceBy c before s x.caller x.kind piece × TakesStores c before s piece × TakesLasts c before s piece
 
 -- THE WALK
 

@@ -14,8 +14,9 @@ pub use cases::{
     simple_cases_are_walks,
 };
 pub use run_cases::{
-    copies_are_shown, full_histories_end_callers_one_by_one, runs_keep_the_callers_order,
-    stores_come_before_they_are_taken, waits_stay_over, walks_take_stores, wrong_walks_are_refuted,
+    copies_are_shown, copies_take_the_last_store, full_histories_end_callers_one_by_one,
+    runs_keep_the_callers_order, stores_come_before_they_are_taken, waits_stay_over,
+    walks_take_stores, wrong_walks_are_refuted,
 };
 pub use wrong_cases::{
     near_walks_are_walks, other_pieces_are_refuted, unfinished_runs_are_refuted,

@@ -4,10 +4,10 @@ ghost use Rattle.block_machine.specs.block_config.DemoConfig.{demo_config};
 ghost use Rattle.nvm_script.specs.declared.step.StepKind.TheVariants.{Ask as AskStep, Store, Turn, Await};
 ghost use Rattle.block_machine.specs.Words.{Write, Status, WriteJob, Accepted, TookContent, TookStale, Ask, Pick, Found};
 ghost use Rattle.block_machine.specs.Legal.{IsLegal};
-ghost use Rattle.block_machine.specs.Cases.{cap, ok, read, write, pick_write, bytes_1, bytes_2, sync_config, sync_plain};
+ghost use Rattle.block_machine.specs.Cases.{cap, ok, read, write, pick_write, bytes_1, bytes_2, four, sync_config, sync_plain};
 ghost use Rattle.script_walks.specs.Looks.{AreInOrder};
 ghost use Rattle.script_walks.specs.Runs.{IsRun, IsWholeRun, IsNextAsk, IsFullRun};
-ghost use Rattle.script_walks.specs.Cases.{IsWalkIn, by, does, asks, drain, store_run, store_run_script, two_callers, callers_script, impatient_caller, stale_steps, stored_pick, saw, stores_and_writes, takes, writes_and_stores, takes_later_store, writes_twice, takes_twice, both_write, pending_again, immediate_config, full_script, full_run};
+ghost use Rattle.script_walks.specs.Cases.{IsWalkIn, IsWorked, synced_member, stores_and_writes_all, member_takes, by, does, asks, drain, store_run, store_run_script, two_callers, callers_script, impatient_caller, stale_steps, stored_pick, saw, stores_and_writes, takes, writes_and_stores, takes_later_store, writes_twice, takes_twice, both_write, pending_again, immediate_config, full_script, full_run};
 
 /// Callers beside each other: their requests in order, and their waits.
 pub fn runs_keep_the_callers_order()
@@ -21,15 +21,12 @@ pub fn runs_keep_the_callers_order()
     ensures other_store { ¬ IsRun sync_config store_run_script (saw 2 1) (stored_pick bytes_2 1) }
 {}
 
-/// In `run` a copy is the store that a look in that very Pick showed, one that is stale was shown one that is too old, and no
-/// later look shows an older one.
+/// In `run` a copy is the store that a look in that very Pick showed, none is stale, and no later look shows an older one.
 pub fn copies_are_shown()
-    ensures legal { IsLegal sync_plain cap (takes (TookStale 1 0 1)) }
-    ensures stale { IsRun sync_plain stores_and_writes (saw 2 0) (takes (TookStale 1 0 1)) }
-    ensures no_look { ¬ IsRun sync_plain stores_and_writes [] (takes (TookStale 1 0 1)) }
-    ensures in_another_entry { ¬ IsRun sync_plain stores_and_writes (saw 1 0) (takes (TookStale 1 0 1)) }
-    ensures shown_as_asked { ¬ IsRun sync_plain stores_and_writes (saw 2 1) (takes (TookStale 1 0 1)) }
-    ensures not_too_old { ¬ IsRun sync_plain stores_and_writes (saw 2 1) (takes (TookStale 1 1 1)) }
+    ensures stale_is_legal { IsLegal sync_plain cap (takes (TookStale 1 0 1)) }
+    ensures stale { ¬ IsRun sync_plain stores_and_writes (saw 2 0) (takes (TookStale 1 0 1)) }
+    ensures in_another_entry { ¬ IsRun sync_plain stores_and_writes (saw 1 1) (takes (TookContent bytes_1 1)) }
+    ensures shown_another { ¬ IsRun sync_plain stores_and_writes (saw 2 0) (takes (TookContent bytes_1 1)) }
     ensures content_without_a_look { ¬ IsRun sync_plain stores_and_writes [] (takes (TookContent bytes_1 1)) }
     ensures goes_back { ¬ AreInOrder (saw 2 1 ++ saw 6 0) }
 {}
@@ -65,6 +62,14 @@ pub fn walks_take_stores()
     ensures other_content { ¬ IsWalkIn sync_plain stale_steps (0 ∷ 1 ∷ 1 ∷ []) (Found [] 0 ∷ ok (Write 2 None 1) ∷ Pick 2 WriteJob (TookContent bytes_2 1) 0 ∷ []) }
     ensures stale { ¬ IsWalkIn sync_plain stale_steps (0 ∷ 1 ∷ 1 ∷ []) (Found [] 0 ∷ ok (Write 2 None 1) ∷ Pick 2 WriteJob (TookStale 1 0 1) 0 ∷ []) }
     ensures later_store { ¬ IsWalkIn sync_plain (asks (Write 2 None 0) ∷ does (Turn 1) ∷ does (Store 2 bytes_1) ∷ []) (1 ∷ 1 ∷ 0 ∷ []) (Found [] 0 ∷ ok (Write 2 None 0) ∷ Pick 2 WriteJob (TookContent bytes_1 1) 0 ∷ []) }
+{}
+
+/// In `play` a copy takes the last store of its block, also that of a member of a WriteAll, whose request asks for none.
+pub fn copies_take_the_last_store()
+    ensures last_store { IsWorked synced_member stores_and_writes_all (0 ∷ 1 ∷ 1 ∷ 6 ∷ []) (member_takes (four 10) 1) }
+    ensures older_is_legal { IsLegal synced_member cap (member_takes (four 0) 0) }
+    ensures older_store { ¬ IsWalkIn synced_member stores_and_writes_all (0 ∷ 1 ∷ 1 ∷ 6 ∷ []) (member_takes (four 0) 0) }
+    ensures not_the_later_one { ¬ IsWalkIn sync_plain (does (Store 2 bytes_1) ∷ asks (Write 2 None 0) ∷ does (Store 2 bytes_2) ∷ does (Turn 1) ∷ []) (0 ∷ 1 ∷ 0 ∷ 1 ∷ []) (Found [] 0 ∷ ok (Write 2 None 1) ∷ Pick 2 WriteJob (TookContent bytes_1 1) 0 ∷ []) }
 {}
 
 /// A turn doesn't go by while a job waits, N turns add at most N entries, and a drain leaves no job.
