@@ -105,6 +105,7 @@ runs_bridge d has = record {
   off = λ off. off;
   withheld = has.withheld;
   failed = λ k small failed. failed;
+  went_off = λ k small off. inr off;
   was = λ trait k small is. is;
   worn = λ k n urgent w. worn_out d k n urgent has w;
   spare = λ t sound k made small. some_if (bytes_after (flash_run d) k) _ (λ image is.

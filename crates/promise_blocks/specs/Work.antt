@@ -1,11 +1,12 @@
 -- What moves make of the device's work: the tries of records, and how many operations they take at most.
-use Rattle.std.specs.Prelude.{◌≡◌, ◌≢◌, ◌⊎◌, ◌≤◌, ◌+◌, ◌*◌, ◌==◌, nat_lt, nat_le, ℕ, ◌||◌, if◌then◌else◌, Bool, true, false, IsTrue, List, [], ◌∷◌, Contains, is_some, Option, Some, None}
+use Rattle.std.specs.Prelude.{◌≡◌, ◌≢◌, ◌⊎◌, ◌≤◌, ◌+◌, ◌*◌, ◌==◌, nat_lt, nat_le, ℕ, ◌||◌, if◌then◌else◌, Bool, true, false, IsTrue, List, [], ◌∷◌, length, Contains, is_some, Option, Some, None}
 use Rattle.std.specs.Option.{option_map_or}
 use Rattle.block_machine.specs.nv_base.Count.{last_count}
 use Rattle.block_machine.specs.nv_base.Marks.{number_of}
 use Rattle.block_machine.specs.Words.{JobKind, ReadJob, Wrote, Post, Entry, Configuration}
 use Rattle.block_machine.specs.State.{State, Job}
-use Rattle.block_machine.specs.Blocks.{indices_of, job_block, kind_of, rank_of}
+use Rattle.block_machine.specs.Blocks.{desc_of, indices_of, job_block, kind_of, rank_of}
+use Rattle.block_machine.specs.Prices.{device_tries}
 use Rattle.block_machine.specs.Steps.{after_from}
 use Rattle.promise_blocks.specs.Payment.{Worn}
 use Rattle.promise_blocks.specs.Moves.{Moment, Move, entry_list, is_found, is_off, is_picked}
@@ -22,11 +23,12 @@ pub record Costs : Type 0 where
   pub reserve : ℕ
 
 -- TRIES
--- What the device is at: the turns that are left of what is open, where no fault comes, none where the power is off; and the
--- device number of which a try of a record is open.
+-- What the device is at: the turns that are left of what is open, where no fault comes, none where the power is off; the device
+-- number of which a try of a record is open; and how many tries more may begin of the job in hand.
 pub record Work : Type 0 where
   pub left : ℕ
   pub trying : Option ℕ
+  pub tries : ℕ
 
 -- what a move did at the device: the number of which a try of a record began, if one did, and what it is at behind it
 pub record Effort : Type 0 where
@@ -41,6 +43,10 @@ work_behind w (e ∷ es) = work_behind e.behind es
 -- a try began, or was open
 abbrev pub tried : Work → Effort → Option ℕ
 tried w e = if is_some e.begins then e.begins else w.trying
+
+-- of the job in hand at its Pick: those that are configured, on each of its instances
+abbrev pub tries_of : Configuration → State → ℕ
+tries_of c s = option_map_or (λ j. device_tries (desc_of c (job_block j)) (kind_of j) * length (indices_of c s (job_block j))) s.hand 0
 
 -- a try may begin where none is open, of a record of the job in hand
 pub record MayBegin (c : Configuration) (s : State) (w : Work) (number : ℕ) : Type 0 where
@@ -112,13 +118,15 @@ operations_at_most f room c before s (m ∷ ms) (e ∷ es) =
 operations_at_most f room c before s ms es = 0
 
 -- One move: a try begins where none is open; the operations that are made and those that are left rise by what it adds at most, by
--- any test that answers yes only where so many pages are free; and a try goes on until something ends it, and is over at a Post.
+-- any test that answers yes only where so many pages are free; a try goes on until something ends it, and is over at a Post; and a
+-- Pick gives the tries of its job, of which each that begins takes one.
 pub record IsWorked (f : Costs) (room : (operations pages : ℕ) → Type 0) (worn : Worn) (c : Configuration) (before : Moment) (s : State) (w : Work) (m : Move) (e : Effort) : Type 0 where
   pub begins : (n : ℕ) → e.begins ≡ Some n → MayBegin c s w n
   pub adds : (test : ℕ → Bool) → ((n : ℕ) → test n ≡ true → room before.ops n) → m.behind.ops + e.behind.left ≤ before.ops + w.left + adds_most f test c before s m e
   pub ends : (n : ℕ) → tried w e ≡ Some n → (e.behind.trying ≡ Some n) ⊎ ((e.behind.trying ≡ None) × EndsTry worn c s n before m)
   pub none : tried w e ≡ None → e.behind.trying ≡ None
   pub over : is_posted m.entry ≡ true → w.trying ≡ None
+  pub tries : e.behind.tries + (if is_some e.begins then 1 else 0) ≤ (if is_picked m.entry then tries_of c (after_from c s (entry_list m.entry)) else w.tries)
 
 abbrev pub AreWorked : Costs → (room : (operations pages : ℕ) → Type 0) → Worn → Configuration → Moment → State → Work → List Move → List Effort → Type 0
 AreWorked f room worn c before s w [] [] = Unit {0}

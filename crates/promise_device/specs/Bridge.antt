@@ -13,7 +13,7 @@ use Rattle.fee_image.specs.Sound.{is_sound_image}
 use Rattle.promise_device.specs.Making.{Making, banks_of}
 pub use Rattle.promise_device.specs.Failures.{is_program, is_failed, has_failed, failed_from, may_be_closed, bank_of_op, failed_in}
 use Rattle.promise_device.specs.Image.{attached, held_in, IsOfLastGeneration, is_of_last_generation, HasNoRoomFor, has_no_room_for, free_in_bank}
-use Rattle.promise_device.specs.FlashRun.{FlashRun, TellsBytes, TellsOperations, IsCutImage, HasFailed, bytes_after, is_none_done, AreOperations}
+use Rattle.promise_device.specs.FlashRun.{FlashRun, TellsBytes, TellsOperations, IsCutImage, HasFailed, WentOff, bytes_after, is_none_done, AreOperations}
 use Rattle.promise_device.specs.Reading.{Reading, BeginsSound}
 use Rattle.promise_device.specs.Traits.{is_such}
 
@@ -75,8 +75,9 @@ pub record Bridges (r : Reading) (cutter : Bool) (f : FlashRun) (before : PartTo
   pub ops : now.ops ≡ min (length f.operations) last_count
   -- what it counted the flash counted too
   pub faults : (n : ℕ) → WereCounted n before.faults now.first.faults → WereCounted n f.entry.faults f.exit.faults
-  -- and of each operation that failed it says so
+  -- and of each operation that failed, or in which the power went off, it says so
   pub failed : (k : ℕ) → k < last_count → HasFailed f k → clock.failed k
+  pub went_off : (k : ℕ) → k < last_count → WentOff f k → clock.off_in k
   pub cuts : (n : ℕ) → WereCounted n before.planning.unplanned now.first.planning.unplanned → WereCounted n f.entry.cuts f.exit.cuts
   -- the flash is off only where it says so
   pub off : f.exit.off ≡ true → now.first.off ≡ true

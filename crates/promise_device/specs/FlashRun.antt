@@ -30,6 +30,10 @@ IsCutImage f k image = (x : Change) × (slice_get f.operations k ≡ Some x) × 
 abbrev pub HasFailed : FlashRun → ℕ → Type 0
 HasFailed f k = (x : Change) × (slice_get f.operations k ≡ Some x) × (x.answer ≡ Failed)
 
+-- the power went off in operation k
+abbrev pub WentOff : FlashRun → ℕ → Type 0
+WentOff f k = (x : Change) × (slice_get f.operations k ≡ Some x) × (x.answer ≡ Off)
+
 -- PREMISES
 pub record TellsBytes (f : FlashRun) : Type 0 where
   pub first : List ℕ
