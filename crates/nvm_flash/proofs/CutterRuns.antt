@@ -172,6 +172,7 @@ devices_bridge r inner cuts c d before only hands first none b =
       ops = b.ops;
       faults = λ n more. counted_within n inner.faults c.flash.inner.faults c.flash.faults only.faults (b.faults n more);
       failed = b.failed;
+      went_off = b.went_off;
       was = b.was;
       cuts = λ n more. subst (λ (x : ℕ). WereCounted n x c.flash.inner.cuts) first (subst (WereCounted n before.planning.unplanned) (sym last) more);
       off = λ off. subst (λ (x : Bool). x ≡ true) (ap (λ (x : Told). x.off) hands.told) (off_within c.flash.inner.off c.flash.off only.flash.power off);

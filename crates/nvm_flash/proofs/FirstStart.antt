@@ -85,6 +85,7 @@ told_bridge r inner exit operations before d b = record {
   off = b.off;
   withheld = b.withheld;
   failed = b.failed;
+  went_off = λ k small off. inr (small, b.went_off k small off);
   worn = b.worn;
   was = b.was;
   spare = b.spare;

@@ -11,6 +11,7 @@ use Rattle.nvm_core.specs.nv_desk.Desk.{DeskState, state_of}
 use Rattle.nvm_core.specs.job_progress.Hand.{HandState}
 use Rattle.nvm_core.specs.job_progress.JobInHand.{IsPaired}
 use Rattle.nvm_core.specs.nvm_laws.AtDevice.{GoesOn}
+use Rattle.nvm_core.specs.nvm_laws.Turns.{hand_by}
 use Rattle.nvm_core.specs.nvm_laws.declared.turned.Turned.{Turned}
 use Rattle.nvm_core.specs.promise_blocks.Work.{IsWorked}
 use Rattle.nvm_core.specs.BehindDevice.{TurnsDevice, asked_by}
@@ -22,7 +23,7 @@ use Rattle.nvm_core.proofs.Paying.{device_lasts}
 use Rattle.nvm_core.proofs.TurnWork.{half_begins, hand_is_open}
 use Rattle.promise_run.specs.Turns.{Move}
 use Rattle.nvm_moves.specs.Seen.{IsOn}
-use Rattle.nvm_moves.specs.Worked.{HadPages}
+use Rattle.promise_run.specs.DeviceTurns.{HadPages}
 
 -- THE POWER
 is_on : (first second : Bool) → first ≡ false → second ≡ false → (first || second) ≡ false
@@ -41,13 +42,14 @@ on_by desk d clock at order on = is_on d.first.off d.second.off first (ap (λ (p
 
 -- THE DEVICE'S TURN
 -- from where the turn began to behind it
-pub device_works : (answer : Turned) (c : Configuration) (s : State) (hand hand_b : Option HandState) (d b n : DeviceTold) (clock_b clock_n : Clock) (m : Move) → LeavesDevice d b → GoesOn hand d hand_b b → IfSome hand_b (λ h. h.started ≡ true) → IsPaired c s hand_b b
-    → RoomIsLeft b clock_b → TurnsDevice answer b clock_b n clock_n → IsSimple d.fixed → is_off d ≡ false → m.entry ≡ asked_by answer b.stand n.stand n.ops → m.behind ≡ moment_in n
-    → (begins : Option ℕ) × IsWorked (costs_in d.fixed) (HadPages clock_n) (worn_so_far n clock_n) c (moment_in d) s (work_in d) m (record { begins = begins; behind = work_in n })
-device_works answer c s hand hand_b d b n clock_b clock_n m leaves goes started paired room turns simple on entry behind =
+pub device_works : (answer : Turned) (c : Configuration) (s : State) (hand hand_b hand_n : Option HandState) (d b n : DeviceTold) (clock_b clock_n : Clock) (m : Move) → LeavesDevice d b → GoesOn hand d hand_b b → IfSome hand_b (λ h. h.started ≡ true) → IsPaired c s hand_b b
+    → RoomIsLeft b clock_b → TurnsDevice answer b clock_b n clock_n → hand_n ≡ hand_by b.stand n.stand hand_b → IsSimple d.fixed → is_off d ≡ false → m.entry ≡ asked_by answer b.stand n.stand n.ops → m.behind ≡ moment_in n
+    → (begins : Option ℕ) × IsWorked (costs_in d.fixed) (HadPages clock_n) (worn_so_far n clock_n) c (moment_in d) s (work_in hand d) m (record { begins = begins; behind = work_in hand_n n })
+device_works answer c s hand hand_b hand_n d b n clock_b clock_n m leaves goes started paired room turns hands simple on entry behind =
     let same : b.ops ≡ d.ops = ap (λ (x : DeviceTold). x.ops) leaves in
     let lasts = device_lasts answer b clock_b n clock_n turns in
     let begun = half_begins c s (HadPages clock_n d.ops) hand hand_b d b simple on clock_b room (λ pages is. (is.0, lasts.past.spare b.ops is.0 (omega arith) (subst (λ (k : ℕ). clock_n.spare k is.0) (sym same) is.1), is.2)) goes started paired in (
       begun.begins,
-      works_behind c s (HadPages clock_n) (worn_so_far n clock_n) d b n clock_b clock_n answer turns begun leaves on m behind entry (hand_is_open c s hand_b b paired started) (λ k urgent is. (omega arith, is)),
+      subst (λ (o : Option HandState). IsWorked (costs_in d.fixed) (HadPages clock_n) (worn_so_far n clock_n) c (moment_in d) s (work_in hand d) m (record { begins = begun.begins; behind = work_in o n })) (sym hands)
+          (works_behind c s (HadPages clock_n) (worn_so_far n clock_n) d b n clock_b clock_n answer turns hand hand_b begun leaves on m behind entry (hand_is_open c s hand_b b paired started) (λ k urgent is. (omega arith, is))),
     )

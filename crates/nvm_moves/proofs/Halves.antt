@@ -56,14 +56,16 @@ use Rattle.nvm_core.specs.job_progress.Hand.{is_finished}
 use Rattle.nvm_core.specs.job_progress.JobInHand.{program_for}
 use Rattle.nvm_core.specs.Work.{left_of, left_with, IsWithin, TakesTurns}
 use Rattle.nvm_core.proofs.block_laws.HistoryLaws.{histories_step}
-use Rattle.nvm_moves.proofs.Most.{some_by, within_of}
+use Rattle.nvm_moves.proofs.Most.{begun_most, held_bounded, most_is, some_by, turned_most, within_of}
+use Rattle.nvm_moves.proofs.InAll.{all_bounded, turn_falls}
 use Rattle.script_walks.specs.Walk.{is_due, is_at_rest, begins_with_pick_or_post}
-use Rattle.promise_run.specs.Turns.{Moment, Move, EndsCanceled, entry_list, is_asked, is_found, is_off, is_picked}
+use Rattle.promise_run.specs.Turns.{Moment, Move, BeginsIn, EndsCanceled, entry_list, is_asked, is_found, is_off, is_picked}
 use Rattle.promise_run.proofs.UrgentAsks.{not_true}
-use Rattle.nvm_moves.specs.Seen.{Begun, IsOn, Seen, moment_by}
+use Rattle.nvm_moves.specs.Along.{bound_of}
+use Rattle.nvm_moves.specs.Seen.{Begun, IsOn, Seen, all_with, frame_in, moment_by, most_by}
 use Rattle.nvm_moves.specs.Served.{IsDueWithin}
-use Rattle.nvm_moves.specs.Worked.{HadPages}
-use Rattle.nvm_moves.specs.Moved.{BeginsIn, FitsHand, IsTurnTold, IsHalfTold}
+use Rattle.promise_run.specs.DeviceTurns.{HadPages}
+use Rattle.nvm_moves.specs.Moved.{FitsHand, IsBound, IsTurnTold, IsHalfTold}
 use Rattle.nvm_moves.proofs.Canceled.{allowed_ends, held_ends, late_ends}
 use Rattle.nvm_moves.proofs.DeviceDue.{device_soon}
 use Rattle.nvm_moves.proofs.DeviceWorks.{device_works, on_by}
@@ -261,16 +263,16 @@ module _ {D C : Type 0} (told : D → DeviceTold) (clock : D → Clock) (copies 
     pub on : U → is_device_off b.device ≡ false
 
   begun_worked : (s : StackState D C) (U : Type 0) (b : Begun) (begun : BeginsDevice s U b) (clock_new : Clock) (worn : Worn) (m : Move) (e : Effort)
-      → IsWorked (costs_in b.device.fixed) (HadPages clock_new) worn s.desk.config (moment_of b.device) (state_of s.desk) (work_in b.device) m e
-      → IsWorked (costs_in (told s.device).fixed) (HadPages clock_new) worn s.desk.config (moment_by (Some b) (told s.device)) (state_of s.desk) (work_in b.device) m e
+      → IsWorked (costs_in b.device.fixed) (HadPages clock_new) worn s.desk.config (moment_of b.device) (state_of s.desk) (work_in b.hand b.device) m e
+      → IsWorked (costs_in (told s.device).fixed) (HadPages clock_new) worn s.desk.config (moment_by (Some b) (told s.device)) (state_of s.desk) (work_in b.hand b.device) m e
   begun_worked s U b begun clock_new worn m e worked =
       let d = told s.device in
       let busy = not (nothing_open b.device) in
       let faults : faults_of b.device ≡ faults_of d = sym (ap faults_of begun.leaves) in
       let ops : b.device.ops ≡ d.ops = sym (ap (λ (x : DeviceTold). x.ops) begun.leaves) in
       let same : moment_of b.device ≡ moment_by (Some b) d = ap (λ (n : ℕ). record { faults = n; ops = b.device.ops; busy = busy }) faults ∙ ap (λ (n : ℕ). record { faults = faults_of d; ops = n; busy = busy }) ops in
-      subst (λ (f : Fixed). IsWorked (costs_in f) (HadPages clock_new) worn s.desk.config (moment_by (Some b) d) (state_of s.desk) (work_in b.device) m e) (sym (ap (λ (x : DeviceTold). x.fixed) begun.leaves))
-      (subst (λ (now : Moment). IsWorked (costs_in b.device.fixed) (HadPages clock_new) worn s.desk.config now (state_of s.desk) (work_in b.device) m e) same worked)
+      subst (λ (f : Fixed). IsWorked (costs_in f) (HadPages clock_new) worn s.desk.config (moment_by (Some b) d) (state_of s.desk) (work_in b.hand b.device) m e) (sym (ap (λ (x : DeviceTold). x.fixed) begun.leaves))
+      (subst (λ (now : Moment). IsWorked (costs_in b.device.fixed) (HadPages clock_new) worn s.desk.config now (state_of s.desk) (work_in b.hand b.device) m e) same worked)
 
   -- THE TURNS THAT ARE LEFT
   picked_within : (old new : StackState D C) (answer : Turned) → TakesTurns told answer old new → answer ≡ turned.Picked → IsWithin new.hand (told new.device)
@@ -281,17 +283,42 @@ module _ {D C : Type 0} (told : D → DeviceTold) (clock : D → Clock) (copies 
       let out : new.hand ≡ None = (subst (λ (a : Turned). IsFirstHalf told copies is_store looked (Ended a) old new) is half).at_device.1 in
       (subst (λ (h : Option HandState). IsPaired new.desk.config (state_of new.desk) h (told new.device)) out half.tied.paired).0
 
+  -- at most the most of this job, and those that it has in all
+  abbrev Bounds : StackState D C → Configuration → Fixed → Job → Type 0
+  Bounds new c f j = IsBound (seen None (Unit {0}) new) (bound_of (frame_in false c f) (state_of new.desk) j)
+
   most_behind : (old new : StackState D C) (e : Option Entry) → IsWithin new.hand (told new.device) → new.desk ≡ with_entries old.desk (entry_list e) → LeavesDevice (told old.device) (told new.device)
-      → IsPaired new.desk.config (state_of new.desk) new.hand (told new.device)
-      → IfSome (state_of new.desk).hand (λ j. left_with new.hand (told new.device) ≤ most_turns (told old.device).fixed (program_for old.desk.config (state_of new.desk) j))
-  most_behind old new e within adds leaves paired = by (state_of new.desk).hand refl
+      → IsPaired new.desk.config (state_of new.desk) new.hand (told new.device) → InOrder (told new.device) (clock new.device)
+      → IfSome (state_of new.desk).hand (Bounds new old.desk.config (told old.device).fixed)
+  most_behind old new e within adds leaves paired order = by (state_of new.desk).hand refl
     where
-      by : (o : Option Job) → (state_of new.desk).hand ≡ o → IfSome o (λ j. left_with new.hand (told new.device) ≤ most_turns (told old.device).fixed (program_for old.desk.config (state_of new.desk) j))
+      by : (o : Option Job) → (state_of new.desk).hand ≡ o → IfSome o (Bounds new old.desk.config (told old.device).fixed)
       by None is = tt
       by (Some j) is =
-          subst (λ (f : Fixed). left_with new.hand (told new.device) ≤ most_turns f (program_for old.desk.config (state_of new.desk) j)) (ap (λ (x : DeviceTold). x.fixed) leaves)
-          (subst (λ (c : Configuration). left_with new.hand (told new.device) ≤ most_turns (told new.device).fixed (program_for c (state_of new.desk) j)) (ap (λ (x : DeskState). x.config) adds)
-          (within_of new.desk.config (state_of new.desk) new.hand (told new.device) paired within j is).1)
+          subst (λ (f : Fixed). Bounds new old.desk.config f j) (ap (λ (x : DeviceTold). x.fixed) leaves)
+          (subst (λ (c : Configuration). Bounds new c (told new.device).fixed j) (ap (λ (x : DeskState). x.config) adds) (
+            (within_of new.desk.config (state_of new.desk) new.hand (told new.device) paired within j is).1,
+            most_is new.desk.config (state_of new.desk) new.hand (told new.device) j paired is,
+            all_bounded new.desk.config (state_of new.desk) new.hand (told new.device) (clock new.device) order paired j is,
+          ))
+
+  -- a job that stays in hand keeps its most, of which at most all are left, whatever failed
+  abbrev IsHeld : Option HandState → Fixed → StackState D C → Type 0
+  IsHeld hand f new = (n : ℕ) × (most_by None hand f ≡ Some n) × (left_with new.hand (told new.device) ≤ n) × (most_by None new.hand (told new.device).fixed ≡ Some n)
+
+  held_behind : (f : Fixed) (hand between : Option HandState) (d b : DeviceTold) (new : StackState D C) → GoesOn hand d between b → new.hand ≡ hand_by b.stand (told new.device).stand between → (told new.device).fixed ≡ f
+      → InOrder (told new.device) (clock new.device) → IsPaired new.desk.config (state_of new.desk) new.hand (told new.device) → is_none (state_of new.desk).hand ≡ false → IsHeld hand f new
+  held_behind f hand between d b new goes turns_to fixed order paired held = by (state_of new.desk).hand refl held
+    where
+      same : most_by None new.hand (told new.device).fixed ≡ most_by None hand f
+      same =
+          ap (λ (g : Fixed). most_by None new.hand g) fixed ∙ ap (λ (h : Option HandState). most_by None h f) turns_to ∙ turned_most f b.stand (told new.device).stand between
+          ∙ begun_most f hand between d b goes
+
+      by : (o : Option Job) → (state_of new.desk).hand ≡ o → is_none o ≡ false → IsHeld hand f new
+      by None is some = absurd (cc some)
+      by (Some j) is some =
+          let (n, most, few) = held_bounded new.desk.config (state_of new.desk) new.hand (told new.device) (clock new.device) order paired j is in (n, sym same ∙ most, few, most)
 
   held_some : (new : StackState D C) → is_none (state_of new.desk).hand ≡ false → IsPaired new.desk.config (state_of new.desk) new.hand (told new.device) → 0 < left_with new.hand (told new.device)
   held_some new held paired = by new.hand refl
@@ -312,6 +339,21 @@ module _ {D C : Type 0} (told : D → DeviceTold) (clock : D → Clock) (copies 
   fewer_by turned.Picked left old new shut takes none turns adds on = absurd turns
   fewer_by turned.Posted left old new shut takes none turns adds on = absurd turns
 
+  -- in all it takes one, whatever fails
+  lowers_by : (answer : Turned) (hand between : Option HandState) (d : DeviceTold) (old new : StackState D C) → LeavesDevice d (told old.device) → GoesOn hand d between (told old.device)
+      → IsPaired old.desk.config (state_of old.desk) between (told old.device) → nothing_open (told old.device) ≡ false → TurnsDevice answer (told old.device) (clock old.device) (told new.device) (clock new.device)
+      → AddsBy (asked_by answer (told old.device).stand (told new.device).stand (ops_of (told new.device))) old.desk new.desk → (told new.device).fixed ≡ d.fixed → InOrder (told new.device) (clock new.device)
+      → new.hand ≡ hand_by (told old.device).stand (told new.device).stand between → IsPaired new.desk.config (state_of new.desk) new.hand (told new.device) → (state_of new.desk).off ≡ false → is_none (state_of new.desk).hand ≡ false
+      → (0 < all_with new.hand (told new.device)) × (all_with new.hand (told new.device) < all_with hand d)
+  lowers_by turned.Worked hand between d old new leaves goes paired shut turns adds fixed order hands paired_new on held =
+      turn_falls old.desk.config (state_of old.desk) hand between d (told old.device) (told new.device) (clock old.device) (clock new.device) leaves goes paired turns fixed order new.desk.config (state_of new.desk) new.hand hands paired_new held
+  lowers_by turned.Off hand between d old new leaves goes paired shut turns adds fixed order hands paired_new on held =
+      let off : (state_of new.desk).off ≡ true = ap (λ (x : DeskState). (state_of x).off) adds.0 ∙ ap (λ (s : State). s.off) (histories_step old.desk.config old.desk.entries (Off (ops_of (told new.device)))) in
+      absurd (let no_ : true ≡ false = sym off ∙ on in cc no_)
+  lowers_by turned.Idle hand between d old new leaves goes paired shut turns adds fixed order hands paired_new on held = absurd (let no_ : true ≡ false = sym turns.0.0 ∙ shut in cc no_)
+  lowers_by turned.Picked hand between d old new leaves goes paired shut turns adds fixed order hands paired_new on held = absurd turns
+  lowers_by turned.Posted hand between d old new leaves goes paired shut turns adds fixed order hands paired_new on held = absurd turns
+
   module _ (old new : StackState D C) (U V : Type 0) (uncut : U → V) (stays : StaysKept old.desk old.hand (told old.device) (clock old.device) new.desk new.hand (told new.device) (clock new.device)) where
     -- THE FIRST HALF
     module _ (tied : IsTied old.desk old.hand (told old.device)) (same : SameClock (clock old.device) (clock new.device)) where
@@ -331,8 +373,10 @@ module _ {D C : Type 0} (told : D → DeviceTold) (clock : D → Clock) (copies 
           record {
             entry = e;
             fits = is.fits;
-            most = λ picked. most_behind old new e (is.picks picked) adds.adds half.device half.tied.paired;
+            most = λ picked. most_behind old new e (is.picks picked) adds.adds half.device half.tied.paired order;
+            held = λ other on held. absurd (is.drops other on held);
             fewer = λ other none on held. absurd (is.drops other on held);
+            lowers = λ other on held. absurd (is.drops other on held);
             turns = is.turns;
             ended = refl;
             begins = (state_of old.desk, inr refl, is.begins);
@@ -354,7 +398,7 @@ module _ {D C : Type 0} (told : D → DeviceTold) (clock : D → Clock) (copies 
             work = λ at simple. (
               None,
               half_works (HadPages (clock new.device)) (worn_so_far (told new.device) (clock new.device)) old.desk new.desk old.hand new.hand (told old.device) (told new.device) (record { entry = e; behind = moment_by None (told new.device) }) refl half.device
-                  (ap (λ (x : DeskState). x.entries) adds.adds) tied.paired _ _ _ _ answer half.half half.at_device,
+                  (ap (λ (x : DeskState). x.entries) adds.adds) tied.paired half.tied.paired _ _ _ _ answer half.half half.at_device,
             );
           }
 
@@ -414,10 +458,14 @@ module _ {D C : Type 0} (told : D → DeviceTold) (clock : D → Clock) (copies 
           entry = e;
           fits = device_fits (state_of old.desk) answer d.stand d_new.stand (ops_of d_new);
           most = λ picked. absurd (not_picked answer d.stand d_new.stand (ops_of d_new) picked);
+          held = λ other on held. held_behind d.fixed b.hand old.hand b.device d new begun.goes hand (has_turned a d (clock old.device) d_new (clock new.device) is).fixed is.1 paired_new held;
           fewer = λ other none on held. (
             held_some new held paired_new,
             fewer_by answer (left_with b.hand b.device) old new begun.busy takes none turns adds on,
           );
+          lowers = λ other on held.
+              lowers_by answer b.hand old.hand b.device old new begun.leaves begun.goes begun.paired begun.busy turns adds
+              ((has_turned a d (clock old.device) d_new (clock new.device) is).fixed ∙ fixed) is.1 hand paired_new on held;
           turns = turns_by (ops_of d_new) e one.of;
           ended = refl;
           begins = (b.state, inl (b, refl, refl), (not_late (is_due b.state) (begins_with_pick_or_post (entry_list e)) begun.late, late_ends b.state e begun.late));
@@ -445,9 +493,9 @@ module _ {D C : Type 0} (told : D → DeviceTold) (clock : D → Clock) (copies 
           dues = λ at first.
               device_soon (now_of told old) (now_of told new) (clock old.device) (clock new.device) answer turns one begun.paired begun.busy (unfinished b.hand old.hand b.device d begun.goes).1 lasts.faults.1 nears (λ off. (is_on (uncut at)).power off) (moment_by None d_new) refl;
           work = λ at simple.
-              let (begins, worked) = device_works answer old.desk.config (state_of old.desk) b.hand old.hand b.device d d_new (clock old.device) (clock new.device) m begun.leaves begun.goes begun.started begun.paired begun.room turns
+              let (begins, worked) = device_works answer old.desk.config (state_of old.desk) b.hand old.hand new.hand b.device d d_new (clock old.device) (clock new.device) m begun.leaves begun.goes begun.started begun.paired begun.room turns hand
               (subst IsSimple fixed simple) (begun.on at) refl refl in
-              (begins, begun_worked old U b begun (clock new.device) (worn_so_far d_new (clock new.device)) m (record { begins = begins; behind = work_in d_new }) worked);
+              (begins, begun_worked old U b begun (clock new.device) (worn_so_far d_new (clock new.device)) m (record { begins = begins; behind = work_in new.hand d_new }) worked);
         }
 
     -- A WHOLE TURN
@@ -463,8 +511,10 @@ module _ {D C : Type 0} (told : D → DeviceTold) (clock : D → Clock) (copies 
         let ops : (told new.device).ops ≡ (told old.device).ops = ap (λ (d : DeviceTold). d.ops) half.device in
         record {
           fits = is.fits;
-          most = λ picked. most_behind old new e (is.picks picked) adds.adds half.device half.tied.paired;
+          most = λ picked. most_behind old new e (is.picks picked) adds.adds half.device half.tied.paired order_new;
+          held = λ other on held. absurd (is.drops other on held);
           fewer = λ other none on held. absurd (is.drops other on held);
+          lowers = λ other on held. absurd (is.drops other on held);
           turns = is.turns;
           ended = refl;
           begins = (state_of old.desk, inr refl, is.begins);
@@ -486,7 +536,7 @@ module _ {D C : Type 0} (told : D → DeviceTold) (clock : D → Clock) (copies 
           work = λ at simple. (
             None,
             half_works (HadPages (clock new.device)) (worn_so_far (told new.device) (clock new.device)) old.desk new.desk old.hand new.hand (told old.device) (told new.device) (record { entry = e; behind = moment_by None (told new.device) }) refl half.device
-                (ap (λ (x : DeskState). x.entries) adds.adds) tied.paired _ _ _ _ answer half.half half.at_device,
+                (ap (λ (x : DeskState). x.entries) adds.adds) tied.paired half.tied.paired _ _ _ _ answer half.half half.at_device,
           );
         }
     turn_is_told answer (inr (between, half, rest)) counted lasts pays kept off takes tied paired_new seals comes order order_new is_on is_on_new =
@@ -503,6 +553,9 @@ module _ {D C : Type 0} (told : D → DeviceTold) (clock : D → Clock) (copies 
           entry = e;
           fits = device_fits (state_of old.desk) answer d.stand d_new.stand (ops_of d_new);
           most = λ picked. absurd (not_picked answer d.stand d_new.stand (ops_of d_new) picked);
+          held = λ other on held.
+              held_behind (told old.device).fixed old.hand between.hand (told old.device) d new half.at_device rest.hand
+              ((has_turned a d (clock between.device) d_new (clock new.device) is).fixed ∙ ap (λ (x : DeviceTold). x.fixed) half.device) order_new paired_new held;
           fewer = λ other none on held. (
             held_some new held paired_new,
             fewer_by answer (left_of told old) between new half.half.1 (λ is. elim (subst (λ (a : Turned). TakesTurns told a old new) is takes) [
@@ -510,6 +563,9 @@ module _ {D C : Type 0} (told : D → DeviceTold) (clock : D → Clock) (copies 
               | inr rose ↦ inr (subst (λ (n : ℕ). Rose n (faults_of d_new)) (sym (ap faults_of half.device)) rose)
             ]) (λ rose. none (subst (λ (n : ℕ). Rose n (faults_of d_new)) (ap faults_of half.device) rose)) rest.turns rest.adds on,
           );
+          lowers = λ other on held.
+              lowers_by answer old.hand between.hand (told old.device) between new half.device half.at_device half.tied.paired half.half.1 rest.turns rest.adds
+              ((has_turned a d (clock between.device) d_new (clock new.device) is).fixed ∙ ap (λ (x : DeviceTold). x.fixed) half.device) order_new rest.hand paired_new on held;
           turns = turns_by (ops_of d_new) e one.of;
           ended = refl;
           begins =
@@ -530,6 +586,6 @@ module _ {D C : Type 0} (told : D → DeviceTold) (clock : D → Clock) (copies 
           seals = seals;
           dues = λ at first. turn_soon told clock copies is_store looked old new e whole (moment_by None d_new) refl order_new (is_on_new (uncut at)) tied lasts answer (inr (between, half, rest)) comes;
           work = λ at simple.
-              device_works answer old.desk.config (state_of old.desk) old.hand between.hand (told old.device) d d_new (clock between.device) (clock new.device) (record { entry = e; behind = moment_by None d_new }) half.device half.at_device (half.started refl)
-              paired_between rest.room rest.turns simple (on_by old.desk (told old.device) (clock old.device) (is_on at) order half.half.2) refl refl;
+              device_works answer old.desk.config (state_of old.desk) old.hand between.hand new.hand (told old.device) d d_new (clock between.device) (clock new.device) (record { entry = e; behind = moment_by None d_new }) half.device half.at_device (half.started refl)
+              paired_between rest.room rest.turns rest.hand simple (on_by old.desk (told old.device) (clock old.device) (is_on at) order half.half.2) refl refl;
         }

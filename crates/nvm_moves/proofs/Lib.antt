@@ -15,9 +15,11 @@ pub mod Moved
 pub mod Resting
 mod Canceled
 pub mod Most
+pub mod InAll
 pub mod Halves
 pub mod Posted
 pub mod StackMoves
+pub mod Beginning
 pub use Rattle.nvm_core.proofs.Paying as Paying
 pub use Rattle.nvm_core.proofs.TurnedBehind as TurnedBehind
 pub use Rattle.nvm_core.proofs.block_laws.HistoryLaws as HistoryLaws

@@ -29,21 +29,23 @@ use Rattle.nvm_core.specs.promise_blocks.Work.{Work}
 use Rattle.nvm_core.specs.DeviceWork.{AreWorkedTo, IsSimple, costs_in, work_in}
 use Rattle.nvm_core.specs.DueWrites.{AreFirst, pages_in}
 use Rattle.nvm_core.proofs.WorkLists.{none_worked, one_worked, worked_more}
-use Rattle.promise_run.specs.Turns.{Moment, Move, entry_list, entries_of, moment_behind, is_asked, is_found, is_picked, found_behind, CountFailed, HasImmediate, IsPaidSince}
+use Rattle.promise_run.specs.Turns.{Moment, Move, entry_list, entries_of, moment_behind, is_asked, is_found, is_picked, found_behind, Among, CountFailed, HasImmediate, IsPaidSince, turns_beside}
 use Rattle.promise_run.proofs.TakenPages.{found_more}
 use Rattle.std.proofs.lemmas.Bool.{cases_Bool, or_parts}
 use Rattle.nvm_core.specs.Work.{left_with}
+use Rattle.nvm_core.specs.nvm_figures.Left.{most_turns}
 use Rattle.nvm_core.specs.promise_blocks.Work.{has_risen}
 use Rattle.nvm_core.proofs.DeviceWork.{risen}
 use Rattle.script_walks.specs.Walk.{is_at_rest}
 use Rattle.promise_run.proofs.Paid.{since_too}
 use Rattle.nvm_moves.proofs.TurnEntries.{asks_urgent, none_more}
-use Rattle.nvm_moves.specs.Along.{Cursor, Frame, left_behind, next_by, cursor_behind, Along, Among}
+use Rattle.nvm_moves.specs.Along.{Bound, Cursor, Frame, bound_of, left_behind, next_by, cursor_behind, one_less, renewed, Along}
 use Rattle.nvm_moves.proofs.Along.{along_by, along_more, along_to, cursor_more, cursor_now, cursor_state, entries_more}
-use Rattle.nvm_moves.specs.Seen.{Begun, Seen, device_begun, frame_in, frame_of, hand_begun, left_seen, moment_by, moment_seen, work_seen}
-use Rattle.nvm_moves.specs.Served.{AreServed, DueAt, IsServable, MayGoOn, ServesBy, due_by, turns_beside}
-use Rattle.nvm_moves.specs.Worked.{HadPages, KeepToWork}
-use Rattle.nvm_moves.specs.Moved.{FitsHand, IsLawful, IsPaidAt, IsTurnTold, IsAt, IsHalfTold, IsStartTold, IsStillTold, GrowsBy, ArePending, AreAsked, AreAsksMade, AreAsksTold, Owes, HasMoved, MovesBy}
+use Rattle.nvm_moves.specs.Seen.{Begun, Seen, all_seen, all_with, device_begun, frame_in, frame_of, hand_begun, left_seen, moment_by, moment_seen, most_by, most_seen, work_seen}
+use Rattle.nvm_moves.specs.Served.{AreServed, DueAt, IsServable, ServesBy, due_by}
+use Rattle.promise_run.specs.DeviceTurns.{HadPages, MayGoOn}
+use Rattle.nvm_moves.specs.Worked.{KeepToWork}
+use Rattle.nvm_moves.specs.Moved.{FitsHand, IsBound, IsLawful, IsPaidAt, IsTurnTold, IsAt, IsHalfTold, IsStartTold, IsStillTold, GrowsBy, ArePending, AreAsked, AreAsksMade, AreAsksTold, Owes, HasMoved, MovesBy}
 use Rattle.nvm_moves.proofs.Consequences.{count_failed}
 use Rattle.nvm_moves.proofs.Served.{served_as, served_more, served_on}
 use Rattle.nvm_moves.proofs.WorkedMoves.{asks_worked, worked_on, worn_on}
@@ -189,6 +191,14 @@ nothing_more : (n a b : ℕ) → WereCounted n a b → WereCounted (n + 0) a b
 nothing_more n a b (inl more) = inl (omega (arith, more))
 nothing_more n a b (inr full) = inr full
 
+some_same : (a b : ℕ) → Some a ≡ Some b → a ≡ b
+some_same a b is = cc is
+
+-- what changes neither the turns that are left nor their most
+bound_on : (old new : Seen) → left_seen old ≡ left_seen new → most_seen old ≡ most_seen new → all_seen old ≡ all_seen new → (o : Option Bound) → IfSome o (IsBound old) → IfSome o (IsBound new)
+bound_on old new left most all None is = tt
+bound_on old new left most all (Some b) (few, is, in_all) = (subst (λ (l : ℕ). l ≤ b.left) left few, sym most ∙ is, subst (λ (l : ℕ). l ≤ b.all) all in_all)
+
 module _ (old new : Seen) where
   abbrev of_turn : Option Entry → Move
   of_turn e = record { entry = e; behind = moment_seen new }
@@ -231,33 +241,54 @@ module _ (old new : Seen) where
         let no_ : true ≡ false = sym yes ∙ ap (λ (m : Moment). has_risen m.faults (faults_of new.device)) (sym at.now) ∙ none in cc no_)
         (ap (λ (s : State). s.off) (sym behind) ∙ on) (ap (λ (s : State). is_none s.hand) (sym behind) ∙ held)
 
-    left_on : next ≡ state_of new.desk → IfSome (left_behind f k (of_turn is.entry)) (λ n. left_seen new ≤ n)
+    lowers_by : is_picked is.entry ≡ false → next.off ≡ false → is_none next.hand ≡ false → next ≡ state_of new.desk → (0 < all_seen new) × (all_seen new < all_seen old)
+    lowers_by picked on held behind = is.lowers picked (ap (λ (s : State). s.off) (sym behind) ∙ on) (ap (λ (s : State). is_none s.hand) (sym behind) ∙ held)
+
+    left_on : next ≡ state_of new.desk → IfSome (left_behind f k (of_turn is.entry)) (IsBound new)
     left_on behind = rw (is.turns.0, is.turns.1) (elim (cases_Bool (is_picked is.entry)) [
       | inl picked ↦ rw picked (by_most next.hand refl (is.most picked))
-      | inr other ↦ rw other (elim (cases_Bool (has_risen k.now.faults (faults_of new.device) || (next.off || is_none next.hand))) [
+      | inr other ↦ rw other (elim (cases_Bool (next.off || is_none next.hand)) [
         | inl drops ↦ rw drops tt
-        | inr goes ↦ rw goes (by_left k.left at.left goes other)
+        | inr goes ↦ rw goes (elim (cases_Bool (has_risen k.now.faults (faults_of new.device))) [
+          | inl risen ↦ rw risen (by_fault k.left at.left goes other)
+          | inr calm ↦ rw calm (by_left k.left at.left calm goes other)
+        ])
       ])
     ])
       where
-        by_most : (o : Option Job) → next.hand ≡ o → IfSome (state_of new.desk).hand (λ j. left_seen new ≤ f.most (state_of new.desk) j) → IfSome (option_map (f.most next) o) (λ n. left_seen new ≤ n)
+        by_most : (o : Option Job) → next.hand ≡ o → IfSome (state_of new.desk).hand (λ j. IsBound new (bound_of f (state_of new.desk) j)) → IfSome (option_map (bound_of f next) o) (IsBound new)
         by_most None is_none_ most = tt
         by_most (Some j) here most =
-            subst (λ (s : State). left_seen new ≤ f.most s j) (sym behind) (subst (λ (o : Option Job). IfSome o (λ x. left_seen new ≤ f.most (state_of new.desk) x)) (ap (λ (s : State). s.hand) (sym behind) ∙ here) most)
+            subst (λ (s : State). IsBound new (bound_of f s j)) (sym behind)
+            (subst (λ (o : Option Job). IfSome o (λ x. IsBound new (bound_of f (state_of new.desk) x))) (ap (λ (s : State). s.hand) (sym behind) ∙ here) most)
 
-        by_left : (o : Option ℕ) → IfSome o (λ n. left_seen old ≤ n) → (has_risen k.now.faults (faults_of new.device) || (next.off || is_none next.hand)) ≡ false → is_picked is.entry ≡ false → IfSome (option_map (λ n. n - 1) o) (λ n. left_seen new ≤ n)
-        by_left None low goes other = tt
-        by_left (Some n) low goes other =
-            let (none, rest) = or_parts (has_risen k.now.faults (faults_of new.device)) (next.off || is_none next.hand) goes in
-            let (on, held) = or_parts next.off (is_none next.hand) rest in
-            let few = fewer_by none other on held behind in
-            let less = few.1 in omega (arith, less, low)
+        -- a job that stays in hand has the most that it had
+        held_by : (b : Bound) → IsBound old b → (next.off || is_none next.hand) ≡ false → is_picked is.entry ≡ false → IsBound new (renewed b)
+        held_by b low goes other =
+            let (on, held) = or_parts next.off (is_none next.hand) goes in
+            let (n, was, few, most) = is.held other (ap (λ (s : State). s.off) (sym behind) ∙ on) (ap (λ (s : State). is_none s.hand) (sym behind) ∙ held) in
+            let same : n ≡ b.most = some_same n b.most (sym was ∙ low.1) in
+            let fewer = (lowers_by other on held behind).1 in
+            let all = low.2 in
+            (omega (arith, few, same), most ∙ ap (λ (m : ℕ). Some m) same, omega (arith, fewer, all))
 
-    posts_by : next ≡ state_of new.desk → (o : Option ℕ) → IfSome o (λ n. left_seen old ≤ n) → IfSome o (λ n. is_asked is.entry ≡ false → is_found is.entry ≡ false → is_picked is.entry ≡ false
-        → has_risen k.now.faults (faults_of new.device) ≡ false → next.off ≡ false → is_none next.hand ≡ false → 1 < n)
+        by_fault : (o : Option Bound) → IfSome o (IsBound old) → (next.off || is_none next.hand) ≡ false → is_picked is.entry ≡ false → IfSome (option_map renewed o) (IsBound new)
+        by_fault None low goes other = tt
+        by_fault (Some b) low goes other = held_by b low goes other
+
+        by_left : (o : Option Bound) → IfSome o (IsBound old) → has_risen k.now.faults (faults_of new.device) ≡ false → (next.off || is_none next.hand) ≡ false → is_picked is.entry ≡ false → IfSome (option_map one_less o) (IsBound new)
+        by_left None low none goes other = tt
+        by_left (Some b) low none goes other =
+            let (on, held) = or_parts next.off (is_none next.hand) goes in
+            let less = (fewer_by none other on held behind).1 in
+            let few = low.0 in let held_then = held_by b low goes other in (omega (arith, less, few), held_then.1, held_then.2)
+
+    posts_by : next ≡ state_of new.desk → (o : Option Bound) → IfSome o (IsBound old) → IfSome o (λ b. is_asked is.entry ≡ false → is_found is.entry ≡ false → is_picked is.entry ≡ false
+        → next.off ≡ false → is_none next.hand ≡ false → (1 < b.all) × (has_risen k.now.faults (faults_of new.device) ≡ false → 1 < b.left))
     posts_by behind None low = tt
-    posts_by behind (Some n) low = λ asked found picked none on held.
-        let few = fewer_by none picked on held behind in let least = few.0 in let less = few.1 in omega (arith, least, less, low)
+    posts_by behind (Some b) low = λ asked found picked on held.
+        let (some, fell) = lowers_by picked on held behind in let all = low.2 in
+        (omega (arith, some, fell, all), λ none. let few = fewer_by none picked on held behind in let least = few.0 in let less = few.1 in let most = low.0 in omega (arith, least, less, most))
 
   -- it is one move
   pub turn_moved : (within : Bool) → IsTurnTold old new → HasMoved within old new
@@ -440,7 +471,10 @@ asks_moved_by within asks old new is in_turn serves =
     let now = moment_seen old in
     let same : now ≡ moment_seen new = ap (moment_by old.begun) (sym is.device) ∙ ap (λ (o : Option Begun). moment_by o new.device) (sym is.begun) in
     let same_left : left_seen old ≡ left_seen new = ap (λ (o : Option Begun). left_by o old.hand old.device) (sym is.begun) ∙ ap (λ (h : Option HandState). left_by new.begun h old.device) (sym is.hand) ∙ ap (left_by new.begun new.hand) (sym is.device) in
-    let same_work : work_seen old ≡ work_seen new = ap (λ (d : DeviceTold). work_in (device_begun old.begun d)) (sym is.device) ∙ ap (λ (o : Option Begun). work_in (device_begun o new.device)) (sym is.begun) in
+    let same_most : most_seen old ≡ most_seen new = ap (λ (o : Option Begun). most_by o old.hand old.device.fixed) (sym is.begun) ∙ ap (λ (h : Option HandState). most_by new.begun h old.device.fixed) (sym is.hand) ∙ ap (λ (d : DeviceTold). most_by new.begun new.hand d.fixed) (sym is.device) in
+    let same_all : all_seen old ≡ all_seen new = ap (λ (o : Option Begun). all_by o old.hand old.device) (sym is.begun) ∙ ap (λ (h : Option HandState). all_by new.begun h old.device) (sym is.hand) ∙ ap (all_by new.begun new.hand) (sym is.device) in
+    let same_work : work_seen old ≡ work_seen new = ap (λ (d : DeviceTold). work_in (hand_begun old.begun old.hand) (device_begun old.begun d)) (sym is.device) ∙ ap (λ (h : Option HandState). work_in (hand_begun old.begun h) (device_begun old.begun new.device)) (sym is.hand)
+    ∙ ap (λ (o : Option Begun). work_in (hand_begun o new.hand) (device_begun o new.device)) (sym is.begun) in
     let as_many : faults_of new.device ≡ faults_of old.device = ap faults_of is.device in
     let fixed : new.device.fixed ≡ old.device.fixed = ap (λ (d : DeviceTold). d.fixed) is.device in
     record {
@@ -465,7 +499,7 @@ asks_moved_by within asks old new is in_turn serves =
               state = state;
               here = subst (λ (s : State). Among s (cursor_behind f k (asked_moves now asks)).since) state (asks_here f now k asks is.are (subst (λ (s : State). Among s k.since) (sym at.state) at.here));
               begun = subst (λ (o : Option Begun). IfSome o (λ b. Among b.state (cursor_behind f k (asked_moves now asks)).since)) (sym is.begun) (begun_on f now k asks is.are old.begun in_turn at.begun);
-              left = subst (λ (o : Option ℕ). IfSome o (λ n. left_seen new ≤ n)) (sym (asks_left f now k asks is.are)) (subst (λ (l : ℕ). IfSome k.left (λ n. l ≤ n)) same_left at.left);
+              left = subst (λ (o : Option Bound). IfSome o (IsBound new)) (sym (asks_left f now k asks is.are)) (bound_on old new same_left same_most same_all k.left at.left);
             },
           );
       paid = λ tells before kept k at owes.
@@ -481,6 +515,9 @@ asks_moved_by within asks old new is in_turn serves =
   where
     left_by : Option Begun → Option HandState → DeviceTold → ℕ
     left_by o h d = left_with (hand_begun o h) (device_begun o d)
+
+    all_by : Option Begun → Option HandState → DeviceTold → ℕ
+    all_by o h d = all_with (hand_begun o h) (device_begun o d)
 
     -- behind them
     due_then : (one : Bool) (id turns : ℕ) → due_by old.begun old.hand old.device (with_entries old.desk asks) one id turns → DueAt new one id turns
@@ -527,7 +564,11 @@ half_moved within old new is =
     ∙ ap (λ (o : Option Begun). moment_by o new.device) (sym is.begun) in
     let same_left : left_seen old ≡ left_seen new =
     ap (λ (o : Option Begun). left_with (hand_begun o old.hand) (device_begun o old.device)) is.between ∙ ap (λ (o : Option Begun). left_with (hand_begun o new.hand) (device_begun o new.device)) (sym is.begun) in
-    let same_work : work_seen old ≡ work_seen new = ap (λ (o : Option Begun). work_in (device_begun o old.device)) is.between ∙ ap (λ (o : Option Begun). work_in (device_begun o new.device)) (sym is.begun) in
+    let same_most : most_seen old ≡ most_seen new =
+    ap (λ (o : Option Begun). most_by o old.hand old.device.fixed) is.between ∙ ap (λ (f : Fixed). option_map (λ (h : HandState). most_turns f h.program) old.hand) (sym fixed) ∙ ap (λ (o : Option Begun). most_by o new.hand new.device.fixed) (sym is.begun) in
+    let same_all : all_seen old ≡ all_seen new =
+    ap (λ (o : Option Begun). all_with (hand_begun o old.hand) (device_begun o old.device)) is.between ∙ ap (λ (o : Option Begun). all_with (hand_begun o new.hand) (device_begun o new.device)) (sym is.begun) in
+    let same_work : work_seen old ≡ work_seen new = ap (λ (o : Option Begun). work_in (hand_begun o old.hand) (device_begun o old.device)) is.between ∙ ap (λ (o : Option Begun). work_in (hand_begun o new.hand) (device_begun o new.device)) (sym is.begun) in
     record {
       moves = [];
       tell = grows old.desk new.desk [] (is.desk ∙ none_more old.desk);
@@ -546,7 +587,7 @@ half_moved within old new is =
           state = at.state ∙ ap (λ (d : DeskState). state_of d) (sym is.desk);
           here = subst (λ (d : DeskState). Among (state_of d) k.since) (sym is.desk) at.here;
           begun = subst (λ (o : Option Begun). IfSome o (λ b. Among b.state k.since)) (sym is.begun) at.here;
-          left = subst (λ (l : ℕ). IfSome k.left (λ n. l ≤ n)) same_left at.left;
+          left = bound_on old new same_left same_most same_all k.left at.left;
         },
       );
       paid = λ tells before kept k at owes. (
@@ -645,6 +686,7 @@ start_moves within old new is = record { moved = start_moved within old new is; 
 -- NOTHING
 pub still_moved : (within : Bool) (old new : Seen) → IsStillTold old new → HasMoved within old new
 still_moved within old new is =
+    let same_most : most_seen old ≡ most_seen new = ap (λ (o : Option Begun). most_by o old.hand old.device.fixed) (sym is.begun) ∙ ap (λ (h : Option HandState). most_by new.begun h old.device.fixed) (sym is.hand) ∙ ap (most_by new.begun new.hand) (sym is.fixed) in
     let urgent : has_urgent old.desk ≡ has_urgent new.desk = ap has_urgent (sym is.desk) in
     let faults : faults_of new.device ≡ faults_of old.device = ap (λ (m : Moment). m.faults) is.moment in
     record {
@@ -665,7 +707,7 @@ still_moved within old new is =
           state = at.state ∙ ap (λ (d : DeskState). state_of d) (sym is.desk);
           here = subst (λ (d : DeskState). Among (state_of d) k.since) (sym is.desk) at.here;
           begun = subst (λ (o : Option Begun). IfSome o (λ b. Among b.state k.since)) (sym is.begun) at.begun;
-          left = subst (λ (l : ℕ). IfSome k.left (λ n. l ≤ n)) (sym is.left) at.left;
+          left = bound_on old new (sym is.left) same_most (sym is.in_all) k.left at.left;
         },
       );
       paid = λ tells before kept k at owes.
@@ -685,6 +727,7 @@ none_moves within s =
       begun = refl;
       moment = refl;
       left = refl;
+      in_all = refl;
       work = refl;
       fixed = refl;
       lasts = same_told s.device s.clock s.device s.clock refl (same_clock s.clock);

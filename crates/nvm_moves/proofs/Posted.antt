@@ -13,7 +13,7 @@ use Rattle.nvm_core.specs.block_machine.Steps.{after_from, picked, wrote}
 use Rattle.nvm_core.specs.promise_blocks.Work.{has_risen}
 use Rattle.nvm_core.proofs.job_progress.Asking.{asked_hand}
 use Rattle.promise_run.specs.Turns.{Moment, Move, EachMove, IsMoveMade, IsPostedWithin, PostsPicked, ends, entry_list, fails, is_asked, is_found, is_picked}
-use Rattle.nvm_moves.specs.Along.{Along, Cursor, Frame, left_behind, next_by}
+use Rattle.nvm_moves.specs.Along.{Along, Bound, Cursor, Frame, bound_of, left_behind, next_by, one_less, renewed}
 use Rattle.nvm_moves.specs.Moved.{FitsHand, IsLawful, PostsAt}
 use Rattle.nvm_moves.proofs.AskedBlocks.{ask_leaves_power}
 
@@ -52,21 +52,25 @@ module _ (f : Frame) (clock : Clock) (k : Cursor) (m : Move) (one : IsLawful f.c
   next = after_from f.config k.state (entry_list m.entry)
 
   -- A JOB IN HAND
-  module _ (ms : List Move) (j : Job) (id n : ℕ) (held : k.state.hand ≡ Some j) (own : job_block j ≡ id) (on : k.state.off ≡ false) (left : k.left ≡ Some n)
-      (later : (i : Job) (n' : ℕ) → next.hand ≡ Some i → job_block i ≡ id → next.off ≡ false → left_behind f k m ≡ Some n' → IsPostedWithin id n' m.behind.faults ms) where
+  module _ (ms : List Move) (j : Job) (id : ℕ) (b : Bound) (held : k.state.hand ≡ Some j) (own : job_block j ≡ id) (on : k.state.off ≡ false) (left : k.left ≡ Some b)
+      (later : (i : Job) (b' : Bound) → next.hand ≡ Some i → job_block i ≡ id → next.off ≡ false → left_behind f k m ≡ Some b' → IsPostedWithin id b'.most b'.all b'.left m.behind.faults ms) where
     abbrev Goal : Type 0
-    Goal = IsPostedWithin id n k.now.faults (m ∷ ms)
+    Goal = IsPostedWithin id b.most b.all b.left k.now.faults (m ∷ ms)
 
     -- a turn that leaves it
     goes : is_asked m.entry ≡ false → is_found m.entry ≡ false → is_picked m.entry ≡ false → (i : Job) → next.hand ≡ Some i → job_block i ≡ id → next.off ≡ false → Goal
-    goes asked found picked i hand block up = elim (cases_Bool (has_risen k.now.faults m.behind.faults)) [
-      | inl risen ↦ inr (inr (inl (risen_rose k.now.faults m.behind.faults (never_less k.now m one.made) risen)))
-      | inr calm ↦
-          let some : is_none next.hand ≡ false = ap is_none hand in
-          let few = (subst (λ (o : Option ℕ). PostsAt f.config (record k { left = o }) m) left one.posts) asked found picked calm up some in
-          let drops : (has_risen k.now.faults m.behind.faults || (next.off || is_none next.hand)) ≡ false = rw (calm, up, some) refl in
-          let then_ : left_behind f k m ≡ Some (n - 1) = rw (asked, found, picked, drops) (ap (option_map (λ (x : ℕ). x - 1)) left) in inr (inr (inr (inr (inr (few, later i (n - 1) hand block up then_)))))
-    ]
+    goes asked found picked i hand block up =
+        let some : is_none next.hand ≡ false = ap is_none hand in
+        let drops : (next.off || is_none next.hand) ≡ false = rw (up, some) refl in
+        let (more, few) = (subst (λ (o : Option Bound). PostsAt f.config (record k { left = o }) m) left one.posts) asked found picked up some in
+        elim (cases_Bool (has_risen k.now.faults m.behind.faults)) [
+          | inl risen ↦
+              let then_ : left_behind f k m ≡ Some (renewed b) = rw (asked, found, picked, drops, risen) (ap (option_map renewed) left) in
+              inr (inr (inl (risen_rose k.now.faults m.behind.faults (never_less k.now m one.made) risen, more, later i (renewed b) hand block up then_)))
+          | inr calm ↦
+              let then_ : left_behind f k m ≡ Some (one_less b) = rw (asked, found, picked, drops, calm) (ap (option_map one_less) left) in
+              inr (inr (inr (inr (inr (few calm, more, later i (one_less b) hand block up then_)))))
+        ]
 
     by : (e : Option Entry) → m.entry ≡ e → Goal
     by None is =
@@ -74,9 +78,9 @@ module _ (f : Frame) (clock : Clock) (k : Cursor) (m : Move) (one : IsLawful f.c
     by (Some (Ask caller r reply)) is =
         let asked : is_asked m.entry ≡ true = ap is_asked is in
         let same : m.behind ≡ k.now = asked_still k.now m caller r reply is one.made in
-        let rest = later j n (ap (λ (o : Option Entry). (after_from f.config k.state (entry_list o)).hand) is ∙ asked_hand f.config k.state r reply ∙ held) own
+        let rest = later j b (ap (λ (o : Option Entry). (after_from f.config k.state (entry_list o)).hand) is ∙ asked_hand f.config k.state r reply ∙ held) own
         (ap (λ (o : Option Entry). (after_from f.config k.state (entry_list o)).off) is ∙ (ask_leaves_power f.config k.state caller r reply).1 ∙ on) (rw asked left) in
-        inr (inl (asked, subst (λ (faults : ℕ). IsPostedWithin id n faults ms) (ap (λ (x : Moment). x.faults) same) rest))
+        inr (inl (asked, subst (λ (faults : ℕ). IsPostedWithin id b.most b.all b.left faults ms) (ap (λ (x : Moment). x.faults) same) rest))
     by (Some (Pick block kind t ops)) is = inr (inr (inr (inr (inl (ap (ends id) is)))))
     by (Some (Wrote i mark ops)) is =
         goes (ap is_asked is) (ap is_found is) (ap is_picked is) (record j { reserved = j.reserved - 1; written = j.written ++ i.index ∷ [] })
@@ -103,19 +107,19 @@ module _ (f : Frame) (clock : Clock) (k : Cursor) (m : Move) (one : IsLawful f.c
   picks picked (Some (Off ops)) is = absurd (let no_ : true ≡ false = sym picked ∙ ap is_picked is in cc no_)
   picks picked (Some (Found marks ops)) is = absurd (let no_ : true ≡ false = sym picked ∙ ap is_picked is in cc no_)
 
-  picked_left : (j : Job) → is_picked m.entry ≡ true → next.hand ≡ Some j → left_behind f k m ≡ Some (f.most next j)
-  picked_left j picked held = let (asked, found, on) = picks picked m.entry refl in rw (asked, found, picked) (ap (option_map (f.most next)) held)
+  picked_left : (j : Job) → is_picked m.entry ≡ true → next.hand ≡ Some j → left_behind f k m ≡ Some (bound_of f next j)
+  picked_left j picked held = let (asked, found, on) = picks picked m.entry refl in rw (asked, found, picked) (ap (option_map (bound_of f next)) held)
 
 module _ (f : Frame) (clock : Clock) where
-  posted_within : (k : Cursor) (ms : List Move) (j : Job) (id n : ℕ) → k.state.hand ≡ Some j → job_block j ≡ id → k.state.off ≡ false → k.left ≡ Some n → Along f (IsLawful f.config clock) k ms → IsPostedWithin id n k.now.faults ms
-  posted_within k [] j id n held own on left along = tt
-  posted_within k (m ∷ ms) j id n held own on left (one, rest) =
-      by f clock k m one ms j id n held own on left (λ i n' hand block up more. posted_within (next_by f k m) ms i id n' hand block up more rest) m.entry refl
+  posted_within : (k : Cursor) (ms : List Move) (j : Job) (id : ℕ) (b : Bound) → k.state.hand ≡ Some j → job_block j ≡ id → k.state.off ≡ false → k.left ≡ Some b → Along f (IsLawful f.config clock) k ms → IsPostedWithin id b.most b.all b.left k.now.faults ms
+  posted_within k [] j id b held own on left along = tt
+  posted_within k (m ∷ ms) j id b held own on left (one, rest) =
+      by f clock k m one ms j id b held own on left (λ i b' hand block up more. posted_within (next_by f k m) ms i id b' hand block up more rest) m.entry refl
 
   -- each job that is picked
   pub posts_picked : (k : Cursor) (ms : List Move) → Along f (IsLawful f.config clock) k ms → EachMove f.config (PostsPicked f.config f.most) k.state ms
   posts_picked k [] along = tt
   posts_picked k (m ∷ ms) (one, rest) = (
-    λ picked j held. posted_within (next_by f k m) ms j (job_block j) _ held refl (picks f clock k m one picked m.entry refl).2 (picked_left f clock k m one j picked held) rest,
+    λ picked j held. posted_within (next_by f k m) ms j (job_block j) (bound_of f (after_from f.config k.state (entry_list m.entry)) j) held refl (picks f clock k m one picked m.entry refl).2 (picked_left f clock k m one j picked held) rest,
     posts_picked (next_by f k m) ms rest,
   )

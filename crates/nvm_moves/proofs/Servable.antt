@@ -10,7 +10,7 @@ use Rattle.nvm_core.specs.job_progress.JobInHand.{IsPaired}
 use Rattle.nvm_core.specs.nvm_laws.Traits.{IsSealedSince}
 use Rattle.nvm_core.proofs.nvm_laws.Traits.{none_first}
 use Rattle.nvm_moves.specs.Seen.{IsOn}
-use Rattle.nvm_moves.specs.Served.{MayGoOn}
+use Rattle.promise_run.specs.DeviceTurns.{MayGoOn}
 use Rattle.nvm_moves.proofs.DueAsked.{IsRoomy}
 use Rattle.nvm_moves.proofs.DeviceServed.{not_urgent}
 use Rattle.nvm_moves.proofs.TurnServed.{first_off}

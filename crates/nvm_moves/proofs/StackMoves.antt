@@ -24,7 +24,8 @@ use Rattle.nvm_core.specs.nvm_laws.Traits.{KeepsSeal, TakesKeptInHand}
 use Rattle.nvm_core.specs.nvm_laws.declared.turned.Turned.{Turned}
 use Rattle.nvm_core.specs.nvm_laws.declared.turned.Turned.TheVariants as turned
 use Rattle.nvm_core.specs.nvm_laws.declared.turned.Act.TheVariants.{Ended}
-use Rattle.nvm_core.specs.DeviceWork.{IsSimple, costs_in, work_in}
+use Rattle.nvm_core.specs.DeviceWork.{IsSimple, costs_in, tries_left, work_in}
+use Rattle.nvm_core.specs.BehindDevice.{TurnsDevice}
 use Rattle.nvm_core.specs.Due.{now_of}
 use Rattle.nvm_core.specs.DueWrites.{IsDueFor, free_turns}
 use Rattle.nvm_core.specs.JobNumbers.{IsOfBlock}
@@ -40,10 +41,11 @@ use Rattle.nvm_core.proofs.StartWork.{start_leaves}
 use Rattle.nvm_core.proofs.TurnWork.{closed_tries}
 use Rattle.nvm_core.proofs.TurnedBehind.{has_turned}
 use Rattle.nvm_core.specs.promise_blocks.Work.{has_risen}
-use Rattle.promise_run.specs.Turns.{Moment, Move, entry_list}
-use Rattle.nvm_moves.specs.Seen.{Seen, IsOn, moment_by, moment_seen, seen_as, seen_in, work_seen}
-use Rattle.nvm_moves.specs.Served.{MayGoOn, turns_beside}
-use Rattle.nvm_moves.specs.Worked.{HadPages, KeepsToWork}
+use Rattle.promise_run.specs.Turns.{Moment, Move, entry_list, turns_beside}
+use Rattle.promise_run.proofs.StartUps.{turns_start_none}
+use Rattle.nvm_moves.specs.Seen.{Seen, IsOn, all_with, moment_by, moment_seen, seen_as, seen_in, work_seen}
+use Rattle.promise_run.specs.DeviceTurns.{HadPages, MayGoOn}
+use Rattle.nvm_moves.specs.Worked.{KeepsToWork}
 use Rattle.nvm_moves.specs.Moved.{MovesBy}
 use Rattle.nvm_moves.proofs.AskedBlocks.{ask_leaves_power}
 use Rattle.nvm_moves.proofs.DueAsked.{one_served}
@@ -52,6 +54,10 @@ use Rattle.nvm_moves.proofs.Moved.{ask_moves, start_moves, still_moves, turn_mov
 use Rattle.nvm_moves.proofs.Servable.{roomy}
 
 -- A TURN
+-- the device counts no start-up in it
+pub device_starts : (answer : Turned) (old new : DeviceTold) (clock clock_new : Clock) → TurnsDevice answer old clock new clock_new → new.starts ≡ old.starts
+device_starts answer old new clock clock_new turns = let (a, is) = as_turn answer old clock new clock_new turns in turns_start_none a old clock new clock_new is
+
 one_off : (a b : Bool) → a ≡ true → (a || b) ≡ true
 one_off true b off = refl
 one_off false b off = cc off
@@ -109,6 +115,10 @@ armed_left : (nth keep : ℕ) (hand : Option HandState) (d : DeviceTold) → lef
 armed_left nth keep None d = refl
 armed_left nth keep (Some h) d = refl
 
+armed_all : (nth keep : ℕ) (hand : Option HandState) (d : DeviceTold) → all_with hand (armed 0 nth keep d) ≡ all_with hand d
+armed_all nth keep None d = refl
+armed_all nth keep (Some h) d = refl
+
 module _ {D C : Type 0} (told : D → DeviceTold) (clock : D → Clock) (old new : StackState D C) (kept kept_new : (Part → PartTold) → Type 0) (stays : (before : Part → PartTold) → kept before → kept_new before) where
   abbrev Old : Seen
   Old = seen_as told clock kept old
@@ -156,7 +166,8 @@ module _ {D C : Type 0} (told : D → DeviceTold) (clock : D → Clock) (old new
         begun = refl;
         moment = ap (moment_by None) arms.0;
         left = ap (λ (h : Option HandState). left_with h (told new.device)) hand ∙ ap (left_with old.hand) arms.0 ∙ armed_left nth keep old.hand (told old.device);
-        work = ap work_in arms.0;
+        in_all = ap (λ (h : Option HandState). all_with h (told new.device)) hand ∙ ap (all_with old.hand) arms.0 ∙ armed_all nth keep old.hand (told old.device);
+        work = ap (λ (h : Option HandState). work_in h (told new.device)) hand ∙ ap (work_in old.hand) arms.0;
         fixed = ap (λ (d : DeviceTold). d.fixed) arms.0;
         lasts = same_lasts (told old.device) (clock old.device) (told new.device) (clock new.device) (ap (λ (d : DeviceTold). d.ops) arms.0) (ap (λ (d : DeviceTold). d.first.faults) arms.0) (ap (λ (d : DeviceTold). d.second.faults) arms.0) arms.1.same;
         stays = record { told = tells; kept = stays };
@@ -183,6 +194,7 @@ module _ {D C : Type 0} (told : D → DeviceTold) (clock : D → Clock) (old new
         begun = refl;
         moment = refl;
         left = refl;
+        in_all = refl;
         work = refl;
         fixed = refl;
         lasts = still_lasts old;
@@ -237,7 +249,7 @@ module _ {D C : Type 0} (told : D → DeviceTold) (clock : D → Clock) (old new
     by_fault true own left before behind was same few = omega (arith, few, same)
     by_fault false own left before behind was same few = omega (arith, few, same)
 
-    start_works : IsSimple (told old.device).fixed → KeepsToWork (worn_so_far (told new.device) (clock new.device)) (clock new.device) Old (work_in (told new.device)) move
+    start_works : IsSimple (told old.device).fixed → KeepsToWork (worn_so_far (told new.device) (clock new.device)) (clock new.device) Old (work_in new.hand (told new.device)) move
     start_works simple =
         let closed = closed_tries (told new.device).stand starts.finds.at_rest in (
           None,
@@ -249,6 +261,8 @@ module _ {D C : Type 0} (told : D → DeviceTold) (clock : D → Clock) (old new
             ends = λ k on. inr (closed, inl (or_last (has_risen (faults_of (told old.device)) (faults_of (told new.device)))));
             none = λ none. closed;
             over = λ posted. cc posted;
+            tries =
+                let none : tries_left new.hand (is_open (told new.device).stand) ≡ 0 = ap (λ (s : StackState D C). tries_left s.hand (is_open (told new.device).stand)) starts.only in omega (arith, none);
           },
         )
 

@@ -15,7 +15,7 @@ use Rattle.nvm_core.proofs.WorkLists.{ask_worked, none_worked, worked_more}
 use Rattle.promise_run.specs.Turns.{CountFailed}
 use Rattle.promise_run.proofs.WorkedMoves.{worked_by}
 use Rattle.nvm_moves.specs.Moved.{AreAsked}
-use Rattle.nvm_moves.specs.Worked.{HadPages}
+use Rattle.promise_run.specs.DeviceTurns.{HadPages}
 use Rattle.nvm_moves.proofs.DueAsked.{asked_moves}
 
 -- requests leave what is open

@@ -3,6 +3,7 @@ pub mod Seen
 pub mod Served
 pub mod Worked
 pub mod Moved
+pub mod Beginning
 pub use Rattle.nvm_core.specs.nv_base as nv_base
 pub use Rattle.nvm_core.specs.memif as memif
 pub use Rattle.nvm_core.specs.block_config as block_config

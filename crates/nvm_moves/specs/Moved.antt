@@ -26,12 +26,16 @@ use Rattle.nvm_core.specs.DeviceWork.{IsSimple}
 use Rattle.nvm_core.specs.DueWrites.{AreFirst}
 use Rattle.nvm_core.specs.OperationStart.{LeavesDevice}
 use Rattle.nvm_core.specs.Paying.{OwesSince, PaysSince, has_urgent, worn_so_far}
-use Rattle.script_walks.specs.Walk.{is_due, is_at_rest, begins_with_pick_or_post}
-use Rattle.promise_run.specs.Turns.{Move, entry_list, entries_of, is_asked, is_found, is_picked, found_behind, EndsCanceled, IsMoveMade, IsPostedSoon, CountsOwn, HasImmediate, IsPaidSince}
-use Rattle.nvm_moves.specs.Along.{Cursor, Among, Along, cursor_behind}
-use Rattle.nvm_moves.specs.Seen.{Begun, Seen, IsOn, frame_of, left_seen, moment_seen, work_seen}
+use Rattle.script_walks.specs.Walk.{is_at_rest}
+use Rattle.promise_run.specs.Turns.{Move, entry_list, entries_of, is_asked, is_found, is_picked, found_behind, Among, BeginsIn, IsMoveMade, IsPostedSoon, CountsOwn, HasImmediate, IsPaidSince}
+use Rattle.nvm_moves.specs.Along.{Bound, Cursor, Along, bound_of, cursor_behind}
+use Rattle.nvm_moves.specs.Seen.{Begun, Seen, IsOn, all_seen, frame_in, frame_of, left_seen, moment_seen, most_seen, work_seen}
 use Rattle.nvm_moves.specs.Served.{DueAt, IsServable, ServesBy}
 use Rattle.nvm_moves.specs.Worked.{KeepToWork, KeepsToWork}
+
+-- so many turns are left at most of the job in hand, of the most that it has, and so many in all
+abbrev pub IsBound : Seen → Bound → Type 0
+IsBound s b = (left_seen s ≤ b.left) × (most_seen s ≡ Some b.most) × (all_seen s ≤ b.all)
 
 -- it is what is known there
 pub record IsAt (s : Seen) (k : Cursor) : Type 0 where
@@ -39,27 +43,24 @@ pub record IsAt (s : Seen) (k : Cursor) : Type 0 where
   pub state : k.state ≡ state_of s.desk
   pub here : Among (state_of s.desk) k.since
   pub begun : IfSome s.begun (λ b. Among b.state k.since)
-  pub left : IfSome k.left (λ n. left_seen s ≤ n)
+  pub left : IfSome k.left (IsBound s)
 
 -- THE LAW OF ONE MOVE
 -- With nothing pending and nothing open a turn does nothing.
 abbrev pub RestsAt : Cursor → Move → Type 0
 RestsAt k m = IsTrue (is_at_rest k.state) → k.now.busy ≡ false → is_asked m.entry ≡ false → is_found m.entry ≡ false → (m.entry ≡ None) × (m.behind ≡ k.now)
 
--- A turn that saw this state doesn't go by where something was due in it; and where a WriteAll that was canceled was all that was pending it
--- posts id 0 as canceled, or picks it where it wasn't begun.
-abbrev pub BeginsIn : State → Option Entry → Type 0
-BeginsIn s e = IsTrue (not (is_due s) || begins_with_pick_or_post (entry_list e)) × EndsCanceled s e
-
 -- A turn saw one of the states since the turn before it, behind which requests may have come within it.
 abbrev pub BeginsAt : Cursor → Move → Type 0
 BeginsAt k m = is_asked m.entry ≡ false → is_found m.entry ≡ false → (s : State) × Among s k.since × BeginsIn s m.entry
 
--- The job in hand, picked so many turns before its last, is posted by then: a turn that leaves it in hand wasn't the last.
+-- The job in hand, picked so many turns before its last, is posted by then: a turn that leaves it in hand wasn't the last in all, and where
+-- it counts no fault it wasn't the last of its most.
 abbrev pub PostsAt : Configuration → Cursor → Move → Type 0
 PostsAt c k m =
-    IfSome k.left (λ n. is_asked m.entry ≡ false → is_found m.entry ≡ false → is_picked m.entry ≡ false → has_risen k.now.faults m.behind.faults ≡ false
-    → (after_from c k.state (entry_list m.entry)).off ≡ false → is_none (after_from c k.state (entry_list m.entry)).hand ≡ false → 1 < n)
+    IfSome k.left (λ b. is_asked m.entry ≡ false → is_found m.entry ≡ false → is_picked m.entry ≡ false
+    → (after_from c k.state (entry_list m.entry)).off ≡ false → is_none (after_from c k.state (entry_list m.entry)).hand ≡ false
+    → (1 < b.all) × (has_risen k.now.faults m.behind.faults ≡ false → 1 < b.left))
 
 -- A Pick comes with the power on; and where a job is in hand a Post is its own.
 abbrev pub FitsHand : State → Option Entry → Type 0
@@ -122,8 +123,11 @@ pub record IsTurnTold (old new : Seen) : Type 0 where
   pub ended : new.begun ≡ None
   pub begins : (s : State) × (((b : Begun) × (old.begun ≡ Some b) × (b.state ≡ s)) ⊎ (state_of old.desk ≡ s)) × BeginsIn s entry
   pub fits : FitsHand (state_of old.desk) entry
-  -- behind a Pick at most the most turns of its job are left, and else fewer
-  pub most : is_picked entry ≡ true → IfSome (state_of new.desk).hand (λ j. left_seen new ≤ most_turns old.device.fixed (program_for old.desk.config (state_of new.desk) j))
+  -- behind a Pick at most the most turns of its job are left, and so behind any turn that leaves it in hand; where no fault is counted fewer,
+  -- and fewer in all
+  pub most : is_picked entry ≡ true → IfSome (state_of new.desk).hand (λ j. IsBound new (bound_of (frame_in false old.desk.config old.device.fixed) (state_of new.desk) j))
+  pub held : is_picked entry ≡ false → (state_of new.desk).off ≡ false → is_none (state_of new.desk).hand ≡ false → (n : ℕ) × (most_seen old ≡ Some n) × (left_seen new ≤ n) × (most_seen new ≡ Some n)
+  pub lowers : is_picked entry ≡ false → (state_of new.desk).off ≡ false → is_none (state_of new.desk).hand ≡ false → (0 < all_seen new) × (all_seen new < all_seen old)
   pub fewer : is_picked entry ≡ false → (Rose (faults_of old.device) (faults_of new.device) → ⊥) → (state_of new.desk).off ≡ false → is_none (state_of new.desk).hand ≡ false → (0 < left_seen new) × (left_seen new < left_seen old)
   pub rests : IsTrue (is_at_rest (state_of old.desk)) → (moment_seen old).busy ≡ false → (entry ≡ None) × (moment_seen new ≡ moment_seen old)
   pub adds : new.desk ≡ with_entries old.desk (entry_list entry)
@@ -216,6 +220,7 @@ pub record IsStillTold (old new : Seen) : Type 0 where
   pub begun : new.begun ≡ old.begun
   pub moment : moment_seen new ≡ moment_seen old
   pub left : left_seen new ≡ left_seen old
+  pub in_all : all_seen new ≡ all_seen old
   pub work : work_seen new ≡ work_seen old
   pub fixed : new.device.fixed ≡ old.device.fixed
   pub lasts : Lasts old.device old.clock new.device new.clock

@@ -1,7 +1,7 @@
 -- A stack at a moment, all told.
-use Rattle.std.specs.Prelude.{◌≡◌, ℕ, Bool, true, false, not, Option, None}
+use Rattle.std.specs.Prelude.{◌≡◌, ◌+◌, ◌*◌, ℕ, if◌then◌else◌, Bool, true, false, not, option_map, Option, Some, None}
 use Rattle.std.specs.Option.{option_map_or}
-use Rattle.nvm_core.specs.memif.Told.{DeviceTold, Part, PartTold, Fixed, faults_of, nothing_open}
+use Rattle.nvm_core.specs.memif.Told.{DeviceTold, Part, PartTold, Fixed, faults_of, is_open, nothing_open}
 use Rattle.nvm_core.specs.memif.Clock.{Clock}
 use Rattle.nvm_core.specs.block_machine.Words.{Configuration}
 use Rattle.nvm_core.specs.block_machine.State.{State}
@@ -12,7 +12,7 @@ use Rattle.nvm_core.specs.nvm_figures.Left.{most_turns}
 use Rattle.nvm_core.specs.nvm_laws.Keeps.{StackKeepsAsTold}
 use Rattle.nvm_core.specs.Stack.{StackState}
 use Rattle.nvm_core.specs.Work.{left_with}
-use Rattle.nvm_core.specs.DeviceWork.{work_in}
+use Rattle.nvm_core.specs.DeviceWork.{tries_left, work_in}
 use Rattle.nvm_core.specs.promise_blocks.Work.{Work}
 use Rattle.promise_run.specs.Turns.{Moment}
 use Rattle.nvm_moves.specs.Along.{Frame}
@@ -57,9 +57,25 @@ moment_seen s = moment_by s.begun s.device
 abbrev pub left_seen : Seen → ℕ
 left_seen s = left_with (hand_begun s.begun s.hand) (device_begun s.begun s.device)
 
+-- Those that are left in all, whatever fails: for each try that isn't started the most of the job and one more; what is open and two
+-- more, where a job is open; and else one.
+abbrev pub all_with : Option HandState → DeviceTold → ℕ
+all_with None d = 0
+all_with (Some h) d = tries_left (Some h) (is_open d.stand) * (most_turns d.fixed h.program + 1) + (if is_open d.stand then d.left + 2 else 1)
+
+abbrev pub all_seen : Seen → ℕ
+all_seen s = all_with (hand_begun s.begun s.hand) (device_begun s.begun s.device)
+
+-- the most turns of the job in hand, by its program
+abbrev pub most_by : Option Begun → Option HandState → Fixed → Option ℕ
+most_by o h f = option_map (λ x. most_turns f x.program) (hand_begun o h)
+
+abbrev pub most_seen : Seen → Option ℕ
+most_seen s = most_by s.begun s.hand s.device.fixed
+
 -- what the device is at
 abbrev pub work_seen : Seen → Work
-work_seen s = work_in (device_begun s.begun s.device)
+work_seen s = work_in (hand_begun s.begun s.hand) (device_begun s.begun s.device)
 
 abbrev pub frame_in : (within : Bool) → Configuration → Fixed → Frame
 frame_in within c f = record { config = c; most = λ t j. most_turns f (program_for c t j); within = within }

@@ -1,8 +1,7 @@
 -- When urgent writes are due, between moves and behind them.
-use Rattle.std.specs.Prelude.{◌≡◌, ◌⊎◌, ◌≤◌, ◌<◌, ◌+◌, min, ℕ, Bool, true, false, if◌then◌else◌, List, Option, Some, None}
-use Rattle.nvm_core.specs.nv_base.Count.{last_count}
+use Rattle.std.specs.Prelude.{◌≡◌, ◌⊎◌, ◌+◌, ℕ, Bool, true, false, List, Option, Some, None}
 use Rattle.nvm_core.specs.memif.Told.{DeviceTold}
-use Rattle.nvm_core.specs.memif.Clock.{Clock, Seals}
+use Rattle.nvm_core.specs.memif.Clock.{Clock}
 use Rattle.nvm_core.specs.block_machine.Words.{Configuration}
 use Rattle.nvm_core.specs.block_machine.State.{State}
 use Rattle.nvm_core.specs.block_machine.Blocks.{is_pending, status_of}
@@ -12,24 +11,9 @@ use Rattle.nvm_core.specs.nvm_laws.Due.{IsDue, IsDueInHand}
 use Rattle.nvm_core.specs.nvm_laws.Traits.{IsSealedSince}
 use Rattle.nvm_core.specs.JobNumbers.{IsOfBlock}
 use Rattle.nvm_core.specs.DueWrites.{AreFirst, IsDueFor, pages_in}
-use Rattle.promise_run.specs.Turns.{Moment, Move, EachMoveSince, IsPostedSoon, PostsUrgent}
+use Rattle.promise_run.specs.DeviceTurns.{MayGoOn}
+use Rattle.promise_run.specs.Turns.{Moment, Move, EachMoveSince, IsPostedSoon, PostsUrgent, turns_beside}
 use Rattle.nvm_moves.specs.Seen.{Begun, Seen, moment_seen}
-
--- WHERE AN URGENT WRITE MAY GO ON
--- once so many operations were made so many pages were free, of those that are kept
-abbrev pub HadSpare : Clock → (reserve operations pages : ℕ) → Type 0
-HadSpare clock reserve operations pages = (free : ℕ) × clock.spare operations free × (pages ≤ min reserve free)
-
--- the last of so many operations, none of the first `since`, left a switch at its seal
-pub record WasAtSeal (clock : Clock) (since operations : ℕ) : Type 0 where
-  pub counted : operations < last_count
-  pub last : ℕ
-  pub is_last : operations ≡ last + 1
-  pub later : since ≤ last
-  pub such : clock.was Seals last
-
-abbrev pub MayGoOn : Clock → (reserve since operations pages : ℕ) → Type 0
-MayGoOn clock reserve since operations pages = HadSpare clock reserve operations pages ⊎ (WasAtSeal clock since operations × (pages ≤ reserve))
 
 -- WHEN IT IS DUE
 -- an urgent write of a block is due within so many turns, and its block is PENDING
@@ -60,10 +44,6 @@ pub record IsServable (since : ℕ) (s : Seen) : Type 0 where
   pub uncut : s.uncut
   pub first : AreFirst s.device.fixed
   pub sealed : IsSealedSince since s.device s.clock
-
--- the turns that an urgent write takes beside its pages: one more where it may come within a turn
-abbrev pub turns_beside : (within : Bool) → ℕ
-turns_beside within = if within then 5 else 4
 
 -- From what is due before moves to what is due behind them: it is posted soon, and so is what is accepted in them, within its pages and so
 -- many turns.

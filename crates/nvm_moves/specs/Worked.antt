@@ -1,16 +1,13 @@
 -- What moves do at a device.
-use Rattle.std.specs.Prelude.{◌≤◌, ℕ, List, Option}
+use Rattle.std.specs.Prelude.{ℕ, List, Option}
 use Rattle.nvm_core.specs.memif.Clock.{Clock}
 use Rattle.nvm_core.specs.nv_desk.Desk.{state_of}
 use Rattle.nvm_core.specs.promise_blocks.Moves.{Move}
 use Rattle.nvm_core.specs.promise_blocks.Payment.{Worn}
 use Rattle.nvm_core.specs.promise_blocks.Work.{Work, IsWorked}
 use Rattle.nvm_core.specs.DeviceWork.{AreWorkedTo, costs_in}
+use Rattle.promise_run.specs.DeviceTurns.{HadPages}
 use Rattle.nvm_moves.specs.Seen.{Seen, moment_seen, work_seen}
-
--- once so many operations were made so many pages were free
-abbrev pub HadPages : Clock → (operations pages : ℕ) → Type 0
-HadPages clock operations pages = (free : ℕ) × clock.spare operations free × (pages ≤ free)
 
 -- by what a clock tells of their operations moves keep to what was open, and leave this open
 abbrev pub KeepToWork : Worn → Clock → Seen → Work → List Move → Type 0

@@ -10,7 +10,7 @@ pub use nvm_core::memif::MemDevice;
 pub use nvm_core::nv_base::{
     Bytes, Entry, History, Reply, ReqResult, Request, bytes_of, result_code,
 };
-pub use nvm_core::nv_desk::{AskFault, Desk, Event, Last};
+pub use nvm_core::nv_desk::{AskFault, Desk, Event, Last, LentRequest, RequestKind};
 pub use nvm_core::nv_desk_copies::Front;
 pub use nvm_core::nvm_laws::{FoundAnswer, Turned};
 pub use nvm_core::ram_blocks::{PlainSync, SyncCalls};

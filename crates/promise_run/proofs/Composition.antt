@@ -141,6 +141,7 @@ of_one clock r before now block device wear = record {
   wear = wear;
   refusals = block.refusals;
   off = (block.off.0, block.off.1, device.cuts block.off.0 block.off.2);
+  power = λ alone k small off. told_within k small (device.went_off k small off);
   operations = λ started. subst (AreOperations r.configuration.geometry r.flash (MayBeKept r)) block.came (record {
     told_alike = device.operations.told_alike;
     chain = device.operations.chain;
@@ -158,6 +159,10 @@ of_one clock r before now block device wear = record {
     told : (k : ℕ) → (last_count ≤ k) ⊎ clock.off_in k → (last_count ≤ k) ⊎ HasOffAt r.history (next_count k)
     told k (inl past_end) = inl past_end
     told k (inr off) = inr (block.over.off k off)
+
+    told_within : (k : ℕ) → k < last_count → (last_count ≤ k) ⊎ clock.off_in k → HasOffAt r.history (next_count k)
+    told_within k small (inl past_end) = absurd (omega (arith, small, past_end))
+    told_within k small (inr off) = block.over.off k off
 
 pub halves_make_the_promise : (clock : Clock) → HalvesMakeIt clock
 halves_make_the_promise clock r before now block device wear =

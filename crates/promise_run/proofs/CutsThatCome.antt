@@ -10,11 +10,11 @@ use Rattle.promise_device.specs.FlashRun.{HasFailed}
 use Rattle.promise_device.specs.Bridge.{IsSuch, IsWornOut, reading_of}
 use Rattle.promise_run.specs.Promise.{making_of}
 use Rattle.promise_run.specs.Operations.{HadRoom, HasWork, costs_of}
-use Rattle.promise_run.specs.Turns.{Moment, Move, Planned, entry_list, entries_of, moment_behind, moment_after, AreMoves, CountsOwn, IsInTime, AreInTime, CutsCome, HasTurns}
+use Rattle.promise_run.specs.Turns.{Moment, Move, Planned, entry_list, entries_of, moment_behind, moment_after, AreMoves, CountsOwn, IsInTime, AreInTime, CutsCome, KeepsTurns}
 use Rattle.promise_run.specs.Cases.{small, picks_one, written_at, always, cut_comes, cut_missed}
 use Rattle.promise_run.proofs.PlannedCuts.{from_more}
 use Rattle.promise_run.proofs.OneByOne.{asked_one, asks_step, at_ops, no_count, no_sweep, at_work, some_same, none_urgent, none_kept, may_try, one_adds}
-use Rattle.promise_run.proofs.Efforts.{none_began, began, rests, goes, begins}
+use Rattle.promise_run.proofs.Efforts.{may_begin, none_began, began, waits, rests, goes, begins}
 
 -- IT COMES
 none_failed : (k : ℕ) → HasFailed cut_comes.flash k → ⊥
@@ -28,24 +28,33 @@ none_fails n m more = record { later = more; own = λ k le lt failed. absurd (no
 no_page : {P : Type 0} {from to : ℕ} → (k : ℕ) → from ≤ k → k < to → IsSuch (reading_of (making_of small)) cut_comes.flash TakesKept k → P
 no_page k le lt kept = absurd (none_kept cut_comes.flash k kept)
 
-comes_work : HasWork (costs_of small) (HadRoom (making_of small) cut_comes.flash) (IsWornOut (making_of small) cut_comes.flash) small (at_ops 0) (after small (Found [] 0 ∷ []))
-    (record { entry = Some asked_one; behind = at_ops 0 } ∷ record { entry = Some picks_one; behind = at_ops 0 } ∷ record { entry = None; behind = at_ops 1 } ∷ record { entry = Some (Off 2); behind = at_ops 2 } ∷ [])
+abbrev comes_moves : List Move
+comes_moves = record { entry = Some asked_one; behind = at_ops 0 } ∷ record { entry = Some picks_one; behind = at_ops 0 } ∷ record { entry = None; behind = at_ops 1 } ∷ record { entry = Some (Off 2); behind = at_ops 2 } ∷ []
+
+comes_work : HasWork (costs_of small) (HadRoom (making_of small) cut_comes.flash) (IsWornOut (making_of small) cut_comes.flash) small (at_ops 0) (after small (Found [] 0 ∷ [])) comes_moves
 comes_work = record {
   left = 0;
   few = omega arith;
-  efforts = none_began 0 None ∷ none_began 0 None ∷ began 128 3 ∷ none_began 0 (Some 128) ∷ [];
-  are = (rests _ _ _ _ _ _ _ _ _ refl (omega arith), (rests _ _ _ _ _ _ _ _ _ refl (omega arith), (begins _ _ _ _ _ _ _ _ _ 128 refl may_try (λ test. one_adds (test 4)), (goes _ _ _ _ _ _ _ _ _ 128 refl refl (omega arith), tt))));
+  efforts = none_began 0 None ∷ may_begin 0 1 ∷ began 128 3 ∷ none_began 0 (Some 128) ∷ [];
+  are = (rests _ _ _ _ _ _ _ _ _ refl (omega arith), (waits _ _ _ _ _ _ _ _ _ 1 (omega arith) refl (omega arith), (begins _ _ _ _ _ _ _ _ _ 128 refl (omega arith) may_try (λ test. one_adds (test 4)), (goes _ _ _ _ _ _ _ _ _ 128 refl refl (omega arith), tt))));
 }
 
-pub comes_kept : HasTurns (always 8) cut_comes cut_comes.course
+pub comes_kept : KeepsTurns (always 8) cut_comes cut_comes.course
 comes_kept = record {
   first = at_ops 0;
   last = at_ops 2;
-  moves = record {
-    moves = [] ∷ (record { entry = Some asked_one; behind = at_ops 0 } ∷ []) ∷ (record { entry = Some picks_one; behind = at_ops 0 } ∷ record { entry = None; behind = at_ops 1 } ∷ record { entry = Some (Off 2); behind = at_ops 2 } ∷ []) ∷ [];
-    are = (refl, (refl, ((refl, search rules), tt)));
-    tell = refl;
-    behind = refl;
+  moves = comes_moves;
+  made = record {
+    steps = record {
+      moves = [] ∷ (record { entry = Some asked_one; behind = at_ops 0 } ∷ []) ∷ (record { entry = Some picks_one; behind = at_ops 0 } ∷ record { entry = None; behind = at_ops 1 } ∷ record { entry = Some (Off 2); behind = at_ops 2 } ∷ []) ∷ [];
+      are = (refl, (refl, ((refl, search rules), tt)));
+      tell = refl;
+      behind = refl;
+    };
+    all = refl;
+    drains = λ calm. (λ drain. absurd (cc drain), (λ drain. absurd (cc drain), (λ drain. absurd (cc drain), tt)));
+    finds = (λ drain. absurd (cc drain), (λ drain. absurd (cc drain), (λ drain. absurd (cc drain), tt)));
+    cuts = (tt, ((inl (omega arith), tt), ((inl (omega arith), (inl (omega arith), (inr (inl refl), tt))), tt)));
   };
   begins = refl;
   operations = refl;
@@ -53,15 +62,14 @@ comes_kept = record {
   counted = inl (omega arith);
   ends = tt;
   serves = (
-    record { begins = λ no_ask no_found. absurd (cc no_ask); posts = λ is. absurd (cc is); cancels = λ no_ask no_found. absurd (cc no_ask) },
+    λ no_ask no_found. absurd (cc no_ask),
     (
-      record { begins = λ no_ask no_found. refl; posts = λ is j hand. inr (inr (inr (inr (inr (omega arith, inr (inr (inr (inl refl)))))))); cancels = λ no_ask no_found sw is. absurd (no_sweep sw is) },
-      (record { begins = λ no_ask no_found. refl; posts = λ is. absurd (cc is); cancels = λ no_ask no_found sw is. absurd (no_sweep sw is) }, (record { begins = λ no_ask no_found. refl; posts = λ is. absurd (cc is); cancels = λ no_ask no_found sw is. absurd (no_sweep sw is) }, tt)),
+      λ no_ask no_found. (_, inl refl, (refl, λ sw is. absurd (no_sweep sw is))),
+      (λ no_ask no_found. (_, inl refl, (refl, λ sw is. absurd (no_sweep sw is))), (λ no_ask no_found. (_, inl refl, (refl, λ sw is. absurd (no_sweep sw is))), tt)),
     ),
   );
+  posts = (λ is. absurd (cc is), (λ is j hand. inr (inr (inr (inr (inr (omega arith, omega arith, inr (inr (inr (inl refl)))))))), (λ is. absurd (cc is), (λ is. absurd (cc is), tt))));
   rests = (λ rest idle no_ask. absurd (cc no_ask), (at_work, (at_work, (at_work, tt))));
-  drains = λ calm. (λ drain. absurd (cc drain), (λ drain. absurd (cc drain), (λ drain. absurd (cc drain), tt)));
-  cuts = (tt, ((inl (omega arith), tt), ((inl (omega arith), (inl (omega arith), (inr (inl refl), tt))), tt)));
   work = comes_work;
   kept = (no_page, (no_page, (no_page, (no_page, tt))));
   urgent = λ told sound. (λ id is. absurd (none_urgent id is), (λ id is. absurd (none_urgent id is), (λ id is. absurd (none_urgent id is), (λ id is. absurd (none_urgent id is), tt))));
@@ -108,8 +116,9 @@ missed first ([] ∷ xs ∷ (t ∷ ts) ∷ []) start are tell ops few cuts =
     late first (moment_behind (moment_behind first xs) (t ∷ ts)) (after_from small (after_from small begun (entries_of xs)) (entries_of (t ∷ ts))) start ops few (still_on (entries_of xs) (entries_of (t ∷ ts)) asks turns)
     (last_in_time small (Some (record { due = first.ops + 1; since = first.faults })) (moment_behind first xs) (after_from small begun (entries_of xs)) t ts cuts.1.1.0)
 
-pub not_missed : HasTurns (always 8) cut_missed cut_missed.course → ⊥
+pub not_missed : KeepsTurns (always 8) cut_missed cut_missed.course → ⊥
 not_missed has =
-    let end = has.moves.behind in
-    missed has.first has.moves.moves (sym (some_same 0 has.first.ops has.begins)) has.moves.are has.moves.tell
-    (ap (λ (m : Moment). m.ops) end ∙ has.operations) (let few = no_count has.last.faults has.counted in let same = ap (λ (m : Moment). m.faults) end in omega (arith, few, same)) has.cuts
+    let steps = has.made.steps in
+    let end = steps.behind in
+    missed has.first steps.moves (sym (some_same 0 has.first.ops has.begins)) steps.are steps.tell
+    (ap (λ (m : Moment). m.ops) end ∙ has.operations) (let few = no_count has.last.faults has.counted in let same = ap (λ (m : Moment). m.faults) end in omega (arith, few, same)) has.made.cuts

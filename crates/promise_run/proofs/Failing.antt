@@ -17,11 +17,11 @@ use Rattle.promise_device.specs.FlashRun.{HasFailed, StartsSound}
 use Rattle.promise_device.specs.Bridge.{IsWornOut, IsSuch, reading_of}
 use Rattle.promise_run.specs.Promise.{making_of}
 use Rattle.promise_run.specs.Operations.{HadRoom, HasWork, costs_of}
-use Rattle.promise_run.specs.Turns.{Moment, Move, entry_list, entries_of, moment_behind, moment_after, AreTurnsMade, AreMovesOf, AreMoves, CountsOwn, CountFailed, IsPaidSince, ArePaidSince, HasTurns, is_picked, all_moves}
+use Rattle.promise_run.specs.Turns.{Moment, Move, entry_list, entries_of, moment_behind, moment_after, AreTurnsMade, AreMovesOf, AreMoves, CountsOwn, CountFailed, IsPaidSince, ArePaidSince, IsPostedWithin, KeepsTurns, is_picked, all_moves}
 use Rattle.promise_run.specs.Cases.{small, one, blank, picks_one, always, CountsFailed, mended, posts_on_credit, starts_on_credit, untold}
 use Rattle.promise_run.proofs.Counted.{behind_more, all_behind}
-use Rattle.promise_run.proofs.OneByOne.{two_lists, asked_one, asks_step, at_ops, no_sweep, at_work, none_urgent, none_kept, may_try}
-use Rattle.promise_run.proofs.Efforts.{none_began, began, rests, goes, ends, begins}
+use Rattle.promise_run.proofs.OneByOne.{two_lists, asked_one, asks_step, at_ops, no_sweep, at_work, none_urgent, none_kept, may_try, picked_block}
+use Rattle.promise_run.proofs.Efforts.{may_begin, none_began, began, waits, rests, goes, ends, begins}
 
 -- A FAULT THAT WAS COUNTED
 -- no move takes a fault back
@@ -101,8 +101,8 @@ not_late counts = never_rose 0 0 (omega arith) (omega arith) (counts.1.0.own 0 (
 first_ops : (n : ℕ) → Some 0 ≡ Some n → n ≡ 0
 first_ops n is = sym (some_same 0 n is)
 
-pub not_untold : HasTurns (always 8) untold untold.course → ⊥
-not_untold has = by has.moves.moves has.moves.are has.moves.behind
+pub not_untold : KeepsTurns (always 8) untold untold.course → ⊥
+not_untold has = by has.made.steps.moves has.made.steps.are has.made.steps.behind
   where
     by : (mss : List (List Move)) → AreMoves has.first [] mss → moment_after has.first mss ≡ has.last → ⊥
     by [] are behind =
@@ -119,16 +119,18 @@ no_more : (n : ℕ) → WereCounted (n + 1) 0 1 → n ≤ 0
 no_more n (inl few) = omega (arith, few)
 no_more n (inr full) = omega (arith, full)
 
-pub not_on_credit : HasTurns (always 8) starts_on_credit starts_on_credit.course → ⊥
+pub not_on_credit : KeepsTurns (always 8) starts_on_credit starts_on_credit.course → ⊥
 not_on_credit has =
     let start = first_ops has.first.ops has.begins in
     let all : has.last.ops ≡ 1 = has.operations in
-    let behind = all_behind has.first has.moves.moves ∙ has.moves.behind in
+    let steps = has.made.steps in
+    let behind = all_behind has.first steps.moves ∙ steps.behind in
     let ops = ap (λ (m : Moment). m.ops) behind in
     let faults = ap (λ (m : Moment). m.faults) behind in
     let few = no_more has.last.faults has.ends in
-    never_rose has.first.faults (moment_behind has.first (all_moves has.moves.moves)).faults (omega (arith, few, faults)) (omega (arith, few, faults))
-    (rose_by_then (HasFailed starts_on_credit.flash) has.first (all_moves has.moves.moves) (all_fall has.first (asks_step ∷ turns 2 ∷ []) has.moves.moves has.moves.are) has.failed 0 (omega (arith, start)) (omega (arith, ops, all)) (_, refl, refl))
+    never_rose has.first.faults (moment_behind has.first (all_moves steps.moves)).faults (omega (arith, few, faults)) (omega (arith, few, faults))
+    (rose_by_then (HasFailed starts_on_credit.flash) has.first (all_moves steps.moves) (all_fall has.first (asks_step ∷ turns 2 ∷ []) steps.moves steps.are)
+    (subst (λ (ms : List Move). CountFailed (HasFailed starts_on_credit.flash) has.first ms) (sym has.made.all) has.failed) 0 (omega (arith, start)) (omega (arith, ops, all)) (_, refl, refl))
 
 -- A WRITE THAT A RETRY MENDS
 -- one fault, behind so many operations
@@ -172,6 +174,16 @@ to n o = record { entry = o; behind = after_fault n }
 abbrev behind_pick : List Move
 behind_pick = to 1 None ∷ to 2 None ∷ to 3 None ∷ to 4 None ∷ to 5 (Some wrote_five) ∷ to 5 (Some posted_five) ∷ []
 
+posted_there : IsPostedWithin 2 8 13 4 1 (to 5 (Some posted_five) ∷ [])
+posted_there = inr (inr (inr (inr (inl refl))))
+
+written_there : IsPostedWithin 2 8 14 5 1 (to 5 (Some wrote_five) ∷ to 5 (Some posted_five) ∷ [])
+written_there = inr (inr (inr (inr (inr (omega arith, omega arith, posted_there)))))
+
+-- the fault gives it its turns anew
+in_time_anew : IsPostedWithin 2 8 18 8 0 behind_pick
+in_time_anew = inr (inr (inl (inl (omega arith), omega arith, inr (inr (inr (inr (inr (omega arith, omega arith, inr (inr (inr (inr (inr (omega arith, omega arith, inr (inr (inr (inr (inr (omega arith, omega arith, written_there))))))))))))))))))
+
 no_page : {P : Type 0} {from to : ℕ} → (k : ℕ) → from ≤ k → k < to → IsSuch (reading_of (making_of small)) mended.flash TakesKept k → P
 no_page k le lt kept = absurd (none_kept mended.flash k kept)
 
@@ -184,19 +196,26 @@ mended_work : HasWork (costs_of small) (HadRoom (making_of small) mended.flash) 
 mended_work = record {
   left = 0;
   few = omega arith;
-  efforts = none_began 0 None ∷ none_began 0 None ∷ began 128 4 ∷ none_began 3 (Some 128) ∷ none_began 2 (Some 128) ∷ none_began 1 (Some 128) ∷ none_began 0 None ∷ none_began 0 None ∷ [];
-  are = (rests _ _ _ _ _ _ _ _ _ refl (omega arith), (rests _ _ _ _ _ _ _ _ _ refl (omega arith), (begins _ _ _ _ _ _ _ _ _ 128 refl may_try (λ test. fault_adds (test 4)), (goes _ _ _ _ _ _ _ _ _ 128 refl refl (omega arith), (goes _ _ _ _ _ _ _ _ _ 128 refl refl (omega arith), (goes _ _ _ _ _ _ _ _ _ 128 refl refl (omega arith), (ends _ _ _ _ _ _ _ _ _ 128 refl refl (omega arith) (inl refl), (rests _ _ _ _ _ _ _ _ _ refl (omega arith), tt))))))));
+  efforts = none_began 0 None ∷ may_begin 0 1 ∷ began 128 4 ∷ none_began 3 (Some 128) ∷ none_began 2 (Some 128) ∷ none_began 1 (Some 128) ∷ none_began 0 None ∷ none_began 0 None ∷ [];
+  are = (rests _ _ _ _ _ _ _ _ _ refl (omega arith), (waits _ _ _ _ _ _ _ _ _ 1 (omega arith) refl (omega arith), (begins _ _ _ _ _ _ _ _ _ 128 refl (omega arith) may_try (λ test. fault_adds (test 4)), (goes _ _ _ _ _ _ _ _ _ 128 refl refl (omega arith), (goes _ _ _ _ _ _ _ _ _ 128 refl refl (omega arith), (goes _ _ _ _ _ _ _ _ _ 128 refl refl (omega arith), (ends _ _ _ _ _ _ _ _ _ 128 refl refl (omega arith) (inl refl), (rests _ _ _ _ _ _ _ _ _ refl (omega arith), tt))))))));
 }
 
-pub mended_kept : HasTurns (always 8) mended mended.course
+pub mended_kept : KeepsTurns (always 8) mended mended.course
 mended_kept = record {
   first = at_ops 0;
   last = after_fault 5;
-  moves = record {
-    moves = (asks_move ∷ []) ∷ (picks_move ∷ behind_pick) ∷ [];
-    are = (refl, ((refl, search rules), tt));
-    tell = refl;
-    behind = refl;
+  moves = asks_move ∷ picks_move ∷ behind_pick;
+  made = record {
+    steps = record {
+      moves = (asks_move ∷ []) ∷ (picks_move ∷ behind_pick) ∷ [];
+      are = (refl, ((refl, search rules), tt));
+      tell = refl;
+      behind = refl;
+    };
+    all = refl;
+    drains = λ calm. (λ drain. absurd (cc drain), (λ drain. absurd (cc drain), tt));
+    finds = (λ drain. absurd (cc drain), (λ drain. absurd (cc drain), tt));
+    cuts = ((tt, tt), ((tt, (tt, (tt, (tt, (tt, (tt, (tt, tt))))))), tt));
   };
   begins = refl;
   operations = refl;
@@ -219,27 +238,29 @@ mended_kept = record {
   counted = inl (omega arith);
   ends = tt;
   serves = (
-    record { begins = λ no_ask no_found. absurd (cc no_ask); posts = λ is. absurd (cc is); cancels = λ no_ask no_found. absurd (cc no_ask) },
+    λ no_ask no_found. absurd (cc no_ask),
     (
-      record { begins = λ no_ask no_found. refl; posts = λ is j hand. inr (inr (inl (inl (omega arith)))); cancels = λ no_ask no_found sw is. absurd (no_sweep sw is) },
+      λ no_ask no_found. (_, inl refl, (refl, λ sw is. absurd (no_sweep sw is))),
       (
-        record { begins = λ no_ask no_found. refl; posts = λ is. absurd (cc is); cancels = λ no_ask no_found sw is. absurd (no_sweep sw is) },
+        λ no_ask no_found. (_, inl refl, (refl, λ sw is. absurd (no_sweep sw is))),
         (
-          record { begins = λ no_ask no_found. refl; posts = λ is. absurd (cc is); cancels = λ no_ask no_found sw is. absurd (no_sweep sw is) },
+          λ no_ask no_found. (_, inl refl, (refl, λ sw is. absurd (no_sweep sw is))),
           (
-            record { begins = λ no_ask no_found. refl; posts = λ is. absurd (cc is); cancels = λ no_ask no_found sw is. absurd (no_sweep sw is) },
-            (
-              record { begins = λ no_ask no_found. refl; posts = λ is. absurd (cc is); cancels = λ no_ask no_found sw is. absurd (no_sweep sw is) },
-              (record { begins = λ no_ask no_found. refl; posts = λ is. absurd (cc is); cancels = λ no_ask no_found sw is. absurd (no_sweep sw is) }, (record { begins = λ no_ask no_found. refl; posts = λ is. absurd (cc is); cancels = λ no_ask no_found sw is. absurd (no_sweep sw is) }, tt)),
-            ),
+            λ no_ask no_found. (_, inl refl, (refl, λ sw is. absurd (no_sweep sw is))),
+            (λ no_ask no_found. (_, inl refl, (refl, λ sw is. absurd (no_sweep sw is))), (λ no_ask no_found. (_, inl refl, (refl, λ sw is. absurd (no_sweep sw is))), (λ no_ask no_found. (_, inl refl, (refl, λ sw is. absurd (no_sweep sw is))), tt))),
           ),
         ),
       ),
     ),
   );
+  posts = (
+    λ is. absurd (cc is),
+    (
+      λ is j hand. subst (λ (id : ℕ). IsPostedWithin id 8 18 8 0 behind_pick) (sym (picked_block j hand)) in_time_anew,
+      (λ is. absurd (cc is), (λ is. absurd (cc is), (λ is. absurd (cc is), (λ is. absurd (cc is), (λ is. absurd (cc is), (λ is. absurd (cc is), tt)))))),
+    ),
+  );
   rests = (λ rest idle no_ask. absurd (cc no_ask), (at_work, (at_work, (at_work, (at_work, (at_work, (at_work, (at_work, tt))))))));
-  drains = λ calm. (λ drain. absurd (cc drain), (λ drain. absurd (cc drain), tt));
-  cuts = ((tt, tt), ((tt, (tt, (tt, (tt, (tt, (tt, (tt, tt))))))), tt));
   work = mended_work;
   kept = (no_page, (no_page, (no_page, (no_page, (no_page, (no_page, (no_page, (no_page, tt))))))));
   urgent = λ told sound. (λ id is. absurd (none_urgent id is), (λ id is. absurd (none_urgent id is), (λ id is. absurd (none_urgent id is), (λ id is. absurd (none_urgent id is), (λ id is. absurd (none_urgent id is), (λ id is. absurd (none_urgent id is), (λ id is. absurd (none_urgent id is), (λ id is. absurd (none_urgent id is), tt))))))));
@@ -304,7 +325,7 @@ unpaid n m up some few q is at paid = by (subst (λ (o : Option Entry). IsPaidSi
     by (inr (j, hand, mark, was)) = not_worn was.moment _ _ was.is
 
 -- a write's Post tells five operations, so behind four of them the first was counted
-module _ (computes : SoundImagesCompute) (has : HasTurns (always 8) posts_on_credit posts_on_credit.course) where
+module _ (computes : SoundImagesCompute) (has : KeepsTurns (always 8) posts_on_credit posts_on_credit.course) where
   start : has.first.ops ≡ 0
   start = first_ops has.first.ops has.begins
 
@@ -318,7 +339,7 @@ module _ (computes : SoundImagesCompute) (has : HasTurns (always 8) posts_on_cre
   sound : StartsSound (making_of small) posts_on_credit.flash
   sound = (computes (banks_of (making_of small)) blank).0 refl
 
-  module _ (ms : List Move) (p q : Move) (none : NoneFall has.first ms) (all : all_moves has.moves.moves ≡ ms ++ p ∷ q ∷ []) (tell : Found [] 0 ∷ entries_of ms ≡ Found [] 0 ∷ asked_one ∷ picks_one ∷ wrote_five ∷ posted_five ∷ asked_one ∷ [])
+  module _ (ms : List Move) (p q : Move) (none : NoneFall has.first ms) (all : has.moves ≡ ms ++ p ∷ q ∷ []) (tell : Found [] 0 ∷ entries_of ms ≡ Found [] 0 ∷ asked_one ∷ picks_one ∷ wrote_five ∷ posted_five ∷ asked_one ∷ [])
       (made : AreTurnsMade (moment_behind has.first ms) (p ∷ q ∷ [])) (told : picks_again ∷ posts_failed ∷ [] ≡ entries_of (p ∷ q ∷ [])) (end : q.behind ≡ has.last) where
     abbrev before : Moment
     before = moment_behind has.first ms
@@ -360,7 +381,7 @@ module _ (computes : SoundImagesCompute) (has : HasTurns (always 8) posts_on_cre
         (subst (λ (s : State). IsPaidSince small (IsWornOut (making_of small) posts_on_credit.flash) before.faults (after_from small s (picks_again ∷ [])) q) state at_pick)
 
   by_moves : (mss : List (List Move)) → AreMoves has.first (asks_step ∷ turns 7 ∷ asks_step ∷ turns 2 ∷ []) mss
-      → (asked_one ∷ []) ∷ (picks_one ∷ wrote_five ∷ posted_five ∷ []) ∷ (asked_one ∷ []) ∷ (picks_again ∷ posts_failed ∷ []) ∷ [] ≡ map entries_of mss → moment_after has.first mss ≡ has.last → has.moves.moves ≡ mss → ⊥
+      → (asked_one ∷ []) ∷ (picks_one ∷ wrote_five ∷ posted_five ∷ []) ∷ (asked_one ∷ []) ∷ (picks_again ∷ posts_failed ∷ []) ∷ [] ≡ map entries_of mss → moment_after has.first mss ≡ has.last → has.made.steps.moves ≡ mss → ⊥
   by_moves [] are tell behind is = are
   by_moves (xs ∷ []) are tell behind is = are.1
   by_moves (xs ∷ ts ∷ []) are tell behind is = are.1.1
@@ -377,7 +398,7 @@ module _ (computes : SoundImagesCompute) (has : HasTurns (always 8) posts_on_cre
       no_pay ms p q
       (fall_more has.first xs (ts ++ ys) (step_falls (AskStep (Write 2 (Some one) 0)) has.first xs are.0)
       (fall_more (moment_behind has.first xs) ts ys (step_falls (Turn 7) (moment_behind has.first xs) ts are.1.0) (step_falls (AskStep (Write 2 (Some one) 0)) (moment_behind (moment_behind has.first xs) ts) ys are.1.1.0)))
-      (ap all_moves is ∙ in_one xs ts ys (p ∷ q ∷ []))
+      (sym has.made.all ∙ ap all_moves is ∙ in_one xs ts ys (p ∷ q ∷ []))
       (ap (λ (es : List Entry). Found [] 0 ∷ es) (sym (entries_in xs (ts ++ ys) (asked_one ∷ []) (picks_one ∷ wrote_five ∷ posted_five ∷ asked_one ∷ []) t1 (entries_in ts ys (picks_one ∷ wrote_five ∷ posted_five ∷ []) (asked_one ∷ []) t2 t3))))
       (subst (λ (m : Moment). AreTurnsMade m (p ∷ q ∷ [])) (sym to_end) are.1.1.1.0.1) t4 behind
     where
@@ -389,4 +410,4 @@ module _ (computes : SoundImagesCompute) (has : HasTurns (always 8) posts_on_cre
           ap (λ (zs : List Move). ws ++ (bs ++ (cs ++ zs))) (append-nil ds) ∙ ap (λ (zs : List Move). ws ++ zs) (sym (append_assoc bs cs ds)) ∙ sym (append_assoc ws (bs ++ cs) ds)
 
   pub not_posted_on_credit : ⊥
-  not_posted_on_credit = by_moves has.moves.moves has.moves.are has.moves.tell has.moves.behind refl
+  not_posted_on_credit = by_moves has.made.steps.moves has.made.steps.are has.made.steps.tell has.made.steps.behind refl

@@ -15,7 +15,7 @@ use Rattle.promise_run.specs.Beside.{Beside}
 use Rattle.promise_run.specs.InRoom.{RoomSuffices, MadeFewTurns, TurnsMakeFew, turns_of, is_drain}
 use Rattle.promise_run.specs.Promise.{Promise, CutsKeep, CutsCount, OperationsAre}
 use Rattle.promise_run.specs.Run.{Run, Course, Played, HasOrder, LeavesFlashes}
-use Rattle.promise_run.specs.Turns.{Moment, Move, moment_behind, moment_after, AreTurnsMade, AreMovesOf, AreMoves, BeginsAt, HasTurns}
+use Rattle.promise_run.specs.Turns.{Moment, Move, moment_behind, moment_after, AreTurnsMade, AreMovesOf, AreMoves, BeginsAt, KeepsTurns}
 
 no_get : (k : ℕ) (x : Change) → slice_get [] k ≡ Some x → ⊥
 no_get zero x is = cc
@@ -79,14 +79,15 @@ first_ops [] first started before at = absurd started
 first_ops (Found marks ops ∷ es) first started before at = (let is : ops ≡ first.ops = cc at in sym is ∙ before)
 first_ops (_ ∷ es) first started before at = absurd before
 
-few_made : (n : ℕ) (most : State → Job → ℕ) (r : Run) (course : Course) (h : List Entry) → r.history ≡ h → r.beside ≡ None → Promise r → HasTurns most r course → MadeFewTurns n course → n < last_count → length r.flash.operations ≤ n
+few_made : (n : ℕ) (most : State → Job → ℕ) (r : Run) (course : Course) (h : List Entry) → r.history ≡ h → r.beside ≡ None → Promise r → KeepsTurns most r course → MadeFewTurns n course → n < last_count → length r.flash.operations ≤ n
 few_made n most r (Played made pieces left) [] is alone p turns few small =
     let none : length r.flash.operations ≡ 0 = ap length (none_made r (subst (HasOrder r) is p.order) alone) in
     omega (arith, none)
 few_made n most r (Played made pieces left) (e ∷ es) is alone p turns few small =
     let first = first_ops r.history turns.first (subst HasStarted (sym is) tt) p.begins turns.begins in
-    let all = all_ops turns.first made turns.moves.moves few.none turns.moves.are in
-    omega (arith, first, all, ap (λ (x : Moment). x.ops) turns.moves.behind, turns.operations, few.few, small)
+    let steps = turns.made.steps in
+    let all = all_ops turns.first made steps.moves few.none steps.are in
+    omega (arith, first, all, ap (λ (x : Moment). x.ops) steps.behind, turns.operations, few.few, small)
 few_made n most r _ h is alone p turns few small = absurd few
 
 pub turns_make_few : TurnsMakeFew

@@ -1,6 +1,6 @@
 -- Runs that keep the promise.
 use Rattle.std.specs.Prelude.{Contains, IfSome}
-use Rattle.std.proofs.Common.{◌≡◌, ◌==◌, ℕ, zero, suc, ◌≤◌, true, IsTrue, List, [], ◌∷◌, replicate, Option, Some, None, refl, sym, ap, subst, ◌∙◌, inl, arith, ◌⊎◌, inr}
+use Rattle.std.proofs.Common.{◌≡◌, ◌==◌, ℕ, zero, suc, ◌≤◌, ◌<◌, true, IsTrue, List, [], ◌∷◌, replicate, Option, Some, None, refl, sym, ap, subst, ◌∙◌, inl, arith, ◌⊎◌, inr}
 use Rattle.std.proofs.lemmas.Bool.{cases_Bool}
 use Rattle.block_machine.specs.nv_base.declared.instance.DeviceNumber.{DeviceNumber}
 use Rattle.block_machine.specs.nv_base.Count.{last_count, next_count}
@@ -28,7 +28,7 @@ use Rattle.promise_blocks.specs.Marks.{KeepsMarks, Lists}
 use Rattle.promise_blocks.specs.OverDevice.{HasOffAt, TellsAtMost}
 use Rattle.promise_device.specs.Making.{banks_of}
 use Rattle.promise_device.specs.Image.{attached, held_as}
-use Rattle.promise_device.specs.FlashRun.{IsCutImage, IsChain, AreSeen, bytes_after}
+use Rattle.promise_device.specs.FlashRun.{IsCutImage, IsChain, AreSeen, WentOff, bytes_after}
 use Rattle.fee_image.specs.Sound.{IsSoundImage}
 use Rattle.promise_run.specs.Run.{cap}
 use Rattle.promise_run.specs.Refusals.{RefusesAsAsked}
@@ -208,9 +208,14 @@ is_legal = (
   ),
 )
 
+-- the one operation in which the power went off has its Off
+all_told : (k : ℕ) → k < last_count → WentOff kept_write.flash k → HasOffAt whole (next_count k)
+all_told zero small off = refl
+all_told (suc k) small (x, at, off) = absurd (cc at)
+
 pub write_keeps : NoActiveComputes → TornErasesMakeNoBank → TornErasesKeepSound → TornErasesSetBits → BlankIsSound → BlankHasErased → Promise kept_write
 write_keeps computes makes stays bits sound erased = record {
-  order = ((refl, ((refl, tt), (((refl, refl), (tt, tt)), ((record { played = refl; ends = refl }, (tt, (tt, tt))), ((tt, (tt, tt)), tt))))), ((λ no. no), ((λ no. cc no), ((λ no. no), ((λ no. omega (arith, no)), tt)))), refl);
+  order = ((refl, ((refl, tt, tt), (((refl, refl), (tt, tt), (tt, tt)), ((record { played = refl; ends = refl }, (tt, (tt, tt)), (tt, (tt, tt))), ((tt, (tt, tt), (tt, tt)), tt))))), ((λ no. no), ((λ no. cc no), ((λ no. no), ((λ no. omega (arith, no)), tt)))), refl);
   power_cut = λ told from k image few cut. cuts_keep computes makes stays bits sound k image cut;
   counts = λ told from. cuts_count computes makes bits sound erased;
   found = λ told from. start_ups_find erased;
@@ -220,6 +225,7 @@ write_keeps computes makes stays bits sound erased = record {
   wear = λ told from. refl;
   refusals = no_refusals;
   off = (0, inl (_, [], refl, inl (omega arith), refl, (refl, refl)), inl (omega arith));
+  power = λ alone. all_told;
   operations = λ started. record {
     told_alike = tt;
     chain = λ t. chains t.first t.last (some_list [] t.first t.entry) (some_list blank t.last t.exit);

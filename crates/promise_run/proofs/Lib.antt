@@ -4,6 +4,7 @@ mod CutsThatCome
 pub mod Paid
 mod RefusedRuns
 pub mod RefusalsPaid
+pub mod DeviceTurns
 pub mod Counted
 pub mod WorkedMoves
 pub mod Operations
@@ -21,6 +22,7 @@ mod WrongOrders
 mod WrongMarks
 mod WrongCauses
 mod WrongOperations
+mod EraseCases
 pub mod SectorErases
 mod KeptRuns
 mod TwoFlashes

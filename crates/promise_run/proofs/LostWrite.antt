@@ -31,7 +31,7 @@ abbrev whole : List Entry
 whole = lost_write.history
 
 pub keeps_order : HasOrder lost_write whole
-keeps_order = ((refl, (((refl, refl), (tt, tt)), ((record { played = refl; ends = refl }, (tt, (tt, (tt, tt)))), tt))), ((λ no. cc no), ((λ no. no), tt)), refl)
+keeps_order = ((refl, (((refl, refl), (tt, tt), (tt, tt)), ((record { played = refl; ends = refl }, (tt, (tt, (tt, tt))), (tt, (tt, (tt, tt)))), tt))), ((λ no. cc no), ((λ no. no), tt)), refl)
 
 -- WHAT IS FOUND
 abbrev FindsNothing : Entry → Type 0

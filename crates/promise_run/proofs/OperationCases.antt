@@ -10,10 +10,11 @@ use Rattle.promise_run.specs.Promise.{making_of}
 use Rattle.promise_blocks.specs.Moves.{Move, entry_list}
 use Rattle.promise_blocks.specs.Work.{Work, Effort, IsWorked, EndsTry, MayBegin, adds_most, begun_adds, loss_adds}
 use Rattle.promise_run.specs.Operations.{costs_of, has_free}
-use Rattle.promise_run.specs.UrgentCases.{urgent, roomy, half_full, full, at, accepts, picks}
-use Rattle.promise_run.specs.OperationCases.{AreWorkedFrom, HasWorkBehind, HasWorkOver, first_state, never_worn, operation, started_again, written_with}
+use Rattle.promise_run.specs.UrgentCases.{urgent, roomy, half_full, full, at, accepts, fault_at, picks}
+use Rattle.promise_run.specs.OperationCases.{AreWorkedFrom, HasWorkBehind, HasWorkOver, Tries, first_state, never_worn, operation, started_again, written_with}
 use Rattle.promise_run.proofs.OneByOne.{some_same}
-use Rattle.promise_run.proofs.Efforts.{none_began, began, rests, goes, ends, begins, none_some}
+use Rattle.promise_run.proofs.Operations.{begun_from}
+use Rattle.promise_run.proofs.Efforts.{may_begin, none_began, began, waits, rests, goes, ends, begins, none_some}
 
 abbrev asked_state : State
 asked_state = after_from urgent first_state (entry_list accepts.entry)
@@ -21,7 +22,7 @@ asked_state = after_from urgent first_state (entry_list accepts.entry)
 abbrev picked_state : State
 picked_state = after_from urgent asked_state (entry_list picks.entry)
 
-may_try : MayBegin urgent picked_state (record { left = 0; trying = None }) 128
+may_try : MayBegin urgent picked_state (record { left = 0; trying = None; tries = 1 }) 128
 may_try = record { none = refl; job = _; hand = refl; writes = λ is. cc is; index = 0; one = (0, omega arith, refl); number_is = refl }
 
 -- WITH ROOM
@@ -33,8 +34,8 @@ pub four : HasWorkOver roomy (written_with [] 4)
 four = record {
   left = 0;
   few = omega arith;
-  efforts = none_began 0 None ∷ none_began 0 None ∷ began 128 3 ∷ none_began 2 (Some 128) ∷ none_began 1 (Some 128) ∷ none_began 0 None ∷ none_began 0 None ∷ [];
-  are = (rests _ _ _ _ _ _ _ _ _ refl (omega arith), (rests _ _ _ _ _ _ _ _ _ refl (omega arith), (begins _ _ _ _ _ _ _ _ _ 128 refl may_try (λ test. one_adds (test 4)), (goes _ _ _ _ _ _ _ _ _ 128 refl refl (omega arith), (goes _ _ _ _ _ _ _ _ _ 128 refl refl (omega arith), (ends _ _ _ _ _ _ _ _ _ 128 refl refl (omega arith) (inl refl), (rests _ _ _ _ _ _ _ _ _ refl (omega arith), tt)))))));
+  efforts = none_began 0 None ∷ may_begin 0 1 ∷ began 128 3 ∷ none_began 2 (Some 128) ∷ none_began 1 (Some 128) ∷ none_began 0 None ∷ none_began 0 None ∷ [];
+  are = (rests _ _ _ _ _ _ _ _ _ refl (omega arith), (waits _ _ _ _ _ _ _ _ _ 1 (omega arith) refl (omega arith), (begins _ _ _ _ _ _ _ _ _ 128 refl (omega arith) may_try (λ test. one_adds (test 4)), (goes _ _ _ _ _ _ _ _ _ 128 refl refl (omega arith), (goes _ _ _ _ _ _ _ _ _ 128 refl refl (omega arith), (ends _ _ _ _ _ _ _ _ _ 128 refl refl (omega arith) (inl refl), (rests _ _ _ _ _ _ _ _ _ refl (omega arith), tt)))))));
 }
 
 -- WITHOUT ROOM
@@ -46,17 +47,18 @@ pub switches : HasWorkOver full (written_with (operation 4 ∷ []) 5)
 switches = record {
   left = 0;
   few = omega arith;
-  efforts = none_began 0 None ∷ none_began 0 None ∷ record { begins = Some 128; behind = record { left = 26; trying = Some 128 } } ∷ none_began 25 (Some 128) ∷ none_began 24 (Some 128) ∷ none_began 23 (Some 128) ∷ none_began 22 None ∷ none_began 22 None ∷ [];
-  are = (rests _ _ _ _ _ _ _ _ _ refl (omega arith), (rests _ _ _ _ _ _ _ _ _ refl (omega arith), (switch, (goes _ _ _ _ _ _ _ _ _ 128 refl refl (omega arith), (goes _ _ _ _ _ _ _ _ _ 128 refl refl (omega arith), (goes _ _ _ _ _ _ _ _ _ 128 refl refl (omega arith), (ends _ _ _ _ _ _ _ _ _ 128 refl refl (omega arith) (inl refl), (rests _ _ _ _ _ _ _ _ _ refl (omega arith), tt))))))));
+  efforts = none_began 0 None ∷ may_begin 0 1 ∷ began 128 26 ∷ none_began 25 (Some 128) ∷ none_began 24 (Some 128) ∷ none_began 23 (Some 128) ∷ none_began 22 None ∷ none_began 22 None ∷ [];
+  are = (rests _ _ _ _ _ _ _ _ _ refl (omega arith), (waits _ _ _ _ _ _ _ _ _ 1 (omega arith) refl (omega arith), (switch, (goes _ _ _ _ _ _ _ _ _ 128 refl refl (omega arith), (goes _ _ _ _ _ _ _ _ _ 128 refl refl (omega arith), (goes _ _ _ _ _ _ _ _ _ 128 refl refl (omega arith), (ends _ _ _ _ _ _ _ _ _ 128 refl refl (omega arith) (inl refl), (rests _ _ _ _ _ _ _ _ _ refl (omega arith), tt))))))));
 }
   where
-    switch : IsWorked (costs_of urgent) (λ k n. has_free (making_of urgent) full k n ≡ true) never_worn urgent (at 0 0) picked_state (record { left = 0; trying = None }) (operation 1) (began 128 26)
+    switch : IsWorked (costs_of urgent) (λ k n. has_free (making_of urgent) full k n ≡ true) never_worn urgent (at 0 0) picked_state (record { left = 0; trying = None; tries = 1 }) (operation 1) (began 128 26)
     switch = record {
-      begins = λ k is. let same : 128 ≡ k = cc is in subst (MayBegin urgent picked_state (record { left = 0; trying = None })) same may_try;
+      begins = λ k is. let same : 128 ≡ k = cc is in subst (MayBegin urgent picked_state (record { left = 0; trying = None; tries = 1 })) same may_try;
       adds = λ test has. switch_adds (test 4) (has 4);
       ends = λ k is. inl is;
       none = λ is. none_some 128 (sym is);
       over = λ posted. cc posted;
+      tries = omega arith;
     }
 
 -- A SWITCH FOR NOTHING
@@ -196,11 +198,28 @@ fault_behind = record { left = 22; few = omega arith; efforts = none_began 21 No
 pub fault_behind_another : HasWorkOver roomy (started_again 1)
 fault_behind_another = record { left = 0; few = omega arith; efforts = none_began 22 None ∷ none_began 21 None ∷ []; are = (starts, (rests _ _ _ _ _ _ _ _ _ refl (omega arith), tt)) }
   where
-    starts : IsWorked (costs_of urgent) (λ k n. has_free (making_of urgent) roomy k n ≡ true) never_worn urgent (at 0 0) first_state (record { left = 0; trying = None }) (record { entry = Some (Found [] 0); behind = at 1 0 }) (none_began 22 None)
+    starts : IsWorked (costs_of urgent) (λ k n. has_free (making_of urgent) roomy k n ≡ true) never_worn urgent (at 0 0) first_state (record { left = 0; trying = None; tries = 0 }) (record { entry = Some (Found [] 0); behind = at 1 0 }) (none_began 22 None)
     starts = record {
       begins = λ n is. none_some n is;
       adds = λ test has. omega arith;
       ends = λ n is. none_some n is;
       none = λ is. refl;
       over = λ posted. cc posted;
+      tries = omega arith;
     }
+
+-- THE TRIES
+failed_adds : (room : Bool) → 4 ≤ 0 + ((if room then 4 else 27) + 23)
+failed_adds true = omega arith
+failed_adds false = omega arith
+
+pub tries_once : Tries 1
+tries_once = (
+  none_began 0 None ∷ may_begin 0 1 ∷ began 128 3 ∷ none_began 2 None ∷ [],
+  (rests _ _ _ _ _ _ _ _ _ refl (omega arith), (waits _ _ _ _ _ _ _ _ _ 1 (omega arith) refl (omega arith), (begins _ _ _ _ _ _ _ _ _ 128 refl (omega arith) may_try (λ test. failed_adds (test 4)), (ends _ _ _ _ _ _ _ _ _ 128 refl refl (omega arith) (inl refl), tt)))),
+  refl,
+)
+
+pub no_second_try : Tries 2 → ⊥
+no_second_try (es, are, two) =
+    let few = begun_from (costs_of urgent) (λ k n. has_free (making_of urgent) roomy k n ≡ true) never_worn urgent (at 0 0) first_state (record { left = 0; trying = None; tries = 0 }) (accepts ∷ picks ∷ fault_at 1 ∷ fault_at 2 ∷ []) es are in omega (arith, few, two)

@@ -1,13 +1,13 @@
 -- How many operations moves make, and how many tries begin in them.
 use Rattle.std.specs.Prelude.{if◌then◌else◌, ◌||◌}
-use Rattle.std.proofs.Common.{◌≡◌, ◌⊎◌, ◌≤◌, ◌+◌, ℕ, Bool, true, IsTrue, List, [], ◌∷◌, is_some, Option, Some, None, refl, inl, inr, arith}
+use Rattle.std.proofs.Common.{◌≡◌, ◌⊎◌, ◌≤◌, ◌+◌, ℕ, Bool, true, false, IsTrue, List, [], ◌∷◌, is_some, Option, Some, None, refl, inl, inr, arith}
 use Rattle.block_machine.specs.Words.{Entry, Ask, Pick, Wrote, Post, Off, Found, Configuration}
 use Rattle.block_machine.specs.State.{State}
 use Rattle.block_machine.specs.Steps.{after_from}
 use Rattle.promise_blocks.specs.Payment.{Worn}
 use Rattle.promise_blocks.specs.Moves.{Moment, Move, entry_list, moment_behind, is_found, is_picked}
-use Rattle.promise_blocks.specs.Work.{Costs, Work, Effort, work_behind, AreWorked, EndsTry, operations_at_most, has_risen, is_written, is_wrote, may_end, ends_most, tries_begun}
-use Rattle.promise_run.specs.Operations.{WorkIsBounded, TriesAreFew}
+use Rattle.promise_blocks.specs.Work.{Costs, Work, Effort, work_behind, AreWorked, EndsTry, operations_at_most, has_risen, is_written, is_wrote, may_end, ends_most, tries_begun, tries_of}
+use Rattle.promise_run.specs.Operations.{WorkIsBounded, TriesAreFew, TriesAreConfigured, tries_picked}
 
 -- THE OPERATIONS
 bounded_from : (f : Costs) (room : ℕ → ℕ → Type 0) (worn : Worn) (c : Configuration) (before : Moment) (s : State) (w : Work) (ms : List Move) (es : List Effort) (test : ℕ → ℕ → Bool)
@@ -21,7 +21,7 @@ bounded_from f room worn c before s w (m ∷ ms) (e ∷ es) test has (one, rest)
 
 pub work_is_bounded : WorkIsBounded
 work_is_bounded f room worn c first s moves has test free =
-    let all = bounded_from f room worn c first s (record { left = has.left; trying = None }) moves has.efforts test free has.are in
+    let all = bounded_from f room worn c first s (record { left = has.left; trying = None; tries = 0 }) moves has.efforts test free has.are in
     let few = has.few in omega (arith, all, few)
 
 -- THE TRIES
@@ -74,5 +74,24 @@ at_most_one (Some n) = omega arith
 
 pub tries_are_few : TriesAreFew
 tries_are_few f room worn c first s moves has never =
-    let all = few_from f room worn c first s (record { left = has.left; trying = None }) moves has.efforts never has.are in
-    let last = at_most_one (work_behind (record { left = has.left; trying = None }) has.efforts).trying in omega (arith, all, last)
+    let all = few_from f room worn c first s (record { left = has.left; trying = None; tries = 0 }) moves has.efforts never has.are in
+    let last = at_most_one (work_behind (record { left = has.left; trying = None; tries = 0 }) has.efforts).trying in omega (arith, all, last)
+
+-- those that are configured
+given_by : (picked : Bool) (given had : ℕ) → (if picked then given else had) ≤ had + (if picked then given else 0)
+given_by true given had = omega arith
+given_by false given had = omega arith
+
+pub begun_from : (f : Costs) (room : ℕ → ℕ → Type 0) (worn : Worn) (c : Configuration) (before : Moment) (s : State) (w : Work) (ms : List Move) (es : List Effort)
+    → AreWorked f room worn c before s w ms es → tries_begun es ≤ w.tries + tries_picked c s ms
+begun_from f room worn c before s w [] [] are = omega arith
+begun_from f room worn c before s w [] (e ∷ es) are = absurd are
+begun_from f room worn c before s w (m ∷ ms) [] are = absurd are
+begun_from f room worn c before s w (m ∷ ms) (e ∷ es) (one, rest) =
+    let here = one.tries in
+    let given = given_by (is_picked m.entry) (tries_of c (after_from c s (entry_list m.entry))) w.tries in
+    let more = begun_from f room worn c m.behind (after_from c s (entry_list m.entry)) e.behind ms es rest in omega (arith, here, given, more)
+
+pub tries_are_configured : TriesAreConfigured
+tries_are_configured f room worn c first s moves has =
+    let few = begun_from f room worn c first s (record { left = has.left; trying = None; tries = 0 }) moves has.efforts has.are in omega (arith, few)

@@ -138,6 +138,7 @@ uncut_bridges clock r f before now none b = record {
   ops = b.ops;
   faults = b.faults;
   failed = b.failed;
+  went_off = b.went_off;
   cuts = b.cuts;
   off = b.off;
   withheld = b.withheld;

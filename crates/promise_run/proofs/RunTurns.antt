@@ -1,52 +1,44 @@
 -- The turns of a driver beside callers, one by one.
-use Rattle.std.specs.Prelude.{IfSome}
-use Rattle.std.proofs.Common.{◌≡◌, inl, inr, ℕ, ◌+◌, ◌≤◌, List, [], ◌∷◌, ◌++◌, Option, Some, None, refl, sym, ap, ◌∙◌, subst, arith, IsTrue}
+use Rattle.std.specs.Prelude.{IfSome, not, ◌||◌}
+use Rattle.std.proofs.Common.{◌≡◌, inl, inr, true, false, ℕ, ◌+◌, ◌≤◌, List, [], ◌∷◌, ◌++◌, Option, Some, None, refl, sym, ap, ◌∙◌, subst, arith, IsTrue}
 use Rattle.block_machine.specs.nv_base.Entry.{ops_of}
+use Rattle.block_machine.specs.State.{State}
+use Rattle.script_walks.specs.Walk.{begins_with_pick_or_post, is_due}
 use Rattle.block_machine.specs.Words.{Entry, Ask, Pick, Wrote, Post, Off, Found}
 use Rattle.promise_run.specs.Cases.{PassesBy, ahead, always, picks_one, six_beside}
-use Rattle.promise_run.specs.Turns.{Moment, Move, IsMoveMade, IsPostedWithin, AreMovesMade, HasTurns, entry_list, entries_of, is_asked, moment_behind}
-use Rattle.promise_run.proofs.OneByOne.{asked_one, at_ops, at_work, behind_pick, free, in_time, no_page, picked_block, none_fails, none_urgent, six_work, wrote_one}
+use Rattle.promise_run.specs.Turns.{Moment, Move, IsMoveMade, AreMovesMade, Among, KeepsTurns, entry_list, entries_of, is_asked, moment_behind}
+use Rattle.promise_run.proofs.OneByOne.{asked, asked_one, at_ops, at_work, free, no_page, no_sweep, none_fails, none_urgent, six_moves, six_posts, six_serve, six_work, wrote_one}
 
 -- SIX TURNS
 made : (n m : ℕ) (o : Option Entry) → n ≤ m → m ≤ n + 1 → IfSome o (λ e. ops_of e ≡ Some m) → IsMoveMade (at_ops n) (record { entry = o; behind = at_ops m })
 made n m o later one told = inr (record { faults = omega arith; ops = later; one = one; told = told })
 
-pub beside_kept : HasTurns (always 8) six_beside six_beside.course
+pub beside_kept : KeepsTurns (always 8) six_beside six_beside.course
 beside_kept = record {
   first = at_ops 0;
   last = at_ops 4;
-  moves = record { entry = Some asked_one; behind = at_ops 0 } ∷ record { entry = Some picks_one; behind = at_ops 0 } ∷ behind_pick;
-  tell = refl;
-  are = (
-    inl (refl, refl),
-    (
-      made 0 0 (Some picks_one) (omega arith) (omega arith) refl,
+  moves = six_moves;
+  made = record {
+    tell = refl;
+    are = (
+      inl (refl, refl),
       (
-        made 0 1 None (omega arith) (omega arith) tt,
-        (made 1 2 None (omega arith) (omega arith) tt, (made 2 3 None (omega arith) (omega arith) tt, (made 3 4 (Some wrote_one) (omega arith) (omega arith) refl, (made 4 4 _ (omega arith) (omega arith) refl, tt)))),
+        made 0 0 (Some picks_one) (omega arith) (omega arith) refl,
+        (
+          made 0 1 None (omega arith) (omega arith) tt,
+          (made 1 2 None (omega arith) (omega arith) tt, (made 2 3 None (omega arith) (omega arith) tt, (made 3 4 (Some wrote_one) (omega arith) (omega arith) refl, (made 4 4 _ (omega arith) (omega arith) refl, tt)))),
+        ),
       ),
-    ),
-  );
-  behind = refl;
+    );
+    behind = refl;
+  };
   begins = refl;
   operations = refl;
   failed = (none_fails 0 0 (omega arith), (none_fails 0 0 (omega arith), (none_fails 0 1 (omega arith), (none_fails 1 2 (omega arith), (none_fails 2 3 (omega arith), (none_fails 3 4 (omega arith), (none_fails 4 4 (omega arith), tt)))))));
   counted = inl (omega arith);
   ends = tt;
-  serves = (
-    λ no_ask no_found. absurd (cc no_ask),
-    (
-      λ no_ask no_found. refl,
-      (λ no_ask no_found. refl, (λ no_ask no_found. refl, (λ no_ask no_found. refl, (λ no_ask no_found. refl, (λ no_ask no_found. refl, tt))))),
-    ),
-  );
-  posts = (
-    λ is. absurd (cc is),
-    (
-      λ is j hand. subst (λ (id : ℕ). IsPostedWithin id 8 0 behind_pick) (sym (picked_block j hand)) in_time,
-      (λ is. absurd (cc is), (λ is. absurd (cc is), (λ is. absurd (cc is), (λ is. absurd (cc is), (λ is. absurd (cc is), tt))))),
-    ),
-  );
+  serves = six_serve true;
+  posts = six_posts;
   rests = (λ rest idle no_ask. absurd (cc no_ask), (at_work, (at_work, (at_work, (at_work, (at_work, (at_work, tt)))))));
   work = six_work;
   kept = (no_page, (no_page, (no_page, (no_page, (no_page, (no_page, (no_page, tt)))))));
@@ -56,10 +48,14 @@ beside_kept = record {
 
 -- A REQUEST WITHIN A TURN
 pub one_passes : PassesBy 1
-one_passes = (λ no_ask no_found. absurd (cc no_ask), (λ no_ask no_found. refl, tt))
+one_passes = (λ no_ask no_found. absurd (cc no_ask), (λ no_ask no_found. (_, inr (inl refl), (refl, λ sw is. absurd (no_sweep sw is))), tt))
 
 pub two_pass_not : PassesBy 2 → ⊥
-two_pass_not has = cc (has.1.1.0 refl refl)
+two_pass_not has = let (t, among, is) = has.1.1.0 refl refl in saw t among is.0
+  where
+    saw : (t : State) → Among t (asked ∷ []) → IsTrue (not (is_due t) || begins_with_pick_or_post []) → ⊥
+    saw t (inl same) is = cc (subst (λ (x : State). IsTrue (not (is_due x) || begins_with_pick_or_post [])) (sym same) is)
+    saw t (inr never) is = absurd never
 
 -- AHEAD OF THE FLASH
 -- no move takes an operation back
@@ -101,10 +97,10 @@ tell_made before (m ∷ ms) are = by m.entry refl (tell_made m.behind ms are.1)
     by None is rest = rest
     by (Some e) is rest = (tells_own (moment_behind m.behind ms).ops before m e is (all_later m.behind ms are.1) are.0, rest)
 
-pub not_ahead : HasTurns (always 8) ahead ahead.course → ⊥
+pub not_ahead : KeepsTurns (always 8) ahead ahead.course → ⊥
 not_ahead has =
-    let told : entries_of has.moves ≡ asked_one ∷ picks_one ∷ wrote_one ∷ [] = cc has.tell in
-    let all = subst (λ (es : List Entry). TellAtMost (moment_behind has.first has.moves).ops es) told (tell_made has.first has.moves has.are) in
+    let told : entries_of has.moves ≡ asked_one ∷ picks_one ∷ wrote_one ∷ [] = cc has.made.tell in
+    let all = subst (λ (es : List Entry). TellAtMost (moment_behind has.first has.moves).ops es) told (tell_made has.first has.moves has.made.are) in
     let four : 4 ≤ (moment_behind has.first has.moves).ops = all.1.1.0 in
     let none : has.last.ops ≡ 0 = has.operations in
-    let same = ap (λ (m : Moment). m.ops) has.behind in omega (arith, four, none, same)
+    let same = ap (λ (m : Moment). m.ops) has.made.behind in omega (arith, four, none, same)

@@ -73,6 +73,7 @@ both_keep sound erased = record {
   wear = λ told from. refl;
   refusals = none_refused;
   off = (0, (refl, refl), inl (omega arith));
+  power = λ alone. absurd (cc alone);
   operations = λ started. (
     [],
     [],

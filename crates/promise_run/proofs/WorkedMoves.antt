@@ -18,6 +18,7 @@ one_by f room other worn more c before s w m e less sooner one = record {
   ends = λ n is. ended n (one.ends n is);
   none = one.none;
   over = one.over;
+  tries = one.tries;
 }
   where
     why : (n : ℕ) → EndsTry worn c s n before m → EndsTry more c s n before m

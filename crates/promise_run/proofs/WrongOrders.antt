@@ -32,7 +32,7 @@ pub no_second_found : HasOrder second_found second_found.history → ⊥
 no_second_found order = cc (order.order.one_start)
 
 pub no_unseen_stale : HasOrder unseen_stale unseen_stale.history → ⊥
-no_unseen_stale order = let (k, few, is) = order.order.shown.1.1.0.0.seen in omega (arith, few)
+no_unseen_stale order = order.order.shown.1.1.0
 
 -- the write is pending where it takes the store
 still_waits : (n : ℕ) → n ≤ 2 → length (asks_of 1 (take n (take 2 later_store.history))) ≡ 1 → IsTrue (is_over later_store.configuration 2 (take n (take 2 later_store.history))) → ⊥

@@ -1,6 +1,6 @@
 -- Runs on a small flash, of 10 pages a bank, and one beside another flash, that keep the promise and that break it, and a call
 -- of the demo.
-use Rattle.std.specs.Prelude.{ℕ, ◌+◌, ◌-◌, ◌*◌, ◌==◌, Bool, true, false, List, [], ◌∷◌, ◌++◌, map, flat_map, take, drop, replicate, codes, Option, Some, None}
+use Rattle.std.specs.Prelude.{ℕ, ◌+◌, ◌-◌, ◌*◌, ◌==◌, Bool, true, false, List, [], ◌∷◌, ◌++◌, map, flat_map, take, drop, replicate, codes, Option, Some, None, refl}
 use Rattle.block_machine.specs.nv_base.Held.{never_written}
 use Rattle.block_machine.specs.nv_base.Plan.{no_planning}
 use Rattle.block_machine.specs.block_config.DemoConfig.{demo_config}
@@ -24,7 +24,8 @@ use Rattle.promise_device.specs.FlashRun.{FlashRun, HasFailed}
 use Rattle.promise_run.specs.Beside.{Beside}
 use Rattle.promise_run.specs.Call.{Call}
 use Rattle.promise_run.specs.Promise.{Promise}
-use Rattle.promise_run.specs.Turns.{Moment, Move, EndsCanceled, StaysAtRest, ClosesAtDrains, CountFailed, ArePaidSince, BeginWithin}
+use Rattle.promise_run.specs.BankTurns.{HasCausedErases}
+use Rattle.promise_run.specs.Turns.{Moment, Move, EndsCanceled, StaysAtRest, ClosesAtDrains, FindWorkAtDrains, CountFailed, ArePaidSince, BeginWhatIsDue}
 use Rattle.block_machine.specs.Steps.{after}
 use Rattle.promise_run.specs.Run.{Run, Played, Ran, cap, HadRoom, LeavesFor, End, Whole, FlashFault, HistoryFull, Memory}
 
@@ -234,6 +235,20 @@ kept_write =
     record (plays ((Cut 1 0, []) ∷ asks_one ∷ (Drain, picks_one ∷ Off 1 ∷ []) ∷ (Restart, Found [] 1 ∷ []) ∷ [])
     (record { entry = tells [] (Some []); exit = tells blank (Some []); operations = record { op = Erase 0 160; before = blank; answer = FlashOff } ∷ [] })) { cuts = 0 ∷ [] }
 
+-- on a blank flash the first sector of bank 0 is erased so often behind one start-up, and no fault is counted
+abbrev pub erased_so_often : ℕ → Run
+erased_so_often n =
+    let operations = replicate n (record { op = Erase 0 160; before = blank; answer = Done }) in
+    record quiet { flash = record { entry = tells blank (Some []); exit = tells blank (Some operations); operations = operations } }
+
+-- and that has its causes
+abbrev pub ErasesSoOften : ℕ → Type 0
+ErasesSoOften n = HasCausedErases (erased_so_often n) (record { first = blank; entry = refl; last = blank; exit = refl }) 0
+
+-- the power goes off in an erase, and no entry tells it
+abbrev pub off_untold : Run
+off_untold = record quiet { flash = kept_write.flash }
+
 -- the same, over a flash that doesn't tell its operations any more, though it had room for one
 abbrev pub untold_write : Run
 untold_write = let f = kept_write.flash in record kept_write { flash = record f { exit = tells blank None } }
@@ -360,7 +375,7 @@ at_faults n = record { faults = n; ops = 0; busy = false }
 
 -- beside callers a write is asked for, and so many turns behind it add nothing: it may have come within the first of them
 abbrev pub PassesBy : ℕ → Type 0
-PassesBy turns = BeginWithin small (after small (Found [] 0 ∷ []) ∷ []) (after small (Found [] 0 ∷ []))
+PassesBy turns = BeginWhatIsDue true small (after small (Found [] 0 ∷ []) ∷ []) (after small (Found [] 0 ∷ []))
     (record { entry = Some (Ask 0 (Write 2 (Some one) 0) Accepted); behind = at_faults 0 } ∷ replicate turns (record { entry = None; behind = at_faults 0 }))
 
 -- its first operation failed, and one fault was counted
@@ -439,6 +454,12 @@ at_busy busy = record { faults = 0; ops = 0; busy = busy }
 -- a `drain` of one turn leaves the device so
 abbrev pub DrainsTo : Bool → Type 0
 DrainsTo busy = ClosesAtDrains (at_faults 0) (step_of Drain ∷ []) ((record { entry = None; behind = at_busy busy } ∷ []) ∷ [])
+
+-- at a device that was left so, with nothing pending, a `drain` makes a turn more behind one that does nothing
+abbrev pub TurnsOn : Bool → Type 0
+TurnsOn busy =
+    let m : Move = record { entry = None; behind = at_busy busy } in
+    FindWorkAtDrains small (at_busy busy) (after small (Found [] 0 ∷ [])) (step_of Drain ∷ []) ((m ∷ m ∷ []) ∷ [])
 
 -- at a device that was left so, with nothing pending, a turn makes an operation
 abbrev pub WorksAt : Bool → Type 0

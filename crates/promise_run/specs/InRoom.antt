@@ -7,7 +7,7 @@ use Rattle.script_walks.specs.Words.{Step, StepKind, Turn, Drain}
 use Rattle.promise_device.specs.FlashRun.{HasRoom, StartsSound}
 use Rattle.promise_run.specs.Promise.{Promise, making_of, CutsKeep, CutsCount}
 use Rattle.promise_run.specs.Run.{Run, Course, Played}
-use Rattle.promise_run.specs.Turns.{HasTurns}
+use Rattle.promise_run.specs.Turns.{KeepsTurns}
 
 -- each image that a power cut before or within any operation may leave keeps to the history up to then, with its counts
 pub record CutsLeave (r : Run) : Type 0 where
@@ -40,5 +40,5 @@ MadeFewTurns n course = ⊥
 -- such a run made no more operations
 abbrev pub TurnsMakeFew : Type 0
 TurnsMakeFew =
-    (n : ℕ) (most : State → Job → ℕ) (r : Run) → r.beside ≡ None → Promise r → HasTurns most r r.course → MadeFewTurns n r.course → n < last_count
+    (n : ℕ) (most : State → Job → ℕ) (r : Run) → r.beside ≡ None → Promise r → KeepsTurns most r r.course → MadeFewTurns n r.course → n < last_count
     → length r.flash.operations ≤ n

@@ -10,6 +10,7 @@ pub mod Completeness
 pub mod RunHalves
 pub mod Operations
 pub mod Turns
+pub mod DeviceTurns
 pub mod OperationLaws
 pub mod JobTurns
 pub mod SectorErases

@@ -1,14 +1,15 @@
 -- How many operations the moves of a run make at most, by its configuration and the bytes of its flash.
-use Rattle.std.specs.Prelude.{◌≡◌, ◌≤◌, ◌+◌, nat_lt, nat_le, ℕ, ◌&&◌, if◌then◌else◌, Bool, true, false, List, take, None}
+use Rattle.std.specs.Prelude.{◌≡◌, ◌≤◌, ◌+◌, nat_lt, nat_le, ℕ, ◌&&◌, if◌then◌else◌, Bool, true, false, List, [], ◌∷◌, take, None}
 use Rattle.std.specs.Option.{option_map_or}
 use Rattle.block_machine.specs.nv_base.Count.{last_count}
 use Rattle.block_machine.specs.nv_base.Marks.{instance_of}
 use Rattle.block_machine.specs.block_config.Sizes.{measures_of}
 use Rattle.block_machine.specs.Words.{Configuration}
 use Rattle.block_machine.specs.State.{State}
+use Rattle.block_machine.specs.Steps.{after_from}
 use Rattle.promise_blocks.specs.Payment.{Worn}
-use Rattle.promise_blocks.specs.Moves.{Moment, Move, moment_behind}
-use Rattle.promise_blocks.specs.Work.{Costs, Effort, AreWorked, operations_at_most, ends_most, tries_begun}
+use Rattle.promise_blocks.specs.Moves.{Moment, Move, entry_list, is_picked, moment_behind}
+use Rattle.promise_blocks.specs.Work.{Costs, Effort, AreWorked, operations_at_most, ends_most, tries_begun, tries_of}
 use Rattle.promise_device.specs.Making.{Making}
 use Rattle.promise_device.specs.FlashRun.{FlashRun, TellsBytes, StartsSound, bytes_after}
 use Rattle.promise_device.specs.Bridge.{free_pages}
@@ -46,7 +47,7 @@ pub record HasWork (f : Costs) (room : (operations pages : ℕ) → Type 0) (wor
   pub left : ℕ
   pub few : left ≤ left_behind f first
   pub efforts : List Effort
-  pub are : AreWorked f room worn c first s (record { left = left; trying = None }) moves efforts
+  pub are : AreWorked f room worn c first s (record { left = left; trying = None; tries = 0 }) moves efforts
 
 -- what follows: they make so many operations at most
 abbrev pub WorkIsBounded : Type 1
@@ -59,3 +60,15 @@ abbrev pub TriesAreFew : Type 1
 TriesAreFew =
     (f : Costs) (room : (operations pages : ℕ) → Type 0) (worn : Worn) (c : Configuration) (first : Moment) (s : State) (moves : List Move) (has : HasWork f room worn c first s moves)
     → ((k n : ℕ) (urgent : Bool) → worn k n urgent → ⊥) → tries_begun has.efforts ≤ ends_most first moves + 1
+
+-- those that are configured of the jobs that are picked
+abbrev pub tries_picked : Configuration → State → List Move → ℕ
+tries_picked c s [] = 0
+tries_picked c s (m ∷ ms) =
+    (if is_picked m.entry then tries_of c (after_from c s (entry_list m.entry)) else 0) + tries_picked c (after_from c s (entry_list m.entry)) ms
+
+-- and no more begin than these, whatever fails
+abbrev pub TriesAreConfigured : Type 1
+TriesAreConfigured =
+    (f : Costs) (room : (operations pages : ℕ) → Type 0) (worn : Worn) (c : Configuration) (first : Moment) (s : State) (moves : List Move) (has : HasWork f room worn c first s moves)
+    → tries_begun has.efforts ≤ tries_picked c s moves

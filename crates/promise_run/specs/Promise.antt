@@ -14,7 +14,7 @@ use Rattle.promise_blocks.specs.Payment.{IsPaid, every_block}
 use Rattle.promise_blocks.specs.OverDevice.{HasStarted, BeginsBefore, TellsAtMost, HasOffAt}
 use Rattle.fls_model.specs.Told.{bytes_now}
 use Rattle.promise_device.specs.Image.{IsSoundFlash, found_in, held_in}
-use Rattle.promise_device.specs.FlashRun.{TellsBytes, TellsOperations, StartsSound, IsCutImage, bytes_after, AreOperations}
+use Rattle.promise_device.specs.FlashRun.{TellsBytes, TellsOperations, StartsSound, IsCutImage, WentOff, bytes_after, AreOperations}
 use Rattle.promise_device.specs.Making.{Making}
 use Rattle.promise_device.specs.Reading.{BeginsSound}
 use Rattle.promise_device.specs.Bridge.{IsWornOut, IsWornBy}
@@ -105,8 +105,7 @@ pub record MayBeKeptOf (r : Run) (b : Beside) (second : Bool) (n : ℕ) : Type 0
   pub number : ops_of second r.configuration r.history b operation ≡ n
   pub kept : MayBeKept r operation
 
--- The operations are those of the flash, but for these, of each of which so much was done as its cut says. Of two flashes each
--- has its own cuts.
+-- The operations are the flash's, but for these, each done as far as its cut says. Of two flashes each has its own cuts.
 abbrev pub OperationsAre : Run → Option Beside → Type 0
 OperationsAre r None = AreOperations r.configuration.geometry r.flash (MayBeKept r) r.cuts
 OperationsAre r (Some b) =
@@ -135,12 +134,12 @@ pub record Promise (r : Run) : Type 0 where
   pub block_machine : IsLegal r.configuration r.most r.history
   -- a failure result comes only from counted faults, refused copies or what the flash holds written.
   pub faults : FailuresArePaid r r.beside
-  -- Each operation of the flash is due: a bank is erased, its sectors in order, only where the active one has no room for a record
-  -- and hasn't the last generation, and a page is programmed where it is blank, or once more where its program failed.
+  -- Each operation of the flash is due: an erase where the active bank has no room, a program of a page that is blank.
   pub wear : OperationsAreDue (making_of r.configuration) r.flash
   pub refusals : (id : ℕ) → RefusesAsAsked r.configuration r.course r.history id
-  -- An Off is planned, or the flash counted a cut.
+  -- An Off is planned, or the flash counted a cut; and where the power went off in an operation of the one flash it has its Off.
   pub off : CutsExplain r.course r.history r.cuts (of_flashes (λ f. f.entry.cuts) r) (of_flashes (λ f. f.exit.cuts) r)
+  pub power : r.beside ≡ None → (k : ℕ) → k < last_count → WentOff r.flash k → HasOffAt r.history (next_count k)
   -- The operations are those of the flash, but for one at each planned cut, of which so many bytes were done; the entries count them.
   pub operations : HasStarted r.history → OperationsAre r r.beside
   pub begins : BeginsBefore r.history

@@ -1,5 +1,5 @@
 -- The turns that a run made, one by one.
-use Rattle.std.specs.Prelude.{◌≡◌, ◌⊎◌, ◌<◌, ◌≤◌, ◌+◌, ◌-◌, ◌==◌, ℕ, zero, suc, not, ◌&&◌, ◌||◌, if◌then◌else◌, Bool, true, false, IsTrue, List, [], ◌∷◌, ◌++◌, length, map, take, min, Option, Some, None, slice_get, IfSome}
+use Rattle.std.specs.Prelude.{◌≡◌, ◌⊎◌, ◌<◌, ◌≤◌, ◌+◌, ◌-◌, ◌*◌, ◌==◌, ℕ, zero, suc, not, ◌&&◌, ◌||◌, if◌then◌else◌, Bool, true, false, IsTrue, List, [], ◌∷◌, ◌++◌, length, map, take, min, Option, Some, None, slice_get, IfSome}
 use Rattle.std.specs.List.{list_all}
 use Rattle.block_machine.specs.nv_base.Count.{last_count, Rose, WereCounted}
 use Rattle.block_machine.specs.nv_base.Entry.{ops_of}
@@ -9,6 +9,7 @@ use Rattle.block_machine.specs.State.{State, Job, Sweep, jobs_of}
 use Rattle.block_machine.specs.Blocks.{asked_block, is_immediate, job_block, rank_of}
 use Rattle.block_machine.specs.Steps.{after, after_from}
 use Rattle.block_machine.specs.Prices.{price_in_faults, sum_from}
+use Rattle.promise_blocks.specs.Work.{tries_of}
 use Rattle.promise_blocks.specs.Payment.{Worn, IsExcused}
 use Rattle.script_walks.specs.Walk.{is_due, is_at_rest, begins_with_pick_or_post}
 use Rattle.promise_run.specs.Completeness.{is_calm_entry, IsCalm, ends_job}
@@ -41,9 +42,9 @@ abbrev pub IsAskMade : Moment → List Move → Type 0
 IsAskMade before (m ∷ []) = m.behind ≡ before
 IsAskMade before ms = ⊥
 
--- a start-up makes no changing operation, and takes no fault back
+-- a start-up makes no changing operation, and takes no fault back; its entry tells the operations of that moment
 abbrev pub IsStartMade : Moment → List Move → Type 0
-IsStartMade before (m ∷ []) = (before.faults ≤ m.behind.faults) × (m.behind.ops ≡ before.ops)
+IsStartMade before (m ∷ []) = (before.faults ≤ m.behind.faults) × (m.behind.ops ≡ before.ops) × IfSome m.entry (λ e. ops_of e ≡ Some m.behind.ops)
 IsStartMade before ms = ⊥
 
 -- STEPS
@@ -84,14 +85,19 @@ abbrev pub ends : ℕ → Option Entry → Bool
 ends id (Some e) = ends_job id e
 ends id None = false
 
--- A job of this block that is in hand is posted, or interrupted, by the last of so many turns, unless before it a restart or
--- the end of the run comes, a fault is counted, the power goes off, or a copy is refused or stale. A request is no turn.
-abbrev pub IsPostedWithin : ℕ → ℕ → ℕ → List Move → Type 0
-IsPostedWithin id turns faults [] = Unit {0}
-IsPostedWithin id turns faults (m ∷ ms) =
-    IsTrue (is_found m.entry) ⊎ ((IsTrue (is_asked m.entry) × IsPostedWithin id turns faults ms)
-    ⊎ (Rose faults m.behind.faults ⊎ (IsTrue (fails m.entry) ⊎ (IsTrue (ends id m.entry)
-    ⊎ ((1 < turns) × IsPostedWithin id (turns - 1) m.behind.faults ms)))))
+-- A job of this block that is in hand is posted, or interrupted, by the last of so many turns, unless before it a restart or the end
+-- of the run comes, the power goes off, or a copy is refused or stale. A request is no turn; a fault gives it its most turns anew, but
+-- no more than it has in all.
+abbrev pub IsPostedWithin : (id most all turns faults : ℕ) → List Move → Type 0
+IsPostedWithin id most all turns faults [] = Unit {0}
+IsPostedWithin id most all turns faults (m ∷ ms) =
+    IsTrue (is_found m.entry) ⊎ ((IsTrue (is_asked m.entry) × IsPostedWithin id most all turns faults ms)
+    ⊎ ((Rose faults m.behind.faults × (1 < all) × IsPostedWithin id most (all - 1) most m.behind.faults ms) ⊎ (IsTrue (fails m.entry) ⊎ (IsTrue (ends id m.entry)
+    ⊎ ((1 < turns) × (1 < all) × IsPostedWithin id most (all - 1) (turns - 1) m.behind.faults ms)))))
+
+-- in all, whatever fails, a job has its most turns and one more for each of its tries, and so many besides
+abbrev pub turns_in_all : Configuration → State → (most : ℕ) → ℕ
+turns_in_all c s most = (tries_of c s + 1) * (most + 1)
 
 -- what each move keeps: a fact on the state before it, the move, and those behind it
 abbrev pub EachMove : Configuration → (State → Move → List Move → Type 0) → State → List Move → Type 0
@@ -102,7 +108,7 @@ EachMove c P s (m ∷ ms) = P s m ms × EachMove c P (after_from c s (entry_list
 abbrev pub PostsPicked : Configuration → (State → Job → ℕ) → State → Move → List Move → Type 0
 PostsPicked c most s m ms =
     IsTrue (is_picked m.entry) → (j : Job) → (after_from c s (entry_list m.entry)).hand ≡ Some j
-    → IsPostedWithin (job_block j) (most (after_from c s (entry_list m.entry)) j) m.behind.faults ms
+    → let turns = most (after_from c s (entry_list m.entry)) j in IsPostedWithin (job_block j) turns (turns_in_all c (after_from c s (entry_list m.entry)) turns) turns m.behind.faults ms
 
 -- CANCELED
 -- Where a WriteAll that was canceled is all that is pending, a turn posts id 0 as canceled, or picks it where it wasn't begun.
@@ -111,11 +117,22 @@ EndsCanceled s e =
     (sw : Sweep) → s.sweep ≡ Some sw → sw.writes ≡ true → sw.canceled ≡ true → jobs_of s ≡ [] → s.off ≡ false
     → (ops : ℕ) × (e ≡ Some (if sw.under_way then Post 0 Canceled None 0 ops else Pick 0 WriteAllJob TookNothing ops))
 
--- a turn doesn't go by where something is due, and a job that it picks is posted within its turns
-pub record ServesTurn (c : Configuration) (most : State → Job → ℕ) (s : State) (m : Move) (ms : List Move) : Type 0 where
-  pub begins : is_asked m.entry ≡ false → is_found m.entry ≡ false → IsTrue (not (is_due s) || begins_with_pick_or_post (entry_list m.entry))
-  pub posts : PostsPicked c most s m ms
-  pub cancels : is_asked m.entry ≡ false → is_found m.entry ≡ false → EndsCanceled s m.entry
+-- A turn that saw this state doesn't go by where something is due in it, and ends a WriteAll that was canceled.
+abbrev pub BeginsIn : State → Option Entry → Type 0
+BeginsIn s e = IsTrue (not (is_due s) || begins_with_pick_or_post (entry_list e)) × EndsCanceled s e
+
+-- one of these states
+abbrev pub Among : State → List State → Type 0
+Among s [] = ⊥
+Among s (t ∷ ts) = (t ≡ s) ⊎ Among s ts
+
+-- A turn saw the state before it. Where requests come within turns they stand before the turn, perhaps unseen: it saw one of the states since
+-- the turn before it.
+abbrev pub BeginWhatIsDue : (within : Bool) → Configuration → List State → State → List Move → Type 0
+BeginWhatIsDue within c since s [] = Unit {0}
+BeginWhatIsDue within c since s (m ∷ ms) =
+    (is_asked m.entry ≡ false → is_found m.entry ≡ false → (t : State) × Among t since × BeginsIn t m.entry)
+    × BeginWhatIsDue within c (after_from c s (entry_list m.entry) ∷ (if is_asked m.entry && within then since else [])) (after_from c s (entry_list m.entry)) ms
 
 -- AT REST
 -- With nothing pending and nothing open at the device a turn has nothing to do: it adds no entry, and nothing changes.
@@ -129,6 +146,15 @@ StaysAtRest c before s (m ∷ ms) =
 abbrev pub ClosesAtDrains : Moment → List Step → List (List Move) → Type 0
 ClosesAtDrains before (x ∷ xs) (ms ∷ mss) = (x.kind ≡ Drain → (moment_behind before ms).busy ≡ false) × ClosesAtDrains (moment_behind before ms) xs mss
 ClosesAtDrains before xs mss = Unit {0}
+
+-- each turn of a `drain` but its last one finds something pending, or open at the device
+abbrev pub FindsWork : Configuration → Moment → State → List Move → Type 0
+FindsWork c before s (m ∷ n ∷ ms) = IsTrue (not (is_at_rest s) || before.busy) × FindsWork c m.behind (after_from c s (entry_list m.entry)) (n ∷ ms)
+FindsWork c before s ms = Unit {0}
+
+abbrev pub FindWorkAtDrains : Configuration → Moment → State → List Step → List (List Move) → Type 0
+FindWorkAtDrains c before s (x ∷ xs) (ms ∷ mss) = (x.kind ≡ Drain → FindsWork c before s ms) × FindWorkAtDrains c (moment_behind before ms) (after_from c s (entries_of ms)) xs mss
+FindWorkAtDrains c before s xs mss = Unit {0}
 
 -- PAID SINCE THE PICK
 -- A Post is paid by the faults since so many were counted, or the device was worn out.
@@ -199,9 +225,8 @@ abbrev pub posts_other : ℕ → Option Entry → Bool
 posts_other id (Some (Post block r given refused ops)) = not (block == id)
 posts_other id e = false
 
--- A job of this block is posted by the last of so many turns, where a request is no turn, and the Post of another job, at most one,
--- isn't counted where `one` says so, unless before it a restart comes, a fault is counted, or the power goes off. Behind all of the
--- moves `still` holds of the turns that are left.
+-- A job of this block is posted by the last of so many turns, unless before it a restart comes, a fault is counted, or the power goes off.
+-- A request is no turn, nor, where `one` says so, the Post of one other job. Behind all of the moves `still` holds of the turns that are left.
 abbrev pub IsPostedSoon : (still : Bool → ℕ → Type 0) → Bool → ℕ → ℕ → ℕ → List Move → Type 0
 IsPostedSoon still one id turns faults [] = still one turns
 IsPostedSoon still one id turns faults (m ∷ ms) =
@@ -226,8 +251,7 @@ abbrev pub found_behind : ℕ → List Move → ℕ
 found_behind since [] = since
 found_behind since (m ∷ ms) = found_behind (if is_found m.entry then m.behind.ops else since) ms
 
--- Where so many pages are free for it at its moment, it is posted within the pages of its own records and so many turns more, behind
--- the Post of a job that was finished.
+-- Where so many pages are free at its moment it is posted within the pages of its records and so many turns more, behind one finished job's Post.
 abbrev pub PostsUrgent : Configuration → (more : ℕ) → (pages : State → ℕ → ℕ) → (free : (since operations pages : ℕ) → Type 0) → (still : ℕ → Bool → ℕ → Type 0) → ℕ → State → Move → List Move → Type 0
 PostsUrgent c more pages free still since s m ms =
     (id : ℕ) → urgent_block c s m.entry ≡ Some id → free since m.behind.ops (pages s id) → IsPostedSoon (still id) true id (pages s id + more) m.behind.faults ms
@@ -243,8 +267,7 @@ pub record HadFree (making : Making) (f : FlashRun) (operations pages : ℕ) : T
 abbrev pub HasTrait : Making → FlashRun → Trait → ℕ → Type 0
 HasTrait making f t k = (x : Change) × (slice_get f.operations k ≡ Some x) × IsTrue (is_such making t x)
 
--- Once so many operations were made the last one, made since the last start-up, had left a switch of banks at its seal: it
--- programmed a bank's head, or left its gate in doubt.
+-- Of so many operations the last, made since the last start-up, left a switch at its seal: it programmed a bank's head, or left its gate in doubt.
 pub record IsAtSeal (making : Making) (f : FlashRun) (since operations : ℕ) : Type 0 where
   pub counted : operations < last_count
   pub last : ℕ
@@ -268,6 +291,10 @@ TakeKept c kept before s (m ∷ ms) =
     ((k : ℕ) → before.ops ≤ k → k < m.behind.ops → kept k → HasImmediate c s) × TakeKept c kept m.behind (after_from c s (entry_list m.entry)) ms
 
 -- THE ENDS OF A RUN
+-- the state behind the first start-up
+abbrev pub state_begun : Run → State
+state_begun r = after r.configuration (take 1 r.history)
+
 -- the first start-up tells the operations of the first moment
 abbrev pub BeginsAt : Moment → List Entry → Type 0
 BeginsAt first [] = Unit {0}
@@ -278,37 +305,16 @@ abbrev pub EndsBy : Moment → FlashRun → End → Type 0
 EndsBy last f FlashFault = WereCounted (last.faults + 1) f.entry.faults f.exit.faults
 EndsBy last f end = Unit {0}
 
--- A RUN
--- Each step of `play` that was made has its moves, from a moment behind the first start-up on. They make all operations of the flash, and
--- each that failed is counted in its own move; the flash counted the faults that they tell, and one more where a start-up failed behind them.
--- Each job is posted within its most turns, counted from its Pick, a turn with nothing to do does nothing, and each power cut that is planned
--- comes at its operation; where nothing fails a `drain` leaves nothing open at the device. A page that is kept for urgent writes is programmed
--- with an immediate job in hand alone. Over a flash that tells its bytes, from a sound image on, an urgent write is posted within its pages and
--- four turns, where these are free in the bytes of its moment, or a switch is at its seal, and each Post is paid since its Pick, or the flash worn out.
-pub record KeepsTurns (most : State → Job → ℕ) (r : Run) (made : List Step) (pieces : List (List Entry)) : Type 0 where
-  pub first : Moment
-  pub last : Moment
-  pub moves : HasMoves made pieces first last
-  pub begins : BeginsAt first r.history
-  pub operations : last.ops ≡ min (length r.flash.operations) last_count
-  pub failed : CountFailed (HasFailed r.flash) first (all_moves moves.moves)
-  pub counted : WereCounted last.faults r.flash.entry.faults r.flash.exit.faults
-  pub ends : EndsBy last r.flash r.end
-  pub serves : EachMove r.configuration (ServesTurn r.configuration most) (after r.configuration (take 1 r.history)) (all_moves moves.moves)
-  pub rests : StaysAtRest r.configuration first (after r.configuration (take 1 r.history)) (all_moves moves.moves)
-  pub drains : IsCalm r → ClosesAtDrains first made moves.moves
-  pub cuts : CutsCome r.configuration None first (after r.configuration (take 1 r.history)) made moves.moves
-  pub work : HasWork (costs_of r.configuration) (HadRoom (making_of r.configuration) r.flash) (IsWornOut (making_of r.configuration) r.flash) r.configuration first
-      (after r.configuration (take 1 r.history)) (all_moves moves.moves)
-  pub kept : TakeKept r.configuration (HasTrait (making_of r.configuration) r.flash TakesKept) first (after r.configuration (take 1 r.history)) (all_moves moves.moves)
-  pub urgent : TellsBytes r.flash → StartsSound (making_of r.configuration) r.flash
-      → EachMoveSince r.configuration (PostsUrgent r.configuration 4 (write_pages r.configuration) (MayGoOn (making_of r.configuration) r.flash) (λ id one left. Unit {0})) first.ops
-      (after r.configuration (take 1 r.history)) (all_moves moves.moves)
-  pub paid : TellsBytes r.flash → StartsSound (making_of r.configuration) r.flash
-      → ArePaidSince r.configuration (IsWornOut (making_of r.configuration) r.flash) first.faults first (after r.configuration (take 1 r.history)) (all_moves moves.moves)
+-- HOW MOVES ARE MADE
+-- in `play`: each step that was made has its moves; where nothing fails nothing is open behind each `drain`, and no planned cut is missed
+pub record MakesSteps (r : Run) (made : List Step) (pieces : List (List Entry)) (first last : Moment) (moves : List Move) : Type 0 where
+  pub steps : HasMoves made pieces first last
+  pub all : all_moves steps.moves ≡ moves
+  pub drains : IsCalm r → ClosesAtDrains first made steps.moves
+  pub finds : FindWorkAtDrains r.configuration first (state_begun r) made steps.moves
+  pub cuts : CutsCome r.configuration None first (state_begun r) made steps.moves
 
--- REQUESTS BETWEEN TURNS
--- In `run` a request leaves the moment as it is, and else the driver makes a turn; a request that came within one stands before it.
+-- in `run` a request leaves the moment as it is, and else the driver makes a turn
 abbrev pub IsMoveMade : Moment → Move → Type 0
 IsMoveMade before m = (IsTrue (is_asked m.entry) × (m.behind ≡ before)) ⊎ IsTurnMade before m
 
@@ -316,40 +322,45 @@ abbrev pub AreMovesMade : Moment → List Move → Type 0
 AreMovesMade before [] = Unit {0}
 AreMovesMade before (m ∷ ms) = IsMoveMade before m × AreMovesMade m.behind ms
 
--- A turn doesn't go by where something was due in each of the states since the turn before it: a request that came within the turn
--- stands before it, and the turn need not have seen it.
-abbrev pub BeginWithin : Configuration → List State → State → List Move → Type 0
-BeginWithin c since s [] = Unit {0}
-BeginWithin c since s (m ∷ ms) =
-    (is_asked m.entry ≡ false → is_found m.entry ≡ false → IsTrue (not (list_all is_due since) || begins_with_pick_or_post (entry_list m.entry)))
-    × BeginWithin c (after_from c s (entry_list m.entry) ∷ (if is_asked m.entry then since else [])) (after_from c s (entry_list m.entry)) ms
-
--- The entries of `run` behind its start-up have moves, one list for all callers, and these keep what those of `play` keep, but for two
--- things: a turn need not have seen a request that came within it (`serves`), and with that turn an urgent write has its pages and five.
-pub record KeepsRunTurns (most : State → Job → ℕ) (r : Run) : Type 0 where
-  pub first : Moment
-  pub last : Moment
-  pub moves : List Move
+-- its entries behind the start-up are those of one list for all callers
+pub record MakesRequests (r : Run) (first last : Moment) (moves : List Move) : Type 0 where
   pub tell : r.history ≡ take 1 r.history ++ entries_of moves
   pub are : AreMovesMade first moves
   pub behind : moment_behind first moves ≡ last
+
+abbrev pub AreMadeIn : Course → Run → (first last : Moment) → List Move → Type 0
+AreMadeIn (Played made pieces left) r first last moves = MakesSteps r made pieces first last moves
+AreMadeIn (Ran steps looks) r first last moves = MakesRequests r first last moves
+
+-- there requests come within turns
+abbrev pub come_within : Course → Bool
+come_within (Played made pieces left) = false
+come_within (Ran steps looks) = true
+
+-- the turns of an urgent write beside its pages: one more where it may come within a turn
+abbrev pub turns_beside : (within : Bool) → ℕ
+turns_beside within = if within then 5 else 4
+
+-- A RUN
+-- A run has moves, from a moment behind its first start-up on. They make all operations of the flash, and the flash counted the faults that
+-- they tell, and one more where a start-up failed behind them; each move keeps these.
+pub record KeepsTurns (most : State → Job → ℕ) (r : Run) (course : Course) : Type 0 where
+  pub first : Moment
+  pub last : Moment
+  pub moves : List Move
+  pub made : AreMadeIn course r first last moves
   pub begins : BeginsAt first r.history
   pub operations : last.ops ≡ min (length r.flash.operations) last_count
   pub failed : CountFailed (HasFailed r.flash) first moves
   pub counted : WereCounted last.faults r.flash.entry.faults r.flash.exit.faults
   pub ends : EndsBy last r.flash r.end
-  pub serves : BeginWithin r.configuration (after r.configuration (take 1 r.history) ∷ []) (after r.configuration (take 1 r.history)) moves
-  pub posts : EachMove r.configuration (PostsPicked r.configuration most) (after r.configuration (take 1 r.history)) moves
-  pub rests : StaysAtRest r.configuration first (after r.configuration (take 1 r.history)) moves
-  pub work : HasWork (costs_of r.configuration) (HadRoom (making_of r.configuration) r.flash) (IsWornOut (making_of r.configuration) r.flash) r.configuration first
-      (after r.configuration (take 1 r.history)) moves
-  pub kept : TakeKept r.configuration (HasTrait (making_of r.configuration) r.flash TakesKept) first (after r.configuration (take 1 r.history)) moves
+  pub serves : BeginWhatIsDue (come_within course) r.configuration (state_begun r ∷ []) (state_begun r) moves
+  pub posts : EachMove r.configuration (PostsPicked r.configuration most) (state_begun r) moves
+  pub rests : StaysAtRest r.configuration first (state_begun r) moves
+  pub work : HasWork (costs_of r.configuration) (HadRoom (making_of r.configuration) r.flash) (IsWornOut (making_of r.configuration) r.flash) r.configuration first (state_begun r) moves
+  pub kept : TakeKept r.configuration (HasTrait (making_of r.configuration) r.flash TakesKept) first (state_begun r) moves
   pub urgent : TellsBytes r.flash → StartsSound (making_of r.configuration) r.flash
-      → EachMoveSince r.configuration (PostsUrgent r.configuration 5 (write_pages r.configuration) (MayGoOn (making_of r.configuration) r.flash) (λ id one left. Unit {0})) first.ops
-      (after r.configuration (take 1 r.history)) moves
+      → EachMoveSince r.configuration (PostsUrgent r.configuration (turns_beside (come_within course)) (write_pages r.configuration) (MayGoOn (making_of r.configuration) r.flash) (λ id one left. Unit {0}))
+      first.ops (state_begun r) moves
   pub paid : TellsBytes r.flash → StartsSound (making_of r.configuration) r.flash
-      → ArePaidSince r.configuration (IsWornOut (making_of r.configuration) r.flash) first.faults first (after r.configuration (take 1 r.history)) moves
-
-abbrev pub HasTurns : (State → Job → ℕ) → Run → Course → Type 0
-HasTurns most r (Played made pieces left) = KeepsTurns most r made pieces
-HasTurns most r (Ran steps looks) = KeepsRunTurns most r
+      → ArePaidSince r.configuration (IsWornOut (making_of r.configuration) r.flash) first.faults first (state_begun r) moves

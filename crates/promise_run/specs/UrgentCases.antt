@@ -36,6 +36,10 @@ at_another = after urgent (Found [] 0 ∷ Ask 0 (Write 1 (Some one) 0) Accepted 
 abbrev pub at : ℕ → ℕ → Moment
 at faults ops = record { faults = faults; ops = ops; busy = false }
 
+-- an operation more, in which a fault was counted
+abbrev pub fault_at : ℕ → Move
+fault_at n = record { entry = None; behind = at n n }
+
 -- so many turns go by, at so many faults, before these
 abbrev pub idle : ℕ → ℕ → List Move → List Move
 idle faults zero ms = ms

@@ -1,10 +1,11 @@
 // Runs that keep the promise, and runs that break it.
-ghost use Rattle.std.specs.Prelude.{ℕ, [], ◌∷◌, true, false, Some, None};
+ghost use Rattle.std.specs.Prelude.{ℕ, ◌<◌, [], ◌∷◌, true, false, Some, None};
 ghost use Rattle.nvm_script.specs.Printed.{history_lines};
 ghost use Rattle.std.specs.List.{concat};
 ghost use Rattle.block_machine.specs.Legal.{IsLegal};
-ghost use Rattle.promise_blocks.specs.OverDevice.{BeginsBefore, TellsAtMost};
-ghost use Rattle.promise_device.specs.FlashRun.{AreOperations};
+ghost use Rattle.block_machine.specs.nv_base.Count.{last_count, next_count};
+ghost use Rattle.promise_blocks.specs.OverDevice.{BeginsBefore, HasOffAt, TellsAtMost};
+ghost use Rattle.promise_device.specs.FlashRun.{AreOperations, WentOff};
 ghost use Rattle.promise_run.specs.Run.{cap, HasOrder, CutsExplain};
 ghost use Rattle.promise_run.specs.Refusals.{RefusesAsAsked};
 ghost use Rattle.promise_device.specs.Wear.{OperationsAreDue};
@@ -14,8 +15,8 @@ ghost use Rattle.promise_run.specs.Completeness.{Completeness};
 ghost use Rattle.script_walks.specs.Words.{AskStep, Restart};
 ghost use Rattle.block_machine.specs.Words.{Status, Fine, Canceled, BlockSkipped, Post};
 ghost use Rattle.promise_run.specs.Run.{FlashFault, HistoryFull};
-ghost use Rattle.promise_run.specs.Turns.{BeginsAt, EndsBy, HasTurns};
-ghost use Rattle.promise_run.specs.Cases.{ahead, six_beside, six_turns, lazy, leaps, at_faults, faulty, PassesBy, PaysFailed, CountsFailed, HadRoomAt, LeftAt, LeftOf, DrainsTo, WorksAt, EndsWith, mended, posts_on_credit, starts_on_credit, untold, BreaksBy, small, one, two, quiet, quiet_beside, wiped, empty_at_11, made_up_mark, off_without_a_cut, cut_within, cut_twice, stale_in_play, invented_store, second_found, other_dataset, worn_but_roomy, worn_but_kept, worn_and_full, kept_write, lost_write, two_callers, written_at, always, turned, not_drained, fails_for_nothing, ends_for_nothing, demo_run, demo_call, untold_write, unseen_stale, later_store, full_for_nothing, not_served, worn_long_ago, cut_comes, cut_missed, last_in_two, erased_with_room, erased_when_full, erased_beside_last, programmed_over};
+ghost use Rattle.promise_run.specs.Turns.{BeginsAt, EndsBy, KeepsTurns};
+ghost use Rattle.promise_run.specs.Cases.{ahead, six_beside, six_turns, lazy, leaps, at_faults, faulty, PassesBy, PaysFailed, CountsFailed, HadRoomAt, LeftAt, LeftOf, DrainsTo, TurnsOn, WorksAt, EndsWith, mended, posts_on_credit, starts_on_credit, untold, BreaksBy, small, one, two, quiet, quiet_beside, wiped, empty_at_11, made_up_mark, off_without_a_cut, cut_within, cut_twice, stale_in_play, invented_store, second_found, other_dataset, worn_but_roomy, worn_but_kept, worn_and_full, kept_write, lost_write, two_callers, written_at, always, turned, not_drained, fails_for_nothing, ends_for_nothing, demo_run, demo_call, untold_write, unseen_stale, later_store, full_for_nothing, not_served, worn_long_ago, cut_comes, cut_missed, last_in_two, erased_with_room, erased_when_full, erased_beside_last, off_untold, programmed_over};
 
 /// A start-up alone keeps it, and so do a write that a cut breaks off with a restart behind it, and the requests of two
 /// callers.
@@ -89,12 +90,14 @@ pub fn wrong_causes_break_it()
 {}
 
 /// An erase beside an active bank that has room for the record breaks it by its wear, and so does one beside a bank of the last
-/// generation, which is full, and a program of a page that isn't blank. Beside another bank that is full an erase is due.
+/// generation, which is full, and a program of a page that isn't blank. Beside another bank that is full an erase is due. An operation
+/// in which the power went off breaks it where no Off tells that.
 pub fn wrong_operations_break_it()
     ensures with_room { BreaksBy erased_with_room (OperationsAreDue (making_of small) erased_with_room.flash) }
     ensures beside_last { BreaksBy erased_beside_last (OperationsAreDue (making_of small) erased_beside_last.flash) }
     ensures over_a_record { BreaksBy programmed_over (OperationsAreDue (making_of small) programmed_over.flash) }
     ensures when_full { OperationsAreDue (making_of small) erased_when_full.flash }
+    ensures without_its_off { BreaksBy off_untold ((k : ℕ) → k < last_count → WentOff off_untold.flash k → HasOffAt off_untold.history (next_count k)) }
 {}
 
 /// A run that may lose an acknowledged write at a cut breaks it, by its power cut and its counts alone: all other fields hold.
@@ -151,11 +154,11 @@ pub fn runs_that_are_served()
 /// two before its Pick don't. Where two were counted before it a third pays for a start-up that fails, and the two don't.
 #[tactic(auto, using(crate::proofs::OneByOne::six_kept, crate::proofs::OneByOne::not_lazy, crate::proofs::OneByOne::no_leap, crate::proofs::RunTurns::beside_kept, crate::proofs::RunTurns::not_ahead, crate::proofs::RunTurns::one_passes, crate::proofs::RunTurns::two_pass_not))]
 pub fn turns_one_by_one()
-    ensures six { HasTurns (always 8) six_turns six_turns.course }
-    ensures lazy { HasTurns (always 8) lazy lazy.course → ⊥ }
-    ensures leaps { HasTurns (always 8) leaps leaps.course → ⊥ }
-    ensures beside { HasTurns (always 8) six_beside six_beside.course }
-    ensures ahead { HasTurns (always 8) ahead ahead.course → ⊥ }
+    ensures six { KeepsTurns (always 8) six_turns six_turns.course }
+    ensures lazy { KeepsTurns (always 8) lazy lazy.course → ⊥ }
+    ensures leaps { KeepsTurns (always 8) leaps leaps.course → ⊥ }
+    ensures beside { KeepsTurns (always 8) six_beside six_beside.course }
+    ensures ahead { KeepsTurns (always 8) ahead ahead.course → ⊥ }
     ensures came_within { PassesBy 1 }
     ensures passed_by { PassesBy 2 → ⊥ }
     ensures own { PaysFailed 4 }
@@ -166,10 +169,12 @@ pub fn turns_one_by_one()
 {}
 
 /// Behind a drain nothing is open at the device. With nothing open and nothing pending a turn makes no operation, and one that
-/// ends a switch does.
+/// ends a switch does; and a drain makes no turn behind such a one.
 pub fn drains_leave_nothing_open()
     ensures closed { DrainsTo false }
     ensures open { DrainsTo true → ⊥ }
+    ensures turns_on { TurnsOn true }
+    ensures turns_for_nothing { TurnsOn false → ⊥ }
     ensures works_on { WorksAt true }
     ensures works_for_nothing { WorksAt false → ⊥ }
 {}
@@ -189,16 +194,16 @@ pub fn canceled_requests_end()
 pub fn failures_are_counted_in_their_moves()
     ensures own { CountsFailed 1 1 }
     ensures told_late { CountsFailed 0 1 → ⊥ }
-    ensures mended { HasTurns (always 8) mended mended.course }
-    ensures posts_on_credit { HasTurns (always 8) posts_on_credit posts_on_credit.course → ⊥ }
-    ensures starts_on_credit { HasTurns (always 8) starts_on_credit starts_on_credit.course → ⊥ }
-    ensures untold { HasTurns (always 8) untold untold.course → ⊥ }
+    ensures mended { KeepsTurns (always 8) mended mended.course }
+    ensures posts_on_credit { KeepsTurns (always 8) posts_on_credit posts_on_credit.course → ⊥ }
+    ensures starts_on_credit { KeepsTurns (always 8) starts_on_credit starts_on_credit.course → ⊥ }
+    ensures untold { KeepsTurns (always 8) untold untold.course → ⊥ }
 {}
 
 /// A power cut that is planned for the second operation comes in it. None is missed: with one planned for the first operation no
 /// run makes four.
 #[tactic(auto, using(crate::proofs::CutsThatCome::comes_kept, crate::proofs::CutsThatCome::not_missed))]
 pub fn planned_cuts_come()
-    ensures comes { HasTurns (always 8) cut_comes cut_comes.course }
-    ensures missed { HasTurns (always 8) cut_missed cut_missed.course → ⊥ }
+    ensures comes { KeepsTurns (always 8) cut_comes cut_comes.course }
+    ensures missed { KeepsTurns (always 8) cut_missed cut_missed.course → ⊥ }
 {}

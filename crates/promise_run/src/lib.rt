@@ -24,7 +24,10 @@ pub use cases::{
 };
 pub use kept_cases::{kept_pages_are_for_urgent_writes, urgent_writes_go_on_at_the_seal};
 pub use life::units_hold_marks;
-pub use operation_cases::operations_are_bounded;
+pub use operation_cases::{
+    first_sectors_are_erased_for_causes, operations_are_bounded, start_ups_leave_nothing,
+    tries_are_those_configured,
+};
 pub use refused_cases::{copies_not_refused_as_asked, copies_refused_as_asked};
-pub use turn_cases::turns_of_jobs;
+pub use turn_cases::{faults_renew_turns, turns_of_jobs};
 pub use urgent_cases::urgent_writes_are_posted_soon;

@@ -14,7 +14,8 @@ pub use Rattle.nvm_moves.proofs.Turning as Turning
 pub use Rattle.nvm_moves.proofs.FreshCopies as FreshCopies
 pub use Rattle.nvm_moves.proofs.DeviceWork as DeviceWork
 pub use Rattle.nvm_moves.proofs.TurnWork as TurnWork
-pub use Rattle.nvm_moves.proofs.Consequences as Consequences
+pub use Rattle.nvm_moves.proofs.Beginning as Beginning
+pub use Rattle.nvm_moves.proofs.Most as Most
 pub use Rattle.nvm_moves.proofs.Moved as Moved
 pub use Rattle.nvm_moves.proofs.Resting as Resting
 pub use Rattle.nvm_moves.proofs.StackMoves as StackMoves

@@ -20,7 +20,8 @@ pub use code::NegativeCode;
 pub use decided::piece_answer;
 pub use laws::{codes_come_by_their_cases, failures_have_causes};
 pub use nvm_moves::{
-    AskFault, Bytes, Config, FoundAnswer, MemDevice, PlainSync, Reply, Request, Stack, Turned,
+    AskFault, Bytes, Config, FoundAnswer, LentRequest, MemDevice, PlainSync, Reply, Request,
+    RequestKind, Stack, Turned,
 };
 pub use serving::serve;
 pub use stop::ServeStop;

@@ -183,6 +183,13 @@ fn last_posted<D: MemDevice, C: SyncCalls + Drop>(
                 NegativeCode::ConditionsNotCorrect,
             )),
         },
+        Some(
+            Last::OfRequest {
+                caller: _,
+                request: _,
+                reply: _,
+            },
+        ) => Ok(negative(room, request, NegativeCode::ConditionsNotCorrect)),
         None => Ok(negative(room, request, NegativeCode::ConditionsNotCorrect)),
     }
 }

@@ -1,4 +1,5 @@
-use Rattle.promise_run.proofs.WrongOperations.{not_with_room, not_beside_last, when_full, not_over_a_record}
+use Rattle.std.proofs.Common.{refl}
+use Rattle.promise_run.proofs.WrongOperations.{not_with_room, not_beside_last, not_untold, when_full, not_over_a_record}
 use Rattle.promise_run.proofs.cases.wrong_operations_break_it.Goals as goal
 
 pub returns-clause-with_room : goal.returns-clause-with_room
@@ -12,3 +13,6 @@ returns-clause-when_full c = when_full
 
 pub returns-clause-over_a_record : goal.returns-clause-over_a_record
 returns-clause-over_a_record c = (λ p. p.wear, not_over_a_record)
+
+pub returns-clause-without_its_off : goal.returns-clause-without_its_off
+returns-clause-without_its_off c = (λ p. p.power refl, not_untold)
