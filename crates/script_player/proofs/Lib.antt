@@ -25,9 +25,7 @@ pub mod PlainHalves
 pub mod PlainBehind
 pub mod PlainMostTurns
 pub mod PlainServing
-pub mod PlainSeals
 pub mod PlainStarts
-pub mod PlainTurnWork
 pub mod PlainPaying
 pub mod PlannedCuts
 pub mod Fresh

@@ -24,7 +24,7 @@ use Rattle.script_player.specs.Calls.{StartsAgain, Arms, Stores, Refuses}
 use Rattle.script_player.specs.Kept.{IsKept, StaysCalm, HasTurned, AreMade, MakesTurns, Drains}
 use Rattle.script_player.specs.Coming.{PlansCuts}
 use Rattle.script_player.specs.Made.{cuts_in, IsMade, Makes, IsAsked, IsExplained}
-use Rattle.uds_gateway.specs.promise_run.Turns.{Moment, Move, Planned, planned_by, AreMovesOf}
+use Rattle.uds_gateway.specs.promise_run.Turns.{Moment, Move, Planned, planned_by, AreMovesOf, FindsWork}
 use Rattle.script_player.proofs.Coming.{pending_same, refuse_cuts, ask_cuts, turns_cuts}
 use Rattle.script_player.proofs.Moves.{move_to}
 use Rattle.uds_gateway.specs.nvm_moves.Seen.{Seen}
@@ -70,12 +70,13 @@ nothing_made p q before line caller kind old new none room no_drain rests is sam
       most = ap (λ t. t.most) same;
       entries = ap (λ t. t.entries) same ∙ sym (append-nil old.entries);
       counted = let n : new.faults ≡ old.faults = ap (λ t. t.faults) same in omega (arith, n);
-      is = (is, tt);
+      is = (is, tt, tt);
       room = room;
       explained = explained;
       closes = λ calm drain. absurd (cc (drain, no_drain));
       moves = [];
       moved = rests;
+      finds = λ drain. absurd (cc (drain, no_drain));
       tell = refl;
       behind = sym (ap moment_of same);
       by_law = moves;
@@ -134,12 +135,13 @@ ask_made p q before line caller r table old new can asked moves has kept =
       closes = λ calm drain. absurd (cc drain);
       moves = move_to (e ∷ []) old ∷ [];
       moved = refl;
+      finds = λ drain. absurd (cc drain);
       tell = refl;
       behind = sym (ap moment_of adds.adds);
       by_law = moves e (ap (λ t. t.entries) adds.adds);
       one = ap (λ t. t.one) adds.adds;
       cuts = λ few. ask_cuts caller r (request_after old.configuration before caller r) reply old new adds;
-      is = ((refl, refl), (ask_takes old.configuration before (copies_by old.configuration (next_of old.configuration (state_of old))) e caller (request_after old.configuration before caller r) reply, tt));
+      is = ((refl, refl), (ask_takes old.configuration before (copies_by old.configuration (next_of old.configuration (state_of old))) e caller (request_after old.configuration before caller r) reply, tt), (tt, tt));
       kept = subst (λ (t : StackTold). IsKept (before ++ x ∷ []) t) (sym adds.adds) (record {
         ready = kept.ready;
         places = kept.places;
@@ -155,7 +157,7 @@ pub restart_made : (p q : Seen) (before : List Step) (line caller : ℕ) (old ne
 restart_made p q before line caller old new starts_again moves kept =
     let x : Step = record { line = line; caller = caller; kind = Restart } in
     let marks = starts_again.marks in
-    let ops = starts_again.ops in
+    let ops = new.ops in
     let same = starts_again.grows in
     let e : Entry = Found marks ops in
     let after_is : after old.configuration (old.entries ++ e ∷ []) ≡ step old.configuration (state_of old) e = histories_step old.configuration old.entries e in
@@ -170,13 +172,14 @@ restart_made p q before line caller old new starts_again moves kept =
       explained = by_restart (e ∷ []) old new starts_again.explained;
       closes = λ calm drain. absurd (cc drain);
       moves = move_to (e ∷ []) new ∷ [];
-      moved = (starts_again.counted, starts_again.operations);
+      moved = (starts_again.counted, starts_again.operations, refl);
+      finds = λ drain. absurd (cc drain);
       tell = refl;
       behind = refl;
       by_law = moves e (ap (λ t. t.entries) same);
       one = ap (λ t. t.one) same;
       cuts = λ few one plan pending. ((tt, tt), tt);
-      is = (tt, (found_takes old.configuration before (copies_by old.configuration (next_of old.configuration (state_of old))) marks ops, tt));
+      is = (tt, (found_takes old.configuration before (copies_by old.configuration (next_of old.configuration (state_of old))) marks ops, tt), (tt, tt));
       kept = subst (λ (t : StackTold). IsKept (before ++ x ∷ []) t) (sym same) (record {
         ready = refl;
         places = kept.places;
@@ -188,8 +191,8 @@ restart_made p q before line caller old new starts_again moves kept =
 
 -- turns, with the piece that they added
 turned_made : (p q : Seen) (before : List Step) (line caller : ℕ) (kind : StepKind) (old new : StackTold) (es : List Entry) (ms : List Move) → AreMovesOf kind (moment_of old) ms → AreMade p q es ms old new → is_store kind ≡ false → ¬ HasNoRoom old.configuration old.cap (state_of old) kind → ((plan : Option DueCut) (ops : ℕ) → plan_after kind plan ops ≡ plan) → ((id left : ℕ) → asked_by id kind left ≡ left)
-    → ((plan : Option Planned) (now : Moment) → planned_by kind now plan ≡ plan) → HasTurned before old new es → (StaysCalm old new → is_drain kind ≡ true → new.busy ≡ false) → IsPieceBy old.configuration before (state_of old) caller kind es → IsKept before new → IsMade p q before (record { line = line; caller = caller; kind = kind }) old new
-turned_made p q before line caller kind old new es ms own moved none room plans asks planned turned closes is kept =
+    → ((plan : Option Planned) (now : Moment) → planned_by kind now plan ≡ plan) → HasTurned before old new es → (StaysCalm old new → is_drain kind ≡ true → new.busy ≡ false) → (is_drain kind ≡ true → FindsWork old.configuration (moment_of old) (state_of old) ms) → IsPieceBy old.configuration before (state_of old) caller kind es → IsKept before new → IsMade p q before (record { line = line; caller = caller; kind = kind }) old new
+turned_made p q before line caller kind old new es ms own moved none room plans asks planned turned closes finds is kept =
     let x : Step = record { line = line; caller = caller; kind = kind } in
     record {
       piece = es;
@@ -203,25 +206,26 @@ turned_made p q before line caller kind old new es ms own moved none room plans 
       closes = closes;
       moves = ms;
       moved = own;
+      finds = finds;
       tell = moved.tell;
       behind = moved.behind;
       by_law = moved.moved;
       one = ap (λ t. t.one) turned.grows;
       cuts = λ few. turns_cuts kind ms old new planned moved.cuts;
-      is = (is, turned.keeps.stores);
+      is = (is, turned.keeps.stores, turned.keeps.last);
       kept = kept_more before x new none kept;
     }
 
 pub turns_made : (p q : Seen) (before : List Step) (line caller count : ℕ) (old new : StackTold) → 1 ≤ count → MakesTurns p q count before old new → IsKept before new
     → IsMade p q before (record { line = line; caller = caller; kind = Turn count }) old new
 turns_made p q before line caller zero old new some made kept = absurd (let none : 1 ≤ 0 = some in omega (arith, none))
-turns_made p q before line caller (suc n) old new some (es, turned, is, (ms, many, moved)) kept = turned_made p q before line caller (Turn (suc n)) old new es ms (many, moved.turns) moved refl (λ no. no) (λ plan ops. refl) (λ id left. refl) (λ plan now. refl) turned (λ calm no_. absurd (cc no_)) is kept
+turns_made p q before line caller (suc n) old new some (es, turned, is, (ms, many, moved)) kept = turned_made p q before line caller (Turn (suc n)) old new es ms (many, moved.turns) moved refl (λ no. no) (λ plan ops. refl) (λ id left. refl) (λ plan now. refl) turned (λ calm no_. absurd (cc no_)) (λ no_. absurd (cc no_)) is kept
 
 pub drain_made : (p q : Seen) (before : List Step) (line caller : ℕ) (old new : StackTold) → Drains p q before old new → (¬ Rose old.faults new.faults → (state_of new).off ≡ false → new.busy ≡ false) → IsKept before new
     → IsMade p q before (record { line = line; caller = caller; kind = Drain }) old new
-drain_made p q before line caller old new (es, turned, is, (ms, few, moved)) closes kept =
+drain_made p q before line caller old new (es, turned, is, (ms, few, finds, moved)) closes kept =
     turned_made p q before line caller Drain old new es ms moved.turns moved refl (λ no. no) (λ plan ops. refl) (λ id left. refl) (λ plan now. refl) turned
-    (λ calm drain. closes calm.no_fault (power_on new.configuration new.entries calm.entries)) is kept
+    (λ calm drain. closes calm.no_fault (power_on new.configuration new.entries calm.entries)) (λ drain. finds) is kept
 
 -- a store
 pub next_store : (c : Configuration) (before : List Step) (block n : ℕ) → length before < 2 ^ 32 → n ≡ length (stores_of block before) → next_number n ≡ length (stores_of block before) + 1
@@ -248,12 +252,13 @@ store_made p q before line caller block number content old new sync within small
       closes = λ calm drain. absurd (cc drain);
       moves = [];
       moved = refl;
+      finds = λ drain. absurd (cc drain);
       tell = refl;
       behind = refl;
       by_law = moves;
       one = refl;
       cuts = λ few one plan pending. (tt, pending_same plan old (record old { stores = slice_set old.stores block (number, content) }) refl refl refl (λ off. off) pending);
-      is = (refl, tt);
+      is = (refl, tt, tt);
       kept = record {
         ready = kept.ready;
         places = simp length-set kept.places;

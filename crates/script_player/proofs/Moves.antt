@@ -7,7 +7,7 @@ use Rattle.uds_gateway.specs.block_machine.Words.{Instance, Mark, Request, Reply
 use Rattle.uds_gateway.specs.block_machine.State.{State}
 use Rattle.uds_gateway.specs.script_walks.Words.{Step, Drain}
 use Rattle.uds_gateway.specs.script_walks.Turn.{IsTurn}
-use Rattle.uds_gateway.specs.promise_run.Turns.{Moment, Move, entry_list, entries_of, moment_behind, moment_after, AreTurnsMade, AreMovesOf, AreMoves, HasMoves, ClosesAtDrains, is_asked, is_found, is_picked, is_off, urgent_block, IsPostedSoon, all_moves, IsInTime, AreInTime}
+use Rattle.uds_gateway.specs.promise_run.Turns.{Moment, Move, entry_list, entries_of, moment_behind, moment_after, AreTurnsMade, AreMovesOf, AreMoves, HasMoves, ClosesAtDrains, FindsWork, FindWorkAtDrains, is_asked, is_found, is_picked, is_off, urgent_block, IsPostedSoon, all_moves, IsInTime, AreInTime}
 use Rattle.uds_gateway.specs.block_machine.Steps.{after_from}
 use Rattle.script_player.specs.Told.{StackTold, state_of, moment_of, IsGrown}
 use Rattle.uds_gateway.proofs.Counted.{behind_more}
@@ -18,7 +18,7 @@ use Rattle.uds_gateway.specs.nvm_moves.Moved.{MovesBy}
 use Rattle.uds_gateway.proofs.Moved.{moves_more, none_moves}
 use Rattle.script_player.specs.Paying.{TurnMoves}
 use Rattle.script_player.specs.Calls.{AllTell, MakesTurn}
-use Rattle.uds_gateway.proofs.PlannedCuts.{in_time_more}
+use Rattle.uds_gateway.proofs.PlannedCuts.{from_more, in_time_more}
 use Rattle.script_player.proofs.Coming.{entries_more, in_time, turn_coming}
 use Rattle.script_player.specs.Kept.{AreMade}
 
@@ -112,6 +112,18 @@ closes_more m [] x [] ms are all own = (own, tt)
 closes_more m (y ∷ ys) x (ns ∷ nss) ms are all own = (all.0, closes_more (moment_behind m ns) ys x nss ms are.1 all.1 own)
 closes_more m [] x (ns ∷ nss) ms are all own = absurd are
 closes_more m (y ∷ ys) x [] ms are all own = absurd are
+
+-- a drain more of which each turn but the last one finds work
+pub finds_more : (c : Configuration) (m : Moment) (s : State) (xs : List Step) (x : Step) (mss : List (List Move)) (ms : List Move) → AreMoves m xs mss → FindWorkAtDrains c m s xs mss
+    → (x.kind ≡ Drain → FindsWork c (moment_after m mss) (after_from c s (entries_of (all_moves mss))) ms) → FindWorkAtDrains c m s (xs ++ x ∷ []) (mss ++ ms ∷ [])
+finds_more c m s [] x [] ms are all own = (own, tt)
+finds_more c m s (y ∷ ys) x (ns ∷ nss) ms are all own = (
+  all.0,
+  finds_more c (moment_behind m ns) (after_from c s (entries_of ns)) ys x nss ms are.1 all.1
+      (λ drain. subst (λ (t : State). FindsWork c (moment_after (moment_behind m ns) nss) t ms) (ap (after_from c s) (entries_more ns (all_moves nss)) ∙ from_more c s (entries_of ns) (entries_of (all_moves nss))) (own drain)),
+)
+finds_more c m s [] x (ns ∷ nss) ms are all own = absurd are
+finds_more c m s (y ∷ ys) x [] ms are all own = absurd are
 
 pub after_more : (m : Moment) (mss : List (List Move)) (ms : List Move) → moment_after m (mss ++ ms ∷ []) ≡ moment_behind (moment_after m mss) ms
 after_more m [] ms = refl

@@ -66,6 +66,10 @@ false_true {t} off on = never (sym off ∙ on)
     never : false ≡ true → ⊥
     never e = cc
 
+true_else : (t : Bool) → (t ≡ false → ⊥) → t ≡ true
+true_else true never = refl
+true_else false never = absurd (never refl)
+
 module _ {D : Type 0} (device : D → DeviceTold) (clock : D → Clock) (old between new : StackState D (List PlainBlock))
     (half : IsFirstHalf device are_told is_now is_looked Device old between) where
   -- nothing comes next where no job is in hand, so no turn goes by
@@ -193,7 +197,8 @@ module _ {D : Type 0} (device : D → DeviceTold) (clock : D → Clock) (old bet
       by : (e : Option Entry) → AddsBy e between.desk new.desk → IsSettled e (ops_of (device new.device)) → Turns turned.Worked (told_by device old) (told_by device new)
       by e adds (inl none) =
           let same = subst (λ (o : Option Entry). AddsBy o between.desk new.desk) none adds in
-          idle turned.Worked second behind same came (λ hand. (refl, rests hand)) behind.lowers (serves [] (ap (λ (x : DeskState). x.config) (same ∙ same_desk)))
+          idle turned.Worked second behind same came
+          (λ hand. (refl, rests hand, true_else (not (nothing_open (device old.device))) (still_open behind.tied.paired (rests hand)))) behind.lowers (serves [] (ap (λ (x : DeskState). x.config) (same ∙ same_desk)))
       by e adds (inr (i, mark, some)) =
           let wrote = subst (λ (o : Option Entry). AddsBy o between.desk new.desk) some adds in
           let may = subst (λ (x : DeskState). MayWrite x.config (state_of x) i mark (state_of x).hand) same_desk wrote.1.1 in

@@ -25,8 +25,8 @@ use Rattle.uds_gateway.specs.nvm_laws.declared.turned.Act.TheVariants.{Ended}
 use Rattle.uds_gateway.specs.nvm_core.Stack.{StackState, PowersOff}
 use Rattle.uds_gateway.specs.nvm_core.Turns.{IsFirstHalf}
 use Rattle.uds_gateway.specs.nvm_core.Work as work
-use Rattle.uds_gateway.specs.script_walks.Walk.{is_due}
-use Rattle.uds_gateway.specs.script_walks.Turn.{TakesNewest, copies_next}
+use Rattle.uds_gateway.specs.script_walks.Walk.{is_at_rest, is_due, copies_next}
+use Rattle.uds_gateway.specs.script_walks.Turn.{TakesNewest}
 use Rattle.uds_gateway.specs.promise_run.Refusals.{copied_in}
 use Rattle.script_player.specs.Calls.{Turns, IsAnswer, Lowers}
 use Rattle.script_player.specs.PlainTold.{told_by, shown, to_refuse_in}
@@ -36,7 +36,7 @@ use Rattle.uds_gateway.proofs.Resting.{rests_next, some_none}
 use Rattle.script_player.proofs.PlainDevices.{goes_same, came_same}
 use Rattle.script_player.proofs.PlainPicks.{newest, stored_so, due_off, due_rest, at_rest}
 use Rattle.script_player.proofs.PlainRefused.{IsOn, IsSpent, pick_spent, post_spent, entry_asked}
-use Rattle.script_player.proofs.PlainMostTurns.{within_of}
+use Rattle.uds_gateway.proofs.Most.{within_of}
 use Rattle.script_player.proofs.PlainServing.{IsServing, off_serves, rest_serves, pick_serves, post_serves}
 use Rattle.script_player.proofs.PlainTurning.{same_stores, grown, none_more, explained, makes_one, misses_none, no_off, begins_by, begins_late}
 
@@ -115,6 +115,11 @@ is_on : (off : Bool) → IsTrue (not off) → off ≡ false
 is_on true on = absurd (cc on)
 is_on false on = refl
 
+-- what doesn't hold is false
+pub not_so : (t : Bool) → (IsTrue t → ⊥) → IsTrue (not t)
+not_so true never = absurd (never refl)
+not_so false never = refl
+
 pub record IsBehind {D : Type 0} (device : D → DeviceTold) (answer : Turned) (old new : StackState D (List PlainBlock)) : Type 0 where
   pub power : PowersOff new.desk (device new.device)
   pub counted : faults_of (device old.device) ≤ faults_of (device new.device)
@@ -185,7 +190,7 @@ module _ {D : Type 0} (device : D → DeviceTold) (old new : StackState D (List 
           rests = λ rest idle. absurd (subst (λ (n : Next). MayPick c s block picked.kind picked.taken n) (rests_next c s rest).1 may);
           cuts = misses_none device old new (goes_same (device old.device) (device new.device) made one two) behind.power;
         };
-        answers = tt;
+        answers = not_so (is_at_rest s) (λ rest. subst (λ (n : Next). MayPick c s block picked.kind picked.taken n) (rests_next c s rest).1 may);
         lowers = behind.lowers;
       }
 
@@ -214,7 +219,7 @@ module _ {D : Type 0} (device : D → DeviceTold) (old new : StackState D (List 
           rests = λ rest idle. let (none, nothing) = rests_next c s rest in absurd (subst (λ (n : Next). MayPostNext c s post.block (post.result, post.given) post.refused n) nothing (post.may none));
           cuts = misses_none device old new (goes_same (device old.device) (device new.device) made one two) behind.power;
         };
-        answers = tt;
+        answers = not_so (is_at_rest s) (λ rest. let (none, nothing) = rests_next c s rest in subst (λ (n : Next). MayPostNext c s post.block (post.result, post.given) post.refused n) nothing (post.may none));
         lowers = behind.lowers;
       }
 

@@ -1,56 +1,23 @@
 -- The turns that are left of the job in hand, and its most.
 use Rattle.std.specs.Prelude.{is_some}
-use Rattle.std.proofs.Common.{◌≡◌, ◌≤◌, ◌<◌, ◌+◌, ℕ, Bool, true, false, if◌then◌else◌, Option, Some, None, IfSome, refl, sym, ap, ◌∙◌, subst, arith}
+use Rattle.std.proofs.Common.{◌≡◌, ◌<◌, ℕ, true, Option, Some, None, IfSome, refl, sym, ap, ◌∙◌, subst, arith}
 use Rattle.uds_gateway.specs.memif.Told.{DeviceTold, Fixed, Stand, Open, Ended}
-use Rattle.uds_gateway.specs.block_machine.Words.{Outcome, Configuration}
+use Rattle.uds_gateway.specs.block_machine.Words.{Configuration}
 use Rattle.uds_gateway.specs.block_machine.State.{State, Job}
-use Rattle.uds_gateway.specs.job_programs.Program.{Program, next_in, is_again, tried, after_by}
-use Rattle.uds_gateway.specs.nv_base.declared.job.Outcome.TheVariants.{First}
 use Rattle.uds_gateway.specs.nvm_device_laws.Outcomes.{outcome_by}
-use Rattle.uds_gateway.specs.nvm_figures.Left.{stack_left, most_turns}
-use Rattle.uds_gateway.specs.job_progress.Hand.{HandState, is_finished, ended}
-use Rattle.uds_gateway.specs.job_progress.JobInHand.{IsInHand, IsPaired, program_for}
+use Rattle.uds_gateway.specs.nvm_figures.Left.{most_turns}
+use Rattle.uds_gateway.specs.job_progress.Hand.{HandState, ended}
+use Rattle.uds_gateway.specs.job_progress.JobInHand.{IsInHand, IsPaired}
 use Rattle.uds_gateway.specs.nvm_laws.Turns.{hand_by}
 use Rattle.uds_gateway.specs.nvm_core.Work.{left_with, IsWithin}
-
--- THE MOST TURNS OF A JOB
--- what is done of it doesn't change them
-tried_most : (t : Bool) (f : Fixed) (p : Program) (outcome : Outcome) → is_again outcome p.failures p.retries ≡ t → most_turns f (tried p outcome) ≡ most_turns f p
-tried_most true f p outcome is = rw is refl
-tried_most false f p outcome is = rw is refl
-
-after_most : (f : Fixed) (p : Program) (next : Option ℕ) (outcome : Outcome) → most_turns f (after_by p next outcome) ≡ most_turns f p
-after_most f p None outcome = refl
-after_most f p (Some i) First = refl
-after_most f p (Some i) outcome = tried_most (is_again outcome p.failures p.retries) f p outcome refl
-
--- those of the program in hand are those of the machine's job
-pub most_of_job : (c : Configuration) (s : State) (h : HandState) (d : DeviceTold) (f : Fixed) (j : Job) → IsInHand c s h d → s.hand ≡ Some j
-    → most_turns f (program_for c s j) ≡ most_turns f h.program
-most_of_job c s h d f j is hand =
-    let same : is.job ≡ j = let both : Some is.job ≡ Some j = sym is.hand ∙ hand in cc in
-    subst (λ (k : Job). most_turns f (program_for c s k) ≡ most_turns f h.program) same (sym (ap (most_turns f) is.working.is))
-
--- WITHIN THEM
--- the job in hand has a turn left, and no more than its most
-abbrev pub Within : Configuration → State → ℕ → Fixed → Type 0
-Within c s left f = (j : Job) → s.hand ≡ Some j → (0 < left) × (left ≤ most_turns f (program_for c s j))
-
-some_by : (t : Bool) (p : Program) (d : DeviceTold) → 0 < (if t then stack_left None d + 1 else stack_left (Some p) d)
-some_by true p d = omega arith
-some_by false p d = omega arith
-
-pub within_of : (c : Configuration) (s : State) (hand : Option HandState) (d : DeviceTold) → IsPaired c s hand d → IsWithin hand d → Within c s (left_with hand d) d.fixed
-within_of c s None d paired within = λ j is. absurd (none_some (sym paired.0 ∙ is))
-  where
-    none_some : {j : Job} → None ≡ Some j → ⊥
-    none_some e = cc
-within_of c s (Some h) d paired within = λ j is.
-    (some_by (is_finished h.step) h.program d, (let most = most_of_job c s h d d.fixed j paired is in omega (arith, within, most)))
+use Rattle.uds_gateway.proofs.Most.{Within, most_of_job, turned_most}
 
 -- THE DEVICE'S TURN
+same_some : (a b : ℕ) → Some a ≡ Some b → a ≡ b
+same_some a b is = cc is
+
 goes_most : (old new : Stand) (f : Fixed) (h : HandState) → IfSome (hand_by old new (Some h)) (λ behind. most_turns f behind.program ≡ most_turns f h.program)
-goes_most (Open j) (Ended r given) f h = after_most f h.program (next_in h.program) (outcome_by j.mark r)
+goes_most (Open j) (Ended r given) f h = same_some (most_turns f (ended (outcome_by j.mark r) h).program) (most_turns f h.program) (turned_most f (Open j) (Ended r given) (Some h))
 goes_most (Open j) (Open k) f h = refl
 goes_most (Ended r given) new f h = refl
 

@@ -9,8 +9,8 @@ use Rattle.uds_gateway.specs.block_machine.Next.{Next, Nothing, PickJob, BeginSw
 use Rattle.uds_gateway.specs.block_machine.Legal.{TakesBy, MayPick}
 use Rattle.uds_gateway.specs.ram_blocks.Told.{Told}
 use Rattle.uds_gateway.specs.nv_desk_copies.Takes.{copies_out_by, copies_out_for, copies_out_next, IsFromCopies, IsCopied}
-use Rattle.uds_gateway.specs.script_walks.Walk.{is_due, is_at_rest}
-use Rattle.uds_gateway.specs.script_walks.Turn.{copies_next, TakesNewest}
+use Rattle.uds_gateway.specs.script_walks.Walk.{is_due, is_at_rest, copies_next}
+use Rattle.uds_gateway.specs.script_walks.Turn.{TakesNewest}
 use Rattle.uds_gateway.proofs.NextLaws.{none_waits}
 
 -- WHAT A PICK TOOK

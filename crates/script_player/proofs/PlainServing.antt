@@ -16,7 +16,8 @@ use Rattle.uds_gateway.specs.nvm_core.Stack.{StackState}
 use Rattle.script_player.specs.Calls.{Serves}
 use Rattle.uds_gateway.specs.nvm_core.Work.{left_with, IsWithin, IsFaulty}
 use Rattle.script_player.specs.PlainTold.{told_by}
-use Rattle.script_player.proofs.PlainMostTurns.{within_of, worked_within, stays_held}
+use Rattle.uds_gateway.proofs.Most.{within_of}
+use Rattle.script_player.proofs.PlainMostTurns.{worked_within, stays_held}
 use Rattle.script_player.proofs.PlainRefused.{IsOn}
 
 false_true : {t : Bool} → t ≡ false → t ≡ true → ⊥

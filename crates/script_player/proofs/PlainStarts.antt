@@ -1,6 +1,5 @@
 -- Each start-up that a player makes has its Found.
 use Rattle.std.proofs.Common.{◌≡◌, ◌+◌, ℕ, Bool, true, false, List, [], ◌∷◌, ◌++◌, refl, sym, ap, ◌∙◌, subst, inl, inr, arith, append-nil}
-use Rattle.uds_gateway.specs.memif.declared.answer.DeviceTurn.TheVariants as turn
 use Rattle.uds_gateway.specs.memif.Told.{DeviceTold}
 use Rattle.uds_gateway.specs.memif.Clock.{Clock}
 use Rattle.uds_gateway.specs.block_machine.Words.{Entry, Ask, Pick, Wrote, Post, Off, Found, Configuration}
@@ -10,15 +9,14 @@ use Rattle.uds_gateway.specs.ram_blocks.declared.plain_block.PlainBlock.{PlainBl
 use Rattle.uds_gateway.specs.ram_blocks.Told.{Told}
 use Rattle.uds_gateway.specs.nv_desk.Desk.{DeskState}
 use Rattle.uds_gateway.specs.nvm_laws.declared.turned.Turned.{Turned}
-use Rattle.uds_gateway.specs.nvm_laws.declared.turned.Turned.TheVariants as turned
 use Rattle.uds_gateway.specs.nvm_laws.declared.turned.FoundAnswer.{FoundAnswer}
 use Rattle.uds_gateway.specs.nvm_laws.declared.turned.FoundAnswer.TheVariants as found
-use Rattle.uds_gateway.specs.nvm_core.BehindDevice.{TurnsDevice}
 use Rattle.uds_gateway.specs.nvm_core.Stack.{StackState}
 use Rattle.uds_gateway.specs.nvm_core.StartUps.{Restarts}
 use Rattle.uds_gateway.specs.nvm_core.Turns as core
 use Rattle.uds_gateway.specs.script_walks.Turn.{IsOneOrNone}
-use Rattle.uds_gateway.proofs.StartUps.{founds_add, turns_start_none}
+use Rattle.uds_gateway.proofs.StackMoves.{device_starts}
+use Rattle.uds_gateway.proofs.StartUps.{founds_add}
 use Rattle.script_player.specs.PlainKept.{AreStartsFound}
 
 -- where none was made and the entries tell none
@@ -36,13 +34,6 @@ turn_founds c s stores (Post block r given refused ops ∷ []) is = refl
 turn_founds c s stores (Off ops ∷ []) is = refl
 turn_founds c s stores (Found marks ops ∷ []) is = absurd is
 turn_founds c s stores (e ∷ f ∷ es) is = absurd is
-
-device_starts : (answer : Turned) (old new : DeviceTold) (clock clock_new : Clock) → TurnsDevice answer old clock new clock_new → new.starts ≡ old.starts
-device_starts turned.Idle old new clock clock_new turns = turns_start_none turn.Idle old clock new clock_new turns
-device_starts turned.Worked old new clock clock_new turns = turns_start_none turn.Worked old clock new clock_new turns
-device_starts turned.Off old new clock clock_new turns = turns_start_none turn.Off old clock new clock_new turns
-device_starts turned.Picked old new clock clock_new turns = absurd turns
-device_starts turned.Posted old new clock clock_new turns = absurd turns
 
 module _ {D : Type 0} (device : D → DeviceTold) (clock : D → Clock) (old new : StackState D (List PlainBlock)) where
   turned_starts : {copies : List PlainBlock → List Told} {is_store : List PlainBlock → ℕ → ℕ → List ℕ → Type 0} {looked : List PlainBlock → List PlainBlock → ℕ → ℕ → Type 0} (answer : Turned) → core.Turns device clock copies is_store looked answer old new → (device new.device).starts ≡ (device old.device).starts

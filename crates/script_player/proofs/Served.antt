@@ -30,7 +30,7 @@ use Rattle.script_player.specs.Kept.{IsKept, MakesTurns}
 use Rattle.script_player.specs.Made.{IsAsked, IsFresh, HasWalked}
 use Rattle.uds_gateway.specs.nvm_moves.Seen.{Seen}
 use Rattle.uds_gateway.proofs.Moved.{none_moves}
-use Rattle.script_player.specs.Paying.{AskMoves, IsSeen, LastsOn, TurnMoves, payer_at}
+use Rattle.script_player.specs.Paying.{AskMoves, IsSeen, LastsOn, TurnMoves}
 use Rattle.script_player.specs.Requests.{is_of_request, AreOfRequests, no_stores, IsServing, ServesNoMore, EndsJob, EndsRequest, AreServedSoFar, HasServed}
 use Rattle.script_player.proofs.Causes.{joined_more}
 use Rattle.script_player.proofs.Making.{ask_made, turns_made}
@@ -147,8 +147,8 @@ pub no_more : (p q r : Seen) (old mid new : StackTold) → new ≡ mid → Lasts
 no_more p q r old mid new same last serving = record {
   made = serving.made;
   only = serving.only;
-  walked = subst (λ (t : StackTold). HasWalked (payer_at old p) (payer_at t r) serving.made old t) (sym same)
-      (has_walked p q r serving.made old mid mid serving.way.ready serving.way.seen refl (omega arith) refl (none_counted mid.causes.unplanned) refl (λ tells. tells) last serving.way.walking);
+  walked = subst (λ (t : StackTold). HasWalked p r serving.made old t) (sym same)
+      (has_walked p q r serving.made old mid mid refl (omega arith) (none_counted mid.causes.unplanned) refl (λ tells. tells) last serving.way.walking);
   adds = ap (λ (t : StackTold). t.entries) same;
   configuration = ap (λ (t : StackTold). t.configuration) same;
   cap = ap (λ (t : StackTold). t.cap) same;
@@ -237,7 +237,7 @@ pub stays : (p q : Seen) (old now : StackTold) → IsServing p q old now → Ser
 stays p q old now serving = record {
   made = serving.made;
   only = serving.only;
-  walked = has_walked p q q serving.made old now now serving.way.ready serving.way.seen refl (omega arith) refl (none_counted now.causes.unplanned) refl (λ tells. tells) (none_last q) serving.way.walking;
+  walked = has_walked p q q serving.made old now now refl (omega arith) (none_counted now.causes.unplanned) refl (λ tells. tells) (none_last q) serving.way.walking;
   adds = refl;
   configuration = refl;
   cap = refl;
@@ -278,7 +278,7 @@ serves_one p q r requests request counts old mid new so_far (piece, more, has, n
 }
 
 -- all
-pub serves_all : (p q : Seen) (requests : List (List ℕ)) (counts : List ℕ) (old now : StackTold) → AreServedSoFar p q requests counts old now → HasServed (payer_at old p) (payer_at now q) requests counts (Ok tt) old now
+pub serves_all : (p q : Seen) (requests : List (List ℕ)) (counts : List ℕ) (old now : StackTold) → AreServedSoFar p q requests counts old now → HasServed p q requests counts (Ok tt) old now
 serves_all p q requests counts old now so_far =
     let none = stays p q old now so_far.serving in
     record {
@@ -293,7 +293,7 @@ serves_all p q requests counts old now so_far =
 
 -- or not all
 pub serves_first : (p q r : Seen) (why : ServeStop) (requests first left : List (List ℕ)) (request : List ℕ) (counts : List ℕ) (old mid new : StackTold) → requests ≡ first ++ request ∷ left → AreServedSoFar p q first counts old mid → EndsRequest old.configuration request p r (Err why) old mid new
-    → HasServed (payer_at old p) (payer_at new r) requests counts (Err why) old new
+    → HasServed p r requests counts (Err why) old new
 serves_first p q r stop.Off requests first left request counts old mid new order so_far (piece, more, off) =
     let none = stays p r old new more.serving in
     record {
@@ -332,7 +332,7 @@ serves_first p q r stop.Memory requests first left request counts old mid new or
 }
 
 -- memory was wanting before the next one
-pub serves_some : (p q : Seen) (requests first left : List (List ℕ)) (counts : List ℕ) (old now : StackTold) → requests ≡ first ++ left → AreServedSoFar p q first counts old now → HasServed (payer_at old p) (payer_at now q) requests counts (Err stop.Memory) old now
+pub serves_some : (p q : Seen) (requests first left : List (List ℕ)) (counts : List ℕ) (old now : StackTold) → requests ≡ first ++ left → AreServedSoFar p q first counts old now → HasServed p q requests counts (Err stop.Memory) old now
 serves_some p q requests first left counts old now order so_far =
     let none = stays p q old now so_far.serving in
     record {

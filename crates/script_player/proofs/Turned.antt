@@ -2,7 +2,8 @@
 use Rattle.std.specs.List.{list_all}
 use Rattle.std.specs.Option.{is_some}
 use Rattle.std.proofs.Common.{◌≡◌, ◌<◌, ◌≤◌, ◌+◌, ◌||◌, ℕ, zero, suc, Bool, true, false, IsTrue, List, [], ◌∷◌, ◌++◌, length, Option, Some, None, refl, sym, ap, ◌∙◌, subst, inl, inr, arith, append-nil, length-append}
-use Rattle.std.proofs.lemmas.Bool.{cases_Bool}
+use Rattle.std.specs.Prelude.{not}
+use Rattle.std.proofs.lemmas.Bool.{cases_Bool, or_left, or_right}
 use Rattle.uds_gateway.specs.nv_base.Count.{Rose}
 use Rattle.uds_gateway.specs.nvm_laws.declared.turned.Turned.{Turned}
 use Rattle.uds_gateway.specs.nvm_laws.declared.turned.Turned.TheVariants as turned
@@ -15,16 +16,19 @@ use Rattle.uds_gateway.specs.script_walks.Turn.{IsTurn}
 use Rattle.uds_gateway.specs.script_walks.Stores.{JobsTookStored}
 use Rattle.uds_gateway.specs.script_walks.StoreLaws.{KeepsStored}
 use Rattle.uds_gateway.proofs.WalkedTurns.{turns_keep_stored, keeping_goes_on, turns_grow}
-use Rattle.script_player.specs.Told.{StackTold, state_of, IsGrown}
+use Rattle.script_player.specs.Told.{StackTold, state_of, moment_of, IsGrown}
 use Rattle.script_player.specs.Calls.{MakesTurn, Turns, is_last}
-use Rattle.script_player.specs.Kept.{IsKept, HasTurned, AreMade, MakesTurns, Drains}
+use Rattle.script_player.specs.Kept.{IsKept, HasTurned, AreMade, AllFindWork, MakesTurns, Drains, has_work}
 use Rattle.script_player.proofs.Explained.{explained_more, none_explained}
 use Rattle.script_player.proofs.Grown.{state_more, state_grown, grown_more}
 use Rattle.script_player.proofs.Moves.{made_more, move_to, turn_moved}
 use Rattle.script_player.specs.Paying.{TurnMoves}
 use Rattle.uds_gateway.specs.nvm_moves.Seen.{Seen}
 use Rattle.uds_gateway.proofs.Moved.{moves_more}
-use Rattle.uds_gateway.specs.promise_run.Turns.{Move}
+use Rattle.uds_gateway.specs.promise_run.Turns.{Moment, Move, FindsWork, entry_list, entries_of, moment_behind}
+use Rattle.uds_gateway.proofs.PlannedCuts.{from_more}
+use Rattle.uds_gateway.proofs.Resting.{rests_next}
+use Rattle.script_player.proofs.PlainHalves.{not_so}
 
 -- what a turn adds keeps what is kept
 pub turn_kept : (before : List Step) (old new : StackTold) (turn : MakesTurn old new) → IsKept before old → HasTurned before old new turn.entries × IsKept before new
@@ -57,7 +61,7 @@ none_turned before t kept = record {
   grows = ap (λ (h : List Entry). record t { entries = h }) (sym (append-nil t.entries));
   counted = omega arith;
   explained = none_explained t;
-  keeps = record { played = refl; stores = tt; jobs = kept.jobs };
+  keeps = record { played = refl; stores = tt; last = tt; jobs = kept.jobs };
 }
 
 -- SO MANY TURNS
@@ -116,9 +120,9 @@ one_turn_more p q r (suc n) before old mid new (es, was, are, (ms, many, moved))
 -- A DRAIN
 
 -- it ends
-pub drained : (p q : Seen) (before : List Step) (old new : StackTold) (es : List Entry) (ms : List Move) → HasTurned before old new es → length ms ≤ old.work + 1 → AreMade p q es ms old new → IsTrue (is_at_rest (state_of new) || (state_of new).off) → Drains p q before old new
-drained p q before old new es ms turned few moved ends =
-    (es, turned, record { played = turned.keeps.played; ends = subst (λ (s : State). IsTrue (is_at_rest s || s.off)) (state_grown old new es turned.grows) ends }, (ms, few, moved))
+pub drained : (p q : Seen) (before : List Step) (old new : StackTold) (es : List Entry) (ms : List Move) → HasTurned before old new es → length ms ≤ old.work + 1 → FindsWork old.configuration (moment_of old) (state_of old) ms → AreMade p q es ms old new → IsTrue (is_at_rest (state_of new) || (state_of new).off) → Drains p q before old new
+drained p q before old new es ms turned few finds moved ends =
+    (es, turned, record { played = turned.keeps.played; ends = subst (λ (s : State). IsTrue (is_at_rest s || s.off)) (state_grown old new es turned.grows) ends }, (ms, few, finds, moved))
 
 none_in : (hand : Option Job) → is_some hand ≡ false → hand ≡ None
 none_in None none = refl
@@ -140,7 +144,7 @@ last_ends turned.Idle in_hand risen old new turn hand last =
 last_ends turned.Off in_hand risen old new turn hand last = off_then (state_of new) (ap (λ s. s.off) (state_grown old new turn.made.entries turn.made.grows) ∙ turn.answers)
 last_ends turned.Worked true risen old new turn hand last = absurd (cc last)
 last_ends turned.Worked false risen old new turn hand last =
-    let (none, rest) = turn.answers (none_in (state_of old).hand (sym hand)) in
+    let (none, rest, busy) = turn.answers (none_in (state_of old).hand (sym hand)) in
     at_rest_then (state_of new) (subst (λ (s : State). is_at_rest s ≡ true) (sym (same_state old new turn.made.entries turn.made.grows none)) rest)
 last_ends turned.Picked in_hand risen old new turn hand last = absurd (cc last)
 last_ends turned.Posted in_hand risen old new turn hand last = absurd (cc last)
@@ -168,3 +172,33 @@ others_lower turned.Posted in_hand risen old new turn hand count last = turn.low
 others_lower turned.Worked true risen old new turn hand count last = elim turn.lowers [ inl less ↦ less | inr rose ↦ absurd (some_hand (state_of old).hand rose.0 hand) ]
 others_lower turned.Worked false true old new turn hand count last = absurd (cc last)
 others_lower turned.Worked false false old new turn hand count last = elim turn.lowers [ inl less ↦ less | inr rose ↦ absurd (count refl rose.1) ]
+
+-- where it isn't the last one something was pending, or open at the device
+pub others_find : (a : Turned) (in_hand risen : Bool) (old new : StackTold) → Turns a old new → in_hand ≡ is_some (state_of old).hand → is_last a in_hand risen ≡ false → IsTrue (has_work (state_of old) (moment_of old))
+others_find turned.Idle in_hand risen old new turn hand last = absurd (cc last)
+others_find turned.Off in_hand risen old new turn hand last = absurd (cc last)
+others_find turned.Picked in_hand risen old new turn hand last = or_left (not (is_at_rest (state_of old))) old.busy turn.answers
+others_find turned.Posted in_hand risen old new turn hand last = or_left (not (is_at_rest (state_of old))) old.busy turn.answers
+others_find turned.Worked true risen old new turn hand last =
+    or_left (not (is_at_rest (state_of old))) old.busy (not_so (is_at_rest (state_of old)) (λ rest. some_hand (state_of old).hand (rests_next old.configuration (state_of old) rest).0 hand))
+others_find turned.Worked false true old new turn hand last = absurd (cc last)
+others_find turned.Worked false false old new turn hand last = or_right (not (is_at_rest (state_of old))) old.busy (turn.answers (none_in (state_of old).hand (sym hand))).2
+
+-- moves that find work, and one behind them that does
+pub find_more : (c : Configuration) (m : Moment) (s : State) (ms : List Move) (x : Move) → AllFindWork c m s ms → IsTrue (has_work (after_from c s (entries_of ms)) (moment_behind m ms)) → AllFindWork c m s (ms ++ x ∷ [])
+find_more c m s [] x all here = (here, tt)
+find_more c m s (y ∷ ys) x all here =
+    (all.0, find_more c y.behind (after_from c s (entry_list y.entry)) ys x all.1 (subst (λ (t : State). IsTrue (has_work t (moment_behind y.behind ys))) (from_more c s (entry_list y.entry) (entries_of ys)) here))
+
+-- or one that doesn't
+pub find_but_last : (c : Configuration) (m : Moment) (s : State) (ms : List Move) (x : Move) → AllFindWork c m s ms → FindsWork c m s (ms ++ x ∷ [])
+find_but_last c m s [] x all = tt
+find_but_last c m s (y ∷ []) x all = (all.0, tt)
+find_but_last c m s (y ∷ z ∷ zs) x all = (all.0, find_but_last c y.behind (after_from c s (entry_list y.entry)) (z ∷ zs) x all.1)
+
+-- what is so where a drain came so far is so of its moves
+pub find_here : (p q : Seen) (old mid : StackTold) (es : List Entry) (ms : List Move) → IsGrown es old mid → AreMade p q es ms old mid → IsTrue (has_work (state_of mid) (moment_of mid))
+    → IsTrue (has_work (after_from old.configuration (state_of old) (entries_of ms)) (moment_behind (moment_of old) ms))
+find_here p q old mid es ms grows made here =
+    subst (λ (m : Moment). IsTrue (has_work (after_from old.configuration (state_of old) (entries_of ms)) m)) (sym made.behind)
+    (subst (λ (s : State). IsTrue (has_work s (moment_of mid))) (state_grown old mid es grows ∙ ap (after_from old.configuration (state_of old)) made.tell) here)

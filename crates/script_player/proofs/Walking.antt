@@ -28,15 +28,15 @@ use Rattle.script_player.specs.Kept.{IsKept}
 use Rattle.script_player.specs.Made.{cuts_in, cuts_of, IsExplained, IsMade, IsLeft, IsFresh, Makes, HasWalked, WereLeft, WasBroken}
 use Rattle.script_player.specs.Walking.{IsWalking, AreUnderWay, planned_behind}
 use Rattle.script_player.specs.Table.{HasLastStores}
-use Rattle.uds_gateway.specs.promise_run.Turns.{Moment, Move, entries_of, moment_behind, moment_after, Planned, planned_by, AreInTime, all_moves}
+use Rattle.uds_gateway.specs.promise_run.Turns.{Moment, Move, entries_of, moment_behind, moment_after, Planned, planned_by, AreInTime, FindsWork, all_moves}
 use Rattle.uds_gateway.specs.nvm_moves.Seen.{Seen}
 use Rattle.uds_gateway.specs.nvm_moves.Moved.{MovesBy}
 use Rattle.uds_gateway.proofs.Moved.{moves_more, none_moves}
-use Rattle.script_player.specs.Paying.{IsSeen, LastsOn, payer_at}
-use Rattle.script_player.proofs.Paying.{none_last, pays_by, rests_by, serves_by}
+use Rattle.script_player.specs.Paying.{IsSeen, LastsOn}
+use Rattle.script_player.proofs.Paying.{came_by, none_last}
 use Rattle.script_player.specs.Coming.{IsPending}
 use Rattle.script_player.proofs.Coming.{come_more, entries_more, planned_more}
-use Rattle.script_player.proofs.Moves.{all_more, closes_more, has_more}
+use Rattle.script_player.proofs.Moves.{all_more, closes_more, finds_more, has_more}
 use Rattle.script_player.proofs.Grown.{state_more}
 use Rattle.script_player.proofs.Table.{first_table}
 use Rattle.script_player.proofs.Offs.{counted_more, none_counted, none_cut_same, are_more}
@@ -87,6 +87,10 @@ walks_on p q r made x old mid new same cap most counted walking step planned one
   moves = has_more made x walking.pieces piece step.moves (moment_of old) (moment_of mid) (moment_of new) walking.moves step.moved step.tell step.behind;
   closes = λ calm. closes_more (moment_of old) made x walking.moves.moves step.moves walking.moves.are (walking.closes (calm_until old mid new piece adds step.counted calm))
       (λ drain. ap (λ (m : Moment). m.busy) (ap (λ (m : Moment). moment_behind m step.moves) walking.moves.behind ∙ step.behind) ∙ step.closes (calm_from old mid new counted calm) (ap is_drain drain));
+  finds = finds_more old.configuration (moment_of old) (state_of old) made x walking.moves.moves step.moves walking.moves.are walking.finds
+      (λ drain. subst (λ (m : Moment). FindsWork old.configuration m (after_from old.configuration (state_of old) (entries_of (all_moves walking.moves.moves))) step.moves) (sym walking.moves.behind)
+      (subst (λ (s : State). FindsWork old.configuration (moment_of mid) s step.moves) walked_state
+      (subst (λ (c : Configuration). FindsWork c (moment_of mid) (state_of mid) step.moves) same (step.finds (ap is_drain drain)))));
   tell = adds ∙ ap (λ (es : List Entry). es ++ piece) walking.tell ∙ append_assoc old.entries (entries_of (all_moves walking.moves.moves)) piece
       ∙ ap (λ (es : List Entry). old.entries ++ es)
       (ap (λ (es : List Entry). entries_of (all_moves walking.moves.moves) ++ es) step.tell ∙ sym (entries_more (all_moves walking.moves.moves) step.moves) ∙ ap entries_of (sym (all_more walking.moves.moves step.moves)));
@@ -148,9 +152,9 @@ walks_on p q r made x old mid new same cap most counted walking step planned one
     paid =
         explained.offs (plan_behind None 0 (events_of made walking.pieces)) (ops_at 0 (events_of made walking.pieces)) planned (omega (arith, tell, few)) walking.off.plan_stays
 
-pub has_walked : (p q r : Seen) (made : List Step) (old mid new : StackTold) → old.ready ≡ true → IsSeen old p → new.entries ≡ mid.entries → mid.faults ≤ new.faults → new.ops ≡ mid.ops → WereCounted 0 mid.causes.unplanned new.causes.unplanned → new.causes.came ≡ mid.causes.came → (TellsOff mid → TellsOff new)
-    → LastsOn q r → IsWalking p q made old mid → HasWalked (payer_at old p) (payer_at new r) made old new
-has_walked p q r made old mid new ready seen same counted operations cuts came power last walking = record {
+pub has_walked : (p q r : Seen) (made : List Step) (old mid new : StackTold) → new.entries ≡ mid.entries → mid.faults ≤ new.faults → WereCounted 0 mid.causes.unplanned new.causes.unplanned → new.causes.came ≡ mid.causes.came → (TellsOff mid → TellsOff new)
+    → LastsOn q r → IsWalking p q made old mid → HasWalked p r made old new
+has_walked p q r made old mid new same counted cuts came power last walking = record {
   more = walking.more;
   grows = same ∙ walking.grows;
   pieces = walking.pieces;
@@ -168,14 +172,12 @@ has_walked p q r made old mid new ready seen same counted operations cuts came p
         (counted_more walking.off.others 0 old.causes.unplanned mid.causes.unplanned new.causes.unplanned walking.off.counted cuts),
   );
   last = moment_of mid;
-  serves = serves_by old p q (all_moves walking.moves.moves) seen walking.by_law;
-  rests = rests_by old p q (all_moves walking.moves.moves) seen walking.by_law;
   closes = λ calm. walking.closes (calm_until old mid new [] (same ∙ sym (append-nil mid.entries)) counted calm);
+  finds = walking.finds;
   moves = walking.moves;
-  operations = sym operations;
-  counted = counted;
+  tell = same ∙ walking.tell;
+  by_law = came_by p q r (all_moves walking.moves.moves) walking.by_law last;
   cuts = λ one. (walking.cuts one).0;
-  pays = pays_by old p q (all_moves walking.moves.moves) seen walking.by_law new r ready last;
 }
   where
     nothing_more : (n : ℕ) → n + 0 ≡ n
@@ -198,6 +200,7 @@ fresh_walking p t fresh = record {
   takes = omega arith;
   moves = record { moves = []; are = tt; tell = refl; behind = refl };
   closes = λ calm. tt;
+  finds = tt;
   tell = sym (append-nil t.entries);
   by_law = none_moves false p;
   cuts = λ one. (tt, tt);
@@ -224,8 +227,8 @@ were_left HistoryFull x xs old mid new configuration cap left =
     subst (λ (h : List Entry). HasNoRoom old.configuration old.cap (after old.configuration h) x.kind) (sym left.entries) (behind (λ c n s. HasNoRoom c n s x.kind) old mid configuration cap left.why)
 
 -- nothing was made for want of memory
-pub none_made : (p : Seen) (steps : List Step) (t : StackTold) → IsSeen t p → IsFresh t → WasBroken (payer_at t p) (payer_at t p) Memory steps t t
-none_made p steps t seen fresh = record { made = []; left = steps; order = refl; walked = has_walked p p p [] t t t fresh.ready seen refl (omega arith) refl (none_counted t.causes.unplanned) refl (λ tells. tells) (none_last p) (fresh_walking p t fresh); why = tt }
+pub none_made : (p : Seen) (steps : List Step) (t : StackTold) → IsSeen t p → IsFresh t → WasBroken p p Memory steps t t
+none_made p steps t seen fresh = record { made = []; left = steps; order = refl; walked = has_walked p p p [] t t t refl (omega arith) (none_counted t.causes.unplanned) refl (λ tells. tells) (none_last p) (fresh_walking p t fresh); why = tt }
 
 -- UNDER WAY
 
@@ -275,17 +278,17 @@ go_on p q r steps made left x table table' old mid new order few planned way mak
     (takes_enough made left x old mid (subst (λ (xs : List Step). cuts_of xs ≤ old.causes.takes) order planned) way.walking.takes)
 
 -- all of them
-pub all_made : (p q : Seen) (steps made : List Step) (table : List ℕ) (old now : StackTold) → made ≡ steps → AreUnderWay p q made table old now → HasWalked (payer_at old p) (payer_at now q) steps old now
+pub all_made : (p q : Seen) (steps made : List Step) (table : List ℕ) (old now : StackTold) → made ≡ steps → AreUnderWay p q made table old now → HasWalked p q steps old now
 all_made p q steps made table old now all way =
-    subst (λ (xs : List Step). HasWalked (payer_at old p) (payer_at now q) xs old now) all (has_walked p q q made old now now way.ready way.seen refl (omega arith) refl (none_counted now.causes.unplanned) refl (λ tells. tells) (none_last q) way.walking)
+    subst (λ (xs : List Step). HasWalked p q xs old now) all (has_walked p q q made old now now refl (omega arith) (none_counted now.causes.unplanned) refl (λ tells. tells) (none_last q) way.walking)
 
 pub some_made : (p q r : Seen) (fault : StepFault) (steps made left : List Step) (x : Step) (table : List ℕ) (old mid new : StackTold) → steps ≡ made ++ x ∷ left → AreUnderWay p q made table old mid → IsLeft fault x mid new → LastsOn q r
-    → WasBroken (payer_at old p) (payer_at new r) fault steps old new
+    → WasBroken p r fault steps old new
 unfolding has_walked
 some_made p q r fault steps made left x table old mid new order way leaves last = record {
   made = made;
   left = x ∷ left;
   order = order;
-  walked = has_walked p q r made old mid new way.ready way.seen leaves.entries leaves.counted leaves.operations leaves.cuts leaves.came leaves.power last way.walking;
+  walked = has_walked p q r made old mid new leaves.entries leaves.counted leaves.cuts leaves.came leaves.power last way.walking;
   why = were_left fault x left old mid new way.configuration way.cap leaves;
 }

@@ -69,9 +69,9 @@ Asks caller r (Err fault.Memory) old new = new ≡ old
 abbrev pub IsAnswer : Turned → List Entry → StackTold → StackTold → Type 0
 IsAnswer turned.Idle es old new = (es ≡ []) × IsTrue (is_at_rest (state_of old)) × (new.busy ≡ false)
 IsAnswer turned.Off es old new = (after_from old.configuration (state_of old) es).off ≡ true
-IsAnswer turned.Worked es old new = (state_of old).hand ≡ None → (es ≡ []) × IsTrue (is_at_rest (state_of old))
-IsAnswer turned.Picked es old new = Unit {0}
-IsAnswer turned.Posted es old new = Unit {0}
+IsAnswer turned.Worked es old new = (state_of old).hand ≡ None → (es ≡ []) × IsTrue (is_at_rest (state_of old)) × (old.busy ≡ true)
+IsAnswer turned.Picked es old new = IsTrue (not (is_at_rest (state_of old)))
+IsAnswer turned.Posted es old new = IsTrue (not (is_at_rest (state_of old)))
 
 -- the work falls with each turn, but where nothing was in hand and a fault was counted
 abbrev pub Lowers : Turned → StackTold → StackTold → Type 0
@@ -121,15 +121,14 @@ pub record Turns (answer : Turned) (old new : StackTold) : Type 0 where
 abbrev pub StartsFull : StackTold → Type 0
 StartsFull t = t.cap < (state_of t).count + 2
 
--- one that stands is one entry, and makes no changing operation; no cut is planned behind it
+-- one that stands is one entry, which tells the operations so far, and makes no changing operation; no cut is planned behind it
 pub record StartsAgain (old new : StackTold) : Type 0 where
   pub room : ¬ StartsFull old
   pub marks : List (Instance × Mark)
-  pub ops : ℕ
-  pub grows : IsGrown (Found marks ops ∷ []) (record old { ready = true }) new
+  pub grows : IsGrown (Found marks new.ops ∷ []) (record old { ready = true }) new
   pub counted : old.faults ≤ new.faults
   pub operations : new.ops ≡ old.ops
-  pub explained : AreExplained None (Found marks ops ∷ []) old new
+  pub explained : AreExplained None (Found marks new.ops ∷ []) old new
 
 -- one that fails adds no entry and makes no changing operation, and the stack isn't ready
 pub record FailsToStart (old new : StackTold) : Type 0 where

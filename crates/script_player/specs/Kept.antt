@@ -1,14 +1,16 @@
 -- What a stack keeps from step to step.
-use Rattle.std.specs.Prelude.{◌≡◌, ◌+◌, ◌≤◌, ℕ, zero, suc, true, false, IsTrue, List, [], length}
+use Rattle.std.specs.Prelude.{◌≡◌, ◌+◌, ◌≤◌, ℕ, zero, suc, Bool, not, ◌||◌, true, false, IsTrue, List, [], ◌∷◌, length}
 use Rattle.std.specs.List.{list_all}
 use Rattle.uds_gateway.specs.nv_base.Count.{Rose}
-use Rattle.uds_gateway.specs.block_machine.Words.{Entry}
+use Rattle.uds_gateway.specs.block_machine.Words.{Entry, Configuration}
+use Rattle.uds_gateway.specs.block_machine.State.{State}
+use Rattle.uds_gateway.specs.block_machine.Steps.{after_from}
 use Rattle.uds_gateway.specs.script_walks.Words.{Step}
-use Rattle.uds_gateway.specs.script_walks.Walk.{AreTurns, IsDrain}
+use Rattle.uds_gateway.specs.script_walks.Walk.{AreTurns, IsDrain, is_at_rest}
 use Rattle.uds_gateway.specs.script_walks.Stores.{AreNewest, JobsTookStored}
 use Rattle.uds_gateway.specs.script_walks.StoreLaws.{KeepsStored}
 use Rattle.uds_gateway.specs.promise_run.Completeness.{is_calm_entry}
-use Rattle.uds_gateway.specs.promise_run.Turns.{Move, entries_of, moment_behind, AreTurnsMade}
+use Rattle.uds_gateway.specs.promise_run.Turns.{Moment, Move, entry_list, entries_of, moment_behind, AreTurnsMade, FindsWork}
 use Rattle.uds_gateway.specs.nvm_moves.Seen.{Seen}
 use Rattle.uds_gateway.specs.nvm_moves.Moved.{MovesBy}
 use Rattle.script_player.specs.Told.{StackTold, state_of, moment_of, IsGrown}
@@ -48,7 +50,16 @@ MakesTurns p q zero before old new = (new ≡ old) × MovesBy false [] p q
 MakesTurns p q (suc n) before old new = (es : List Entry) × HasTurned before old new es × AreTurns (state_of old) (suc n) es
     × ((moves : List Move) × (length moves ≡ suc n) × AreMade p q es moves old new)
 
--- turns until nothing is pending, or the power is off; no more of them than there was work, and one
+-- something is pending, or open at the device
+abbrev pub has_work : State → Moment → Bool
+has_work s m = not (is_at_rest s) || m.busy
+
+-- so each of these moves finds it
+abbrev pub AllFindWork : Configuration → Moment → State → List Move → Type 0
+AllFindWork c before s [] = Unit {0}
+AllFindWork c before s (m ∷ ms) = IsTrue (has_work s before) × AllFindWork c m.behind (after_from c s (entry_list m.entry)) ms
+
+-- turns until nothing is pending, or the power is off; no more of them than there was work, and one; all but the last one find work
 abbrev pub Drains : Seen → Seen → List Step → StackTold → StackTold → Type 0
 Drains p q before old new = (es : List Entry) × HasTurned before old new es × IsDrain old.configuration (state_of old) es
-    × ((moves : List Move) × (length moves ≤ old.work + 1) × AreMade p q es moves old new)
+    × ((moves : List Move) × (length moves ≤ old.work + 1) × FindsWork old.configuration (moment_of old) (state_of old) moves × AreMade p q es moves old new)

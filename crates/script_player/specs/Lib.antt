@@ -6,8 +6,6 @@ pub mod Kept
 pub mod Made
 pub mod Walking
 pub mod Requests
-pub mod Working
-pub mod PlainWork
 pub mod Paying
 pub mod PlainTold
 pub mod PlainKept

@@ -10,7 +10,7 @@ use Rattle.uds_gateway.specs.script_walks.Walk.{request_after, IsPiece, IsWalkOf
 use Rattle.uds_gateway.specs.promise_run.Run.{Played, EachPiece, HasNoRoom, HadRoom, DueCut, Made, Added, CutsExplain}
 use Rattle.uds_gateway.specs.promise_run.Refusals.{AreAsAsked, RefusesAsAsked, asked_by}
 use Rattle.uds_gateway.specs.promise_run.InRoom.{is_drain}
-use Rattle.uds_gateway.specs.promise_run.Turns.{Moment, Move, entries_of, moment_behind, AreMovesOf, HasMoves, EachMove, ServesTurn, StaysAtRest, ClosesAtDrains, all_moves, CutsCome}
+use Rattle.uds_gateway.specs.promise_run.Turns.{Moment, Move, entries_of, moment_behind, AreMovesOf, HasMoves, ClosesAtDrains, FindsWork, FindWorkAtDrains, all_moves, CutsCome}
 use Rattle.script_player.specs.declared.steps.StepFault.{StepFault}
 use Rattle.script_player.specs.declared.steps.StepFault.TheVariants.{Flash, HistoryFull, Memory}
 use Rattle.script_player.specs.Told.{StackTold, state_of, moment_of, IsNoEarlier, AreCut, TellsOff}
@@ -19,7 +19,7 @@ use Rattle.script_player.specs.Kept.{IsKept, StaysCalm}
 use Rattle.script_player.specs.Coming.{PlansCuts}
 use Rattle.uds_gateway.specs.nvm_moves.Seen.{Seen}
 use Rattle.uds_gateway.specs.nvm_moves.Moved.{MovesBy}
-use Rattle.script_player.specs.Paying.{Payer, PaysBy}
+use Rattle.script_player.specs.Paying.{CameBy}
 use Rattle.script_player.specs.Table.{HasLastStores}
 
 -- THE CAUSES OF A STEP
@@ -57,6 +57,7 @@ pub record IsMade (p q : Seen) (before : List Step) (x : Step) (old new : StackT
   -- its moves, whose entries are the piece
   pub moves : List Move
   pub moved : AreMovesOf x.kind (moment_of old) moves
+  pub finds : is_drain x.kind ≡ true → FindsWork old.configuration (moment_of old) (state_of old) moves
   pub tell : piece ≡ entries_of moves
   pub behind : moment_behind (moment_of old) moves ≡ moment_of new
   pub by_law : MovesBy false moves p q
@@ -108,7 +109,7 @@ pub record IsFresh (t : StackTold) : Type 0 where
 
 -- The history went on, and is a walk of these steps. Its copies are refused exactly as they ask, and each Off is a cut
 -- that they planned, or a cut was counted.
-pub record HasWalked (p q : Payer) (made : List Step) (old new : StackTold) : Type 0 where
+pub record HasWalked (p q : Seen) (made : List Step) (old new : StackTold) : Type 0 where
   pub more : List Entry
   pub grows : new.entries ≡ old.entries ++ more
   pub pieces : List (List Entry)
@@ -122,16 +123,12 @@ pub record HasWalked (p q : Payer) (made : List Step) (old new : StackTold) : Ty
   -- its turns, one by one, from the first moment on
   pub last : Moment
   pub moves : HasMoves made pieces (moment_of old) last
-  -- none of which goes by where something is due, and each job that they pick is posted within its own
-  pub serves : EachMove old.configuration (ServesTurn old.configuration old.most) (state_of old) (all_moves moves.moves)
-  -- one with nothing to do does nothing, and where nothing failed a drain leaves nothing open
-  pub rests : StaysAtRest old.configuration (moment_of old) (state_of old) (all_moves moves.moves)
+  pub tell : new.entries ≡ old.entries ++ entries_of (all_moves moves.moves)
+  -- by the one law of a move
+  pub by_law : CameBy p q (all_moves moves.moves)
+  -- each turn of a drain but its last one finds work; where nothing failed a drain leaves nothing open
+  pub finds : FindWorkAtDrains old.configuration (moment_of old) (state_of old) made moves.moves
   pub closes : StaysCalm old new → ClosesAtDrains (moment_of old) made moves.moves
-  -- and which make all operations
-  pub operations : last.ops ≡ new.ops
-  pub counted : last.faults ≤ new.faults
-  -- and each Post is paid since the last Pick before it, and each operation that failed is counted in its own
-  pub pays : PaysBy p q old (all_moves moves.moves)
   -- and each cut that they plan comes, over a device of one part
   pub cuts : old.one ≡ true → CutsCome old.configuration None (moment_of old) (state_of old) made moves.moves
 
@@ -143,7 +140,7 @@ WereLeft Memory xs last old new = Unit {0}
 WereLeft fault xs last old new = ⊥
 
 -- the first of these steps were made, and the others left, with the reason
-pub record WasBroken (p q : Payer) (fault : StepFault) (steps : List Step) (old new : StackTold) : Type 0 where
+pub record WasBroken (p q : Seen) (fault : StepFault) (steps : List Step) (old new : StackTold) : Type 0 where
   pub made : List Step
   pub left : List Step
   pub order : steps ≡ made ++ left

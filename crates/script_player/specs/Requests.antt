@@ -14,7 +14,6 @@ use Rattle.uds_gateway.specs.script_walks.Walk.{joined}
 use Rattle.script_player.specs.Told.{StackTold, state_of}
 use Rattle.script_player.specs.Made.{HasWalked}
 use Rattle.uds_gateway.specs.nvm_moves.Seen.{Seen}
-use Rattle.script_player.specs.Paying.{Payer, payer_at}
 use Rattle.script_player.specs.Walking.{AreUnderWay}
 
 -- THE STEPS
@@ -48,7 +47,7 @@ pub record ServesMore (p q : Seen) (piece : List Entry) (old mid new : StackTold
 pub record ServesNoMore (p q : Seen) (old mid new : StackTold) : Type 0 where
   pub made : List Step
   pub only : AreOfRequests made
-  pub walked : HasWalked (payer_at old p) (payer_at new q) made old new
+  pub walked : HasWalked p q made old new
   pub adds : new.entries ≡ mid.entries
   pub configuration : new.configuration ≡ mid.configuration
   pub cap : new.cap ≡ mid.cap
@@ -101,7 +100,7 @@ pub record ServesRequests (c : Configuration) (cap : ℕ) (s : State) (requests 
   pub leaves : LeavesRequests c cap s end left rest
 
 -- the steps that were made for it, with the number of entries of each piece
-pub record HasServed (p q : Payer) (requests : List (List ℕ)) (numbers : List ℕ) (end : Result (Unit {0}) ServeStop) (old new : StackTold) : Type 0 where
+pub record HasServed (p q : Seen) (requests : List (List ℕ)) (numbers : List ℕ) (end : Result (Unit {0}) ServeStop) (old new : StackTold) : Type 0 where
   pub made : List Step
   pub only : AreOfRequests made
   pub walked : HasWalked p q made old new

@@ -6,7 +6,7 @@ use Rattle.uds_gateway.specs.script_walks.Words.{Step}
 use Rattle.uds_gateway.specs.script_walks.Walk.{IsWalkOf, joined}
 use Rattle.uds_gateway.specs.promise_run.Run.{EachPiece, HadRoom, events_of}
 use Rattle.uds_gateway.specs.promise_run.Refusals.{StepsRefuse}
-use Rattle.uds_gateway.specs.promise_run.Turns.{HasMoves, ClosesAtDrains, all_moves, Moment, Move, Planned, planned_by, entries_of, moment_behind, CutsCome}
+use Rattle.uds_gateway.specs.promise_run.Turns.{HasMoves, ClosesAtDrains, FindWorkAtDrains, all_moves, Moment, Move, Planned, planned_by, entries_of, moment_behind, CutsCome}
 use Rattle.script_player.specs.Coming.{IsPending}
 use Rattle.script_player.specs.Told.{StackTold, state_of, moment_of, AreCut}
 use Rattle.script_player.specs.Kept.{IsKept, StaysCalm}
@@ -41,6 +41,7 @@ pub record IsWalking (p q : Seen) (made : List Step) (old now : StackTold) : Typ
   -- their turns, one by one
   pub moves : HasMoves made pieces (moment_of old) (moment_of now)
   pub closes : StaysCalm old now → ClosesAtDrains (moment_of old) made moves.moves
+  pub finds : FindWorkAtDrains old.configuration (moment_of old) (state_of old) made moves.moves
   pub tell : now.entries ≡ old.entries ++ entries_of (all_moves moves.moves)
   pub by_law : MovesBy false (all_moves moves.moves) p q
   pub cuts : old.one ≡ true → CutsCome old.configuration None (moment_of old) (state_of old) made moves.moves

@@ -1,10 +1,22 @@
 // The stack, as its player sees it.
-ghost use Rattle.std.specs.Prelude.{◌≡◌};
+ghost use Rattle.std.specs.Prelude.{◌≡◌, ◌≤◌, true, false, length, IfOk, IsErrOf};
+ghost use Rattle.uds_gateway.specs.memif.Told.{Part, PartTold};
+ghost use Rattle.uds_gateway.specs.block_machine.Blocks.{asked_block, desc_of};
+ghost use Rattle.uds_gateway.specs.block_machine.Legal.{HasStore};
+ghost use Rattle.uds_gateway.specs.block_machine.Reply.{reply_of};
+ghost use Rattle.uds_gateway.specs.nv_desk.Desk.{state_of};
+ghost use Rattle.uds_gateway.specs.nv_desk.Recorder.{keeps};
+ghost use Rattle.uds_gateway.specs.nv_desk.Request.{request_lent};
+ghost use Rattle.script_player.specs.Calls.{Asks};
+ghost use Rattle.script_player.specs.PlainKept.{IsKept};
+ghost use Rattle.script_player.specs.PlainTold.{told_by};
 
 use crate::PlayedStack;
 use std::alloc::Global;
 use std::marker::Model;
-use uds_gateway::{AskFault, FoundAnswer, MemDevice, PlainSync, Reply, Request, Stack, Turned};
+use uds_gateway::{
+    AskFault, FoundAnswer, LentRequest, MemDevice, PlainSync, Reply, Request, Stack, Turned,
+};
 
 /// A stack whose application stores in memory. Contracts see the stack.
 #[derive(Drop)]
@@ -35,6 +47,26 @@ impl<D: MemDevice> PlainStack<D> {
         ensures { result.now ≡ self.now }
     {
         &self.stack
+    }
+
+    /// Takes a request whose content is lent, of a caller, where entries aren't kept. It takes no memory.
+    pub fn enter(&mut self, caller: u8, request: LentRequest<'_>) -> Result<Reply, AskFault>
+        requires counted { keeps self.old.desk.cap ≡ false }
+        requires ready { self.old.ready ≡ true }
+        requires caller { caller ≤ 15 }
+        requires store { HasStore self.old.desk.config (request_lent request) }
+        requires content { length request.content.now ≤ (desc_of self.old.desk.config (asked_block (request_lent request))).length }
+        ensures asks { Asks caller (request_lent request.entry) result (told_by D.told self.old) (told_by D.told self.new) }
+        ensures replies { IfOk result (λ reply. reply ≡ reply_of self.old.desk.config self.old.desk.cap (state_of self.old.desk) (request_lent request.entry)) }
+        ensures total { IsErrOf result AskFault.Memory → ⊥ }
+        ensures keeps { (before : Part → PartTold) → IsKept self.old.ready before self.old.desk self.old.hand (D.told self.old.device) (D.clock self.old.device)
+            → IsKept self.new.ready before self.new.desk self.new.hand (D.told self.new.device) (D.clock self.new.device) }
+    {
+        let device = self.stack.device();
+        let _status = device.status();
+        let reply = self.stack.enter(caller, request)?;
+        let _behind = self.stack.device();
+        Ok(reply)
     }
 
     /// Gives the stack back.

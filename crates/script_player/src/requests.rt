@@ -8,7 +8,6 @@ ghost use Rattle.uds_gateway.specs.script_walks.Words.{Step};
 ghost use Rattle.script_player.specs.Told.{state_of, desk_of};
 ghost use Rattle.script_player.specs.Kept.{IsKept, MakesTurns};
 ghost use Rattle.script_player.specs.Made.{IsFresh};
-ghost use Rattle.script_player.specs.Paying.{payer_at};
 ghost use Rattle.script_player.specs.Requests.{IsServing, EndsJob, EndsRequest, HasServed};
 
 use crate::PlayedStack;
@@ -30,7 +29,7 @@ pub fn serve_requests<S: PlayedStack>(
     requires some { All (λ request. 0 < length request) requests.now }
     requires none { counts.old.items ≡ [] }
     requires fresh { IsFresh (S.told stack.old) }
-    ensures served { HasServed (payer_at (S.told stack.old) (S.seen stack.old)) (payer_at (S.told stack.new) (S.seen stack.new)) requests.now counts.new.items result (S.told stack.old) (S.told stack.new) }
+    ensures served { HasServed (S.seen stack.old) (S.seen stack.new) requests.now counts.new.items result (S.told stack.old) (S.told stack.new) }
     ensures configuration { (S.told stack.new).configuration ≡ (S.told stack.old).configuration }
     ensures most { (S.told stack.new).cap ≡ (S.told stack.old).cap }
     ensures counted { (S.told stack.old).faults ≤ (S.told stack.new).faults }

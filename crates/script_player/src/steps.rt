@@ -8,7 +8,7 @@ ghost use Rattle.uds_gateway.specs.script_walks.Walk.{request_after};
 ghost use Rattle.nvm_script.specs.Played.{IsPlayed, ArePlayed, CanBePlayed};
 ghost use Rattle.script_player.specs.Calls.{StartsAgain};
 ghost use Rattle.script_player.specs.Made.{Makes, IsAsked, IsLeft, IsFresh, HasWalked, WasBroken, cuts_of};
-ghost use Rattle.script_player.specs.Paying.{AskMoves, LastsOn, StartsAnew, payer_at};
+ghost use Rattle.script_player.specs.Paying.{AskMoves, LastsOn, StartsAnew};
 ghost use Rattle.script_player.specs.Table.{HasLastStores, HoldsSynchronized};
 
 use crate::turns::{drain, make_turns};
@@ -36,8 +36,8 @@ pub fn make_steps<S: PlayedStack>(
     requires fresh { IsFresh (S.told stack.old) }
     requires played { ArePlayed (S.told stack.old).configuration steps }
     requires planned { cuts_of steps ≤ (S.told stack.old).causes.takes }
-    ensures all { OnOk result (HasWalked (payer_at (S.told stack.old) (S.seen stack.old)) (payer_at (S.told stack.new) (S.seen stack.new)) steps (S.told stack.old) (S.told stack.new)) }
-    ensures some { IfErr result (λ fault. WasBroken (payer_at (S.told stack.old) (S.seen stack.old)) (payer_at (S.told stack.new) (S.seen stack.new)) fault steps (S.told stack.old) (S.told stack.new)) }
+    ensures all { OnOk result (HasWalked (S.seen stack.old) (S.seen stack.new) steps (S.told stack.old) (S.told stack.new)) }
+    ensures some { IfErr result (λ fault. WasBroken (S.seen stack.old) (S.seen stack.new) fault steps (S.told stack.old) (S.told stack.new)) }
     ensures configuration { (S.told stack.new).configuration ≡ (S.told stack.old).configuration }
     ensures most { (S.told stack.new).cap ≡ (S.told stack.old).cap }
     ensures counted { (S.told stack.old).faults ≤ (S.told stack.new).faults }

@@ -4,9 +4,9 @@ ghost use Rattle.uds_gateway.specs.script_walks.Words.{Step};
 ghost use Rattle.uds_gateway.specs.script_walks.Walk.{is_at_rest};
 ghost use Rattle.uds_gateway.specs.memif.Told.{Part, PartTold};
 ghost use Rattle.uds_gateway.specs.nv_base.Count.{Rose};
-ghost use Rattle.script_player.specs.Told.{state_of};
+ghost use Rattle.script_player.specs.Told.{state_of, moment_of};
 ghost use Rattle.script_player.specs.Calls.{MakesTurn, is_last};
-ghost use Rattle.script_player.specs.Kept.{IsKept, MakesTurns, Drains};
+ghost use Rattle.script_player.specs.Kept.{IsKept, MakesTurns, Drains, has_work};
 ghost use Rattle.script_player.specs.Paying.{TurnMoves};
 
 use crate::PlayedStack;
@@ -26,7 +26,7 @@ pub fn make_turns<S: PlayedStack>(stack: &mut S, count: u32)
 }
 
 /// Makes turns until nothing is left to do or the power is off, or until one without a job in hand in which a fault was
-/// counted: no more turns than there was work, and one. Without a fault and with the power on nothing is open at the device behind it.
+/// counted: no more turns than there was work, and one. Each but the last finds something pending, or open at the device. Without a fault and with the power on nothing is open at the device behind it.
 pub fn drain<S: PlayedStack>(stack: &mut S)
     requires { (S.told stack.old).ready ≡ true }
     ensures ready { (S.told stack.new).ready ≡ true }
@@ -46,6 +46,7 @@ fn ends_drain<S: PlayedStack>(stack: &mut S) -> bool
     ensures ends { result ≡ true → IsTrue (is_at_rest (state_of (S.told stack.new)) || (state_of (S.told stack.new)).off) }
     ensures at_rest { result ≡ true → ¬ Rose (S.told stack.old).faults (S.told stack.new).faults → (state_of (S.told stack.new)).off ≡ false → (S.told stack.new).busy ≡ false }
     ensures goes_on { result ≡ false → (S.told stack.new).work < (S.told stack.old).work }
+    ensures finds { result ≡ false → IsTrue (has_work (state_of (S.told stack.old)) (moment_of (S.told stack.old))) }
     ensures keeps { (before : Part → PartTold) → S.kept stack.old before → S.kept stack.new before }
     ensures starts { S.starts_found stack.old → S.starts_found stack.new }
 {

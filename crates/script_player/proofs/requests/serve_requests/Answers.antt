@@ -4,7 +4,6 @@ use Rattle.std.proofs.lemmas.List.{take_all, take-append-drop}
 use Rattle.uds_gateway.specs.block_config.Config.{Configuration}
 use Rattle.uds_gateway.specs.declared.stop.ServeStop.{ServeStop}
 use Rattle.uds_gateway.specs.declared.stop.ServeStop.TheVariants as stop
-use Rattle.script_player.specs.Paying.{payer_at}
 use Rattle.script_player.specs.Requests.{EndsRequest, AreServedSoFar, HasServed}
 use Rattle.script_player.proofs.Served.{serves_none, serves_one, serves_all, serves_first, serves_some, next_request, one_more}
 use Rattle.script_player.proofs.requests.serve_requests.Goals as goal
@@ -27,7 +26,7 @@ returns-then-is_err-clause-served g c =
     let now = g.S.PlayedStack.told c.loop-i.stack in
     let xs = c.args.requests.now in
     let i = c.loop-i.i in
-    subst (λ (ns : List ℕ). HasServed (payer_at old p) (payer_at now q) xs ns (Err stop.Memory) old now) (sym c.reserve.ensures.items)
+    subst (λ (ns : List ℕ). HasServed p q xs ns (Err stop.Memory) old now) (sym c.reserve.ensures.items)
     (serves_some p q xs (take i xs) (drop i xs) c.loop-i.counts.items old now (sym (take-append-drop i xs)) c.loop-i.invariant.so_far)
 
 pub returns-in-Err-clause-served : goal.returns-in-Err-clause-served
@@ -43,7 +42,7 @@ returns-in-Err-clause-served g c =
     let x = c.as_slice.result.now in
     let at = c.as_slice.ensures ∙ c.index-requests-i.is in
     let ends = c.serve_request.ensures.ends c.args.stack.now c.loop-i.invariant.so_far.serving in
-    subst (λ (ns : List ℕ). HasServed (payer_at old p) (payer_at new r) xs ns (Err c.in-Err.stop) old new) (sym c.reserve.ensures.items)
+    subst (λ (ns : List ℕ). HasServed p r xs ns (Err c.in-Err.stop) old new) (sym c.reserve.ensures.items)
     (serves_first p q r c.in-Err.stop xs (take i xs) (drop (i + 1) xs) x c.loop-i.counts.items old mid new (next_request xs i x c.index-requests-i.result c.loop-i-test.true at) c.loop-i.invariant.so_far
     (subst (λ (d : Configuration). EndsRequest d x p r (Err c.in-Err.stop) old mid new) (sym c.requires.configuration)
     (subst (λ (e : Result (Unit {0}) ServeStop). EndsRequest c.args.config.now x p r e old mid new) c.in-Err.is ends)))

@@ -3,7 +3,8 @@ use Rattle.uds_gateway.specs.block_machine.Words.{Entry}
 use Rattle.uds_gateway.specs.memif.Told.{Part, PartTold}
 use Rattle.uds_gateway.specs.script_walks.Words.{Step}
 use Rattle.uds_gateway.specs.promise_run.Turns.{Move}
-use Rattle.script_player.specs.Kept.{IsKept, HasTurned, AreMade}
+use Rattle.script_player.specs.Told.{state_of, moment_of}
+use Rattle.script_player.specs.Kept.{IsKept, HasTurned, AreMade, AllFindWork}
 use Rattle.script_player.proofs.turns.drain.Given as goal
 
 abbrev pub invariant-loop : goal.invariant-loop
@@ -12,7 +13,7 @@ invariant-loop g l = record {
   counted : (g.S.PlayedStack.told l.initial.stack).faults ≤ (g.S.PlayedStack.told l.stack).faults;
   kept : (before : List Step) → IsKept before (g.S.PlayedStack.told l.initial.stack)
       → (es : List Entry) × HasTurned before (g.S.PlayedStack.told l.initial.stack) (g.S.PlayedStack.told l.stack) es
-      × ((ms : List Move) × (length ms + (g.S.PlayedStack.told l.stack).work ≤ (g.S.PlayedStack.told l.initial.stack).work) × AreMade (g.S.PlayedStack.seen l.initial.stack) (g.S.PlayedStack.seen l.stack) es ms (g.S.PlayedStack.told l.initial.stack) (g.S.PlayedStack.told l.stack)) × IsKept before (g.S.PlayedStack.told l.stack);
+      × ((ms : List Move) × (length ms + (g.S.PlayedStack.told l.stack).work ≤ (g.S.PlayedStack.told l.initial.stack).work) × AllFindWork (g.S.PlayedStack.told l.initial.stack).configuration (moment_of (g.S.PlayedStack.told l.initial.stack)) (state_of (g.S.PlayedStack.told l.initial.stack)) ms × AreMade (g.S.PlayedStack.seen l.initial.stack) (g.S.PlayedStack.seen l.stack) es ms (g.S.PlayedStack.told l.initial.stack) (g.S.PlayedStack.told l.stack)) × IsKept before (g.S.PlayedStack.told l.stack);
   keeps : (before : Part → PartTold) → g.S.PlayedStack.kept l.initial.stack before → g.S.PlayedStack.kept l.stack before;
   starts : g.S.PlayedStack.starts_found l.initial.stack → g.S.PlayedStack.starts_found l.stack;
 }

@@ -1,6 +1,6 @@
 use Rattle.std.proofs.Common.{◌≤◌, ℕ, sym, ◌∙◌, subst}
 use Rattle.uds_gateway.specs.nv_base.Count.{Rose}
-use Rattle.script_player.proofs.Turned.{last_ends, last_closes, others_lower}
+use Rattle.script_player.proofs.Turned.{last_ends, last_closes, others_lower, others_find}
 use Rattle.script_player.proofs.turns.ends_drain.Goals as goal
 
 pub returns-clause-turn : goal.returns-clause-turn
@@ -22,4 +22,9 @@ returns-clause-at_rest g c last =
     last_closes c.turn-turned.result c.in_hand-in_hand.result c.has_risen.result (g.S.PlayedStack.told c.args.stack.now) (g.S.PlayedStack.told c.turn-turned.new.self) c.turn-turned.ensures.turns
     (λ risen. subst (λ (n : ℕ). Rose n (g.S.PlayedStack.told c.turn-turned.new.self).faults) c.faults-faults.ensures (subst (λ (n : ℕ). Rose c.faults-faults.result n) c.faults.ensures
     (c.has_risen.ensures.rose risen (subst (λ (n : ℕ). n ≤ c.faults.result) (sym c.faults-faults.ensures) (subst (λ (n : ℕ). (g.S.PlayedStack.told c.args.stack.now).faults ≤ n) (sym c.faults.ensures) c.turn-turned.ensures.turns.made.counted)))))
+    (sym c.is_last.ensures ∙ last)
+
+pub returns-clause-finds : goal.returns-clause-finds
+returns-clause-finds g c last =
+    others_find c.turn-turned.result c.in_hand-in_hand.result c.has_risen.result (g.S.PlayedStack.told c.args.stack.now) (g.S.PlayedStack.told c.turn-turned.new.self) c.turn-turned.ensures.turns c.in_hand-in_hand.ensures
     (sym c.is_last.ensures ∙ last)
