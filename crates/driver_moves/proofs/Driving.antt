@@ -98,6 +98,7 @@ module _ {D C : Type 0} (told : D → DeviceTold) (clock : D → Clock) where
         begun = refl;
         moment = refl;
         left = refl;
+        in_all = refl;
         work = refl;
         fixed = refl;
         lasts = lasts_still (told s.device) (clock s.device);

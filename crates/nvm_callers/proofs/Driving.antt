@@ -1,18 +1,20 @@
 -- What the driver did beside the callers, call by call.
-use Rattle.std.proofs.Common.{◌≡◌, inl, inr, ℕ, List, refl, ◌∙◌}
+use Rattle.std.proofs.Common.{◌≡◌, inl, inr, ℕ, true, List, refl, ◌∙◌}
 use Rattle.driver_moves.specs.memif.Told.{DeviceTold}
 use Rattle.driver_moves.specs.memif.Clock.{Clock}
 use Rattle.driver_moves.specs.block_machine.Words.{Entry}
+use Rattle.driver_moves.specs.block_machine.Legal.{IsLegal}
 use Rattle.driver_moves.specs.ram_blocks.Told.{Told}
 use Rattle.turn_gate.specs.declared.pass.View.{View}
+use Rattle.turn_gate.specs.Pass.{knows}
 use Rattle.driver_moves.specs.nvm_shared.declared.terms.Terms.{Terms}
 use Rattle.driver_moves.specs.nvm_shared.Locked.{desk_with}
-use Rattle.driver_moves.specs.nvm_shared.Passes.{LearnsMore, LearnsTurn}
-use Rattle.driver_moves.specs.nvm_shared.Driving.{DriverState, Drives, SeesRequests}
+use Rattle.driver_moves.specs.nvm_shared.Passes.{PassValue, SharedState, LearnsMore, LearnsTurn}
+use Rattle.driver_moves.specs.nvm_shared.Driving.{DriverState, Drives, IsDriverOf, SeesRequests}
 use Rattle.nvm_callers.specs.Driven.{StaysKeptOver, TurnsOn}
 use Rattle.nvm_callers.proofs.Following.{drives_follow}
 use Rattle.nvm_callers.proofs.JoinedPasses.{turns_collect}
-use Rattle.nvm_callers.specs.Steering.{HasSteered}
+use Rattle.nvm_callers.specs.Steering.{HasSteered, TellsAlways}
 
 abbrev V : Type 0
 V = View Entry Terms
@@ -49,3 +51,8 @@ module _ {D C : Type 0} (told : D → DeviceTold) (clock : D → Clock) (copies 
     shares = λ shares collects. turns_collect shares v w learns collects;
     parts = more.parts;
   }
+
+-- where the stack was shared as one that tells what its device holds, and its device tells it, what its pass has seen is legal
+pub legal_where_told : {D C : Type 0} (told : D → DeviceTold) (clock : D → Clock) (copies : C → List Told) (shared : SharedState) (pass : PassValue) (s : DriverState D C) → IsDriverOf told clock copies shared pass s → TellsAlways told shared.terms
+    → shared.terms.tells ≡ true → IsLegal shared.terms.config shared.terms.cap (knows pass).seen
+legal_where_told told clock copies shared pass s driver telling tells = ((driver.drives.kept tells).1.all (telling tells s.device)).keeps.over.legal

@@ -13,7 +13,7 @@ use Rattle.driver_moves.specs.ram_blocks.Told.{Told}
 use Rattle.driver_moves.specs.nv_desk.Desk.{DeskState}
 use Rattle.driver_moves.specs.nvm_laws.declared.turned.Turned.TheVariants as turned
 use Rattle.script_walks.specs.Looks.{Look, AreInOrder}
-use Rattle.script_walks.specs.Turn.{copies_next}
+use Rattle.script_walks.specs.Walk.{copies_next}
 use Rattle.driver_moves.specs.nvm_shared.declared.terms.Terms.{Terms}
 use Rattle.driver_moves.specs.nvm_shared.Behind.{AreAsks}
 use Rattle.driver_moves.specs.nvm_shared.Driving.{DriverState}
@@ -26,7 +26,7 @@ use Rattle.nvm_callers.proofs.Turning.{IsPick, turn_adds}
 -- WHAT WAS TAKEN
 module _ (looks more : List Look) (P Q : (block number : ℕ) → List ℕ → Type 0) (so : (b n : ℕ) (x : List ℕ) → P b n x → Q b n x) where
   took_on : (before : List Entry) (e : Entry) (copies : Bool) → TookShown looks P before e copies → TookShown (looks ++ more) Q before e copies
-  took_on before (Pick block kind (TookStale asked got count) ops) copies took = (Contains-append_left looks more (look_behind before block got) took.0, took.1)
+  took_on before (Pick block kind (TookStale asked got count) ops) copies took = absurd took
   took_on before (Pick block kind (TookContent bytes number) ops) true took = (Contains-append_left looks more (look_behind before block number) took.0, so block number bytes took.1)
   took_on before (Pick block kind (TookContent bytes number) ops) false took = tt
   took_on before (Pick block kind (TookRefused count) ops) copies took = tt
@@ -184,8 +184,8 @@ module _ {D C : Type 0} (told : D → DeviceTold) (clock : D → Clock) (copies 
     pick : (block ops : ℕ) (kind : JobKind) (taken : Taken) → c ≡ (b ++ asks) ++ Pick block kind taken ops ∷ []
         → IsPickShown is_store looked over stands t.config (b ++ asks) block taken s.copies new.copies → Looked seen c old new
     pick block ops kind (TookStale wanted got count) grows shown =
-        let is = shown.stale wanted got count refl in
-        showing (Pick block kind (TookStale wanted got count) ops) block got grows is.0 (shown.stands_in got is.0) (last_has (look_behind (b ++ asks) block got), is.1)
+        let (between, n, first, later, less) = shown.stale wanted got count refl in
+        absurd (omega (arith, ordered.ascend s.copies between new.copies block n got first later, less))
     pick block ops kind (TookContent bytes number) grows shown = by (copies_next t.config (next_of t.config (after t.config (b ++ asks)))) refl
       where
         by : (copied : Bool) → copies_next t.config (next_of t.config (after t.config (b ++ asks))) ≡ copied → Looked seen c old new

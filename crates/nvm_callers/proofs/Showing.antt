@@ -7,7 +7,7 @@ use Rattle.driver_moves.specs.block_machine.Next.{next_of}
 use Rattle.driver_moves.specs.block_machine.Steps.{after}
 use Rattle.script_walks.specs.Words.{Step}
 use Rattle.script_walks.specs.Looks.{Look, CanBeStored, CopyIsShown, CopiesAreShown}
-use Rattle.script_walks.specs.Turn.{copies_next}
+use Rattle.script_walks.specs.Walk.{copies_next}
 use Rattle.nvm_callers.specs.Looked.{TookShown, AllTookShown, look_behind}
 use Rattle.nvm_callers.specs.TakenCopies.{CopiesHaveLooks}
 
@@ -17,7 +17,7 @@ module _ (c : Configuration) (steps : List Step) (looks : List Look) (IsStore : 
   Made before = (block shown : ℕ) → Contains looks (look_behind before block shown) → CanBeStored c steps block shown before
 
   one : (before : List Entry) (e : Entry) (copies : Bool) → Made before → TookShown looks IsStore before e copies → CopyIsShown c steps looks before e copies
-  one before (Pick block kind (TookStale asked got count) ops) copies made took = (record { seen = took.0; made = made block got took.0 }, took.1)
+  one before (Pick block kind (TookStale asked got count) ops) copies made took = absurd took
   one before (Pick block kind (TookContent bytes number) ops) true made took = record { seen = took.0; made = made block number took.0 }
   one before (Pick block kind (TookContent bytes number) ops) false made took = tt
   one before (Pick block kind (TookRefused count) ops) copies made took = tt

@@ -15,8 +15,7 @@ use Rattle.ram_mirrors.specs.Stores.{AllStored}
 use Rattle.ram_mirrors_sync.specs.Ends.{EndValue, GoesOn, IsTaken}
 use Rattle.ram_mirrors_sync.specs.Blocks.{CameWith, EndGoesOn, EndList, HasCameWith, HasLooked, IsOver, IsStore, SyncValue, WasShown, end_at, told_by}
 use Rattle.script_walks.specs.Words.{Step}
-use Rattle.script_walks.specs.Turn.{copies_next}
-use Rattle.script_walks.specs.Walk.{store_content}
+use Rattle.script_walks.specs.Walk.{store_content, copies_next}
 use Rattle.script_walks.specs.Looks.{CanBeStored, Look}
 use Rattle.script_callers.specs.RunScripts.{AreRun}
 use Rattle.driver_moves.specs.nvm_shared.declared.terms.Terms.{Terms}

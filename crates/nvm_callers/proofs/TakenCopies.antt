@@ -13,9 +13,8 @@ use Rattle.driver_moves.specs.block_machine.Steps.{step, after, job_at, without_
 use Rattle.driver_moves.specs.block_machine.Legal.{TakesForWrite, TakesBy, MayPick, IsAllowed, IsLegalFrom}
 use Rattle.driver_moves.specs.block_laws.Consistent.{Each}
 use Rattle.script_walks.specs.Words.{Step}
-use Rattle.script_walks.specs.Walk.{store_content, copies_by, TakesStore, TakesStores}
+use Rattle.script_walks.specs.Walk.{store_content, copies_by, TakesStore, TakesStores, copies_next}
 use Rattle.script_walks.specs.Stores.{CopiesOf, IsStored}
-use Rattle.script_walks.specs.Turn.{copies_next}
 use Rattle.script_walks.specs.Looks.{Look}
 use Rattle.driver_moves.proofs.nvm_moves.HistoryLaws.{histories_step}
 use Rattle.driver_moves.proofs.nvm_moves.NextLaws.{next_is_waiting}

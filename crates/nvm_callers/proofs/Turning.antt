@@ -20,11 +20,10 @@ use Rattle.driver_moves.specs.nv_desk_copies.Posts.{IsPosted, IsPostedNext}
 use Rattle.driver_moves.specs.job_progress.Asks.{is_of_jobs}
 use Rattle.driver_moves.specs.nvm_device_laws.Turn.{settled_by, wrote_by}
 use Rattle.driver_moves.specs.nvm_laws.Turns.{AddsBy}
-use Rattle.driver_moves.specs.memif.declared.answer.DeviceTurn.TheVariants as turn
 use Rattle.driver_moves.specs.nvm_laws.declared.turned.Turned.{Turned}
 use Rattle.driver_moves.specs.nvm_laws.declared.turned.Turned.TheVariants as turned
 use Rattle.driver_moves.specs.nvm_laws.declared.turned.Act.TheVariants.{Ended, Device}
-use Rattle.driver_moves.specs.nvm_core.BehindDevice.{TurnsDevice, asked_by}
+use Rattle.driver_moves.specs.nvm_core.BehindDevice.{asked_by}
 use Rattle.driver_moves.specs.nvm_core.OperationStart.{LeavesDevice}
 use Rattle.script_walks.specs.Runs.{is_found}
 use Rattle.driver_moves.specs.nvm_shared.declared.terms.Terms.{Terms}
@@ -35,7 +34,7 @@ use Rattle.driver_moves.specs.nvm_shared.Unplanned.{IsUnplanned, StaysUnplanned,
 use Rattle.driver_moves.proofs.nvm_moves.HistoryLaws.{histories_step}
 use Rattle.driver_moves.proofs.nvm_moves.Powering.{jobs_keep_power}
 use Rattle.driver_moves.proofs.Uncut.{asks_power, fixed_stays}
-use Rattle.driver_moves.proofs.nvm_moves.StartUps.{turns_start_none}
+use Rattle.driver_moves.proofs.nvm_moves.StackMoves.{device_starts}
 use Rattle.driver_moves.proofs.nvm_shared.Unplanned.{turns_stay_unplanned}
 use Rattle.driver_moves.specs.promise_run.RunHalves.{offs_in, tells_no_refusal}
 use Rattle.nvm_callers.specs.Added.{RefusesNone, IsUncut}
@@ -103,13 +102,6 @@ uncut_on desk desk_new d d_new fixed first power uncut = record {
   unplanned = subst IsUnplanned (sym first) uncut.unplanned;
   power = λ off. power (uncut.power (sym (ap (λ (p : PartTold). p.off) first) ∙ off));
 }
-
-device_starts : (answer : Turned) (old new : DeviceTold) (clock clock_new : Clock) → TurnsDevice answer old clock new clock_new → new.starts ≡ old.starts
-device_starts turned.Idle old new clock clock_new turns = turns_start_none turn.Idle old clock new clock_new turns
-device_starts turned.Worked old new clock clock_new turns = turns_start_none turn.Worked old clock new clock_new turns
-device_starts turned.Off old new clock clock_new turns = turns_start_none turn.Off old clock new clock_new turns
-device_starts turned.Picked old new clock clock_new turns = absurd turns
-device_starts turned.Posted old new clock clock_new turns = absurd turns
 
 none_counted : (p q : PartTold) → q ≡ p → WereCounted 0 p.planning.unplanned q.planning.unplanned
 none_counted p q same = let count = ap (λ (x : PartTold). x.planning.unplanned) same in inl (omega (arith, count))

@@ -7,7 +7,7 @@ use Rattle.driver_moves.specs.block_machine.Next.{next_of}
 use Rattle.driver_moves.specs.block_machine.Steps.{after}
 use Rattle.driver_moves.specs.ram_blocks.Told.{Told}
 use Rattle.script_walks.specs.Looks.{Look, AreInOrder}
-use Rattle.script_walks.specs.Turn.{copies_next}
+use Rattle.script_walks.specs.Walk.{copies_next}
 use Rattle.driver_moves.specs.nvm_shared.declared.terms.Terms.{Terms}
 use Rattle.driver_moves.specs.nvm_shared.Driving.{DriverState}
 use Rattle.nvm_callers.specs.Driven.{HasDriven}
@@ -25,9 +25,9 @@ abbrev pub look_behind : List Entry → (block shown : ℕ) → Look
 look_behind before block shown = record { entry = length before; block = block; shown = shown }
 
 module _ (looks : List Look) (IsStore : (block number : ℕ) → List ℕ → Type 0) where
-  -- the Pick behind these entries took the store that a look of it showed, or that is too old
+  -- the Pick behind these entries took the store that a look of it showed, and none that is too old
   abbrev pub TookShown : (before : List Entry) → Entry → (copies : Bool) → Type 0
-  TookShown before (Pick block kind (TookStale asked got count) ops) copies = Contains looks (look_behind before block got) × (got < asked)
+  TookShown before (Pick block kind (TookStale asked got count) ops) copies = ⊥
   TookShown before (Pick block kind (TookContent bytes number) ops) true = Contains looks (look_behind before block number) × IsStore block number bytes
   TookShown before e copies = Unit {0}
 

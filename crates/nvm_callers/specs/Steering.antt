@@ -1,8 +1,9 @@
 -- What the driver did beside the callers.
-use Rattle.std.specs.Prelude.{◌≡◌, ℕ, List}
+use Rattle.std.specs.Prelude.{◌≡◌, ℕ, true, List}
 use Rattle.driver_moves.specs.memif.Told.{DeviceTold}
 use Rattle.driver_moves.specs.memif.Clock.{Clock}
 use Rattle.driver_moves.specs.block_machine.Words.{Entry}
+use Rattle.driver_moves.specs.nvm_device_laws.Turn.{TellsSlots}
 use Rattle.driver_moves.specs.ram_blocks.Told.{Told}
 use Rattle.turn_gate.specs.declared.pass.View.{View}
 use Rattle.driver_moves.specs.nvm_shared.declared.terms.Terms.{Terms}
@@ -10,6 +11,10 @@ use Rattle.driver_moves.specs.nvm_shared.Driving.{DriverState}
 use Rattle.nvm_callers.specs.Driven.{HasDriven}
 use Rattle.nvm_callers.specs.Shares.{Share}
 use Rattle.nvm_callers.specs.Joins.{Collects}
+
+-- where the stack was shared as one whose device tells what it holds, each of these devices tells it
+abbrev pub TellsAlways : {D : Type 0} → (D → DeviceTold) → Terms → Type 0
+TellsAlways {D} told t = t.tells ≡ true → (d : D) → TellsSlots (told d)
 
 -- what the pass took in it keeps
 abbrev pub KeepsShares : View Entry Terms → View Entry Terms → Type 0

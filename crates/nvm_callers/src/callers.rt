@@ -1,14 +1,15 @@
 // Callers beside each other, with a driver beside them.
-ghost use Rattle.std.specs.Prelude.{◌≡◌, ◌≤◌, ◌^◌, ◌+◌, [], ℕ, length, slice_index_or, vec_len, vec_capacity, true, false, All, IsSome, IsTrue};
+ghost use Rattle.std.specs.Prelude.{◌≡◌, ◌≤◌, ◌^◌, ◌+◌, [], ℕ, length, slice_index_or, vec_len, vec_capacity, true, All, IsSome, IsTrue};
 ghost use Rattle.turn_gate.specs.Pass.{Has, knows};
 ghost use Rattle.script_walks.specs.Runs.{has_ended};
+ghost use Rattle.driver_moves.specs.block_machine.Legal.{IsLegal};
 ghost use Rattle.driver_moves.specs.nvm_shared.Driving.{IsDriverOf};
 ghost use Rattle.driver_moves.specs.nvm_shared.Passes.{IsDriven};
 ghost use Rattle.nvm_callers.specs.Driven.{HasDriven};
 ghost use Rattle.nvm_callers.specs.Joins.{Collects};
 ghost use Rattle.nvm_callers.specs.Callers.{GoesOn, HasWorked, HaveRun, MayGoOn, MayRun};
 ghost use Rattle.nvm_callers.specs.Placed.{AllChanged, AllPlaced};
-ghost use Rattle.nvm_callers.specs.Steering.{HasSteered};
+ghost use Rattle.nvm_callers.specs.Steering.{HasSteered, TellsAlways};
 
 use crate::ending::Ending;
 use crate::hold::Hold;
@@ -51,7 +52,7 @@ pub fn run_callers<
     requires driver { IsDriverOf D.told D.clock C.told shared.now pass driver }
     requires alone { (knows pass).parts ≡ 2 ^ 64 }
     requires own { (k : ℕ) → Has (knows pass).own k → IsDriven (knows pass).seen k }
-    requires untold { shared.now.terms.tells ≡ false }
+    requires telling { TellsAlways D.told shared.now.terms }
     requires lock { C.is_of shared.now.gate × S.is_of shared.now.gate }
     requires stores { vec_len stores ≡ length programs.now }
     requires may { All (MayRun shared.now.terms.config) programs.now }
@@ -60,6 +61,7 @@ pub fn run_callers<
     ensures driven { HasDriven D.told D.clock C.told C.is_store C.looked C.over C.stands shared.now.terms (knows pass).seen (knows result.0).seen driver result.1 }
     ensures ran { HaveRun S.bytes S.made S.mirrors shared.now.terms programs.now stores.items result.3.items result.2 (knows result.0) }
     ensures ends { IsTrue (has_ended shared.now.terms.config (knows result.0).seen) }
+    ensures legal { shared.now.terms.tells ≡ true → IsLegal shared.now.terms.config shared.now.terms.cap (knows result.0).seen }
 {
     match Vec::with_capacity(alloc, programs.len()) {
         Ok(workers) => run_all(
@@ -93,7 +95,7 @@ fn run_all<
     requires driver { IsDriverOf D.told D.clock C.told shared.now pass driver }
     requires alone { (knows pass).parts ≡ 2 ^ 64 }
     requires own { (k : ℕ) → Has (knows pass).own k → IsDriven (knows pass).seen k }
-    requires untold { shared.now.terms.tells ≡ false }
+    requires telling { TellsAlways D.told shared.now.terms }
     requires lock { C.is_of shared.now.gate × S.is_of shared.now.gate }
     requires stores { vec_len stores ≡ length programs.now }
     requires may { All (MayRun shared.now.terms.config) programs.now }
@@ -140,7 +142,7 @@ fn make_rounds<
     steering: &mut Steering<D, C>,
 )
     requires driver { IsDriverOf D.told D.clock C.told shared.now steering.old.pass steering.old.driver }
-    requires untold { shared.now.terms.tells ≡ false }
+    requires telling { TellsAlways D.told shared.now.terms }
     requires lock { C.is_of shared.now.gate × S.is_of shared.now.gate }
     requires count { length workers.old ≡ length job.now.programs.now }
     requires may { All (MayRun shared.now.terms.config) job.now.programs.now }
@@ -178,7 +180,7 @@ fn make_round<
     steering: &mut Steering<D, C>,
 )
     requires driver { IsDriverOf D.told D.clock C.told shared.now steering.old.pass steering.old.driver }
-    requires untold { shared.now.terms.tells ≡ false }
+    requires telling { TellsAlways D.told shared.now.terms }
     requires lock { C.is_of shared.now.gate × S.is_of shared.now.gate }
     requires count { length workers.old ≡ length job.now.programs.now }
     requires may { All (MayRun shared.now.terms.config) job.now.programs.now }
@@ -219,7 +221,7 @@ fn finish<W: Wait, D: MemDevice, C: NotedCopies + Drop, S: Stores + Drop>(
     programs: &[Program],
 ) -> (StackPass, Driver<D, C>, Ending, Vec<S>)
     requires driver { IsDriverOf D.told D.clock C.told shared.now pass driver }
-    requires untold { shared.now.terms.tells ≡ false }
+    requires telling { TellsAlways D.told shared.now.terms }
     requires lock { C.is_of shared.now.gate }
     requires first { Collects [] (knows pass) }
     requires parts { (knows pass).parts + vec_len workers ≡ 2 ^ 64 }

@@ -33,8 +33,10 @@ impl Round {
         self.driven.load(Ordering::SeqCst)
     }
 
-    pub(crate) fn set_driven(&self, driven: bool) {
-        self.driven.store(driven, Ordering::SeqCst);
+    // Tells that the driver makes turns, until what it gives is dropped.
+    pub(crate) fn drive(&self) -> Driven<'_> {
+        self.driven.store(true, Ordering::SeqCst);
+        Driven { round: self }
     }
 
     pub(crate) fn has_begun(&self) -> bool {
@@ -51,5 +53,18 @@ impl Round {
 
     pub(crate) fn caller_is_back(&self) {
         self.back.fetch_add(1, Ordering::SeqCst);
+    }
+}
+
+/// While it stands the driver makes turns in its round. Its drop tells that none come, so no way out of a drive can leave that out, and
+/// a caller that waits gives up.
+pub(crate) struct Driven<'a> {
+    round: &'a Round,
+}
+
+impl Drop for Driven<'_> {
+    fn drop(self) {
+        self.round.driven.store(false, Ordering::SeqCst);
+        let Driven { round: _ } = self;
     }
 }

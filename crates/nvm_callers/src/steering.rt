@@ -1,10 +1,10 @@
 // The driver's turns beside the callers, and behind them.
-ghost use Rattle.std.specs.Prelude.{◌≡◌, ◌≤◌, ◌^◌, true, false, length, is_some, Option, IsTrue};
+ghost use Rattle.std.specs.Prelude.{◌≡◌, ◌≤◌, ◌^◌, true, length, is_some, Option, IsTrue};
 ghost use Rattle.driver_moves.specs.job_progress.Hand.{HandState};
 ghost use Rattle.turn_gate.specs.Pass.{knows};
 ghost use Rattle.script_walks.specs.Runs.{has_ended};
 ghost use Rattle.driver_moves.specs.nvm_shared.Driving.{IsDriverOf, NeedsNoMore};
-ghost use Rattle.nvm_callers.specs.Steering.{HasSteered};
+ghost use Rattle.nvm_callers.specs.Steering.{HasSteered, TellsAlways};
 
 use crate::beside::Drive;
 use crate::round::{MOST_LOOKS, Round};
@@ -33,7 +33,7 @@ fn make_turn<W: Wait, D: MemDevice, C: NotedCopies + Drop>(
     driver: &mut Driver<D, C>,
 )
     requires driver { IsDriverOf D.told D.clock C.told shared.now pass.old driver.old }
-    requires untold { shared.now.terms.tells ≡ false }
+    requires telling { TellsAlways D.told shared.now.terms }
     requires lock { C.is_of shared.now.gate }
     ensures driver { IsDriverOf D.told D.clock C.told shared.now pass.new driver.new }
     ensures steers { HasSteered D.told D.clock C.told C.is_store C.looked C.over C.stands shared.now.terms (knows pass.old) (knows pass.new) driver.old driver.new }
@@ -59,7 +59,7 @@ fn steer<W: Wait, D: MemDevice, C: NotedCopies + Drop>(
     callers: u64,
 )
     requires driver { IsDriverOf D.told D.clock C.told shared.now pass.old driver.old }
-    requires untold { shared.now.terms.tells ≡ false }
+    requires telling { TellsAlways D.told shared.now.terms }
     requires lock { C.is_of shared.now.gate }
     ensures driver { IsDriverOf D.told D.clock C.told shared.now pass.new driver.new }
     ensures steers { HasSteered D.told D.clock C.told C.is_store C.looked C.over C.stands shared.now.terms (knows pass.old) (knows pass.new) driver.old driver.new }
@@ -78,17 +78,16 @@ fn steer<W: Wait, D: MemDevice, C: NotedCopies + Drop>(
 }
 
 impl<'a, D: MemDevice, C: NotedCopies + Drop> Drive<Shared> for Steering<'a, D, C> {
-    ghost use Rattle.std.specs.Prelude.{◌≡◌, false};
     ghost use Rattle.turn_gate.specs.Pass.{knows};
     ghost use Rattle.driver_moves.specs.nvm_shared.Driving.{IsDriverOf};
-    ghost use Rattle.nvm_callers.specs.Steering.{HasSteered};
+    ghost use Rattle.nvm_callers.specs.Steering.{HasSteered, TellsAlways};
 
-    ghost ready = { λ s g. IsDriverOf D.told D.clock C.told g s.pass s.driver × (g.terms.tells ≡ false) × C.is_of g.gate };
+    ghost ready = { λ s g. IsDriverOf D.told D.clock C.told g s.pass s.driver × TellsAlways D.told g.terms × C.is_of g.gate };
 
     ghost done = { λ old new g. IsDriverOf D.told D.clock C.told g new.pass new.driver × HasSteered D.told D.clock C.told C.is_store C.looked C.over C.stands g.terms (knows old.pass) (knows new.pass) old.driver new.driver };
 
     fn drive<W: Wait>(&mut self, rt: &W, shared: &Shared) {
-        self.round.set_driven(true);
+        let _driven = self.round.drive();
         steer(
             rt,
             shared,
@@ -97,7 +96,6 @@ impl<'a, D: MemDevice, C: NotedCopies + Drop> Drive<Shared> for Steering<'a, D, 
             self.round,
             self.callers,
         );
-        self.round.set_driven(false);
     }
 }
 
@@ -132,7 +130,7 @@ pub(crate) fn come_to_rest<W: Wait, D: MemDevice, C: NotedCopies + Drop>(
     driver: &mut Driver<D, C>,
 )
     requires driver { IsDriverOf D.told D.clock C.told shared.now pass.old driver.old }
-    requires untold { shared.now.terms.tells ≡ false }
+    requires telling { TellsAlways D.told shared.now.terms }
     requires lock { C.is_of shared.now.gate }
     ensures driver { IsDriverOf D.told D.clock C.told shared.now pass.new driver.new }
     ensures steers { HasSteered D.told D.clock C.told C.is_store C.looked C.over C.stands shared.now.terms (knows pass.old) (knows pass.new) driver.old driver.new }
@@ -154,7 +152,7 @@ fn ends_turns<W: Wait, D: MemDevice, C: NotedCopies + Drop>(
     driver: &mut Driver<D, C>,
 ) -> bool
     requires driver { IsDriverOf D.told D.clock C.told shared.now pass.old driver.old }
-    requires untold { shared.now.terms.tells ≡ false }
+    requires telling { TellsAlways D.told shared.now.terms }
     requires lock { C.is_of shared.now.gate }
     ensures driver { IsDriverOf D.told D.clock C.told shared.now pass.new driver.new }
     ensures steers { HasSteered D.told D.clock C.told C.is_store C.looked C.over C.stands shared.now.terms (knows pass.old) (knows pass.new) driver.old driver.new }

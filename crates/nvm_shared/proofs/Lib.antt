@@ -6,7 +6,7 @@ mod Halves
 pub mod Making
 mod Learning
 mod Serving
-mod Stale
+mod Seeing
 mod PicksShown
 mod Resting
 mod Counting

@@ -1,11 +1,11 @@
--- What a Pick copied was shown, and what came along stands in the entries before it.
+-- What a Pick copied was shown, what came along stands in the entries before it, and what the next job asks for was seen before.
 use Rattle.std.specs.Prelude.{◌&&◌, not, is_some}
 use Rattle.std.proofs.Common.{◌≡◌, ◌<◌, ℕ, Bool, true, false, List, [], ◌∷◌, ◌++◌, length, length-append, Option, Some, None, refl, sym, ap, ◌∙◌, subst, arith}
 use Rattle.nvm_core.specs.memif.Told.{DeviceTold}
 use Rattle.nvm_core.specs.memif.Clock.{Clock}
 use Rattle.nvm_core.specs.block_machine.Words.{JobKind, WriteJob, Taken, TookNothing, TookContent, TookRefused, TookStale, BlockDesc, Configuration, Entry, Pick}
 use Rattle.nvm_core.specs.block_machine.State.{State, BlockState, Job, Sweep}
-use Rattle.nvm_core.specs.block_machine.Blocks.{desc_of, block_at, is_synchronized, names_ram, job_block, kind_of}
+use Rattle.nvm_core.specs.block_machine.Blocks.{asked_store, desc_of, block_at, is_synchronized, names_ram, job_block, kind_of}
 use Rattle.nvm_core.specs.block_machine.Sweeps.{member_job, member_request}
 use Rattle.nvm_core.specs.block_machine.Next.{Next, Nothing, PickJob, BeginSweep, PickMember, PostMember, EndSweep, next_of}
 use Rattle.nvm_core.specs.block_machine.Steps.{after}
@@ -17,11 +17,29 @@ use Rattle.nvm_core.specs.nvm_laws.declared.turned.Turned.TheVariants as turned
 use Rattle.nvm_core.specs.nvm_laws.declared.turned.Act.{Act}
 use Rattle.nvm_core.specs.nvm_laws.declared.turned.Act.TheVariants.{Ended}
 use Rattle.nvm_core.specs.Turns.{IsFirstHalf}
-use Rattle.script_walks.specs.Turn.{copies_next}
+use Rattle.script_walks.specs.Walk.{copies_next}
 use Rattle.nvm_shared.specs.Behind.{with_more}
 use Rattle.nvm_shared.specs.Driving.{BeginsTurn, DriverState, stack_of}
-use Rattle.nvm_shared.specs.Noted.{PickIsShown}
-use Rattle.nvm_shared.proofs.Stale.{block_in, taken_in, same_last, stale_shown}
+use Rattle.nvm_shared.specs.Noted.{GoOn, HasSeen, PickIsShown}
+
+-- THE LAST ENTRY
+abbrev rest_of : List Entry → List Entry
+rest_of [] = []
+rest_of (x ∷ xs) = xs
+
+same_last : (xs ys : List Entry) (x y : Entry) → xs ++ x ∷ [] ≡ ys ++ y ∷ [] → x ≡ y
+same_last [] [] x y e = cc
+same_last [] (b ∷ bs) x y e = absurd (omega (arith, ap (λ (l : List Entry). length l) e, length-append bs (y ∷ [])))
+same_last (a ∷ more) [] x y e = absurd (omega (arith, ap (λ (l : List Entry). length l) e, length-append more (x ∷ [])))
+same_last (a ∷ more) (b ∷ bs) x y e = same_last more bs x y (ap rest_of e)
+
+abbrev block_in : Entry → ℕ
+block_in (Pick block kind t ops) = block
+block_in e = 0
+
+abbrev taken_in : Entry → Taken
+taken_in (Pick block kind t ops) = t
+taken_in e = TookNothing
 
 -- WHAT WAS COPIED
 -- where the Pick copies, a content is one of these
@@ -80,36 +98,79 @@ took P c s block kind old new t (EndSweep sw) is may = absurd may
 took P c s block kind old new t Nothing is may = absurd may
 
 -- WHAT WAS TOO OLD
+-- the next job asks for a later store of synchronized RAM than this
+record AsksLater (c : Configuration) (block got : ℕ) (n : Next) : Type 0 where
+  pub job : Job
+  pub next : n ≡ PickJob job
+  pub at : block ≡ job_block job
+  pub synchronized : is_synchronized (desc_of c (job_block job)).ram ≡ true
+  pub later : got < asked_store job.request
+
 module _ (wanted got count : ℕ) where
-  late_for_write : (d : BlockDesc) (b : BlockState) (j : Job) (content : Option (List ℕ × ℕ)) (synchronized : Bool) → TakesForWrite d b j content synchronized (TookStale wanted got count) → got < wanted
+  abbrev Late : (asked : ℕ) → (synchronized : Bool) → Type 0
+  Late asked synchronized = (synchronized ≡ true) × (got < asked)
+
+  late_for_write : (d : BlockDesc) (b : BlockState) (j : Job) (content : Option (List ℕ × ℕ)) (synchronized : Bool) → TakesForWrite d b j content synchronized (TookStale wanted got count) → Late (asked_store j.request) synchronized
   late_for_write d b j (Some x) synchronized takes = cc
-  late_for_write d b j None true takes = omega (arith, takes.0, takes.1)
+  late_for_write d b j None true takes = (refl, takes.1)
   late_for_write d b j None false takes = cc
 
-  late_by_kind : (d : BlockDesc) (b : BlockState) (j : Job) (kind : JobKind) → TakesBy d b j kind (TookStale wanted got count) → got < wanted
+  late_by_kind : (d : BlockDesc) (b : BlockState) (j : Job) (kind : JobKind) → TakesBy d b j kind (TookStale wanted got count) → Late (asked_store j.request) (is_synchronized d.ram)
   late_by_kind d b j WriteJob takes = late_for_write d b j j.content (is_synchronized d.ram) takes
   late_by_kind d b j kind takes = cc
 
-  late : (c : Configuration) (s : State) (block : ℕ) (kind : JobKind) (n : Next) → MayPick c s block kind (TookStale wanted got count) n → got < wanted
-  late c s block kind (PickJob j) may = late_by_kind (desc_of c (job_block j)) (block_at s (job_block j)) j (kind_of j) may.takes
+  member_asks : (writes : Bool) (id : ℕ) → asked_store (member_request writes id) ≡ 0
+  member_asks true id = refl
+  member_asks false id = refl
+
+  late : (c : Configuration) (s : State) (block : ℕ) (kind : JobKind) (n : Next) → MayPick c s block kind (TookStale wanted got count) n → AsksLater c block got n
+  late c s block kind (PickJob j) may =
+      let is = late_by_kind (desc_of c (job_block j)) (block_at s (job_block j)) j (kind_of j) may.takes in
+      record { job = j; next = refl; at = may.same_block; synchronized = is.0; later = is.1 }
   late c s block kind (PickMember sw id) may =
       let j = member_job c sw id in
-      late_by_kind (desc_of c (job_block j)) (block_at s (job_block j)) j (kind_of j) may.takes
+      let is = late_by_kind (desc_of c (job_block j)) (block_at s (job_block j)) j (kind_of j) may.takes in
+      absurd (omega (arith, is.1, member_asks sw.writes id))
   late c s block kind (BeginSweep sw) may = let none = may.takes_nothing in cc
   late c s block kind (PostMember sw id) may = absurd may
   late c s block kind (EndSweep sw) may = absurd may
   late c s block kind Nothing may = absurd may
 
--- THE FIRST HALF OF A TURN
-abbrev rest_of : List Entry → List Entry
-rest_of [] = []
-rest_of (x ∷ xs) = xs
+-- and what came is that store
+module _ (IsStore : ℕ → List ℕ → Type 0) (c : Configuration) (block : ℕ) (old new : List Told) (wanted got count : ℕ) where
+  abbrev stale : Taken
+  stale = TookStale wanted got count
 
+  abbrev Older : Type 0
+  Older = (x : List ℕ) × IsStore got x
+
+  old_for_write : (d : BlockDesc) (b : BlockState) (j : Job) (content : Option (List ℕ × ℕ)) (synchronized : Bool)
+      → IsCopied IsStore c block old new (copies_out_by WriteJob content synchronized) stale → TakesForWrite d b j content synchronized stale → Older
+  old_for_write d b j (Some x) synchronized is takes = cc
+  old_for_write d b j None true is takes = is.from
+  old_for_write d b j None false is takes = cc
+
+  old_by_kind : (d : BlockDesc) (b : BlockState) (j : Job) (kind : JobKind)
+      → IsCopied IsStore c block old new (copies_out_by kind j.content (is_synchronized d.ram)) stale → TakesBy d b j kind stale → Older
+  old_by_kind d b j WriteJob is takes = old_for_write d b j j.content (is_synchronized d.ram) is takes
+  old_by_kind d b j kind is takes = cc
+
+  older : (s : State) (kind : JobKind) (n : Next) → IsCopied IsStore c block old new (copies_out_next c n) stale → MayPick c s block kind stale n → Older
+  older s kind (PickJob j) is may = old_by_kind (desc_of c (job_block j)) (block_at s (job_block j)) j (kind_of j) is may.takes
+  older s kind (PickMember sw id) is may =
+      let j = member_job c sw id in
+      old_by_kind (desc_of c (job_block j)) (block_at s (job_block j)) j (kind_of j) is may.takes
+  older s kind (BeginSweep sw) is may = let none = may.takes_nothing in cc
+  older s kind (PostMember sw id) is may = absurd may
+  older s kind (EndSweep sw) is may = absurd may
+  older s kind Nothing is may = absurd may
+
+-- THE FIRST HALF OF A TURN
 abbrev head_of : Entry → List Entry → Entry
 head_of e [] = e
 head_of e (x ∷ xs) = x
 
-pub same_front : (xs ys : List Entry) (x y : Entry) → xs ++ x ∷ [] ≡ ys ++ y ∷ [] → xs ≡ ys
+same_front : (xs ys : List Entry) (x y : Entry) → xs ++ x ∷ [] ≡ ys ++ y ∷ [] → xs ≡ ys
 same_front [] [] x y e = refl
 same_front [] (b ∷ bs) x y e = absurd (omega (arith, ap (λ (l : List Entry). length l) e, length-append bs (y ∷ [])))
 same_front (a ∷ more) [] x y e = absurd (omega (arith, ap (λ (l : List Entry). length l) e, length-append more (x ∷ [])))
@@ -121,11 +182,16 @@ Holds looked over stands front entries old new =
     (before : List Entry) (block ops : ℕ) (kind : JobKind) (t : Taken) → entries ≡ before ++ Pick block kind t ops ∷ [] → front ≡ before
     → ((m : ℕ) → looked old new block m → stands new block m before) × over new new
 
+-- what was seen of the block that the next job asks for
+abbrev pub Sees : {C : Type 0} → (looked : C → C → ℕ → ℕ → Type 0) → Configuration → State → (old new : C) → Type 0
+Sees looked c s old new =
+    (j : Job) → next_of c s ≡ PickJob j → is_synchronized (desc_of c (job_block j)).ram ≡ true → 0 < asked_store j.request → HasSeen looked (job_block j) (asked_store j.request) old new
+
 pub pick_shown : {D C : Type 0} (told : D → DeviceTold) (clock : D → Clock) (copies : C → List Told) (is_store : C → ℕ → ℕ → List ℕ → Type 0) (looked : C → C → ℕ → ℕ → Type 0) (over : C → C → Type 0)
-    (stands : C → ℕ → ℕ → List Entry → Type 0) (act : Act) (desk desk_new : DeskState) (old new : DriverState D C) (begins : BeginsTurn told clock copies is_store looked act desk desk_new old new)
-    → act ≡ Ended turned.Picked → Holds looked over stands (desk.entries ++ begins.asks) desk_new.entries old.copies new.copies
-    → PickIsShown is_store looked over stands desk.config desk_new.entries old.copies new.copies
-pick_shown told clock copies is_store looked over stands act desk desk_new old new begins is_picked holds before block ops kind t last =
+    (stands : C → ℕ → ℕ → List Entry → Type 0) (act : Act) (desk desk_new : DeskState) (first : C) (old new : DriverState D C) (begins : BeginsTurn told clock copies is_store looked act desk desk_new old new)
+    → act ≡ Ended turned.Picked → Holds looked over stands (desk.entries ++ begins.asks) desk_new.entries first new.copies → GoOn copies is_store looked over first old.copies
+    → Sees looked (with_more desk begins.asks).config (state_of (with_more desk begins.asks)) first old.copies → PickIsShown is_store looked over stands desk.config desk_new.entries first new.copies
+pick_shown told clock copies is_store looked over stands act desk desk_new first old new begins is_picked holds goes sees before block ops kind t last =
     let d : DeskState = with_more desk begins.asks in
     let c : Configuration = d.config in
     let half : IsFirstHalf told copies is_store looked (Ended turned.Picked) (stack_of d old) (stack_of desk_new new) =
@@ -145,12 +211,20 @@ pick_shown told clock copies is_store looked over stands act desk desk_new old n
           subst (λ (b : Bool). Took P b (TookContent bytes number)) copies_it
           (subst (λ (l : List Entry). Took P (copies_next c (next_of c (after c l))) (TookContent bytes number)) front
           (subst (λ (u : Taken). Took P (copies_next c (next_of c (after c d.entries))) u) (took_it ∙ is) has)) in
-          subst (λ (k : ℕ). is_store new.copies k number bytes × looked old.copies new.copies k number) is_at here;
-      stale = λ wanted got count is. (
-        stale_shown told clock copies is_store looked desk desk_new old new (subst (λ (a : Act). BeginsTurn told clock copies is_store looked a desk desk_new old new) is_picked begins) before block wanted got count ops kind (last ∙ ap (λ (u : Taken). before ++ Pick block kind u ops ∷ []) is),
-        late wanted got count c (state_of d) at picked.kind (next_of c (state_of d))
-            (subst (λ (u : Taken). MayPick c (state_of d) at picked.kind u (next_of c (state_of d))) (took_it ∙ is) picked.allowed.1),
-      );
+          let shown = subst (λ (k : ℕ). is_store new.copies k number bytes × looked old.copies new.copies k number) is_at here in
+          (shown.0, goes.earlier new.copies block number shown.1);
+      stale = λ wanted got count is.
+          let may = subst (λ (u : Taken). MayPick c (state_of d) at picked.kind u (next_of c (state_of d))) (took_it ∙ is) picked.allowed.1 in
+          let asks = late wanted got count c (state_of d) at picked.kind (next_of c (state_of d)) may in
+          let (n, reached, seen) = sees asks.job asks.next asks.synchronized (omega (arith, asks.later)) in
+          let found = older (λ m x. is_store new.copies at m x × looked old.copies new.copies at m) c at (copies old.copies) (copies new.copies) wanted got count (state_of d) picked.kind (next_of c (state_of d))
+          (subst (λ (u : Taken). IsCopied (λ m x. is_store new.copies at m x × looked old.copies new.copies at m) c at (copies old.copies) (copies new.copies) (copies_out_next c (next_of c (state_of d))) u) (took_it ∙ is) picked.copied) may in (
+            old.copies,
+            n,
+            subst (λ (k : ℕ). looked first old.copies k n) (sym asks.at ∙ is_at) seen,
+            subst (λ (k : ℕ). looked old.copies new.copies k got) is_at found.1.1,
+            omega (arith, asks.later, reached),
+          );
       stands_in = held.0;
       over_itself = held.1;
     }

@@ -2,7 +2,6 @@ pub mod Locked
 pub mod Passes
 pub mod Driving
 pub mod Opening
-pub mod Stale
 pub mod Numbers
 pub mod StatusWords
 pub mod Statuses

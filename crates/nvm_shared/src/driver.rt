@@ -13,12 +13,11 @@ ghost use Rattle.nvm_core.specs.Work.{Lowers, TakesTurns};
 ghost use Rattle.nvm_shared.specs.Locked.{desk_with};
 ghost use Rattle.nvm_shared.specs.Passes.{IsUserOf, LearnsHalf, LearnsMore, LearnsTurn};
 ghost use Rattle.nvm_shared.specs.Noted.{PickIsShown};
-ghost use Rattle.nvm_shared.specs.Stale.{StaleIsShown};
 ghost use Rattle.nvm_core.specs.nvm_device_laws.Turn.{TellsSlots};
 ghost use Rattle.script_walks.specs.Runs.{has_ended};
 ghost use Rattle.nvm_shared.specs.Driving.{DriverState, IsDriverOf, BeginsTurn, IsTurned, EndsTurn, MayEnd, NeedsNoMore, SeesRequests, ServesDue, TurnsBehind, driver_of, stack_of};
 
-use crate::noted::{NotedCopies, hold_picked};
+use crate::noted::{NotedCopies, hold_picked, see_asked};
 use crate::shared::{Shared, StackPass};
 use nvm_core::job_progress::Hand;
 use nvm_core::memif::{DeviceTurn, MemDevice};
@@ -109,7 +108,8 @@ impl<D: MemDevice, C: NotedCopies + Drop> Driver<D, C> {
         shared.count(rt, pass)
     }
 
-    /// The first half of a turn, under the lock: all but the device's own turn.
+    /// The first half of a turn, under the lock: all but the device's own turn. Before it the store that the next job asks for is looked
+    /// for, so that no copy is stale.
     pub fn begin<W: Wait>(&mut self, rt: &W, shared: &Shared, pass: &mut StackPass) -> Act
         requires driver { IsDriverOf D.told D.clock C.told shared.now pass.old self.old }
         requires telling { shared.now.terms.tells ≡ true → TellsSlots (D.told self.old.device) }
@@ -118,7 +118,6 @@ impl<D: MemDevice, C: NotedCopies + Drop> Driver<D, C> {
         ensures begins { BeginsTurn D.told D.clock C.told C.is_store C.looked result (desk_with shared.now.terms (knows pass.old).seen) (desk_with shared.now.terms (knows pass.new).seen) self.old self.new }
         ensures keeps { StaysKept (desk_with shared.now.terms (knows pass.old).seen) self.old.hand (D.told self.old.device) (D.clock self.old.device) (desk_with shared.now.terms (knows pass.new).seen) self.new.hand (D.told self.new.device) (D.clock self.new.device) }
         ensures left { HalfLeft result (program_in_hand self.old.hand) (D.told self.old.device) (program_in_hand self.new.hand) (D.told self.new.device) }
-        ensures stale { result ≡ Act.Ended Turned.Picked → StaleIsShown C.looked (knows pass.new).seen self.old.copies self.new.copies }
         ensures shown { result ≡ Act.Ended Turned.Picked → PickIsShown C.is_store C.looked C.over C.stands shared.now.terms.config (knows pass.new).seen self.old.copies self.new.copies }
         ensures off { result ≡ Act.Ended Turned.Off → (state_of (desk_with shared.now.terms (knows pass.new).seen)).off ≡ true }
         ensures clock { SameClock (D.clock self.old.device) (D.clock self.new.device) }
@@ -128,6 +127,7 @@ impl<D: MemDevice, C: NotedCopies + Drop> Driver<D, C> {
         let mut value = shared.gate.enter(rt, pass);
         let number = value.len();
         let _before = self.device.status();
+        see_asked(rt, &mut self.copies, value.asked());
         let act = value.first_half(&mut self.hand, &mut self.device, &mut self.copies);
         let picked = value.picked_behind(number);
         hold_picked(&mut self.copies, picked, shared, pass);

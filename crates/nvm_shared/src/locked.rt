@@ -6,6 +6,8 @@ ghost use Rattle.nvm_core.specs.memif.Told.{DeviceTold};
 ghost use Rattle.nvm_core.specs.memif.Clock.{SameClock};
 ghost use Rattle.nvm_core.specs.block_machine.Words.{Entry as MachineEntry};
 ghost use Rattle.nvm_core.specs.block_machine.StartUp.{at_first};
+ghost use Rattle.nvm_core.specs.block_machine.Blocks.{asked_store, job_block};
+ghost use Rattle.nvm_core.specs.block_machine.Next.{next_in};
 ghost use Rattle.nvm_core.specs.block_machine.Reply.{fits};
 ghost use Rattle.nvm_core.specs.block_machine.Legal.{HasStore};
 ghost use Rattle.nvm_core.specs.nv_desk.Desk.{state_of};
@@ -83,6 +85,20 @@ impl Kept for Locked {
     }
 }
 
+// The store that a write of RAM asks for, or 0.
+fn asked_store(request: &Request) -> u64
+    ensures { result ≡ asked_store request.now }
+{
+    match request {
+        Request::Write {
+            content: None,
+            store,
+            ..
+        } => *store,
+        _ => 0,
+    }
+}
+
 impl Locked {
     // The desk behind a start-up, with the memory of its copies, in a place of its own: it stays there when the lock is passed on.
     pub(crate) fn of(alloc: Global, front: Front) -> Result<Locked, AllocError>
@@ -143,6 +159,16 @@ impl Locked {
     {
         match self.entry_behind(count) {
             Some(last) => picked_last(last),
+            None => None,
+        }
+    }
+
+    /// The block and the store that the next job asks for; 0 where it asks for none.
+    pub fn asked(&self) -> Option<(u16, u64)>
+        ensures { result ≡ option_map (λ j. (job_block j, asked_store j.request)) (next_in self.now.desk.config (state_of self.now.desk).waiting) }
+    {
+        match self.front.desk.next_job() {
+            Some(job) => Some((job.block(), asked_store(job.request()))),
             None => None,
         }
     }

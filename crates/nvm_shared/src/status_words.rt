@@ -2,10 +2,11 @@
 ghost use Rattle.std.specs.Prelude.{◌≡◌};
 ghost use Rattle.nvm_core.specs.nv_base.Result.{code_of};
 ghost use Rattle.nvm_core.specs.nv_desk.Latest.{last_of};
+ghost use Rattle.nvm_core.specs.nv_desk.Request.{request_lent};
 ghost use Rattle.nvm_shared.specs.StatusWords.{told_by, picked_by, told_at, pending_block};
 
 use nvm_core::nv_base::{Entry, Reply, ReqResult, Request, result_code};
-use nvm_core::nv_desk::{Event, Last};
+use nvm_core::nv_desk::{Event, Last, LentRequest, RequestKind};
 
 /// The word of the power, behind those of the blocks. An Off gives it status 1.
 pub const OFF_WORD: u32 = 513;
@@ -23,6 +24,14 @@ pub(crate) fn told_last(last: Last<'_>) -> Option<(u32, u8)>
             Event::Pick { block, .. } => told_at(ReqResult::Pending, block),
             Event::Post { block, result, .. } => told_at(result, block),
             Event::Wrote { .. } => None,
+        },
+        Last::OfRequest {
+            caller: _,
+            request,
+            reply,
+        } => match reply {
+            Reply::Accepted => told_at(ReqResult::Pending, pending_lent(request)?),
+            Reply::Refused(_) | Reply::StatusIs(_) | Reply::IndexIs(_) => None,
         },
     }
 }
@@ -54,6 +63,11 @@ pub(crate) fn picked_last(last: Last<'_>) -> Option<u16>
             Event::Pick { block, .. } => Some(block),
             Event::Wrote { .. } | Event::Post { .. } => None,
         },
+        Last::OfRequest {
+            caller: _,
+            request: _,
+            reply: _,
+        } => None,
     }
 }
 
@@ -88,6 +102,21 @@ fn pending_block(request: &Request) -> Option<u16>
         | Request::Erase { block }
         | Request::Invalidate { block } => Some(*block),
         Request::ReadAll | Request::WriteAll => Some(0),
+        _ => None,
+    }
+}
+
+fn pending_lent(request: LentRequest<'_>) -> Option<u16>
+    ensures { result ≡ pending_block (request_lent request.entry) }
+{
+    match request.kind {
+        RequestKind::Read { block, .. }
+        | RequestKind::Write { block, .. }
+        | RequestKind::WriteRam { block, .. }
+        | RequestKind::Restore { block, .. }
+        | RequestKind::Erase { block }
+        | RequestKind::Invalidate { block } => Some(block),
+        RequestKind::ReadAll | RequestKind::WriteAll => Some(0),
         _ => None,
     }
 }

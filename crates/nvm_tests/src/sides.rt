@@ -48,6 +48,11 @@ fn copy_all(sync: &mut MirrorSync<()>, found: &mut Found) {
     }
 }
 
+// Whether a look without a copy shows the last store.
+fn is_shown(sync: &mut MirrorSync<()>) -> bool {
+    sync.bytes(2) == Some(8) && sync.look(2) == STORES
+}
+
 // Whether a content that the driver hands over comes to the application once.
 fn is_handed(mirrors: &Mirrors<()>, side: &mut Side<()>, sync: &mut MirrorSync<()>) -> bool
     requires own { IsSideIn mirrors.now side.old }
@@ -105,7 +110,10 @@ fn is_served<R: Threads>(
 ) -> bool
     requires own { IsSideIn mirrors.now side.old }
 {
-    side.block() == 2 && are_copied(rt, mirrors, side, sync) && is_handed(mirrors, side, sync)
+    side.block() == 2
+        && are_copied(rt, mirrors, side, sync)
+        && is_shown(sync)
+        && is_handed(mirrors, side, sync)
 }
 
 fn over_mirrors<R: Threads>(rt: &R, alloc: Global, config: &Config) -> bool {

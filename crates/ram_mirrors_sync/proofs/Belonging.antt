@@ -1,6 +1,6 @@
 -- The ends of a block's mirrors.
 use Rattle.std.specs.Prelude.{IfSome, IsSome, unwrap_or}
-use Rattle.std.proofs.Common.{◌≡◌, ℕ, zero, suc, List, [], ◌∷◌, ◌++◌, map, get_or, option_map, slice_set, Option, Some, None, refl, sym, ap, ◌∙◌, subst}
+use Rattle.std.proofs.Common.{◌≡◌, ℕ, zero, suc, [], ◌∷◌, ◌++◌, map, get_or, option_map, slice_set, Option, Some, None, refl, sym, ap, ◌∙◌, subst}
 use Rattle.std.proofs.Math.ListN.{get_or-map}
 use Rattle.ram_blocks.specs.Told.{Synchronized, IsSynchronized}
 use Rattle.ram_mirrors_sync.specs.Ends.{PairValue, EndValue, IsEndOf}

@@ -4,11 +4,10 @@ use Rattle.ram_blocks.specs.Told.{Synchronized, IsSynchronized, refusals_by, ref
 use Rattle.ram_blocks.specs.Copies.{NoneIsRefused, changed, handed_over, next_number}
 use Rattle.ram_mirrors.specs.declared.view.Store.{Store}
 use Rattle.ram_mirrors.specs.Stores.{Contents, store_number, store_of}
-use mathlib.Core.Option.{some}
 use lib.ListN.{get_elem?}
-use Rattle.atomic_table.proofs.Lists.{at_last, at_longer}
+use Rattle.atomic_table.proofs.Lists.{at_last}
 use Rattle.ram_mirrors_sync.specs.Ends.{Nothing, EndValue, IsTaken, HasShown, GoesOn, LooksAscend, CopiesEndOut, CopiesEndIn, last_of, told_of}
-use Rattle.ram_mirrors_sync.specs.Blocks.{Pairs, SyncValue, IsStore, IsOver, WasShown, HasLooked, EndGoesOn, EndsGoOn, LooksGoOn, EndList, end_at, told_by}
+use Rattle.ram_mirrors_sync.specs.Blocks.{IsStore, WasShown, HasLooked, EndGoesOn, EndsGoOn, LooksGoOn, EndList, end_at, told_by}
 
 -- the last of contents with one more
 last_more : (xs : Contents Nothing) (x : Store Nothing) (last : List ℕ) → last_of (xs ++ x ∷ []) last ≡ x.content
@@ -141,7 +140,7 @@ module _ {N : Type 0} where
   by_ascend None b c n m first second = absurd first
 
   -- an end takes the place of one that it goes on from
-  one_goes_on : (xs : EndList N) (i : ℕ) (end new : EndValue N) → end_at xs i ≡ Some end → GoesOn end new → EndsGoOn xs (slice_set xs i (Some new))
+  pub one_goes_on : (xs : EndList N) (i : ℕ) (end new : EndValue N) → end_at xs i ≡ Some end → GoesOn end new → EndsGoOn xs (slice_set xs i (Some new))
   one_goes_on [] i end new is on b = cc
   one_goes_on (y ∷ ys) zero end new is on zero = subst (λ (o : Option (EndValue N)). EndGoesOn o (Some new)) (sym is) on
   one_goes_on (y ∷ ys) zero end new is on (suc b) = by_itself (end_at ys b)

@@ -6,7 +6,7 @@ use Rattle.atomic_table.proofs.Lists.{at_last, at_longer}
 use Rattle.ram_mirrors.specs.declared.view.Store.{Store}
 use Rattle.ram_mirrors.specs.Stores.{store_number, store_of}
 use Rattle.ram_mirrors.specs.Ends.{MirrorValue, TakerValue, IsTakerOf, NothingNewer, TakesNewest, ShowsNewest}
-use Rattle.ram_mirrors_sync.specs.Ends.{EndValue, IsShown, IsTaken, GoesOn, CopiesEndOut, told_of}
+use Rattle.ram_mirrors_sync.specs.Ends.{EndValue, IsShown, IsTaken, GoesOn, LooksEnd, CopiesEndOut, told_of}
 
 shown_zero : (n : ℕ) → store_number n ≡ 0 → n ≡ 0
 shown_zero n is = omega (arith, is)
@@ -46,6 +46,24 @@ module _ {N : Type 0} where
         later = looks.later;
         took = λ i p at. ap (λ (l : List (ℕ × Store N)). get_elem? l i) looks.got.1 ∙ at_longer e.up.got looks.got.0 i p at;
         first = refl;
+      }
+
+  -- a look alone
+  pub looks_end : (m : MirrorValue) (e : EndValue N) (t : TakerValue N) (n : ℕ) → Looks m e.up t → n ≡ store_number t.shown → LooksEnd e n (after e t)
+  looks_end m e t n looks shown =
+      let (more, shows) = looks.shows in record {
+        shown = (
+          length (e.up.all_shown ++ more),
+          t.shown,
+          omega (arith, length-append e.up.all_shown more),
+          ap (λ (l : List ℕ). get_elem? l (length (e.up.all_shown ++ more))) shows ∙ at_last (e.up.all_shown ++ more) t.shown (length (e.up.all_shown ++ more)) refl,
+          shown,
+          looks.later,
+          omega arith,
+        );
+        stays = taken_on e t looks.got.0 looks.got.1;
+        goes_on = goes_on m e t looks;
+        rest = ap (λ (size : ℕ). record (told_of e) { bytes = size }) (looks.own.1 ∙ sym looks.own_old.1);
       }
 
   pub copies_first : (m : MirrorValue) (e : EndValue N) (t : TakerValue N) (n : ℕ) (content : List ℕ) → Looks m e.up t → n ≡ store_number t.shown → n ≡ 0 → content ≡ e.first → CopiesEndOut e n content (after e t)

@@ -67,6 +67,14 @@ HasShown old new n =
 abbrev pub LooksAscend : Type 1
 LooksAscend = (N : Type 0) (a b c : EndValue N) (n m : ℕ) → HasShown a b n → HasShown b c m → n ≤ m
 
+-- ONE LOOK
+-- a look shows a store as the newest, and nothing else is told otherwise
+pub record LooksEnd {N : Type 0} (old : EndValue N) (n : ℕ) (new : EndValue N) : Type 0 where
+  pub shown : HasShown old new n
+  pub stays : (m : ℕ) (x : List ℕ) → IsTaken old m x → IsTaken new m x
+  pub goes_on : GoesOn old new
+  pub rest : told_of new ≡ told_of old
+
 -- ONE COPY
 -- a copy out looks once, and gives the store that this look showed as the newest, whole
 pub record CopiesEndOut {N : Type 0} (old : EndValue N) (n : ℕ) (content : List ℕ) (new : EndValue N) : Type 0 where

@@ -1,6 +1,6 @@
 // The driver's ends of the mirrors.
 ghost use Rattle.std.specs.Prelude.{◌≡◌, ℕ, List, length, vec_items, IfSome, IfNone};
-ghost use Rattle.ram_mirrors_sync.specs.Ends.{IsEndOf, CopiesEndOut, CopiesEndIn};
+ghost use Rattle.ram_mirrors_sync.specs.Ends.{IsEndOf, LooksEnd, CopiesEndOut, CopiesEndIn};
 
 use crate::mirrors::Pair;
 use crate::note::Note;
@@ -24,6 +24,16 @@ impl<N> Model for End<N> {
 }
 
 impl<N: Drop> End<N> {
+    // Looks once at the application's newest store, and answers its number.
+    pub(crate) fn look(&mut self, pair: &Pair<N>) -> u64
+        requires end { IsEndOf pair.now self.old }
+        ensures end { IsEndOf pair.now self.new }
+        ensures looked { LooksEnd self.old result self.new }
+    {
+        pair.up.refresh(&mut self.up);
+        self.up.shown()
+    }
+
     // Looks once at the application's newest store, and copies it, or the one that was taken last. Answers its number.
     pub(crate) fn copy_out(&mut self, pair: &Pair<N>, into: &mut [u8]) -> u64
         requires end { IsEndOf pair.now self.old }

@@ -1,6 +1,6 @@
 // The driver's copies over mirrors.
-ghost use Rattle.std.specs.Prelude.{◌≡◌, ℕ, length, map, option_map, IfSome, IfNone};
-ghost use Rattle.ram_blocks.specs.Told.{told_at};
+ghost use Rattle.std.specs.Prelude.{◌≡◌, ℕ, List, length, map, option_map, IfSome, IfNone};
+ghost use Rattle.ram_blocks.specs.Told.{IsSynchronized, told_at};
 ghost use Rattle.ram_mirrors_sync.specs.Blocks.{AreEndsOf, EndList, IsStore, IsOver, HasCome, HasLooked, note_at, note_by, told_by};
 
 use crate::end::{End, Ends, hold_note as hold_by};
@@ -46,6 +46,21 @@ impl<'a, N: Drop> MirrorSync<'a, N> {
             bytes_of(&self.ends[place])
         } else {
             None
+        }
+    }
+
+    /// Looks once at the application's newest store of a synchronized block, without a copy, and answers its number.
+    pub fn look(&mut self, block: u16) -> u64
+        requires synchronized { (bytes : ℕ) × IsSynchronized (map told_by self.old.ends) block bytes }
+        ensures told { map told_by self.new.ends ≡ map told_by self.old.ends }
+        ensures over { IsOver self.old self.new }
+        ensures stores_stay { (b n : ℕ) (x : List ℕ) → IsStore self.old.ends b n x → IsStore self.new.ends b n x }
+        ensures looked { HasLooked self.old.ends self.new.ends block result }
+    {
+        let mirrors = self.mirrors;
+        match &mut self.ends[usize::from(block)] {
+            Some(end) => end.look(mirrors.pair(block)),
+            None => unreachable!(),
         }
     }
 
