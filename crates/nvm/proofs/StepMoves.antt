@@ -4,7 +4,7 @@ use Rattle.std.proofs.Common.{◌≡◌, true, false, List, [], ◌∷◌, ◌++
 use Rattle.nvm_flash.specs.block_machine.Words.{Entry, Ask, Pick, Wrote, Post, Off, Found, Configuration}
 use Rattle.nvm_flash.specs.block_machine.State.{State}
 use Rattle.nvm_flash.specs.block_machine.Steps.{after_from}
-use Rattle.nvm_flash.specs.promise_run.Turns.{Moment, Move, Planned, AreInTime, AreMoves, AreMovesOf, ClosesAtDrains, CutsCome, IsTurnMade, all_moves, entries_of, is_asked, is_found, moment_after, moment_behind, planned_by}
+use Rattle.nvm_flash.specs.promise_run.Turns.{Moment, Move, Planned, AreInTime, AreMoves, AreMovesOf, ClosesAtDrains, FindWorkAtDrains, CutsCome, IsTurnMade, all_moves, entries_of, is_asked, is_found, moment_after, moment_behind, planned_by}
 use Rattle.nvm_moves.specs.script_walks.Words.{StepKind, Turn, Drain}
 use Rattle.nvm.specs.Steps.{kind_of, step_of, one_each}
 
@@ -48,6 +48,10 @@ never_drains (Some (Found marks ops)) is = cc is
 pub no_drains : (before : Moment) (ms : List Move) → ClosesAtDrains before (map step_of ms) (one_each ms)
 no_drains before [] = tt
 no_drains before (m ∷ ms) = (λ is. absurd (never_drains m.entry is), no_drains m.behind ms)
+
+pub none_to_find : (c : Configuration) (before : Moment) (s : State) (ms : List Move) → FindWorkAtDrains c before s (map step_of ms) (one_each ms)
+none_to_find c before s [] = tt
+none_to_find c before s (m ∷ ms) = (λ is. absurd (never_drains m.entry is), none_to_find c m.behind (after_from c s (entries_of (m ∷ []))) ms)
 
 none_planned : (e : Option Entry) (now : Moment) → planned_by (kind_of e) now None ≡ None
 none_planned None now = refl

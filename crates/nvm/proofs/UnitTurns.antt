@@ -38,7 +38,7 @@ use Rattle.nvm_flash.specs.nvm_laws.declared.turned.Turned.{Turned}
 use Rattle.nvm_flash.specs.nvm_laws.declared.turned.FoundAnswer.{FoundAnswer}
 use Rattle.nvm_flash.specs.nvm_laws.declared.turned.FoundAnswer.TheVariants as found
 use Rattle.nvm_flash.specs.nvm_core.BehindDevice.{asked_by}
-use Rattle.nvm_flash.specs.nvm_core.DeviceWork.{IsSimple, costs_in, work_in}
+use Rattle.nvm_flash.specs.nvm_core.DeviceWork.{IsSimple, costs_in, tries_left, work_in}
 use Rattle.nvm_flash.specs.nvm_core.Due.{now_of}
 use Rattle.nvm_flash.specs.nvm_core.DueWrites.{free_turns, pages_in}
 use Rattle.nvm_flash.specs.nvm_core.JobNumbers.{IsOfBlock}
@@ -59,8 +59,9 @@ use Rattle.nvm_flash.proofs.nvm_core.DeviceWork.{none_some, risen}
 use Rattle.nvm_flash.proofs.nvm_core.StartWork.{first_leaves}
 use Rattle.nvm_flash.proofs.nvm_core.Trying.{part_rises}
 use Rattle.nvm_flash.proofs.nvm_core.TurnWork.{closed_tries}
+use Rattle.nvm_moves.specs.Beginning.{BeginsMoves}
 use Rattle.nvm_moves.specs.Along.{Along, Cursor}
-use Rattle.nvm_moves.specs.Seen.{frame_of, moment_by, moment_seen}
+use Rattle.nvm_moves.specs.Seen.{all_with, frame_of, moment_by, moment_seen}
 use Rattle.nvm_moves.specs.Worked.{KeepsToWork}
 use Rattle.nvm_moves.specs.Moved.{GrowsBy, IsAt, IsLawful, MovesBy}
 use Rattle.nvm_moves.proofs.Moved.{moment_then, moves_more, none_moves, start_moves, still_moves}
@@ -68,7 +69,7 @@ use Rattle.nvm_moves.proofs.StackMoves.{stack_asks, stack_starts, stack_turns}
 use Rattle.nvm_moves.proofs.TurnEntries.{IsOfTurn, device_adds_one, half_adds_one, isnt_asked, isnt_found}
 use Rattle.nvm.specs.Closing.{UnitState}
 use Rattle.nvm.specs.Steps.{one_each, step_of}
-use Rattle.nvm.specs.Turned.{AsksMove, BeginsTurns, HasFallen, HasStood, HasTurned, TurnsMove, unit_seen}
+use Rattle.nvm.specs.Turned.{AsksMove, HasFallen, HasStood, HasTurned, TurnsMove, unit_seen}
 use Rattle.nvm.specs.Unit.{UnitTurns, is_now}
 use Rattle.nvm.proofs.StepMoves.{calls_more, turn_call}
 
@@ -176,8 +177,9 @@ record IsAlike (old new : DeviceTold) : Type 0 where
   ops : new.ops ≡ old.ops
   fixed : new.fixed ≡ old.fixed
   moment : moment_by None new ≡ moment_by None old
-  work : work_in new ≡ work_in old
+  work : (hand : Option HandState) → work_in hand new ≡ work_in hand old
   left : (h : Option HandState) → left_with h new ≡ left_with h old
+  in_all : (h : Option HandState) → all_with h new ≡ all_with h old
   first_faults : new.first.faults ≡ old.first.faults
   second_faults : new.second.faults ≡ old.second.faults
   sealing : IsSealing old → IsSealing new
@@ -189,8 +191,9 @@ armed_alike true two nth keep d = record {
   ops = refl;
   fixed = refl;
   moment = refl;
-  work = refl;
+  work = λ hand. refl;
   left = λ h. by h;
+  in_all = λ h. all h;
   first_faults = refl;
   second_faults = refl;
   sealing = λ is. record { switching = is.switching; ready = is.ready };
@@ -199,14 +202,19 @@ armed_alike true two nth keep d = record {
     by : (h : Option HandState) → left_with h (armed_as true two nth keep d) ≡ left_with h d
     by None = refl
     by (Some x) = refl
+
+    all : (h : Option HandState) → all_with h (armed_as true two nth keep d) ≡ all_with h d
+    all None = refl
+    all (Some x) = refl
 armed_alike false true nth keep d = record {
   off = refl;
   first_off = refl;
   ops = refl;
   fixed = refl;
   moment = refl;
-  work = refl;
+  work = λ hand. refl;
   left = λ h. by h;
+  in_all = λ h. all h;
   first_faults = refl;
   second_faults = refl;
   sealing = λ is. record { switching = is.switching; ready = is.ready };
@@ -215,14 +223,19 @@ armed_alike false true nth keep d = record {
     by : (h : Option HandState) → left_with h (armed_as false true nth keep d) ≡ left_with h d
     by None = refl
     by (Some x) = refl
+
+    all : (h : Option HandState) → all_with h (armed_as false true nth keep d) ≡ all_with h d
+    all None = refl
+    all (Some x) = refl
 armed_alike false false nth keep d = record {
   off = refl;
   first_off = refl;
   ops = refl;
   fixed = refl;
   moment = refl;
-  work = refl;
+  work = λ hand. refl;
   left = λ h. refl;
+  in_all = λ h. refl;
   first_faults = refl;
   second_faults = refl;
   sealing = λ is. is;
@@ -247,7 +260,8 @@ armed_moves which nth keep s t only arms keeps due =
       begun = refl;
       moment = ap (moment_by None) arms.0 ∙ alike.moment;
       left = ap (λ (h : Option HandState). left_with h (told_of t.device)) hand ∙ ap (left_with s.hand) arms.0 ∙ alike.left s.hand;
-      work = ap work_in arms.0 ∙ alike.work;
+      in_all = ap (λ (h : Option HandState). all_with h (told_of t.device)) hand ∙ ap (all_with s.hand) arms.0 ∙ alike.in_all s.hand;
+      work = ap (λ (h : Option HandState). work_in h (told_of t.device)) hand ∙ ap (work_in s.hand) arms.0 ∙ alike.work s.hand;
       fixed = ap (λ (x : DeviceTold). x.fixed) arms.0 ∙ alike.fixed;
       lasts = same_lasts d (told_clock s.device) (told_of t.device) (told_clock t.device) (ap (λ (x : DeviceTold). x.ops) arms.0 ∙ alike.ops) (ap (λ (x : DeviceTold). x.first.faults) arms.0 ∙ alike.first_faults) (ap (λ (x : DeviceTold). x.second.faults) arms.0 ∙ alike.second_faults)
           arms.1.same;
@@ -349,7 +363,7 @@ module _ (marks : List (Instance × Mark)) (u t : UnitState) (is : StandsAnew ma
   by_fault true own left before behind was is same few = omega (arith, few, same)
   by_fault false own left before behind was is same few = absurd (let P : false ≡ true = is in cc P)
 
-  works : KeepsToWork (worn_so_far (told_of t.device) (told_clock t.device)) (told_clock t.device) (unit_seen u) (work_in (told_of t.device)) (found_move marks t)
+  works : KeepsToWork (worn_so_far (told_of t.device) (told_clock t.device)) (told_clock t.device) (unit_seen u) (work_in t.hand (told_of t.device)) (found_move marks t)
   works =
       let closed = closed_tries (told_of t.device).stand is.at_rest in
       let few = subst (λ (f : Fixed). left_on (told_of t.device) ≤ f.own) is.fixed (few_left (told_of t.device) (told_clock t.device) is.order is.at_rest) in (
@@ -362,6 +376,7 @@ module _ (marks : List (Instance × Mark)) (u t : UnitState) (is : StandsAnew ma
           ends = λ k on. inr (closed, inl (or_last (has_risen (faults_of (told_of u.device)) (faults_of (told_of t.device)))));
           none = λ none. closed;
           over = λ posted. cc posted;
+          tries = let none : tries_left t.hand (is_open (told_of t.device).stand) ≡ 0 = ap (λ (h : Option HandState). tries_left h (is_open (told_of t.device).stand)) is.hand in omega (arith, none);
         },
       )
 
@@ -393,7 +408,7 @@ module _ (marks : List (Instance × Mark)) (u t : UnitState) (is : StandsAnew ma
         moves = was.moves ++ found_move marks t ∷ [];
         calls = calls_more (moment_seen (unit_seen was.began)) was.moves (found_move marks t ∷ []) was.calls
             (subst (λ (m : Moment). AreMoves m (map step_of (found_move marks t ∷ [])) (one_each (found_move marks t ∷ []))) (sym then_)
-            ((counted_on (told_of u.device) (told_of t.device) (told_clock u.device) (told_clock t.device) is.lasts, is.ops), tt));
+            ((counted_on (told_of u.device) (told_of t.device) (told_clock u.device) (told_clock t.device) is.lasts, is.ops, refl), tt));
         up = λ on. moves_more false was.moves (found_move marks t ∷ []) (unit_seen was.began) (unit_seen u) (unit_seen t) moved anew;
         down = λ off. absurd (never_both up off);
       }
@@ -408,7 +423,7 @@ module _ (s t : UnitState) (starts : StartsUp told_of s t) (order : InOrder (tol
   again stays was ready =
       goes_on s t (found_move starts.marks t ∷ []) was ready (ap (λ (x : UnitState). x.ready) starts.only)
       (stack_starts told_of told_clock s t (λ (before : Part → PartTold). StackKeepsAsTold before s.desk s.hand (told_of s.device) (told_clock s.device)) (λ (before : Part → PartTold). StackKeepsAsTold before t.desk t.hand (told_of t.device) (told_clock t.device)) stays starts order lasts tells_back power)
-      ((counted_on (told_of s.device) (told_of t.device) (told_clock s.device) (told_clock t.device) lasts, starts.finds.up.restarted.ops), tt)
+      ((counted_on (told_of s.device) (told_of t.device) (told_clock s.device) (told_clock t.device) lasts, starts.finds.up.restarted.ops, refl), tt)
 
   -- and from down, over those that failed
   stands_anew : (u : UnitState) → HasFallen u s → ((before : Part → PartTold) → StackKeepsAsTold before u.desk u.hand (told_of u.device) (told_clock u.device) → StackKeepsAsTold before t.desk t.hand (told_of t.device) (told_clock t.device))
@@ -521,8 +536,9 @@ module _ (making : Making) (entry : Told) (m s : UnitState) (made : IsMadeStack 
   simple_made : IsSimple (told_of m.device).fixed
   simple_made = record { first = made.parts; reads = λ n. subst (λ (f : Fixed). (figures_at f n).read ≤ 1) (sym made.fixed) (reads_take_one m.desk.config n) }
 
-  begins : BeginsTurns s
+  begins : BeginsMoves (unit_seen s)
   begins = record {
+    between = refl;
     marks = starts.marks;
     entries = ap (λ (x : UnitState). x.desk.entries) starts.only ∙ ap (λ (x : UnitState). x.desk.entries ++ Found starts.marks (told_of s.device).ops ∷ []) made.only;
     pages = ap (λ (f : Fixed). pages_in f s.desk.config) figures ∙ ap (λ (x : Configuration). pages_in (fixed_by x) s.desk.config) (sym config) ∙ (λ i x id. write_pages_are_figures s.desk.config x id i);
@@ -536,9 +552,9 @@ module _ (making : Making) (entry : Told) (m s : UnitState) (made : IsMadeStack 
     simple = subst IsSimple (made.fixed ∙ sym figures) simple_made;
     left = left_on (told_of s.device);
     few = first_few (told_of s.device) (nat_lt 0 (faults_of (told_of s.device))) (few_left (told_of s.device) (told_clock s.device) order starts.finds.at_rest) (first_leaves starts.marks (told_of m.device) (told_of s.device) starts.finds simple_made);
-    is = ap (λ (o : Option ℕ). record { left = left_on (told_of s.device); trying = o }) (sym (closed_tries (told_of s.device).stand starts.finds.at_rest));
+    is = ap (λ (o : Option ℕ). record { left = left_on (told_of s.device); trying = o; tries = 0 }) (sym (closed_tries (told_of s.device).stand starts.finds.at_rest)) ∙ ap (λ (h : Option HandState). work_in h (told_of s.device)) (sym none);
     owes = subst (λ (h : Option HandState). OwesSince (has_urgent s.desk) (faults_of (told_of s.device)) h (told_of s.device) (told_clock s.device)) (sym none) (omega arith, tt);
-    on = record { one = ap (λ (f : Fixed). f.two) figures; power = λ off. absurd (never_both off starts.finds.up.first_on) };
+    uncut = record { one = ap (λ (f : Fixed). f.two) figures; power = λ off. absurd (never_both off starts.finds.up.first_on) };
     before = one_part (part_at entry);
     kept = subst (λ (h : Option HandState). StackKeepsAsTold (one_part (part_at entry)) s.desk h (told_of s.device) (told_clock s.device)) (sym none) keeps;
   }

@@ -2,7 +2,7 @@
 use Rattle.std.specs.Prelude.{◌≡◌, ℕ, List, [], ◌∷◌, ◌++◌, map, take, Option, Some}
 use Rattle.nvm_flash.specs.block_machine.Words.{Entry, Ask, Found}
 use Rattle.nvm_flash.specs.promise_run.JobTurns.{job_turns}
-use Rattle.nvm_flash.specs.promise_run.Run.{Run}
+use Rattle.nvm_flash.specs.promise_run.Run.{Run, Played}
 use Rattle.nvm_flash.specs.promise_run.Turns.{Move, entries_of, KeepsTurns}
 use Rattle.nvm_moves.specs.script_walks.Words.{Step, StepKind, AskStep, Turn, Restart}
 
@@ -27,4 +27,4 @@ one_each moves = map (λ m. m ∷ []) moves
 pub record KeepsCalls (r : Run) : Type 0 where
   pub moves : List Move
   pub tell : r.history ≡ take 1 r.history ++ entries_of moves
-  pub turns : KeepsTurns (job_turns r.configuration) r (map step_of moves) (map entries_of (one_each moves))
+  pub turns : KeepsTurns (job_turns r.configuration) r (Played (map step_of moves) (map entries_of (one_each moves)) [])

@@ -1,25 +1,17 @@
 -- What the calls of a unit made, as moves, from its first start-up on.
-use Rattle.std.specs.Prelude.{◌≡◌, ◌≤◌, ℕ, true, false, nat_lt, if◌then◌else◌, List, [], ◌∷◌, ◌++◌, map, Option, Some, None, Result, IfOk}
+use Rattle.std.specs.Prelude.{◌≡◌, ℕ, true, false, List, [], ◌∷◌, ◌++◌, map, Option, Some, None, Result, IfOk}
 use Rattle.nvm_flash.specs.nv_base.Count.{Rose}
 use Rattle.nvm_flash.specs.memif.Told.{Part, PartTold, faults_of}
 use Rattle.nvm_flash.specs.memif.Trials.{Lasts}
-use Rattle.nvm_flash.specs.block_machine.Words.{Instance, Mark, Entry, Ask, Found, Request, Reply}
-use Rattle.nvm_flash.specs.block_machine.State.{State, Job}
+use Rattle.nvm_flash.specs.block_machine.Words.{Entry, Ask, Request, Reply}
 use Rattle.nvm_flash.specs.nv_desk.declared.ask.AskFault.{AskFault}
 use Rattle.nvm_flash.specs.fee_core.Tells.{told_clock}
 use Rattle.nvm_flash.specs.fee_told.Device.{told_of}
-use Rattle.nvm_flash.specs.job_progress.JobInHand.{program_for}
-use Rattle.nvm_flash.specs.nvm_figures.Left.{most_turns}
 use Rattle.nvm_flash.specs.nvm_device_laws.Turn.{TellsSlots}
 use Rattle.nvm_flash.specs.nvm_laws.Keeps.{StackKeepsAsTold, DownKeepsAsTold}
-use Rattle.nvm_flash.specs.nvm_core.DeviceWork.{IsSimple, costs_in, work_in}
-use Rattle.nvm_flash.specs.nvm_core.DueWrites.{pages_in}
-use Rattle.nvm_flash.specs.nvm_core.Paying.{OwesSince, has_urgent}
-use Rattle.nvm_flash.specs.promise_run.JobTurns.{job_turns, write_pages}
-use Rattle.nvm_flash.specs.promise_run.Operations.{costs_of}
-use Rattle.nvm_flash.specs.promise_run.Promise.{making_of}
 use Rattle.nvm_flash.specs.promise_run.Turns.{Move, AreMoves, entry_list}
-use Rattle.nvm_moves.specs.Seen.{Seen, IsOn, moment_seen, seen_in}
+use Rattle.nvm_moves.specs.Seen.{Seen, moment_seen, seen_in}
+use Rattle.nvm_moves.specs.Beginning.{BeginsMoves}
 use Rattle.nvm_moves.specs.Moved.{MovesBy}
 use Rattle.nvm.specs.Closing.{UnitState}
 use Rattle.nvm.specs.Steps.{step_of, one_each}
@@ -38,24 +30,6 @@ abbrev pub TurnsMove : UnitState → UnitState → Type 0
 TurnsMove s t = (e : Option Entry) × (t.desk.entries ≡ s.desk.entries ++ entry_list e) × MovesBy false (record { entry = e; behind = moment_seen (unit_seen t) } ∷ []) (unit_seen s) (unit_seen t)
 
 -- FROM THE FIRST START-UP ON
--- Behind the first start-up: its entry is the only one, and its figures are the configuration's. The power is on, no try is open, and nothing
--- is left, unless a fault was counted: then a switch at most goes on. Nothing is owed for any fault yet, and all is kept.
-pub record BeginsTurns (s : UnitState) : Type 0 where
-  pub marks : List (Instance × Mark)
-  pub entries : s.desk.entries ≡ Found marks (told_of s.device).ops ∷ []
-  pub pages : pages_in (told_of s.device).fixed s.desk.config ≡ write_pages s.desk.config
-  pub reserve : (told_of s.device).fixed.reserve ≡ (making_of s.desk.config).reserve
-  pub costs : costs_in (told_of s.device).fixed ≡ costs_of s.desk.config
-  pub most : (λ (x : State) (j : Job). most_turns (told_of s.device).fixed (program_for s.desk.config x j)) ≡ job_turns s.desk.config
-  pub simple : IsSimple (told_of s.device).fixed
-  pub left : ℕ
-  pub few : left ≤ (if nat_lt 0 (faults_of (told_of s.device)) then (told_of s.device).fixed.own else 0)
-  pub is : record { left = left; trying = None } ≡ work_in (told_of s.device)
-  pub owes : OwesSince (has_urgent s.desk) (faults_of (told_of s.device)) s.hand (told_of s.device) (told_clock s.device)
-  pub on : IsOn s.desk (told_of s.device)
-  pub before : Part → PartTold
-  pub kept : StackKeepsAsTold before s.desk s.hand (told_of s.device) (told_clock s.device)
-
 -- Start-ups failed since, each by a fault, and made no operation. What the history tells stays, and a further start-up has what it needs.
 pub record HasFallen (last s : UnitState) : Type 0 where
   pub desk : s.desk ≡ record last.desk { prepared = s.desk.prepared }
@@ -75,7 +49,7 @@ pub record HasStood (moves : List Move) (began s : UnitState) : Type 0 where
 -- From its first start-up on its calls made these moves, one each.
 pub record HasTurned (s : UnitState) : Type 0 where
   pub began : UnitState
-  pub begins : BeginsTurns began
+  pub begins : BeginsMoves (unit_seen began)
   pub moves : List Move
   pub calls : AreMoves (moment_seen (unit_seen began)) (map step_of moves) (one_each moves)
   pub up : s.ready ≡ true → MovesBy false moves (unit_seen began) (unit_seen s)

@@ -21,7 +21,9 @@ pub use nvm_flash::nv_base::{
     Bytes, Entry, Geometry, History, Refusal, Reply, ReqResult, Request, bytes_of, refusal_number,
     result_code,
 };
-pub use nvm_flash::nv_desk::{AskFault, Event, Last, MarkKind, TakenKind};
+pub use nvm_flash::nv_desk::{
+    AskFault, Buffer, Event, Last, LentRequest, MarkKind, RequestKind, TakenKind, longest_content,
+};
 pub use nvm_flash::nvm_core::Renewed;
 pub use nvm_flash::nvm_laws::{FoundAnswer, Turned};
 pub use nvm_flash::{MakeFault, fls_devices};

@@ -1,6 +1,6 @@
 // The stack of a unit.
 ghost use Rattle.std.specs.Prelude.{◌≡◌, ◌≤◌, ◌<◌, ◌↔◌, ◌++◌, ◌∷◌, [], true, false, ℕ, length, map, get_or, slice_set, IfOk, IsErrOf, OnErr};
-ghost use Rattle.nvm_flash.specs.block_machine.Blocks.{block_at, desc_of, status_of};
+ghost use Rattle.nvm_flash.specs.block_machine.Blocks.{asked_block, block_at, desc_of, status_of};
 ghost use Rattle.nvm_flash.specs.block_machine.Legal.{HasStore};
 ghost use Rattle.nvm_flash.specs.block_machine.Reply.{fits, reply_of};
 ghost use Rattle.nvm_flash.specs.block_machine.Words.{Status, StatusIs};
@@ -15,6 +15,8 @@ ghost use Rattle.nvm_flash.specs.fee_laws.Made.{part_at};
 ghost use Rattle.nvm_flash.specs.block_config.Config.{Configuration};
 ghost use Rattle.nvm_flash.specs.Made.{IsBack, IsOrigin};
 ghost use Rattle.nvm_flash.specs.nv_desk.Desk.{state_of};
+ghost use Rattle.nvm_flash.specs.nv_desk.Recorder.{keeps};
+ghost use Rattle.nvm_flash.specs.nv_desk.Request.{request_lent};
 ghost use Rattle.nvm_flash.specs.ram_blocks.Copies.{next_number};
 ghost use Rattle.nvm_flash.specs.ram_blocks.Told.{IsSynchronized};
 ghost use Rattle.nvm_flash.specs.ram_blocks.Plain.{told_of as copy_told, no_plain, stored, refusing};
@@ -34,7 +36,7 @@ use nvm_flash::fee_core::Origin;
 use nvm_flash::fls_model::Flash;
 use nvm_flash::memif::MemDevice;
 use nvm_flash::nv_base::{Entry, Reply, ReqResult, Request};
-use nvm_flash::nv_desk::AskFault;
+use nvm_flash::nv_desk::{AskFault, LentRequest};
 use nvm_flash::nvm_laws::{FoundAnswer, Turned};
 use nvm_flash::{FlashStack, give_back};
 use std::alloc::Global;
@@ -92,6 +94,13 @@ impl<F: Flash, O: Origin> UnitStack<F, O> {
         self.stack.ram(block)
     }
 
+    /// Whether the RAM of a block is valid: a WriteAll writes it, where it is changed too.
+    pub fn ram_is_valid(&self, block: u16) -> bool
+        ensures { result ≡ (block_at (state_of self.now.desk) block).valid }
+    {
+        self.stack.ram_is_valid(block)
+    }
+
     /// Takes a request of a caller, from 0 to 15, and all memory that its job needs.
     pub fn ask(&mut self, alloc: Global, caller: u8, request: Request) -> Result<Reply, AskFault>
         requires ready { self.old.ready ≡ true }
@@ -110,6 +119,31 @@ impl<F: Flash, O: Origin> UnitStack<F, O> {
         let device = self.stack.device();
         let _status = device.status();
         self.stack.ask(alloc, caller, request)
+    }
+
+    /// Takes a request whose content is lent, of a caller, from 0 to 15, where entries aren't kept, as those of a unit aren't, and
+    /// replies as `ask` does. The content is at most as long as its block's; a request that brings none lends no bytes. It takes no
+    /// memory: Ok comes exactly where its entry fits under the cap, and else `NoRoom`, and nothing changed.
+    pub fn enter(&mut self, caller: u8, request: LentRequest<'_>) -> Result<Reply, AskFault>
+        requires counted { keeps self.old.desk.cap ≡ false }
+        requires ready { self.old.ready ≡ true }
+        requires caller { caller ≤ 15 }
+        requires store { HasStore self.old.desk.config (request_lent request) }
+        requires content { length request.content.now ≤ (desc_of self.old.desk.config (asked_block (request_lent request))).length }
+        ensures reply { IfOk result (λ reply. reply ≡ reply_of self.old.desk.config self.old.desk.cap (state_of self.old.desk) (request_lent request.entry)) }
+        ensures ok { IfOk result (λ reply. self.new ≡ record self.old { desk = record self.old.desk { entries = self.old.desk.entries ++ Entry.Ask caller (request_lent request.entry) reply ∷ [] } }) }
+        ensures err { OnErr result (self.new ≡ self.old) }
+        ensures no_room { IsErrOf result AskFault.NoRoom ↔ fits self.old.desk.config self.old.desk.cap (state_of self.old.desk) 1 ≡ false }
+        ensures total { IsErrOf result AskFault.Memory → ⊥ }
+        ensures keeps { StaysKept self.old.desk self.old.hand (told_of self.old.device) (told_clock self.old.device) self.new.desk self.new.hand (told_of self.new.device) (told_clock self.new.device) }
+        ensures accepted { AcceptsDue told_of (request_lent request.entry) result self.old self.new }
+        ensures due { KeepsDue (now_of told_of self.old) (now_of told_of self.new) }
+        ensures moved { AsksMove caller (request_lent request.entry) result self.old self.new }
+        ensures stays { Stays self.old self.new }
+    {
+        let device = self.stack.device();
+        let _status = device.status();
+        self.stack.enter(caller, request)
     }
 
     /// One turn of the main function: the first of what is to be done, and nothing else. It makes at most one turn of the

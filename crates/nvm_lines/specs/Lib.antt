@@ -3,3 +3,4 @@ pub mod Output
 pub mod Reading
 pub mod Status
 pub mod Stop
+pub use Rattle.nv_streams.specs as nv_streams

@@ -14,6 +14,7 @@ mod stop;
 
 pub use configuration::{read_config, read_configuration};
 pub use input::{LIMIT, read_input};
+pub use nv_streams;
 pub use output::{
     OutputFault, put_line, put_lines, report, write_end, write_entries, write_history,
 };

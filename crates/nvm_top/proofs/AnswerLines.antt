@@ -6,8 +6,8 @@ use Rattle.std.proofs.lemmas.Bool.{cases_lt}
 use Rattle.std.proofs.Math.Nat.{min-eq_left, min-eq_right}
 use Rattle.std.proofs.lemmas.List.{take_all, length-drop, drop-drop, take-append-le, take-map}
 use Rattle.std.proofs.Math.Seq.{drop-append_seam, take-append_seam, take-append-add}
-use Rattle.nv_streams.specs.Sink.{Written, Puts, PutsPart}
-use Rattle.nv_streams.proofs.Puts.{Puts-nil, Puts-trans, PutsPart-longer, PutsPart-behind}
+use Rattle.nvm_lines.specs.nv_streams.Sink.{Written, Puts, PutsPart}
+use Rattle.nvm_lines.proofs.nv_streams.Puts.{Puts-nil, Puts-trans, PutsPart-longer, PutsPart-behind}
 use Rattle.nvm_flash.specs.block_config.Config.{Configuration}
 use Rattle.nvm_flash.specs.nv_base.declared.entry.Entry.{Entry}
 use Rattle.nvm_script.specs.Lines.{entry_line, end_line}

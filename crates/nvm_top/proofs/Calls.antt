@@ -1,8 +1,8 @@
 -- A call of the program that calls no command, or one that has a run.
 use Rattle.std.proofs.Common.{◌≡◌, ◌∙◌, ℕ, Bool, true, false, List, Option, Some, None, inl, inr, refl, sym, ap, subst}
-use Rattle.nv_streams.specs.Sink.{Written}
+use Rattle.nvm_lines.specs.nv_streams.Sink.{Written}
 use Rattle.nvm_flash.specs.fls_model.Told.{Told}
-use Rattle.nvm_words.specs.Words.{is_run}
+use Rattle.nvm_words.specs.Words.{is_run, is_uds}
 use Rattle.nvm_words.specs.declared.words.CommandKind.{CommandKind}
 use Rattle.nvm_words.specs.declared.words.CommandKind.TheVariants.{Play, Run, Dump, Check, Soak, Uds}
 use Rattle.nvm_lines.specs.declared.status.Status.TheVariants as status
@@ -41,3 +41,6 @@ run_only k e is keeps = record { served = λ _. keeps_as_run k e is keeps; refus
 
 pub keeps_as_uds : (k : Option CommandKind) (e : Ended) → k ≡ Some Uds → KeepsUds e → KeepsCommand k e
 keeps_as_uds k e is keeps = subst (λ (x : Option CommandKind). KeepsCommand x e) (sym is) keeps
+
+pub uds_only : (k : Option CommandKind) (e : Ended) → k ≡ Some Uds → KeepsUds e → KeepsOnly is_uds k e
+uds_only k e is keeps = record { served = λ _. keeps_as_uds k e is keeps; refused = λ other. absurd (let wrong : false ≡ true = sym other ∙ ap is_uds is in cc wrong) }

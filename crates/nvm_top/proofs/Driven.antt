@@ -1,7 +1,5 @@
 -- The stack over a flash: what it is behind its first start-up, and what its flash comes back with.
 use Rattle.std.specs.Prelude.{◌||◌, not, IfSome, IfOk, take, option_map, min, nat_lt, nat_le}
-use Rattle.std.specs.Option.{option_map_or}
-use Rattle.std.proofs.lemmas.Bool.{and_parts, leb-true, ltb-true}
 use Rattle.std.proofs.Common.{◌≡◌, ◌≢◌, ◌≤◌, ◌+◌, ◌*◌, ◌⊎◌, ◌++◌, ℕ, Bool, true, false, List, [], ◌∷◌, Option, Some, None, Result, Ok, Err, length, refl, sym, ap, ◌∙◌, subst, inl, inr, arith}
 use Rattle.std.proofs.Math.Nat.{eq-or-lt_of_le}
 use Rattle.nvm_flash.specs.nv_base.Count.{last_count, Rose, WereCounted}
@@ -16,10 +14,10 @@ use Rattle.nvm_flash.specs.memif.Calls.{InOrder}
 use Rattle.nvm_flash.specs.fls_model.Told.{Told, ToldBytes, Change, IfBothTold, bytes_now}
 use Rattle.nvm_flash.specs.fls_devices.Cutter.{cutting, told_cutting}
 use Rattle.nvm_flash.specs.promise_device.Making.{Making}
-use Rattle.nvm_flash.specs.memif.Clock.{Trait, Seals, TakesKept}
-use Rattle.nvm_flash.specs.promise_device.Bridge.{Bridges, IsSuch, reading_of, free_pages}
+use Rattle.nvm_flash.specs.memif.Clock.{Clock}
+use Rattle.nvm_flash.specs.promise_device.Bridge.{Bridges, reading_of}
 use Rattle.nvm_flash.specs.promise_device.Wear.{OperationsAreDue}
-use Rattle.nvm_flash.specs.promise_device.FlashRun.{HasFailed, TellsBytes, StartsSound, bytes_after}
+use Rattle.nvm_flash.specs.promise_device.FlashRun.{TellsBytes, StartsSound}
 use Rattle.nvm_flash.specs.fee_told.Device.{Device, told_of, clock_of}
 use Rattle.nvm_flash.specs.fee_core.Tells.{told_clock}
 use Rattle.nvm_flash.specs.fee_laws.Made.{part_at}
@@ -27,7 +25,6 @@ use Rattle.nvm_flash.specs.ram_blocks.declared.plain_block.PlainBlock.{PlainBloc
 use Rattle.nvm_flash.specs.ram_blocks.Plain.{plain_blocks_of}
 use Rattle.nvm_flash.specs.nv_desk.Desk.{DeskState, state_of}
 use Rattle.nvm_flash.specs.nv_desk.Recorder.{keeps}
-use Rattle.nvm_flash.specs.nvm_laws.Ties.{IsTied}
 use Rattle.nvm_flash.specs.job_progress.Hand.{HandState}
 use Rattle.nvm_flash.specs.promise_blocks.OverDevice.{KeepsOver, KeepsEarly}
 use Rattle.nvm_flash.specs.nvm_device_laws.Turn.{TellsSlots, down}
@@ -38,6 +35,9 @@ use Rattle.nvm_flash.specs.promise_run.Run.{Played, cap}
 use Rattle.nvm_flash.specs.promise_run.Promise.{making_of}
 use Rattle.nvm_flash.specs.promise_run.Halves.{HalvesMakeIt}
 use Rattle.script_player.specs.script_walks.Texts.{AreValues}
+use Rattle.nvm_callers.specs.nvm_moves.Beginning.{BeginsMoves}
+use Rattle.nvm_callers.proofs.nvm_moves.Beginning.{start_work}
+use Rattle.nvm_flash.specs.nvm_core.Operations.{left_on}
 use Rattle.script_player.specs.Made.{IsFresh}
 use Rattle.script_player.specs.PlainTold.{told_by}
 use Rattle.script_player.specs.PlainKept.{IsKept, AreStartsFound}
@@ -46,28 +46,24 @@ use Rattle.nvm_flash.specs.declared.device.MakeFault.TheVariants as fault
 use Rattle.nvm_flash.specs.job_progress.JobInHand.{IsPaired, program_for}
 use Rattle.nvm_flash.specs.promise_run.Operations.{costs_of}
 use Rattle.nvm_flash.proofs.Costs.{costs_are_figures, reads_take_one}
-use Rattle.script_player.specs.Working.{IsBegun}
-use Rattle.nvm_flash.specs.nvm_core.DeviceWork.{IsSimple, costs_in}
+use Rattle.nvm_flash.specs.nvm_core.DeviceWork.{IsSimple, costs_in, work_in}
 use Rattle.nvm_flash.proofs.nvm_core.StartWork.{first_leaves}
-use Rattle.script_player.proofs.PlainTurnWork.{start_work}
 use Rattle.nvm_flash.specs.nvm_figures.Left.{most_turns}
 use Rattle.nvm_flash.specs.Turns.{fixed_by}
 use Rattle.nvm_flash.proofs.JobTurns.{job_turns_are_figures, write_pages_are_figures}
-use Rattle.nvm_flash.specs.promise_run.JobTurns.{write_pages}
+use Rattle.nvm_flash.specs.promise_run.JobTurns.{job_turns}
 use Rattle.nvm_flash.proofs.FirstStart.{told_bridge}
 use Rattle.script_player.proofs.Fresh.{is_fresh}
-use Rattle.script_player.proofs.PlainSeals.{none_sealed}
 use Rattle.nvm_flash.proofs.nvm_device_laws.DownCalls.{over_with}
-use Rattle.nvm_flash.proofs.promise_device.Readings.{sound_starts_compute, worn_banks_compute}
+use Rattle.nvm_flash.proofs.promise_device.Readings.{sound_starts_compute}
 use Rattle.nvm_flash.proofs.promise_run.Composition.{begins_well}
 use Rattle.nvm_flash.specs.Made.{IsOrigin, IsMadeStack, AreOfFirst, ComesBack, IsBack, one_part}
 use Rattle.nvm_flash.specs.promise_device.SwitchErases.{RestartsAreFew}
 use Rattle.nvm_flash.specs.promise_blocks.Operations.{founds}
-use Rattle.nvm_flash.specs.promise_device.Bridge.{IsWornOut}
 use Rattle.nvm_flash.specs.nvm_core.Paying.{counted_of, TriesSince, has_urgent}
-use Rattle.script_player.specs.PlainPaying.{payer_by}
+use Rattle.script_player.specs.PlainPaying.{seen_by}
 use Rattle.nvm_flash.specs.nvm_core.DueWrites.{pages_in}
-use Rattle.nvm_top.specs.Stack.{IsKeptFrom, IsStarted, StopsAtStart, Vouches, run_of, stop_of_make, KeepsPlayed}
+use Rattle.nvm_top.specs.Stack.{IsStarted, StopsAtStart, Vouches, run_of, stop_of_make, KeepsPlayed}
 use Rattle.nvm_flash.specs.fls_model.Attach.{IsFilled}
 use Rattle.nvm_top.specs.Play.{IsRightSize, IsWrongSize}
 use Rattle.nvm_lines.specs.declared.stop.Stop.{Stop}
@@ -180,42 +176,9 @@ none_owed before m s t same starts =
     let none : t.hand ≡ None = ap (λ x. x.hand) same ∙ ap (λ x. x.hand) starts.only in
     subst (λ (h : Option HandState). IfSome h (λ x. TriesSince (told_clock t.device).worn (has_urgent t.desk) (faults_of (told_of t.device)) (counted_of (told_of t.device)) x.program)) (sym none) tt
 
--- the pages of its records are those of the configuration
-pages_up : (c : Configuration) (making : Making) (entry : Told) (m s t : StackState Device (List PlainBlock)) → t ≡ s → StartsUp told_of m s → IsMadeStack c cap making entry m → (payer_by told_of told_clock t).pages ≡ write_pages (told_by told_of t).configuration
-pages_up c making entry m s t same starts made =
-    let fixed : (told_of t.device).fixed ≡ fixed_by c = ap (λ x. (told_of x.device).fixed) same ∙ starts.finds.up.restarted.fixed ∙ made.fixed in
-    let config : t.desk.config ≡ c = ap (λ x. x.desk.config) same ∙ ap (λ x. x.desk.config) starts.only ∙ ap (λ x. x.desk.config) made.only in
-    ap (λ (f : Fixed). pages_in f t.desk.config) fixed
-    ∙ ap (λ (x : Configuration). pages_in (fixed_by x) t.desk.config) (sym config)
-    ∙ (λ i x id. write_pages_are_figures t.desk.config x id i)
-
--- and those that are kept
-reserve_up : (c : Configuration) (making : Making) (entry : Told) (m s t : StackState Device (List PlainBlock)) → t ≡ s → StartsUp told_of m s → IsMadeStack c cap making entry m → (payer_by told_of told_clock t).reserve ≡ (making_of (told_by told_of t).configuration).reserve
-reserve_up c making entry m s t same starts made =
-    let fixed : (told_of t.device).fixed ≡ fixed_by c = ap (λ x. (told_of x.device).fixed) same ∙ starts.finds.up.restarted.fixed ∙ made.fixed in
-    let config : t.desk.config ≡ c = ap (λ x. x.desk.config) same ∙ ap (λ x. x.desk.config) starts.only ∙ ap (λ x. x.desk.config) made.only in
-    ap (λ (f : Fixed). f.reserve) fixed ∙ ap (λ (x : Configuration). (making_of x).reserve) (sym config)
-
 -- its numbers are all of its one part, and a read takes a turn
 simple_up : (c : Configuration) (making : Making) (entry : Told) (m : StackState Device (List PlainBlock)) → IsMadeStack c cap making entry m → IsSimple (told_of m.device).fixed
 simple_up c making entry m made = record { first = made.parts; reads = λ n. subst (λ (f : Fixed). (figures_at f n).read ≤ 1) (sym made.fixed) (reads_take_one c n) }
-
--- what it makes of its work is the configuration's, and no try is open
-work_up : (c : Configuration) (making : Making) (entry : Told) (m s t : StackState Device (List PlainBlock)) → IsLegalConfig c → InOrder (told_of t.device) (told_clock t.device) → IsTied t.desk t.hand (told_of t.device) → t ≡ s → StartsUp told_of m s → IsMadeStack c cap making entry m
-    → ((payer_by told_of told_clock t).work.costs ≡ costs_of (told_by told_of t).configuration) × IsBegun (nat_lt 0 (told_by told_of t).faults) (payer_by told_of told_clock t).work
-work_up c making entry m s t legal order tied same starts made =
-    let fixed : (told_of t.device).fixed ≡ fixed_by c = ap (λ x. (told_of x.device).fixed) same ∙ starts.finds.up.restarted.fixed ∙ made.fixed in
-    let config : t.desk.config ≡ c = ap (λ x. x.desk.config) same ∙ ap (λ x. x.desk.config) starts.only ∙ ap (λ x. x.desk.config) made.only in
-    let none : t.hand ≡ None = ap (λ x. x.hand) same ∙ ap (λ x. x.hand) starts.only in
-    let simple : IsSimple (told_of t.device).fixed = subst IsSimple (made.fixed ∙ sym fixed) (simple_up c making entry m made) in
-    let leaves =
-    subst (λ (x : StackState Device (List PlainBlock)). ((told_of x.device).left ≡ 0) ⊎ (nat_lt 0 (faults_of (told_of x.device)) ≡ true)) (sym same)
-    (first_leaves starts.marks (told_of m.device) (told_of s.device) starts.finds (simple_up c making entry m made)) in (
-      ap costs_in fixed ∙ costs_are_figures c legal made.one_device ∙ ap costs_of (sym config),
-      start_work told_of told_clock (record t { ready = false }) t refl order (subst (λ (h : Option HandState). IsPaired t.desk.config (state_of t.desk) h (told_of t.device)) none tied.paired)
-          (nat_lt 0 (faults_of (told_of t.device))) (λ simple_too. leaves) (record { left = 0; trying = None })
-          (simple, λ ready. absurd (let never : false ≡ true = ready in cc never)),
-    )
 
 -- its start-up is the one that its history tells
 starts_up : (c : Configuration) (making : Making) (entry : Told) (m s t : StackState Device (List PlainBlock)) → t ≡ s → StartsUp told_of m s → IsMadeStack c cap making entry m → AreStartsFound t.ready t.desk (told_of t.device)
@@ -231,10 +194,42 @@ founds_least : (ready : Bool) (desk : DeskState) (d : DeviceTold) → AreStartsF
 founds_least true desk d are = omega (arith, are)
 founds_least false desk d are = omega (arith, are)
 
-pub kept_up : (c : Configuration) (making : Making) (entry : Told) (before : Part → PartTold) (m s t : StackState Device (List PlainBlock)) → IsLegalConfig c → InOrder (told_of t.device) (told_clock t.device) → IsTied t.desk t.hand (told_of t.device) → t ≡ s → StartsUp told_of m s → IsMadeStack c cap making entry m → StackKeepsAsTold before s.desk None (told_of s.device) (told_clock s.device)
-    → IsKeptFrom (KeepsPlayed t.ready before t.desk t.hand (told_of t.device) (told_clock t.device)) (payer_by told_of told_clock t) (told_by told_of t)
-kept_up c making entry before m s t legal order tied same starts made keeps =
-    let kept = is_kept before m s t same starts keeps in ((kept, starts_up c making entry m s t same starts made), (((before, kept), (omega arith, none_owed before m s t same starts)), pages_up c making entry m s t same starts made, reserve_up c making entry m s t same starts made, λ ready. none_sealed (told_of t.device) (told_clock t.device), (work_up c making entry m s t legal order tied same starts made).0, (work_up c making entry m s t legal order tied same starts made).1))
+-- where its moves begin
+first_begins : (c : Configuration) (making : Making) (entry : Told) (before : Part → PartTold) (m s : StackState Device (List PlainBlock)) → IsLegalConfig c → InOrder (told_of s.device) (told_clock s.device) → StartsUp told_of m s → IsMadeStack c cap making entry m
+    → StackKeepsAsTold before s.desk None (told_of s.device) (told_clock s.device) → BeginsMoves (seen_by told_of told_clock s)
+first_begins c making entry before m s legal order starts made keeps =
+    let fixed : (told_of s.device).fixed ≡ fixed_by c = starts.finds.up.restarted.fixed ∙ made.fixed in
+    let config : s.desk.config ≡ c = ap (λ x. x.desk.config) starts.only ∙ ap (λ x. x.desk.config) made.only in
+    let simple = simple_up c making entry m made in
+    let (few, is) = start_work (told_of s.device) (told_clock s.device) order starts.finds.at_rest (nat_lt 0 (faults_of (told_of s.device))) (first_leaves starts.marks (told_of m.device) (told_of s.device) starts.finds simple) in record {
+      between = refl;
+      marks = starts.marks;
+      entries = ap (λ x. x.desk.entries) starts.only ∙ ap (λ x. x.desk.entries ++ Found starts.marks (told_of s.device).ops ∷ []) made.only;
+      pages = ap (λ (f : Fixed). pages_in f s.desk.config) fixed ∙ ap (λ (x : Configuration). pages_in (fixed_by x) s.desk.config) (sym config) ∙ (λ i x id. write_pages_are_figures s.desk.config x id i);
+      reserve = ap (λ (f : Fixed). f.reserve) fixed ∙ ap (λ (x : Configuration). (making_of x).reserve) (sym config);
+      costs = ap costs_in fixed ∙ costs_are_figures c legal made.one_device ∙ ap costs_of (sym config);
+      most =
+          ap (λ (f : Fixed). λ (x : State) (j : Job). most_turns f (program_for s.desk.config x j)) fixed
+          ∙ ap (λ (y : Configuration). λ (x : State) (j : Job). most_turns (fixed_by c) (program_for y x j)) config
+          ∙ (λ i x j. job_turns_are_figures c legal made.one_device x j i)
+          ∙ ap job_turns (sym config);
+      simple = subst IsSimple (made.fixed ∙ sym fixed) simple;
+      left = left_on (told_of s.device);
+      few = few;
+      is = is ∙ ap (λ (h : Option HandState). work_in h (told_of s.device)) (sym (ap (λ x. x.hand) starts.only));
+      owes = (omega arith, none_owed before m s s refl starts);
+      uncut = record { one = ap (λ (f : Fixed). f.two) fixed; power = λ off. absurd (let never : true ≡ false = sym off ∙ starts.finds.up.first_on in cc never) };
+      before = before;
+      kept = is_kept before m s s refl starts keeps;
+    }
+
+pub kept_up : (c : Configuration) (making : Making) (entry : Told) (before : Part → PartTold) (m s t : StackState Device (List PlainBlock)) → IsLegalConfig c → InOrder (told_of t.device) (told_clock t.device) → t ≡ s → StartsUp told_of m s → IsMadeStack c cap making entry m → StackKeepsAsTold before s.desk None (told_of s.device) (told_clock s.device)
+    → KeepsPlayed t.ready before t.desk t.hand (told_of t.device) (told_clock t.device) × BeginsMoves (seen_by told_of told_clock t)
+kept_up c making entry before m s t legal order same starts made keeps = (
+  (is_kept before m s t same starts keeps, starts_up c making entry m s t same starts made),
+  subst (λ (x : StackState Device (List PlainBlock)). BeginsMoves (seen_by told_of told_clock x)) (sym same)
+      (first_begins c making entry before m s legal (subst (λ (x : StackState Device (List PlainBlock)). InOrder (told_of x.device) (told_clock x.device)) same order) starts made keeps),
+)
 
 -- ITS END
 
@@ -255,61 +250,20 @@ once : (f n : ℕ) → n ≡ min (f + 0) last_count → Rose 0 n → WereCounted
 once f n is (inl more) = inl (omega (arith, is, more))
 once f n is (inr (full, stays)) = absurd (omega (arith, full))
 
--- what both parts' counts tell was counted of the first, where the second has none
-in_first : (a f t n : ℕ) → t ≡ min (f + 0) last_count → WereCounted n a t → WereCounted n a f
-in_first a f t n is (inl more) = inl (omega (arith, is, more))
-in_first a f t n is (inr full) = inr (omega (arith, is, full))
-
--- what is free in its bytes is spare
-both_less : (n a b : ℕ) → n ≤ a → n ≤ b → n ≤ min a b
-both_less n a b first second = omega (arith, first, second)
-
-had_free : {P : Type 0} (o : Option (List ℕ)) (spare : ℕ → ℕ → Type 0) (k n reserve : ℕ) (ready : List ℕ → ℕ) (image : List ℕ) → o ≡ Some image → n ≤ ready image → n ≤ reserve → IfSome o (λ x. spare k (ready x)) → P
-    → (free : ℕ) × spare k free × (n ≤ min reserve free) × P
-had_free None spare k n reserve ready image is few kept told first = absurd (let Q : ⊥ = cc is in Q)
-had_free (Some x) spare k n reserve ready image is few kept told first =
-    let same : x ≡ image = cc is in (ready x, told, both_less n reserve (ready x) kept (subst (λ (y : List ℕ). n ≤ ready y) (sym same) few), first)
-
-pub had_room : (o : Option (List ℕ)) (spare : ℕ → ℕ → Type 0) (k n : ℕ) (free : List ℕ → ℕ) → option_map_or (λ image. nat_le n (free image)) o false ≡ true → IfSome o (λ x. spare k (free x)) → (x : ℕ) × spare k x × (n ≤ x)
-had_room None spare k n free fits told = cc fits
-had_room (Some x) spare k n free fits told = (free x, told, leb-true n (free x) fits)
-
 pub vouched : (c : Configuration) (inner : Told) (cuts : ℕ) (making : Making) (entry exit : Told) (s : StackState Device (List PlainBlock)) (e : Device) → e ≡ s.device → HalvesMakeIt (told_clock e) → AreValues s.desk.entries → IsOrigin c inner cuts making entry → s.desk.config ≡ c → s.desk.cap ≡ cap
     → IsBack c inner exit (part_at entry) (told_of e) (clock_of e)
-    → Vouches (KeepsPlayed s.ready (one_part (part_at entry)) s.desk s.hand (told_of s.device) (told_clock s.device)) (payer_by told_of told_clock s) (part_at entry) (told_by told_of s) inner exit
+    → Vouches (KeepsPlayed s.ready (one_part (part_at entry)) s.desk s.hand (told_of s.device) (told_clock s.device)) (seen_by told_of told_clock s) (part_at entry) (told_by told_of s) inner exit
 vouched c inner cuts making entry exit s e same halves values origin config most back = record {
   operations = back.operations;
-  ops = own.ops;
+  bridge = told_bridge (reading_of (making_of s.desk.config)) inner exit back.operations (part_at entry) s.device bridge;
+  second = refl;
   counts = own.operations.counted;
   geometry = back.geometry ∙ ap (λ (x : Configuration). x.geometry) (sym config);
   off = λ is. ap (λ t. t || (told_of s.device).second.off) (own.off is);
   plan = back.no_plan;
-  failed = λ k few is.
-      let all = own.ops in
-      (few, own.failed k (omega (arith, few, all)) (subst (λ (x : Configuration). HasFailed (record { entry = inner; exit = exit; operations = back.operations }) k) config is));
   more = back.more;
   faults = λ rose. counted_rose inner.faults exit.faults (own.faults 1 (once (told_of s.device).first.faults (told_by told_of s).faults refl rose)) back.more;
-  counted = λ n counted. own.faults n (in_first (part_at entry).faults (told_of s.device).first.faults (told_by told_of s).faults n refl counted);
   cuts = λ n counted. own.cuts n (subst (λ (k : ℕ). WereCounted n (part_at entry).planning.unplanned k) one_part_cuts counted);
-  worn = λ k n urgent (few, is).
-      subst (λ (x : Configuration). IsWornOut (making_of x) (record { entry = inner; exit = exit; operations = back.operations }) k n urgent) (sym config) (worn_banks_compute (making_of c) (record { entry = inner; exit = exit; operations = back.operations }) k n urgent (own.worn k n urgent is));
-  kept = λ k few such. (few, own.was TakesKept k (let all = own.ops in omega (arith, few, all)) (of_own TakesKept k such));
-  seals = λ k n few such wanted. (few, own.was Seals k (let all = own.ops in omega (arith, few, all)) (of_own Seals k such), wanted, subst AreOfFirst same back.parts);
-  spare = λ told sound k n few free kept.
-      let all = bridge.ops in
-      let begins = sound_starts_compute (making_of s.desk.config) (record { entry = inner; exit = exit; operations = back.operations }) sound in (
-        few,
-        had_free (bytes_after (record { entry = inner; exit = exit; operations = back.operations }) k) (told_clock s.device).spare k n (told_of s.device).fixed.reserve (free_pages (making_of s.desk.config) (take k back.operations)) free.image free.bytes (let wanted = free.free in omega (arith, wanted)) kept
-            (bridge.spare told begins k (omega (arith, few, all)) free.counted) (subst AreOfFirst same back.parts),
-      );
-  room = λ told sound k n few free.
-      let all = bridge.ops in
-      let begins = sound_starts_compute (making_of s.desk.config) (record { entry = inner; exit = exit; operations = back.operations }) sound in
-      let (counted, fits) = and_parts (nat_lt k last_count) (option_map_or (λ image. nat_le n (free_pages (making_of s.desk.config) (take k back.operations) image)) (bytes_after (record { entry = inner; exit = exit; operations = back.operations }) k) false) free in (
-        few,
-        had_room (bytes_after (record { entry = inner; exit = exit; operations = back.operations }) k) (told_clock s.device).spare k n (free_pages (making_of s.desk.config) (take k back.operations)) fits
-            (bridge.spare told begins k (omega (arith, few, all)) (ltb-true k last_count counted)),
-      );
   values = values;
   restarts = λ kept made left pieces end. (
     told_of s.device,
@@ -322,7 +276,6 @@ vouched c inner cuts making entry exit s e same halves values origin config most
       faults = own.faults;
     },
   );
-  tells = λ told sound. slots told sound;
   early = λ kept told made left pieces end.
       begins_well (told_clock s.device) (run_of s.desk.config s.desk.entries inner exit back.operations (told_of s.device).first.planning.came (Played made pieces left) end) (part_at entry) (told_of s.device)
       (subst (λ (n : ℕ). KeepsEarly s.desk.config n s.desk.entries (told_clock s.device)) most (early_of s.ready (one_part (part_at entry)) s.desk s.hand s.device kept.0 (bridge.tells told)))
@@ -342,11 +295,6 @@ vouched c inner cuts making entry exit s e same halves values origin config most
       (subst (λ (x : Configuration). OperationsAreDue (making_of x) (record { entry = inner; exit = exit; operations = back.operations })) (sym config) back.wear);
 }
   where
-    -- by the configuration that the device was made for
-    of_own : (x : Trait) (k : ℕ) → IsSuch (reading_of (making_of s.desk.config)) (record { entry = inner; exit = exit; operations = back.operations }) x k
-        → IsSuch (reading_of (making_of c)) (record { entry = inner; exit = exit; operations = back.operations }) x k
-    of_own x k = subst (λ (d : Configuration). IsSuch (reading_of (making_of d)) (record { entry = inner; exit = exit; operations = back.operations }) x k) config
-
     own : Bridges (reading_of (making_of c)) true (record { entry = inner; exit = exit; operations = back.operations }) (part_at entry) (told_of s.device) (clock_of s.device)
     own = subst (λ (d : Device). Bridges (reading_of (making_of c)) true (record { entry = inner; exit = exit; operations = back.operations }) (part_at entry) (told_of d) (clock_of d)) same back.bridges
 

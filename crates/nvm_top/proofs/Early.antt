@@ -1,10 +1,11 @@
 -- A run without a start-up.
+use Rattle.std.specs.Prelude.{slice_get}
 use Rattle.std.specs.List.{Contains}
-use Rattle.std.proofs.Common.{◌≡◌, ◌≢◌, ◌≤◌, ◌⊎◌, ℕ, false, List, [], ◌∷◌, Option, None, refl, sym, subst, ap, inl, inr, arith}
-use Rattle.nv_streams.specs.Sink.{Written}
+use Rattle.std.proofs.Common.{◌≡◌, ◌≢◌, ◌≤◌, ◌⊎◌, ℕ, zero, suc, false, List, [], ◌∷◌, Option, Some, None, refl, sym, subst, ap, inl, inr, arith}
+use Rattle.nvm_lines.specs.nv_streams.Sink.{Written}
 use Rattle.nvm_flash.specs.nv_base.Geometry.{size_of}
 use Rattle.nvm_flash.specs.block_config.Config.{Configuration}
-use Rattle.nvm_flash.specs.fls_model.Told.{Told}
+use Rattle.nvm_flash.specs.fls_model.Told.{Told, Change}
 use Rattle.nvm_flash.specs.promise_device.FlashRun.{FlashRun}
 use Rattle.script_player.specs.script_walks.Words.{Step}
 use Rattle.nvm_flash.specs.block_machine.Words.{Entry, Found}
@@ -18,7 +19,7 @@ use Rattle.nvm_script.specs.declared.script.Mode.TheVariants as mode
 use Rattle.nvm_flash.specs.promise_run.Completeness.{Completeness}
 use Rattle.nvm_flash.specs.promise_run.JobTurns.{job_turns}
 use Rattle.nvm_top.specs.Play.{IsFlashStop}
-use Rattle.nvm_flash.specs.promise_run.Turns.{EndsBy, HasTurns}
+use Rattle.nvm_flash.specs.promise_run.Turns.{AreMadeIn, EndsBy, KeepsTurns}
 use Rattle.nvm_flash.proofs.promise_run.Callers.{callers_are_served}
 use Rattle.nvm_lines.specs.declared.status.Status.{Status}
 use Rattle.nvm_lines.specs.declared.status.Status.TheVariants as status
@@ -61,6 +62,10 @@ nothing_cut : (m : Mode) (steps : List Step) → CutsAre None 0 (events_in (noth
 nothing_cut mode.Play steps = (refl, refl)
 nothing_cut mode.Run steps = (refl, refl)
 
+no_operation : (k : ℕ) (x : Change) → slice_get [] k ≡ Some x → ⊥
+no_operation zero x is = cc
+no_operation (suc k) x is = cc
+
 early_promise : (m : Mode) (c : Configuration) (steps : List Step) (entry exit : Told) (stop : Stop) (end : End) → StopsAtStart c entry exit stop → EndsAtStart (record { entry = entry; exit = exit; operations = [] }) end
     → Promise (run_of c [] entry exit [] [] (nothing m steps) end)
 early_promise m c steps entry exit stop end stops ends = record {
@@ -74,6 +79,7 @@ early_promise m c steps entry exit stop end stops ends = record {
   wear = λ tells sound. refl;
   refusals = λ id. nothing_refused m c steps id;
   off = (0, nothing_cut m steps, inl (let more = stops.cuts in omega (arith, more)));
+  power = λ alone k small off. absurd (no_operation k off.0 off.1);
   operations = λ started. absurd started;
   begins = tt;
   counted = λ e ops has is. absurd (not_there e has);
@@ -87,27 +93,6 @@ one_fault f Memory ends = tt
 one_fault f Whole ends = tt
 one_fault f HistoryFull ends = tt
 
--- no step was made
-early_turns : (c : Configuration) (steps : List Step) (entry exit : Told) (end : End) → entry.faults ≤ exit.faults → EndsAtStart (record { entry = entry; exit = exit; operations = [] }) end → HasTurns (job_turns c) (run_of c [] entry exit [] [] (Played [] [] steps) end) (Played [] [] steps)
-early_turns c steps entry exit end more ends = record {
-  first = record { faults = 0; ops = 0; busy = false };
-  last = record { faults = 0; ops = 0; busy = false };
-  moves = record { moves = []; are = tt; tell = refl; behind = refl };
-  begins = tt;
-  operations = refl;
-  failed = tt;
-  counted = inl (omega (arith, more));
-  ends = one_fault (record { entry = entry; exit = exit; operations = [] }) end ends;
-  serves = tt;
-  rests = tt;
-  drains = λ calm. tt;
-  cuts = tt;
-  work = record { left = 0; few = omega arith; efforts = []; are = tt };
-  kept = tt;
-  urgent = λ told sound. tt;
-  paid = λ told sound. tt;
-}
-
 -- as it follows its script, ends, and has its turns
 early_order : (m : Mode) (c : Configuration) (steps : List Step) (entry exit : Told) (end : End) → HasOrder (run_of c [] entry exit [] [] (nothing m steps) end) [] → FollowsScript (run_of c [] entry exit [] [] (nothing m steps) end) (nothing m steps) []
 early_order mode.Play c steps entry exit end order = order
@@ -117,16 +102,15 @@ early_ends : (m : Mode) (c : Configuration) (steps : List Step) (entry exit : To
 early_ends mode.Play c steps entry exit end order = early_complete c steps entry exit end order
 early_ends mode.Run c steps entry exit end order = callers_are_served (run_of c [] entry exit [] [] (Ran steps []) end) steps [] refl refl order
 
-early_moves : (m : Mode) (c : Configuration) (steps : List Step) (entry exit : Told) (end : End) → entry.faults ≤ exit.faults → EndsAtStart (record { entry = entry; exit = exit; operations = [] }) end
-    → HasTurns (job_turns c) (run_of c [] entry exit [] [] (nothing m steps) end) (nothing m steps)
-early_moves mode.Play c steps entry exit end more ends = early_turns c steps entry exit end more ends
-early_moves mode.Run c steps entry exit end more ends = record {
+-- no move was made
+early_turns : (c : Configuration) (course : Course) (entry exit : Told) (end : End) → entry.faults ≤ exit.faults → EndsAtStart (record { entry = entry; exit = exit; operations = [] }) end
+    → AreMadeIn course (run_of c [] entry exit [] [] course end) (record { faults = 0; ops = 0; busy = false }) (record { faults = 0; ops = 0; busy = false }) []
+    → KeepsTurns (job_turns c) (run_of c [] entry exit [] [] course end) course
+early_turns c course entry exit end more ends made = record {
   first = record { faults = 0; ops = 0; busy = false };
   last = record { faults = 0; ops = 0; busy = false };
   moves = [];
-  tell = refl;
-  are = tt;
-  behind = refl;
+  made = made;
   begins = tt;
   operations = refl;
   failed = tt;
@@ -140,6 +124,12 @@ early_moves mode.Run c steps entry exit end more ends = record {
   urgent = λ told sound. tt;
   paid = λ told sound. tt;
 }
+
+early_moves : (m : Mode) (c : Configuration) (steps : List Step) (entry exit : Told) (end : End) → entry.faults ≤ exit.faults → EndsAtStart (record { entry = entry; exit = exit; operations = [] }) end
+    → KeepsTurns (job_turns c) (run_of c [] entry exit [] [] (nothing m steps) end) (nothing m steps)
+early_moves mode.Play c steps entry exit end more ends =
+    early_turns c (Played [] [] steps) entry exit end more ends (record { steps = record { moves = []; are = tt; tell = refl; behind = refl }; all = refl; drains = λ calm. tt; finds = tt; cuts = tt })
+early_moves mode.Run c steps entry exit end more ends = early_turns c (Ran steps []) entry exit end more ends (record { tell = refl; are = tt; behind = refl })
 
 pub early_has : (m : Mode) (c : Configuration) (steps : List Step) (Tells : Run → Type 0) (entry exit : Told) (stop : Stop) (end : End) → StopsAtStart c entry exit stop → c.eeprom ≡ None → EndsAtStart (record { entry = entry; exit = exit; operations = [] }) end
     → Tells (run_of c [] entry exit [] [] (nothing m steps) end) → HasRun m c steps Tells entry exit

@@ -1,6 +1,6 @@
 -- How a run ends, as its call tells it.
 use Rattle.std.proofs.Common.{ℕ, List, ◌++◌, Option, refl, inl, inr}
-use Rattle.nv_streams.specs.Sink.{Written}
+use Rattle.nvm_lines.specs.nv_streams.Sink.{Written}
 use Rattle.nvm_flash.specs.fls_model.Told.{Told}
 use Rattle.nvm_script.specs.Printed.{history_lines}
 use Rattle.nvm_flash.specs.block_machine.Words.{Entry}

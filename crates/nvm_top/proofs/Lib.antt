@@ -13,7 +13,6 @@ pub mod Outputs
 pub mod PlayLemmas
 pub mod Promised
 pub mod RunLines
-pub mod RunMoves
 pub mod Running
 pub mod Scripts
 pub mod ServedCuts

@@ -1,6 +1,6 @@
 -- The lines of stops.
 use Rattle.std.proofs.Common.{◌≡◌, ◌≢◌, ℕ, List, [], ◌∷◌, Option, refl, sym, subst}
-use Rattle.nv_streams.specs.Sink.{Written}
+use Rattle.nvm_lines.specs.nv_streams.Sink.{Written}
 use Rattle.nvm_flash.specs.nv_base.Count.{Rose}
 use Rattle.nvm_top.specs.Ends.{ChecksBy, ReadsBy}
 use Rattle.nvm_lines.specs.Output.{Writes}

@@ -2,8 +2,8 @@
 use Rattle.std.specs.Prelude.{not, ◌||◌, IsTrue, slice_get}
 use Rattle.std.specs.List.{list_all}
 use Rattle.std.proofs.Common.{◌≡◌, ◌≢◌, ◌≤◌, ◌+◌, ◌*◌, ℕ, Bool, true, false, List, [], ◌∷◌, ◌++◌, length, take, drop, Option, Some, None, Result, refl, sym, ap, ◌∙◌, subst, inl, arith}
-use Rattle.nv_streams.specs.Sink.{Written}
-use Rattle.nv_streams.proofs.Puts.{Puts-nil}
+use Rattle.nvm_lines.specs.nv_streams.Sink.{Written}
+use Rattle.nvm_lines.proofs.nv_streams.Puts.{Puts-nil}
 use Rattle.nvm_flash.specs.nv_base.Count.{WereCounted}
 use Rattle.nvm_flash.specs.nv_base.Geometry.{size_of}
 use Rattle.nvm_flash.specs.nv_base.declared.plan.Plan.{Plan}
@@ -47,19 +47,18 @@ use Rattle.nvm_callers.specs.declared.ending.Ending.{Ending}
 use Rattle.nvm_callers.specs.declared.ending.Ending.TheVariants as ending
 use Rattle.script_player.proofs.InHand.{power_on}
 use Rattle.script_player.specs.PlainTold.{plan_from, told_by}
-use Rattle.script_player.specs.PlainPaying.{payer_by}
+use Rattle.script_player.specs.PlainPaying.{seen_by}
 use Rattle.script_player.specs.script_walks.Callers.{KeepsAwait, KeepsAwaitBy, asks_of, program_of, requests_of}
 use Rattle.script_player.specs.script_walks.Looks.{CopyIsShown, Look}
 use Rattle.script_player.specs.script_walks.Runs.{AskedAll, IsRun, has_ended, is_found}
 use Rattle.script_player.specs.script_walks.Texts.{AreValues}
-use Rattle.script_player.specs.script_walks.Turn.{copies_next}
-use Rattle.script_player.specs.script_walks.Walk.{TakesStore, copies_by, is_at_rest}
+use Rattle.script_player.specs.script_walks.Walk.{TakesStore, copies_by, is_at_rest, copies_next}
 use Rattle.script_player.specs.script_walks.Words.{Step, StepKind, Await}
 use Rattle.nvm_top.specs.Play.{IsBeforeAttach, IsRightSize}
 use Rattle.nvm_top.specs.Promised.{EndsIn, FollowsCallers, FollowsScript, HasRun, KeepsRun, WritesText, call_by, lines_in}
 use Rattle.nvm_top.specs.Running.{stop_of_ending}
 use Rattle.nvm_top.specs.Runs.{status_of_run, lines_written}
-use Rattle.nvm_top.specs.Stack.{BeginsPaying, IsStarted, run_of, KeepsPlayed}
+use Rattle.nvm_top.specs.Stack.{IsStarted, run_of, KeepsPlayed}
 use Rattle.nvm_top.specs.declared.runs.RunText.TheVariants.{History}
 use Rattle.nvm_lines.specs.declared.status.Status.{Status}
 use Rattle.nvm_lines.specs.declared.status.Status.TheVariants as status
@@ -67,7 +66,14 @@ use Rattle.nvm_lines.specs.declared.stop.Stop.{Stop}
 use Rattle.nvm_flash.proofs.FirstStart.{told_bridge}
 use Rattle.nvm_top.proofs.EndsTold.{ends_told, status_at}
 use Rattle.nvm_top.proofs.Promised.{counted_from}
-use Rattle.nvm_top.proofs.RunMoves.{BeginsRun, HasMovesTo, moves_came, none_moved, run_turns}
+use Rattle.nvm_flash.specs.promise_run.DeviceTurns.{HasMovesTo}
+use Rattle.nvm_flash.specs.promise_run.Turns.{Moment, Move}
+use Rattle.nvm_flash.proofs.promise_run.DeviceTurns.{keeps_turns}
+use Rattle.nvm_flash.proofs.memif.Turning.{same_clock, same_told}
+use Rattle.nvm_callers.specs.nvm_moves.Beginning.{BeginsMoves}
+use Rattle.nvm_callers.specs.nvm_moves.Seen.{moment_by}
+use Rattle.nvm_callers.specs.driver_moves.Driving.{seen_at}
+use Rattle.nvm_callers.proofs.nvm_moves.Beginning.{moves_came, none_came as none_moved}
 use Rattle.nvm_top.proofs.WholeCalls.{written_late}
 
 -- WHAT CALLERS CAME TO
@@ -87,7 +93,9 @@ pub record CameTo (before : Part → PartTold) (c : Configuration) (most : ℕ) 
   pub all : end ≡ Whole → (caller : ℕ) → AskedAll c steps h caller
   pub ends : end ≢ Memory → IsTrue (has_ended c h)
   pub no_fault : end ≢ FlashFault
-  pub moved : HasMovesTo c h now clock
+  pub first : Moment
+  pub moves : List Move
+  pub moved : HasMovesTo true c h first moves now clock
   pub starts : now.starts ≤ founds h + 1
   pub looks : List Look
   pub order : IsLegal c most h → RunsBy c most steps looks end h
@@ -115,6 +123,8 @@ wanting before c most steps end h now clock w = record {
   all = λ whole. absurd (cc whole);
   ends = λ other. absurd (other refl);
   no_fault = λ fault. cc fault;
+  first = w.first;
+  moves = w.moves;
   moved = w.moved;
   starts = w.starts;
   looks = w.looks;
@@ -162,19 +172,26 @@ less_unplanned c before s started = let less = started.unplanned in omega (arith
 
 -- nothing is owed for any fault yet, and its figures are the configuration's
 abbrev BeginsSo : StackState Device (List PlainBlock) → Type 0
-BeginsSo s = BeginsPaying (payer_by told_of told_clock s) (told_by told_of s)
+BeginsSo s = BeginsMoves (seen_by told_of told_clock s)
 
-begins_run : (c : Configuration) (before : PartTold) (s : StackState Device (List PlainBlock)) → IsStarted c 0 before (told_by told_of s) → BeginsSo s → BeginsRun s.desk s.hand (told_of s.device) (told_clock s.device)
-begins_run c before s started (owes, pages, reserve, sealing, costs, begun) = record {
-  pages = pages;
-  reserve = reserve;
-  costs = costs;
-  most = started.turns ∙ ap job_turns (sym started.configuration);
-  simple = begun.is.0;
-  left = begun.left;
-  few = begun.few;
-  is = begun.is.1 started.fresh.ready;
-  owes = owes.1;
+begins_run : (before : Part → PartTold) (c : Configuration) (s : StackState Device (List PlainBlock)) → IsStarted c 0 (before First) (told_by told_of s) → BeginsSo s → StackKeepsAsTold before s.desk s.hand (told_of s.device) (told_clock s.device)
+    → BeginsMoves (seen_at s.desk s.hand (told_of s.device) (told_clock s.device))
+begins_run before c s started begins kept = record {
+  between = refl;
+  marks = begins.marks;
+  entries = begins.entries;
+  pages = begins.pages;
+  reserve = begins.reserve;
+  costs = begins.costs;
+  most = begins.most;
+  simple = begins.simple;
+  left = begins.left;
+  few = begins.few;
+  is = begins.is;
+  owes = begins.owes;
+  uncut = uncut c (before First) s started;
+  before = before;
+  kept = kept;
 }
 
 never_fault : (e : Ending) → end_of e ≡ FlashFault → ⊥
@@ -206,9 +223,11 @@ came_to before c steps s e desk d started begins kept was keeps = record {
   all = λ whole. keeps.all (all_made e whole);
   ends = λ other. was.ends (λ is. other (ap end_of is));
   no_fault = never_fault e;
+  first = moment_by None (told_of s.device);
+  moves = was.moved.moves;
   moved =
-      moves_came s.desk s.hand (told_of s.device) (told_clock s.device) (begins_run c (before First) s started begins) (uncut c (before First) s started) (before, kept_first before s started.fresh.ready kept) desk was.hand (told_of d) (told_clock d) was.config
-      was.moved started.fresh.marks started.fresh.ops started.fresh.entries started.ops;
+      moves_came true (seen_at s.desk s.hand (told_of s.device) (told_clock s.device)) (seen_at desk was.hand (told_of d) (told_clock d))
+      (begins_run before c s started begins (kept_first before s started.fresh.ready kept)) was.moved;
   starts =
       let one : (told_of s.device).starts ≡ founds s.desk.entries = as_ready s.ready _ _ started.fresh.ready kept.1 in
       let first : founds s.desk.entries ≡ 1 = ap founds started.fresh.entries in
@@ -283,7 +302,9 @@ begun before c steps s started kept = record {
   all = λ whole. absurd (cc whole);
   ends = λ other. absurd (other refl);
   no_fault = λ fault. cc fault;
-  moved = none_moved started.fresh.marks started.fresh.ops s.desk (told_of s.device) (told_clock s.device) one started.ops;
+  first = moment_by None (told_of s.device);
+  moves = [];
+  moved = none_moved true started.fresh.marks started.fresh.ops s.desk.config s.desk.entries (told_of s.device) (told_clock s.device) one started.ops;
   starts =
       let made : (told_of s.device).starts ≡ founds s.desk.entries = as_ready s.ready _ _ started.fresh.ready kept.1 in omega (arith, made);
   looks = [];
@@ -325,7 +346,9 @@ keeps_run c steps end h inner exit entry d back w values size = record {
   counted = subst (λ (ks : List ℕ). CountsAll r.flash ks) w.came back.bridges.operations.counted;
   complete = λ calm. record { ends = w.no_fault; rests = λ other. rests_by (is_at_rest (after c h)) (after c h).off (w.ends other) (power_on c h calm.entries) };
   exit = λ _. record { geometry = back.geometry; off = λ is. w.power (back.bridges.off is); plan = back.no_plan };
-  turns = run_turns r (part_at entry) (told_of d) (told_clock d) bridge refl refl back.parts w.no_fault w.moved;
+  turns =
+      keeps_turns r true (part_at entry) (told_of d) (told_of d) (told_clock d) (told_clock d) (same_told (told_of d) (told_clock d) (told_of d) (told_clock d) refl (same_clock (told_clock d))) refl (λ told. told) bridge (Ran steps w.looks) w.first w.moves
+      refl refl refl (λ fails. absurd (w.no_fault fails)) w.moved (record { tell = w.moved.tell; are = w.moved.are; behind = refl });
   values = values;
   early = λ told. begins_well (told_clock d) r (part_at entry) (told_of d) (w.early (bridge.tells told)) (uncut_bridges (beyond_end (told_clock d)) (reading_of (making_of c)) r.flash (part_at entry) (told_of d) w.came bridge) told;
   promise = λ told sound. callers_keep_promise (told_clock d) r steps w.looks (one_part (part_at entry)) (told_of d) (callers (bridge.slots told (sound_starts_compute (making_of c) r.flash sound))) w.came bridge back.wear;

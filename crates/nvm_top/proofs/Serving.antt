@@ -2,7 +2,7 @@
 use Rattle.std.specs.Prelude.{IfSome}
 use Rattle.std.specs.List.{list_any}
 use Rattle.std.proofs.Common.{◌≡◌, ◌⊎◌, ℕ, true, List, [], ◌∷◌, ◌++◌, length, map, Option, Some, None, Result, Ok, Err, refl, sym, ap, ◌∙◌, subst, inl, inr}
-use Rattle.nv_streams.specs.Sink.{Written}
+use Rattle.nvm_lines.specs.nv_streams.Sink.{Written}
 use Rattle.nvm_flash.specs.nv_base.Count.{WereCounted}
 use Rattle.nvm_flash.specs.nv_base.Geometry.{size_of}
 use Rattle.nvm_flash.specs.block_config.Config.{Configuration}
@@ -13,10 +13,9 @@ use Rattle.nvm_flash.specs.block_machine.State.{State}
 use Rattle.nvm_flash.specs.block_machine.Steps.{after}
 use Rattle.nvm_flash.specs.promise_run.Call.{last_line}
 use Rattle.nvm_flash.specs.promise_run.Run.{Run, Played, End, FlashFault, Memory, cap, LeavesFor, EndsAtStart}
-use Rattle.nvm_flash.specs.promise_run.Turns.{Moment, EndsBy}
-use Rattle.nvm_flash.specs.promise_device.FlashRun.{FlashRun}
 use Rattle.nvm_script.specs.Lines.{entry_line}
-use Rattle.script_player.specs.Paying.{Payer}
+use Rattle.nvm_callers.specs.nvm_moves.Beginning.{BeginsMoves}
+use Rattle.nvm_callers.specs.nvm_moves.Seen.{Seen}
 use Rattle.script_player.specs.Requests.{AreOfRequests, LeavesRequests, ServesRequests, HasServed}
 use Rattle.script_player.specs.Told.{StackTold, state_of}
 use Rattle.script_player.proofs.Served.{only_more}
@@ -32,7 +31,7 @@ use Rattle.nvm_lines.specs.declared.stop.Stop.TheVariants as stop
 use Rattle.nvm_lines.specs.Output.{Writes}
 use Rattle.nvm_top.specs.Play.{IsBeforeAttach, IsRightSize, IsFlashStop}
 use Rattle.nvm_top.specs.Promised.{HasNoRun, WritesText, played_call}
-use Rattle.nvm_top.specs.Stack.{BeginsPaying, IsStarted, StopsAtStart, Vouches, run_of}
+use Rattle.nvm_top.specs.Stack.{AreToldOf, IsStarted, StopsAtStart, Vouches, run_of}
 use Rattle.nvm_lines.specs.Stop.{IsStop}
 use Rattle.nvm_top.specs.Uds.{lines_by, lines_of_history, lines_served, HasPieces, HasRequests, HasRequestsOf, HasWrongRequest, UdsStopsBy, WritesLines, status_served, line_served, end_served, TellsServed, TellsRequests, HasServing, HasAnswered}
 use Rattle.nvm_top.proofs.AnswerLines.{has_pieces, lines_of_pieces}
@@ -87,15 +86,15 @@ leaves_for r s (Err serve.NoRoom) [] rest leaves = absurd leaves
 leaves_for r s (Err serve.NoRoom) (request ∷ left) rest leaves = leaves.0.2
 leaves_for r s (Err serve.Memory) left rest leaves = tt
 
-ends_by : (last : Moment) (f : FlashRun) (end : Result (Unit {0}) ServeStop) → EndsBy last f (end_served end)
-ends_by last f (Ok done) = tt
-ends_by last f (Err serve.Off) = tt
-ends_by last f (Err serve.NoRoom) = tt
-ends_by last f (Err serve.Memory) = tt
+no_fault : (end : Result (Unit {0}) ServeStop) → end_served end ≡ FlashFault → ⊥
+no_fault (Ok done) is = cc is
+no_fault (Err serve.Off) is = cc is
+no_fault (Err serve.NoRoom) is = cc is
+no_fault (Err serve.Memory) is = cc is
 
 -- THE RUN
 
-module _ {p q : Payer} (requests : List (List ℕ)) (counts : List ℕ) (end : Result (Unit {0}) ServeStop) (c : Configuration) (old t : StackTold) (before : PartTold) (started : IsStarted c 0 before old) (has : HasServed p q requests counts end old t) (same : t.configuration ≡ old.configuration) where
+module _ {p q : Seen} (requests : List (List ℕ)) (counts : List ℕ) (end : Result (Unit {0}) ServeStop) (c : Configuration) (old t : StackTold) (before : PartTold) (started : IsStarted c 0 before old) (has : HasServed p q requests counts end old t) (same : t.configuration ≡ old.configuration) where
   of : t.configuration ≡ c
   of = same ∙ started.configuration
 
@@ -135,15 +134,15 @@ module _ {p q : Payer} (requests : List (List ℕ)) (counts : List ℕ) (end : R
           subst (λ (es : List Entry). list_any is_off es ≡ true) walk.0
           (subst (λ (es : List Entry). list_any is_off es ≡ true) (sym has.serves.parts) (parts_off (joined has.serves.pieces) has.serves.rest in_rest))
 
-  pub serving_has : (Kept : Type 0) (entry exit : Told) (x : Status) (w w' : Written) (input : Option (List ℕ)) (h : List Entry) → h ≡ t.entries → Kept → BeginsPaying p old → Vouches Kept q before t entry exit → IsRightSize (size_of c.geometry) entry.bytes
+  pub serving_has : (Kept : Type 0) (entry exit : Told) (x : Status) (w w' : Written) (input : Option (List ℕ)) (h : List Entry) → h ≡ t.entries → Kept → BeginsMoves p → AreToldOf p q old t → Vouches Kept q before t entry exit → IsRightSize (size_of c.geometry) entry.bytes
       → WritesLines (status_served end) (lines_of_history c requests counts h) (line_served end h) w w' x → HasServing c requests (played_call input x entry exit w w') x
   unfolding serves
-  serving_has Kept entry exit x w w' input h is keeps owes v size writes =
+  serving_has Kept entry exit x w w' input h is keeps begins seen v size writes =
       let left = left_steps c cap (after c t.entries) end has.serves.left has.serves.rest leaves in (
         has.made ++ left,
         only_more has.made left has.only (left_only c cap (after c t.entries) end has.serves.left has.serves.rest leaves),
-        has_run Kept p q c 0 (has.made ++ left) has.made left (end_served end) before old t entry exit (TellsRequests c requests (played_call input x entry exit w w') x) started has.walked same keeps owes v refl
-            for_left (ends_by has.walked.last (record { entry = entry; exit = exit; operations = v.operations }) end) (inr told) size,
+        has_run Kept p q c 0 (has.made ++ left) has.made left (end_served end) before old t entry exit (TellsRequests c requests (played_call input x entry exit w w') x) started has.walked same keeps begins seen v refl
+            for_left (λ fails. absurd (no_fault end fails)) (inr told) size,
       )
     where
       for_left : LeavesFor (run_of t.configuration t.entries entry exit v.operations t.causes.came (Played has.made has.walked.pieces (left_steps c cap (after c t.entries) end has.serves.left has.serves.rest leaves)) (end_served end)) (after t.configuration t.entries) (end_served end)

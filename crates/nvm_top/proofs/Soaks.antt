@@ -3,7 +3,7 @@ use Rattle.std.specs.Prelude.{nat_le, IfSome, slice_get}
 use Rattle.std.specs.Str.Parse.{digits_value}
 use Rattle.std.proofs.Common.{◌≡◌, ◌≤◌, ◌⊎◌, ◌&&◌, ℕ, Bool, true, false, List, [], ◌∷◌, Option, Some, None, if◌then◌else◌, refl, ap, subst, inl, inr}
 use Rattle.std.proofs.lemmas.Bool.{leb-true}
-use Rattle.nv_streams.specs.Sink.{Written}
+use Rattle.nvm_lines.specs.nv_streams.Sink.{Written}
 use Rattle.nvm_flash.specs.nv_base.Decimal.{is_numeral, decimal_number_of}
 use Rattle.nvm_flash.specs.nv_base.Geometry.{size_of}
 use Rattle.nvm_flash.specs.block_config.Config.{Configuration}

@@ -1,8 +1,8 @@
 -- What is written of a run.
 use Rattle.std.proofs.Common.{◌≡◌, ◌≢◌, ℕ, List, [], ◌∷◌, ◌++◌, length, take, Result, Ok, Err, refl, sym, ap, ◌∙◌, subst}
 use Rattle.std.proofs.Math.Seq.{take-length}
-use Rattle.nv_streams.specs.Sink.{Written, Puts, PutsPart}
-use Rattle.nv_streams.proofs.Puts.{Puts-nil, Puts-trans, PutsPart-longer, PutsPart-behind}
+use Rattle.nvm_lines.specs.nv_streams.Sink.{Written, Puts, PutsPart}
+use Rattle.nvm_lines.proofs.nv_streams.Puts.{Puts-nil, Puts-trans, PutsPart-longer, PutsPart-behind}
 use Rattle.nvm_flash.specs.nv_base.declared.entry.Entry.{Entry}
 use Rattle.nvm_script.specs.Lines.{end_line}
 use Rattle.nvm_script.specs.Cut.{cut_lines}

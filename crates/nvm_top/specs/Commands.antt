@@ -1,6 +1,6 @@
 -- What a call of each command keeps; a call of the program keeps what the command keeps that its words name.
 use Rattle.std.specs.Prelude.{◌≡◌, ◌⊎◌, ℕ, Bool, true, false, List, Option, Some, None}
-use Rattle.nv_streams.specs.Sink.{Written}
+use Rattle.nvm_lines.specs.nv_streams.Sink.{Written}
 use Rattle.nvm_flash.specs.block_config.Config.{Configuration}
 use Rattle.nvm_flash.specs.fls_model.Told.{Told, ToldBytes}
 use Rattle.nvm_flash.specs.promise_run.Call.{Call}
@@ -23,8 +23,7 @@ use Rattle.nvm_top.specs.Soak.{SoakStopsBy}
 use Rattle.nvm_lines.specs.Stop.{IsStop}
 use Rattle.nvm_top.specs.Uds.{HasAnswered, UdsStopsBy}
 
--- A call that is over: its status, and before it and behind it what was left of its input and how often that had failed, what
--- was written to its output and how often that had failed, and its flash.
+-- a call that is over: before it and behind it what was left of its input, what was written, how often each had failed, and its flash
 pub record Ended : Type 0 where
   pub status : Status
   pub left : Option (List ℕ)

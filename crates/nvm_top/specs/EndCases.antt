@@ -5,7 +5,7 @@ use Rattle.nvm_flash.specs.block_machine.Words.{Status as StatusOf}
 use Rattle.nvm_flash.specs.fls_model.Told.{Told, ToldBytes}
 use Rattle.nvm_flash.specs.promise_run.Cases.{blank, quiet, tells}
 use Rattle.nvm_flash.specs.promise_run.Run.{Run}
-use Rattle.nv_streams.specs.Sink.{Written}
+use Rattle.nvm_lines.specs.nv_streams.Sink.{Written}
 use Rattle.script_player.specs.script_walks.Words.{Step, AskStep}
 use Rattle.nvm_lines.specs.declared.status.Status.{Status}
 use Rattle.nvm_lines.specs.declared.status.Status.TheVariants as status

@@ -27,8 +27,7 @@ pub record HasScript (m : Mode) (bytes : List ℕ) (c : Configuration) (steps : 
 abbrev pub HasWrongLine : Mode → List ℕ → ℕ → Type 0
 HasWrongLine m bytes number = (c : Configuration) × HasConfig bytes c × IsFirstWrong c m 2 [] (later_lines bytes) number
 
--- why the input isn't read, with its bytes, where they are told, with its faults before and after, and with the line of it: the
--- first broken rule with its first block, a read that failed, or too many bytes
+-- why the input isn't read, with its line: the first broken rule with its first block, a read that failed, or too many bytes
 abbrev pub ReadsBy : Option (List ℕ) → (reads reads' : ℕ) → Status → List (List ℕ) → Type 0
 ReadsBy left reads reads' status.BadConfig lines = (rule : ℕ) × (block : ℕ) × IfSome left (λ bytes. BreaksRule bytes rule block) × (lines ≡ line_of (stop.BadConfig rule block) ∷ [])
 ReadsBy left reads reads' status.ReadFault lines = Rose reads reads' × (lines ≡ line_of stop.ReadFault ∷ [])

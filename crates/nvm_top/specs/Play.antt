@@ -85,9 +85,7 @@ IsFlashStop c bytes status.InUse lines = (c.eeprom ≡ None) × (lines ≡ line_
 IsFlashStop c bytes status.NoSecond lines = (c.eeprom ≢ None) × (lines ≡ line_of stop.NoSecond ∷ [])
 IsFlashStop c bytes _ lines = ⊥
 
--- Why no run is begun, by what makes a later line of the input a wrong one, and by which inputs have a configuration: the
--- input isn't read, a line is wrong, a second device is missing, or the flash has a wrong size or is in use. It takes the bytes of the input and of the flash, where
--- they are told, the input's faults before and after, and the line that is written.
+-- why no run is begun, by what makes a later line of the input a wrong one and by which inputs have a configuration, with the line of it
 abbrev pub StopsBy : (List ℕ → ℕ → Type 0) → (Configuration → List ℕ → Type 0) → (left : Option (List ℕ)) (reads reads' : ℕ) → Option ToldBytes → Status → List (List ℕ) → Type 0
 StopsBy IsWrong Has left reads reads' bytes status.BadScript lines = (number : ℕ) × IfSome left (λ input. IsWrong input number) × (lines ≡ line_of (stop.BadScript number) ∷ [])
 StopsBy IsWrong Has left reads reads' bytes status.WrongSize lines = (c : Configuration) × IfSome left (Has c) × IsFlashStop c bytes status.WrongSize lines

@@ -1,7 +1,7 @@
 -- The promise of a whole run, as a command keeps it.
 use Rattle.std.specs.Prelude.{◌≡◌, ◌≢◌, ◌⊎◌, ◌<◌, ◌++◌, ℕ, not, true, false, IsTrue, List, [], length, take, drop, Option, None, IfSome, ◌∷◌}
 use Rattle.std.specs.List.{list_all}
-use Rattle.nv_streams.specs.Sink.{Written, Puts, PutsPart}
+use Rattle.nvm_lines.specs.nv_streams.Sink.{Written, Puts, PutsPart}
 use Rattle.nvm_flash.specs.nv_base.Geometry.{size_of}
 use Rattle.nvm_flash.specs.block_config.Config.{Configuration}
 use Rattle.nvm_flash.specs.fls_model.Told.{Told}
@@ -27,7 +27,7 @@ use Rattle.nvm_flash.specs.promise_run.Promise.{BeginsWell, Promise, making_of}
 use Rattle.nvm_flash.specs.promise_run.BankTurns.{HasCausedErases}
 use Rattle.nvm_flash.specs.promise_run.Completeness.{Completeness}
 use Rattle.nvm_flash.specs.promise_run.JobTurns.{job_turns}
-use Rattle.nvm_flash.specs.promise_run.Turns.{HasTurns}
+use Rattle.nvm_flash.specs.promise_run.Turns.{KeepsTurns}
 use Rattle.nvm_flash.specs.promise_run.Call.{Call, EndsWith, IsCourseOf, IsRunOf, last_line, text_of}
 use Rattle.nvm_lines.specs.declared.status.Status.{Status}
 use Rattle.nvm_lines.specs.declared.status.Status.TheVariants as status
@@ -51,8 +51,7 @@ played_call = call_by mode.Play
 
 -- A RUN
 
--- the flash at the exit: it has the configuration's shape, is off only where the history ends with the power off, and has no cut
--- planned while it is on
+-- the flash at the exit: of the configuration's shape, off only where the history ends with the power off, and with no cut planned while on
 pub record EndsAt (r : Run) : Type 0 where
   pub geometry : r.flash.exit.geometry ≡ r.configuration.geometry
   pub off : r.flash.exit.off ≡ true → (after r.configuration r.history).off ≡ true
@@ -67,21 +66,15 @@ pub record FollowsCallers (r : Run) (steps : List Step) : Type 0 where
   pub ends : r.end ≢ Memory → IsTrue (has_ended r.configuration r.history)
   pub no_fault : r.end ≢ FlashFault
 
--- A run follows its script over any flash: its history is a walk of the steps of `play`. What the waits and the stores of callers came
--- to is known where the flash tells its bytes: the promise says it.
+-- over any flash a history of `play` is a walk of its steps; what the waits and stores of callers came to the promise says
 abbrev pub FollowsScript : Run → Course → List Entry → Type 0
 FollowsScript r (Played made pieces left) h = HasOrder r h
 FollowsScript r (Ran steps looks) [] = HasOrder r []
 FollowsScript r (Ran steps looks) (e ∷ es) = FollowsCallers r steps
 
--- What a run keeps over any flash: it follows its script, which explains its refused copies and its power cuts, of each of which
--- so much was done as was planned; the flash counted its operations, but those of which a planned cut let nothing be done; it
--- had a size that it may have, and ends as it should, but where no start-up was made; and where nothing fails the run ends well.
--- Its steps have their turns, one by one, which make all operations of the flash and each count what failed in it, and each job
--- is posted within its own, counted from its Pick; by their moments a start-up that failed at the end had a fault of its own.
--- The numbers and bytes of its history are those of a program, as its text needs them. Over a flash that tells its bytes it begins
--- well, whatever its image; and from a sound image on each Post is paid by its faults since its Pick, and the run keeps the promise. From
--- a flash on which no bank stood the first sector of a bank is erased as often as its turn came, but for faults and start-ups.
+-- What a run keeps over any flash: it follows its script, which explains its refused copies and power cuts; the flash counted its operations,
+-- had a size that it may have, and ends as it should; and its turns keep what is said of turns. Over a flash that tells its bytes it begins
+-- well, whatever its image; from a sound image on it keeps the promise, and from one without a bank the banks take turns in their erases.
 pub record KeepsRun (r : Run) : Type 0 where
   pub order : FollowsScript r r.course r.history
   pub size : HasStarted r.history → IsRightSize (size_of r.configuration.geometry) r.flash.entry.bytes
@@ -90,7 +83,7 @@ pub record KeepsRun (r : Run) : Type 0 where
   pub counted : CountsAll r.flash r.cuts
   pub complete : Completeness r r.course
   pub exit : HasStarted r.history → EndsAt r
-  pub turns : HasTurns (job_turns r.configuration) r r.course
+  pub turns : KeepsTurns (job_turns r.configuration) r r.course
   pub values : AreValues r.history
   pub early : TellsBytes r.flash → BeginsWell r
   pub promise : TellsBytes r.flash → StartsSound (making_of r.configuration) r.flash → Promise r
@@ -99,16 +92,14 @@ pub record KeepsRun (r : Run) : Type 0 where
 
 -- THE WHOLE CALL
 
--- no run was begun: the line of a stop was written, at want of memory none, and the flash is left alone, but where another call has it
--- in use: then no other line was written than that, and of the flash the faults alone changed, which rose
+-- no run was begun: a stop's line was written, at want of memory none, and the flash is left alone; in use elsewhere its faults alone rose
 pub record HasNoRun (IsEnd : Status → List (List ℕ) → Type 0) (written written' : Written) (x : Status) (entry exit : Told) : Type 0 where
   pub line : Writes IsEnd written written' x
   pub flash : (LeavesAlone entry exit × (x ≢ status.InUse)) ⊎ (Writes (IsStop stop.InUse) written written' x × IsOnlyFaulty entry exit)
 
 -- FROM THE ATTACH ON
 
--- a run of these steps in this mode over one flash, from its attach on, which ends as a command tells it; the configuration names no
--- second device
+-- a run of these steps over one flash, from its attach on, which ends as a command tells it; the configuration names no second device
 pub record HasRun (m : Mode) (c : Configuration) (steps : List Step) (Tells : Run → Type 0) (entry exit : Told) : Type 0 where
   pub run : Run
   pub configuration : run.configuration ≡ c
@@ -154,8 +145,7 @@ lines_in History end h = last_line end h ∷ []
 abbrev pub EndsIn : RunText → Call → Run → Type 0
 EndsIn text call r = EndsWith (entries_in text r.history) (history_lines (entries_in text r.history) ++ lines_in text r.end r.history) call r.end
 
--- What is written of a run that ends with this status, of its entries and these lines behind theirs: at want of memory the lines of
--- some entries, from the first on, and where the output failed, while memory wasn't wanting, a beginning of all.
+-- what is written of entries and these lines behind theirs: at want of memory the first entries' lines, where the output failed a beginning
 abbrev pub WritesText : Status → List Entry → List (List ℕ) → Written → Written → Status → Type 0
 WritesText meant entries lines written written' status.Memory = (n : ℕ) × Puts written written' (history_lines (take n entries))
 WritesText meant entries lines written written' status.WriteFault = (meant ≢ status.Memory) × PutsPart written written' (history_lines entries ++ lines)

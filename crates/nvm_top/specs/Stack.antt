@@ -1,10 +1,10 @@
 -- The stack that a command runs over a flash.
-use Rattle.std.specs.Prelude.{◌≡◌, ◌<◌, ◌≤◌, nat_lt, ℕ, Bool, true, false, List, [], length, min, Option, None}
-use Rattle.nvm_flash.specs.nv_base.Count.{last_count, Rose, WereCounted}
+use Rattle.std.specs.Prelude.{◌≡◌, ◌≤◌, ℕ, Bool, true, false, List, [], Option, None}
+use Rattle.nvm_flash.specs.nv_base.Count.{Rose, WereCounted}
 use Rattle.nvm_flash.specs.nv_base.Geometry.{size_of}
 use Rattle.nvm_flash.specs.block_config.Config.{Configuration}
 use Rattle.nvm_flash.specs.block_config.Rules.{IsLegalConfig}
-use Rattle.nvm_flash.specs.memif.Told.{Part, PartTold, DeviceTold}
+use Rattle.nvm_flash.specs.memif.Told.{Part, PartTold, DeviceTold, faults_of}
 use Rattle.nvm_flash.specs.fls_model.Told.{Told, Change}
 use Rattle.script_player.specs.script_walks.Words.{Step}
 use Rattle.script_player.specs.script_walks.Texts.{AreValues}
@@ -12,20 +12,18 @@ use Rattle.nvm_flash.specs.block_machine.Words.{Entry}
 use Rattle.nvm_flash.specs.promise_run.Run.{Run, Course, Played, End, cap, HasOrder, LeavesFlash, CutsExplain}
 use Rattle.nvm_flash.specs.promise_run.Refusals.{RefusesAsAsked}
 use Rattle.nvm_flash.specs.promise_run.Promise.{Promise, BeginsWell, making_of}
-use Rattle.nvm_flash.specs.memif.Clock.{Clock, Seals, TakesKept}
+use Rattle.nvm_flash.specs.memif.Clock.{Clock}
 use Rattle.nvm_flash.specs.nv_desk.Desk.{DeskState}
 use Rattle.nvm_flash.specs.job_progress.Hand.{HandState}
 use Rattle.nvm_flash.specs.promise_run.BankTurns.{TellsRestarts}
-use Rattle.nvm_flash.specs.promise_device.Bridge.{IsSuch, IsWornOut, reading_of}
-use Rattle.nvm_flash.specs.promise_device.FlashRun.{HasFailed, CountsAll, TellsBytes, StartsSound}
+use Rattle.nvm_flash.specs.promise_device.Bridge.{Bridges, reading_of}
+use Rattle.nvm_flash.specs.promise_device.FlashRun.{CountsAll, TellsBytes, StartsSound}
 use Rattle.script_player.specs.PlainKept.{IsKept, AreStartsFound}
-use Rattle.script_player.specs.Told.{StackTold}
-use Rattle.script_player.specs.Paying.{Payer}
-use Rattle.script_player.specs.Working.{IsBegun}
+use Rattle.script_player.specs.Told.{StackTold, moment_of}
+use Rattle.nvm_callers.specs.nvm_moves.Seen.{Seen, moment_seen}
 use Rattle.script_player.specs.Made.{IsFresh}
-use Rattle.nvm_flash.specs.promise_run.Turns.{HadFree}
-use Rattle.nvm_flash.specs.promise_run.JobTurns.{job_turns, write_pages}
-use Rattle.nvm_flash.specs.promise_run.Operations.{costs_of, has_free}
+use Rattle.nvm_flash.specs.promise_run.JobTurns.{job_turns}
+use Rattle.nvm_flash.specs.promise_run.Halves.{beyond_end}
 use Rattle.nvm_flash.specs.declared.device.MakeFault.{MakeFault}
 use Rattle.nvm_flash.specs.declared.device.MakeFault.TheVariants as fault
 use Rattle.nvm_lines.specs.declared.stop.Stop.{Stop}
@@ -72,51 +70,36 @@ pub record StopsAtStart (c : Configuration) (entry exit : Told) (stop : Stop) : 
   pub faults : entry.faults ≤ exit.faults
   pub cuts : entry.cuts ≤ exit.cuts
 
--- nothing is owed for any fault yet, the pages of the records of a write, those that are kept for urgent ones and what the device
--- makes of its work at most are the configuration's, no operation from here on left anything yet, no try is open, and nothing is left
--- where no fault was counted
-abbrev pub BeginsPaying : Payer → StackTold → Type 0
-BeginsPaying p t = p.owes t.faults × (p.pages ≡ write_pages t.configuration) × (p.reserve ≡ (making_of t.configuration).reserve) × p.sealing t.ops × (p.work.costs ≡ costs_of t.configuration) × IsBegun (nat_lt 0 t.faults) p.work
-
 -- what is kept of a player's stack: the promise over its device, and that its start-ups are told
 abbrev pub KeepsPlayed : Bool → (Part → PartTold) → DeskState → Option HandState → DeviceTold → Clock → Type 0
 KeepsPlayed ready before desk hand d clock = IsKept ready before desk hand d clock × AreStartsFound ready desk d
 
--- so it is, and all is kept
-abbrev pub IsKeptFrom : Type 0 → Payer → StackTold → Type 0
-IsKeptFrom Kept p t = Kept × BeginsPaying p t
+-- what is told of a stack at two moments is what is seen of it
+pub record AreToldOf (p q : Seen) (old t : StackTold) : Type 0 where
+  pub entries : p.desk.entries ≡ old.entries
+  pub configuration : p.desk.config ≡ old.configuration
+  pub moment : moment_seen p ≡ moment_of old
+  pub faults : faults_of q.device ≡ t.faults
 
--- The flash is given back: the operations, the faults and the cuts that the stack was told are its own, what failed of them
--- the stack was told of, what its bytes had free for urgent writes, and which operations took a page that is kept for them or left a
--- switch at its seal, and where it says that it is worn out the flash is; the flash is off only where the device was, and plans no
--- cut while it is on; the numbers and bytes of its history are those of
--- a program; and where this was kept, a run that followed a script keeps the promise, where its flash tells sound bytes at first and
--- its steps explain its refused copies and its power cuts; until its first operation it does over any bytes.
-pub record Vouches (Kept : Type 0) (p : Payer) (before : PartTold) (t : StackTold) (entry exit : Told) : Type 0 where
+-- The flash is given back: what the stack's device told of it is so; the flash is off only where the device was, and plans no cut while it
+-- is on; the numbers and bytes of its history are those of a program; and where this was kept, a run that followed a script keeps the promise,
+-- where its flash tells sound bytes at first and its steps explain its refused copies and its power cuts; until its first operation it does
+-- over any bytes.
+pub record Vouches (Kept : Type 0) (q : Seen) (before : PartTold) (t : StackTold) (entry exit : Told) : Type 0 where
   pub operations : List Change
-  pub ops : t.ops ≡ min (length operations) last_count
+  pub bridge : Bridges (reading_of (making_of t.configuration)) true (record { entry = entry; exit = exit; operations = operations }) before q.device (beyond_end q.clock)
+  pub second : q.device.second.faults ≡ 0
   pub counts : CountsAll (record { entry = entry; exit = exit; operations = operations }) t.causes.came
   pub geometry : exit.geometry ≡ t.configuration.geometry
   pub off : exit.off ≡ true → t.causes.off ≡ true
   pub plan : exit.off ≡ false → exit.planning.plan ≡ None
-  pub failed : (k : ℕ) → k < t.ops → HasFailed (record { entry = entry; exit = exit; operations = operations }) k → p.failed k
   pub more : entry.faults ≤ exit.faults
   pub faults : Rose before.faults t.faults → Rose entry.faults exit.faults
-  pub counted : (n : ℕ) → WereCounted n before.faults t.faults → WereCounted n entry.faults exit.faults
   pub cuts : (n : ℕ) → WereCounted n before.planning.unplanned t.causes.unplanned → WereCounted n entry.cuts exit.cuts
-  pub worn : (k n : ℕ) (urgent : Bool) → p.worn k n urgent → IsWornOut (making_of t.configuration) (record { entry = entry; exit = exit; operations = operations }) k n urgent
-  pub spare : TellsBytes (record { entry = entry; exit = exit; operations = operations }) → StartsSound (making_of t.configuration) (record { entry = entry; exit = exit; operations = operations })
-      → (k n : ℕ) → k ≤ t.ops → HadFree (making_of t.configuration) (record { entry = entry; exit = exit; operations = operations }) k n → n ≤ p.reserve → p.spare k n
-  pub room : TellsBytes (record { entry = entry; exit = exit; operations = operations }) → StartsSound (making_of t.configuration) (record { entry = entry; exit = exit; operations = operations })
-      → (k n : ℕ) → k ≤ t.ops → has_free (making_of t.configuration) (record { entry = entry; exit = exit; operations = operations }) k n ≡ true → p.work.room k n
-  pub kept : (k : ℕ) → k < t.ops → IsSuch (reading_of (making_of t.configuration)) (record { entry = entry; exit = exit; operations = operations }) TakesKept k → p.kept k
-  pub seals : (k n : ℕ) → k < t.ops → IsSuch (reading_of (making_of t.configuration)) (record { entry = entry; exit = exit; operations = operations }) Seals k → n ≤ p.reserve → p.seals k n
   pub values : AreValues t.entries
   -- where this was kept, few switches of its device began again
   pub restarts : Kept → (made left : List Step) (pieces : List (List Entry)) (end : End)
       → (now : DeviceTold) × TellsRestarts (run_of t.configuration t.entries entry exit operations t.causes.came (Played made pieces left) end) before now
-  -- its device tells to the end what it holds, where the flash tells its bytes and these were sound
-  pub tells : TellsBytes (record { entry = entry; exit = exit; operations = operations }) → StartsSound (making_of t.configuration) (record { entry = entry; exit = exit; operations = operations }) → p.tells
   pub early : Kept → TellsBytes (record { entry = entry; exit = exit; operations = operations }) → (made left : List Step) (pieces : List (List Entry)) (end : End)
       → BeginsWell (run_of t.configuration t.entries entry exit operations t.causes.came (Played made pieces left) end)
   pub promise : Kept → TellsBytes (record { entry = entry; exit = exit; operations = operations }) → StartsSound (making_of t.configuration) (record { entry = entry; exit = exit; operations = operations })

@@ -1,6 +1,6 @@
 -- `uds`: what its input holds, how its requests ended, and what it writes.
 use Rattle.std.specs.Prelude.{◌≡◌, ◌⊎◌, ◌≢◌, ℕ, List, [], ◌∷◌, ◌++◌, ◌+◌, ◌≤◌, length, take, drop, sum_by, Option, Some, None, IfSome, Result, Ok, Err}
-use Rattle.nv_streams.specs.Sink.{Written, Puts, PutsPart}
+use Rattle.nvm_lines.specs.nv_streams.Sink.{Written, Puts, PutsPart}
 use Rattle.nvm_flash.specs.nv_base.Count.{WereCounted}
 use Rattle.nvm_flash.specs.block_config.Config.{Configuration}
 use Rattle.nvm_flash.specs.block_machine.Words.{Instance, Mark, Entry, Found}
@@ -129,8 +129,7 @@ pub record HasPieces (requests : List (List ℕ)) (counts : List ℕ) (entries :
   pub fewer : length counts ≤ length requests
   pub within : 1 + sum_by (λ n. n) counts ≤ length entries
 
--- What is written of lines that end with this status and this last line: at want of memory some of them, from the first on, and
--- where the output failed, while memory wasn't wanting, a beginning of all.
+-- what is written of lines with this status and last line: at want of memory the first ones, and where the output failed a beginning of all
 abbrev pub WritesLines : Status → List (List ℕ) → List ℕ → Written → Written → Status → Type 0
 WritesLines meant lines last written written' status.Memory = (n : ℕ) × Puts written written' (take n lines)
 WritesLines meant lines last written written' status.WriteFault = (meant ≢ status.Memory) × PutsPart written written' (lines ++ last ∷ [])
@@ -138,9 +137,8 @@ WritesLines meant lines last written written' x = (x ≡ meant) × Puts written 
 
 -- THE RUN
 
--- Requests were served in a run, and the call tells it: behind the start-up each of the first requests has its piece of the history,
--- with its answer in the output, and the end says why no more have. No step plans a power cut, so where the power went off the
--- flash counted one, or its count stands at its end.
+-- Requests were served in a run, and the call tells it: behind the start-up each of the first requests has its piece of the history, with its
+-- answer in the output, and the end says why no more have. Where the power went off the flash counted a cut, or its count stands at its end.
 pub record TellsServed (c : Configuration) (requests : List (List ℕ)) (call : Call) (x : Status) (r : Run) : Type 0 where
   pub marks : List (Instance × Mark)
   pub ops : ℕ

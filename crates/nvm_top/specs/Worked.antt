@@ -1,6 +1,6 @@
 -- A call of `play` over a blank flash in memory.
 use Rattle.std.specs.Prelude.{◌≤◌, ℕ, List, [], length, Option}
-use Rattle.nv_streams.specs.Sink.{Written}
+use Rattle.nvm_lines.specs.nv_streams.Sink.{Written}
 use Rattle.nvm_flash.specs.fls_model.Told.{Told}
 use Rattle.nvm_flash.specs.fls_model.Memory.{in_memory}
 use Rattle.nvm_flash.specs.promise_run.Call.{Call, IsRunOf}

@@ -1,6 +1,6 @@
 // The entries of requests, with their answers.
 ghost use Rattle.std.specs.Prelude.{◌≡◌, [], ◌∷◌, ◌++◌, ◌-◌, ◌<◌, drop, take, length, IfErr, OnOk};
-ghost use Rattle.nv_streams.specs.Sink.{Puts};
+ghost use Rattle.nvm_lines.specs.nv_streams.Sink.{Puts};
 ghost use Rattle.nvm_flash.specs.nv_base.Count.{Rose};
 ghost use Rattle.nvm_script.specs.Printed.{history_lines};
 ghost use Rattle.script_player.specs.uds_gateway.Answers.{uds};
@@ -8,9 +8,9 @@ ghost use Rattle.uds_script.specs.Lines.{uds_line};
 ghost use Rattle.uds_script.specs.Requests.{HaveBytes};
 ghost use Rattle.nvm_top.specs.Uds.{BreaksOffIn, HasPieces, WritesLines, answer_lines, line_served, lines_of_history, status_served, stopped_serving};
 
-use nv_streams::Sink;
 use nvm_flash::block_config::Config;
 use nvm_flash::nv_base::{Bytes, History};
+use nvm_lines::nv_streams::Sink;
 use nvm_lines::{OutputFault, Status, Stop, put_line, report, write_end, write_entries};
 use script_player::uds_gateway::{ServeStop, piece_answer};
 use std::alloc::{AllocError, Global};

@@ -5,11 +5,12 @@ ghost use Rattle.nvm_flash.specs.memif.Told.{Part, First, PartTold};
 ghost use Rattle.nvm_flash.specs.nv_base.Geometry.{size_of};
 ghost use Rattle.nvm_flash.specs.ram_blocks.Plain.{plain_blocks_of};
 ghost use Rattle.script_player.specs.PlainTold.{told_by};
-ghost use Rattle.script_player.specs.PlainPaying.{payer_by};
+ghost use Rattle.script_player.specs.PlainPaying.{seen_by};
 ghost use Rattle.nvm_lines.specs.declared.stop.Stop.{Stop as Why};
 ghost use Rattle.nvm_top.specs.Flashes.{FlashesTold};
 ghost use Rattle.nvm_top.specs.Play.{IsRightSize};
-ghost use Rattle.nvm_top.specs.Stack.{IsKeptFrom, IsStarted, KeepsPlayed};
+ghost use Rattle.nvm_callers.specs.nvm_moves.Beginning.{BeginsMoves};
+ghost use Rattle.nvm_top.specs.Stack.{IsStarted, KeepsPlayed};
 
 use nvm_flash::block_config::Config;
 use nvm_flash::memif::MemDevice;
@@ -49,7 +50,7 @@ pub trait Flashes {
         requires { is_origin config (told self) cuts }
         ensures started { IfOk result (λ s. IsStarted config cuts (before First) (told_by Self.Device.told s)) }
         ensures copies { IfOk result (λ s. s.copies ≡ plain_blocks_of config) }
-        ensures kept { IfOk result (λ s. IsKeptFrom (KeepsPlayed s.ready before s.desk s.hand (Self.Device.told s.device) (Self.Device.clock s.device)) (payer_by Self.Device.told Self.Device.clock s) (told_by Self.Device.told s)) }
+        ensures kept { IfOk result (λ s. KeepsPlayed s.ready before s.desk s.hand (Self.Device.told s.device) (Self.Device.clock s.device) × BeginsMoves (seen_by Self.Device.told Self.Device.clock s)) }
         ensures size { IfOk result (λ _. IsRightSize (size_of config.geometry) (told self).flash.bytes) }
         ensures stopped { IfErr result (λ e. stops config (told self) (told e.1) e.0) };
 

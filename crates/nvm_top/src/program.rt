@@ -6,9 +6,9 @@ ghost use Rattle.nvm_top.specs.Commands.{ended};
 ghost use Rattle.nvm_top.specs.Program.{IsExecuted};
 
 use crate::commands::command;
-use nv_streams::{Sink, Source};
 use nvm_flash::fls_model::{Flash, mem_flash};
 use nvm_lines::Status;
+use nvm_lines::nv_streams::{Sink, Source};
 use nvm_words::{CommandKind, command_of, image_path};
 use std::alloc::{AllocError, Global};
 use std::sync::Wait;

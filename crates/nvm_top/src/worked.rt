@@ -4,9 +4,9 @@ ghost use Rattle.nvm_words.specs.Words.{command_of, is_play};
 ghost use Rattle.nvm_top.specs.Worked.{CutsLeaveAt, memory_call};
 
 use crate::commands::play_command;
-use nv_streams::{Sink, Source};
 use nvm_flash::fls_model::{MemFlash, mem_flash};
 use nvm_lines::Status;
+use nvm_lines::nv_streams::{Sink, Source};
 use std::alloc::{AllocError, Global};
 
 /// Plays the steps of the input over a blank flash in memory that has room to tell so many changing operations, and gives it

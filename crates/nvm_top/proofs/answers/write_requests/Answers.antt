@@ -1,5 +1,5 @@
 use Rattle.std.proofs.Common.{◌+◌, ◌-◌, ℕ, take, drop, slice_index_or, refl, ◌∙◌, subst, arith}
-use Rattle.nv_streams.specs.Sink.{Puts}
+use Rattle.nvm_lines.specs.nv_streams.Sink.{Puts}
 use Rattle.nvm_script.specs.Printed.{history_lines}
 use Rattle.script_player.proofs.Making.{on_ok, if_err}
 use Rattle.nvm_lines.specs.Output.{BreaksOff}

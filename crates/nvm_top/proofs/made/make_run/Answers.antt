@@ -5,9 +5,10 @@ use Rattle.nvm_flash.specs.nvm_core.Stack.{StackState}
 use Rattle.nvm_flash.specs.ram_blocks.declared.plain_block.PlainBlock.{PlainBlock}
 use Rattle.nvm_script.specs.Played.{ArePlayed}
 use Rattle.script_player.specs.Made.{cuts_of}
-use Rattle.script_player.specs.PlainPaying.{payer_by}
+use Rattle.script_player.specs.PlainPaying.{seen_by}
 use Rattle.script_player.specs.PlainTold.{told_by}
-use Rattle.nvm_top.specs.Stack.{BeginsPaying, IsStarted, KeepsPlayed}
+use Rattle.nvm_callers.specs.nvm_moves.Beginning.{BeginsMoves}
+use Rattle.nvm_top.specs.Stack.{IsStarted, KeepsPlayed}
 use Rattle.nvm_top.proofs.made.make_run.Goals as goal
 
 pub make_steps-end-requires-clause-played : goal.make_steps-end-requires-clause-played
@@ -34,5 +35,5 @@ returns-in-Ok-clause-made g c =
       keeps =
           let first = subst (λ (s : StackState g.row.P-Device.Denot (List PlainBlock)). KeepsPlayed s.ready before s.desk s.hand (told s.device) (clock s.device)) (sym same) c.in-Ok.ensures.kept.0 in
           (c.make_steps-end.ensures.keeps before first.0, c.make_steps-end.ensures.starts first.1);
-      owes = subst (λ (s : StackState g.row.P-Device.Denot (List PlainBlock)). BeginsPaying (payer_by told clock s) (told_by told s)) (sym same) c.in-Ok.ensures.kept.1;
+      begins = subst (λ (s : StackState g.row.P-Device.Denot (List PlainBlock)). BeginsMoves (seen_by told clock s)) (sym same) c.in-Ok.ensures.kept.1;
     }

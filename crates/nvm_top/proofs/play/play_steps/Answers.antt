@@ -1,11 +1,11 @@
-use Rattle.std.proofs.Common.{List, ◌∙◌, ap, inl, subst}
+use Rattle.std.proofs.Common.{List, ◌∙◌, ap, inl, subst, refl}
 use Rattle.nvm_flash.specs.fee_told.Device.{told_of}
 use Rattle.nvm_flash.specs.fee_core.Tells.{told_clock}
 use Rattle.nvm_flash.specs.fee_laws.Made.{part_at}
 use Rattle.nvm_flash.proofs.promise_run.Composition.{halves_make_the_promise}
 use Rattle.nvm_flash.specs.block_machine.Words.{Entry}
 use Rattle.script_player.specs.script_walks.Texts.{AreValues}
-use Rattle.script_player.specs.PlainPaying.{payer_by}
+use Rattle.script_player.specs.PlainPaying.{seen_by}
 use Rattle.script_player.specs.PlainTold.{told_by}
 use Rattle.nvm_top.specs.Stack.{KeepsPlayed}
 use Rattle.nvm_top.specs.Flashes.{one_flash}
@@ -30,9 +30,9 @@ returns-in-Ok-clause-promise g c input =
     let device = c.into_device-device.result in
     let values = subst (λ (h : List Entry). AreValues h) (c.history-history.ensures.entries ∙ ap (λ x. x.desk.entries) c.stack.ensures) c.history_values.ensures in
     let v = vouched c.args.script.config (g.F.Flash.told c.args.flash) _ g.O.Origin.making g.O.Origin.entry (g.F.Flash.told c.back-flash.result.flash) s device (c.into_device-device.ensures ∙ ap (λ x. x.device) c.into_stack.ensures) (halves_make_the_promise (told_clock device)) values c.requires.origin (made.configuration ∙ made.started.configuration) (made.most ∙ made.started.most) (c.back-flash.ensures c.args.script.config (one_flash (g.F.Flash.told c.args.flash)) _ c.requires.origin) in
-    inl (ran_in c.args.text (KeepsPlayed s.ready (one_part (part_at g.O.Origin.entry)) s.desk s.hand (told_of s.device) (told_clock s.device)) (payer_by told_of told_clock made.first) (payer_by told_of told_clock s) c.args.script.config _ c.args.script.steps (part_at g.O.Origin.entry) (told_by told_of made.first) (told_by told_of s)
+    inl (ran_in c.args.text (KeepsPlayed s.ready (one_part (part_at g.O.Origin.entry)) s.desk s.hand (told_of s.device) (told_clock s.device)) (seen_by told_of told_clock made.first) (seen_by told_of told_clock s) c.args.script.config _ c.args.script.steps (part_at g.O.Origin.entry) (told_by told_of made.first) (told_by told_of s)
     (g.F.Flash.told c.args.flash) (g.F.Flash.told c.back-flash.result.flash) c.write_text-status.result _ _ input c.in-Ok.field-0.end c.stop_of.result c.history-history.result.now.entries made.started
-    made.all made.some made.configuration made.keeps made.owes v c.stop_of.ensures
+    made.all made.some made.configuration made.keeps made.begins (record { entries = refl; configuration = refl; moment = refl; faults = refl }) v c.stop_of.ensures
     (c.history-history.ensures.entries ∙ ap (λ x. x.desk.entries) c.stack.ensures) c.in-Ok.ensures.size c.write_text-status.ensures.text)
 
 pub returns-in-Err-clause-promise : goal.returns-in-Err-clause-promise

@@ -1,4 +1,4 @@
-use Rattle.std.proofs.Common.{List, ℕ, ◌∙◌, ap, sym, inl, subst}
+use Rattle.std.proofs.Common.{List, ℕ, ◌∙◌, ap, sym, inl, subst, refl}
 use Rattle.nvm_flash.specs.block_config.Config.{Configuration}
 use Rattle.nvm_flash.specs.fee_told.Device.{told_of}
 use Rattle.nvm_flash.specs.fee_core.Tells.{told_clock}
@@ -45,7 +45,7 @@ returns-in-Ok-clause-promise g c input =
     let x = c.write_served-status.result in
     let v = vouched config entry _ g.O.Origin.making g.O.Origin.entry exit s device (c.into_device-device.ensures ∙ ap (λ y. y.device) c.into_stack.ensures) (halves_make_the_promise (told_clock device)) values c.requires.origin (made.configuration ∙ made.started.configuration) (made.most ∙ made.started.most) (c.back-flash.ensures config (one_flash entry) _ c.requires.origin) in
     inl (serving_has requests counts end config (told_by told_of made.first) (told_by told_of s) (part_at g.O.Origin.entry) made.started made.served made.configuration
-    (KeepsPlayed s.ready (one_part (part_at g.O.Origin.entry)) s.desk s.hand (told_of s.device) (told_clock s.device)) entry exit x _ _ input h is made.keeps made.owes v c.in-Ok.ensures.size
+    (KeepsPlayed s.ready (one_part (part_at g.O.Origin.entry)) s.desk s.hand (told_of s.device) (told_clock s.device)) entry exit x _ _ input h is made.keeps made.begins (record { entries = refl; configuration = refl; moment = refl; faults = refl }) v c.in-Ok.ensures.size
     (subst (λ (d : Configuration). WritesLines (status_served end) (lines_of_history d requests counts h) (line_served end h) (g.K.Sink.written c.args.output.now) (g.K.Sink.written c.write_served-status.new.output) x) c.requires.own
     (subst (λ (ns : List ℕ). WritesLines (status_served end) (lines_of_history c.args.own.now requests ns h) (line_served end h) (g.K.Sink.written c.args.output.now) (g.K.Sink.written c.write_served-status.new.output) x) c.deref.ensures.value c.write_served-status.ensures.text)))
 

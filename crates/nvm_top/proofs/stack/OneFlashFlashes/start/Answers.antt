@@ -21,7 +21,7 @@ returns-in-Ok-begin-clause-size g c = right_size c.args.config (g.F.Flash.told c
 pub returns-in-Ok-begin-clause-kept : goal.returns-in-Ok-begin-clause-kept
 returns-in-Ok-begin-clause-kept g c =
     kept_up c.args.config g.O.Origin.making g.O.Origin.entry (one_part (part_at g.O.Origin.entry)) c.in-Ok.stack c.in-Ok-begin.stack c.in-Ok-begin.stack c.geometry-geometry.ensures.legal
-    (subst (λ (x : Device). InOrder (told_of x) (told_clock x)) c.device-device.ensures.device c.status-status.ensures.order) (c.device-device.ensures.tied (ap (λ s. s.ready) c.in-Ok-begin.ensures.started.only)) refl c.in-Ok-begin.ensures.started c.in-Ok.ensures.made
+    (subst (λ (x : Device). InOrder (told_of x) (told_clock x)) c.device-device.ensures.device c.status-status.ensures.order) refl c.in-Ok-begin.ensures.started c.in-Ok.ensures.made
     (c.in-Ok-begin.ensures.kept c.args.config (g.F.Flash.told c.args.self.flash) c.args.cuts (ap (λ s. s.desk.config) c.in-Ok.ensures.made.only) c.geometry-geometry.ensures.legal c.requires)
 
 pub returns-in-Err-begin-clause-stopped : goal.returns-in-Err-begin-clause-stopped
