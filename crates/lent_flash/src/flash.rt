@@ -45,9 +45,9 @@ fn bytes_in(alloc: Global, places: &Slots<u8>) -> Result<Vec<u8>, AllocError>
     requires { IsFull places.now }
     ensures { IfOk result (λ v. v.items ≡ slots_items places.now) }
 {
-    let mut bytes = Vec::new(alloc);
+    let mut bytes = Vec::with_capacity(alloc, places.len())?;
     for i in 0..places.len() {
-        bytes.push(*places.get(i))?;
+        bytes.push_reserved(*places.get(i));
     }
     Ok(bytes)
 }

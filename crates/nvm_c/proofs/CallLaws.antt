@@ -1,6 +1,7 @@
 -- What a call of C does, from what was done with its handle.
-use Rattle.std.proofs.Common.{◌≢◌, ◌⊎◌, Ok, Err, inr, subst, ◌≡◌, ℕ, List, Option, None, Some, Result, IsSome, refl, inl}
+use Rattle.std.proofs.Common.{◌≢◌, ◌⊎◌, Ok, Err, inr, subst, ◌≡◌, ℕ, false, List, [], Option, None, Some, Result, IsSome, refl, sym, inl}
 use Rattle.std.specs.Prelude.{IfSome, IsSomeAnd}
+use Rattle.nvm.specs.block_machine.Legal.{HasStore}
 use Rattle.nvm.specs.block_machine.Words.{Reply, Request}
 use Rattle.nvm.specs.nv_desk.declared.ask.AskFault.{AskFault}
 use Rattle.nvm.specs.block_config.Config.{Configuration}
@@ -11,13 +12,15 @@ use Rattle.nvm.specs.nvm_flash.declared.device.MakeFault.{MakeFault}
 use Rattle.lent_flash.specs.Flash.{flash_over}
 use Rattle.lent_flash.specs.declared.lent.Lent.{Lent}
 use Rattle.nvm_c.specs.Exports.{Goes, IsAsked, IsNotOpened, IsOpened, IsOpenedOver, IsStopped, fault_code}
-use Rattle.nvm_c.specs.Held.{Kept, Ran, kept_as, origin_of}
-use Rattle.nvm_c.specs.Services.{answer_code, answer_value, number_of, request_of}
+use Rattle.nvm_c.specs.Held.{CanRun, Kept, Ran, kept_as, origin_of}
+use Rattle.nvm_c.specs.Services.{answer_code, answer_value, brings_content, number_of, request_of}
 use Rattle.nvm_c.specs.Unit.{UnitState, CameBack, ClosesWith}
-use Rattle.nvm_c.specs.Work.{Serves}
+use Rattle.nvm_c.specs.Work.{CanDo, Does, IsTaken, IsTaskOf, Serves}
 use Rattle.nvm_c.specs.declared.services.Service.{Service}
+use Rattle.nvm_c.specs.declared.services.Service.TheVariants as service
+use Rattle.nvm_c.specs.declared.work.Task.{Task}
 use Rattle.nvm_c.specs.declared.work.Outcome.TheVariants.{Asked, Closed, NotOpened}
-use Rattle.nvm_c.specs.declared.work.Task.TheVariants.{Ask}
+use Rattle.nvm_c.specs.declared.work.Task.TheVariants.{Ask, Call, Enter}
 use Rattle.nvm_c.specs.declared.work.Work.TheVariants.{Open, Serve, Close}
 
 -- nothing changed, and this is so of a state that stays
@@ -25,33 +28,91 @@ pub goes_same : (kept : Option Kept) (P : UnitState → UnitState → Type 0) �
 goes_same None P is so = cc is
 goes_same (Some k) P is so = (k.state, refl, so k.state)
 
-asked_by : (k : Kept) (behind : Option Kept) (v : Service) (service block number : ℕ) (content : List ℕ) (request : Request) (answer : Result Reply AskFault) (code value : ℕ)
-    → number_of v ≡ service → request_of v block number content ≡ request → code ≡ answer_code answer → value ≡ answer_value answer → (s : Option UnitState) → behind ≡ kept_as (Some k) (Serve (Ask request)) s
-    → Serves (origin_of k).making (origin_of k).entry (Serve (Ask request)) (Asked answer) (Some k.state) s → Goes (Some k) behind (IsAsked service block number content code value)
-asked_by k behind v service block number content request answer code value is_number is_request is_code is_value None is does = absurd does
-asked_by k behind v service block number content request answer code value is_number is_request is_code is_value (Some t) is does = (
-  t,
-  is,
-  inl (
-    v,
-    is_number,
-    record {
-      answer = answer;
-      asks = rw is_request does.1;
-      replies = rw is_request does.2;
-      code_is = is_code;
-      value_is = is_value;
-    },
-  ),
-)
+-- what was done with a task is what was done with its request
+taken_by : (r : Request) (task : Task) (answer : Result Reply AskFault) (s t : UnitState) → IsTaskOf r task → Does task (Asked answer) s t → IsTaken r answer s t
+taken_by r (Ask request) answer s t is does = subst (λ (x : Request). IsTaken x answer s t) is does
+taken_by r (Call kind) answer s t is does = subst (λ (x : Request). IsTaken x answer s t) is does
+taken_by r (Enter kind buffer) answer s t is does = subst (λ (x : Request). IsTaken x answer s t) is does
+taken_by r task answer s t is does = absurd is
+
+-- each request keeps the rule on numbers of stores
+keeps_stores : (c : Configuration) (v : Service) (block number : ℕ) (content : List ℕ) → HasStore c (request_of v block number content)
+keeps_stores c service.SetDataIndex block number content = tt
+keeps_stores c service.GetDataIndex block number content = tt
+keeps_stores c service.SetBlockProtection block number content = tt
+keeps_stores c service.SetRamBlockStatus block number content = tt
+keeps_stores c service.ReadBlock block number content = tt
+keeps_stores c service.WriteBlock block number content = refl
+keeps_stores c service.RestoreBlockDefaults block number content = tt
+keeps_stores c service.EraseNvBlock block number content = tt
+keeps_stores c service.CancelWriteAll block number content = tt
+keeps_stores c service.InvalidateNvBlock block number content = tt
+keeps_stores c service.ReadAll block number content = tt
+keeps_stores c service.WriteAll block number content = tt
+keeps_stores c service.SetBlockLockStatus block number content = tt
+keeps_stores c service.ReadPermanentRam block number content = tt
+keeps_stores c service.WritePermanentRam block number content = inr refl
+keeps_stores c service.RestorePermanentRam block number content = tt
+keeps_stores c service.PutRam block number content = tt
+
+-- a service that brings no content asks the same of any
+pub same_request : (v : Service) (block number : ℕ) (content : List ℕ) → brings_content v ≡ false → request_of v block number [] ≡ request_of v block number content
+same_request service.SetDataIndex block number content is = refl
+same_request service.GetDataIndex block number content is = refl
+same_request service.SetBlockProtection block number content is = refl
+same_request service.SetRamBlockStatus block number content is = refl
+same_request service.ReadBlock block number content is = refl
+same_request service.WriteBlock block number content is = cc is
+same_request service.RestoreBlockDefaults block number content is = refl
+same_request service.EraseNvBlock block number content is = refl
+same_request service.CancelWriteAll block number content is = refl
+same_request service.InvalidateNvBlock block number content is = refl
+same_request service.ReadAll block number content is = refl
+same_request service.WriteAll block number content is = refl
+same_request service.SetBlockLockStatus block number content is = refl
+same_request service.ReadPermanentRam block number content is = refl
+same_request service.WritePermanentRam block number content is = refl
+same_request service.RestorePermanentRam block number content is = refl
+same_request service.PutRam block number content is = cc is
+
+can_do : (r : Request) (task : Task) (s : UnitState) → IsTaskOf r task → HasStore s.desk.config r → CanDo task s
+can_do r (Ask request) s is has = subst (λ (x : Request). HasStore s.desk.config x) (sym is) has
+can_do r (Call kind) s is has = subst (λ (x : Request). HasStore s.desk.config x) (sym is) has
+can_do r (Enter kind buffer) s is has = subst (λ (x : Request). HasStore s.desk.config x) (sym is) has
+can_do r task s is has = absurd is
+
+pub can_ask : (kept : Option Kept) (v : Service) (block number : ℕ) (content : List ℕ) (task : Task) → IsSome kept → IsTaskOf (request_of v block number content) task → CanRun kept (Serve task)
+can_ask None v block number content task is_open is = cc is_open
+can_ask (Some k) v block number content task is_open is = can_do (request_of v block number content) task k.state is (keeps_stores k.state.desk.config v block number content)
+
+asked_by : (k : Kept) (behind : Option Kept) (v : Service) (service block number : ℕ) (content : List ℕ) (task : Task) (answer : Result Reply AskFault) (code value : ℕ)
+    → number_of v ≡ service → IsTaskOf (request_of v block number content) task → code ≡ answer_code answer → value ≡ answer_value answer → (s : Option UnitState) → behind ≡ kept_as (Some k) (Serve task) s
+    → Serves (origin_of k).making (origin_of k).entry (Serve task) (Asked answer) (Some k.state) s → Goes (Some k) behind (IsAsked service block number content code value)
+asked_by k behind v service block number content task answer code value is_number is_task is_code is_value None is does = absurd does
+asked_by k behind v service block number content task answer code value is_number is_task is_code is_value (Some t) is does =
+    let taken = taken_by (request_of v block number content) task answer k.state t is_task does in (
+      t,
+      is,
+      inl (
+        v,
+        is_number,
+        record {
+          answer = answer;
+          asks = taken.1;
+          replies = taken.2;
+          code_is = is_code;
+          value_is = is_value;
+        },
+      ),
+    )
 
 -- a request was asked
-pub asked : (kept behind : Option Kept) (v : Service) (service block number : ℕ) (content : List ℕ) (request : Request) (answer : Result Reply AskFault) (code value : ℕ)
-    → IsSome kept → number_of v ≡ service → request_of v block number content ≡ request → code ≡ answer_code answer → value ≡ answer_value answer → Ran kept (Serve (Ask request)) (Asked answer) behind
+pub asked : (kept behind : Option Kept) (v : Service) (service block number : ℕ) (content : List ℕ) (task : Task) (answer : Result Reply AskFault) (code value : ℕ)
+    → IsSome kept → number_of v ≡ service → IsTaskOf (request_of v block number content) task → code ≡ answer_code answer → value ≡ answer_value answer → Ran kept (Serve task) (Asked answer) behind
     → Goes kept behind (IsAsked service block number content code value)
-asked None behind v service block number content request answer code value is_open is_number is_request is_code is_value ran = cc is_open
-asked (Some k) behind v service block number content request answer code value is_open is_number is_request is_code is_value ran =
-    asked_by k behind v service block number content request answer code value is_number is_request is_code is_value ran.0 ran.1 ran.2
+asked None behind v service block number content task answer code value is_open is_number is_task is_code is_value ran = cc is_open
+asked (Some k) behind v service block number content task answer code value is_open is_number is_task is_code is_value ran =
+    asked_by k behind v service block number content task answer code value is_number is_task is_code is_value ran.0 ran.1 ran.2
 
 closed_over : (k : Kept) (bytes : Option (List ℕ)) → CameBack (origin_of k).entry k.state bytes → IsSomeAnd bytes (ClosesWith k.flash k.state)
 closed_over k None came = came

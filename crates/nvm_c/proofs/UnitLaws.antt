@@ -1,7 +1,14 @@
 -- The stack of a unit: what is told of it behind its calls, and what its flash comes back with.
-use Rattle.std.proofs.Common.{rules, ◌≡◌, ◌≤◌, ℕ, Bool, true, false, List, Option, Some, None, Result, Ok, Err, IsSome, refl, sym, ap, ◌∙◌, subst, inl, inr, arith}
-use Rattle.std.specs.Prelude.{IfErr}
+use Rattle.std.proofs.Common.{rules, ◌≡◌, ◌≤◌, ◌++◌, ◌∷◌, [], ℕ, Bool, true, false, IsTrue, List, Option, Some, None, Result, Ok, Err, IsSome, refl, sym, ap, ◌∙◌, subst, inl, inr, arith}
+use Rattle.std.specs.Prelude.{IfErr, IfOk, IsErrOf, ◌↔◌}
 use Rattle.nvm.specs.block_config.Config.{Configuration}
+use Rattle.nvm.specs.block_machine.Reply.{fits}
+use Rattle.nvm.specs.block_machine.Words.{Request, Reply, Ask}
+use Rattle.nvm.specs.nv_desk.Desk.{state_of}
+use Rattle.nvm.specs.nv_desk.Recorder.{keeps}
+use Rattle.nvm.specs.nv_desk.declared.ask.AskFault.{AskFault}
+use Rattle.nvm.specs.nv_desk.declared.ask.AskFault.TheVariants as ask
+use Rattle.nvm.specs.nvm_flash.nvm_laws.Ties.{IsTied}
 use Rattle.nvm.specs.fls_devices.Cutter.{cutting, told_cutting}
 use Rattle.nvm.specs.fls_model.Told.{Told, bytes_now}
 use Rattle.nvm.specs.nvm_flash.promise_device.Making.{Making}
@@ -17,7 +24,7 @@ use Rattle.nvm.specs.nvm_flash.nvm_laws.declared.turned.Turned.{Turned}
 use Rattle.nvm.specs.nvm_flash.nvm_laws.declared.turned.FoundAnswer.{FoundAnswer}
 use Rattle.nvm.specs.nvm_flash.nvm_laws.declared.turned.FoundAnswer.TheVariants as found
 use Rattle.nvm.proofs.nvm_flash.Returning.{comes_back as back_so}
-use Rattle.nvm.specs.Unit.{UnitTurns, takes_of}
+use Rattle.nvm.specs.Unit.{Stays, UnitTurns, takes_of}
 use Rattle.script_player.specs.uds_gateway.block_laws.Laws.{EntriesAreCounted, HistoriesGoOn, HistoriesStep, SumsGrow}
 use Rattle.script_player.specs.Calls as calls
 use Rattle.script_player.specs.PlainTold.{told_by}
@@ -53,7 +60,36 @@ opens_back c inner cuts making entry exit s origin opens back =
     let flash = ap (λ p. p.flash_faults) part in let grown = up.faults.flash in
     back_so c inner exit (part_at entry) (told_of s.device) (clock_of s.device) Memory back (restarted.ops ∙ made.ops) (ap (λ p. p.planning.unplanned) up.only ∙ ap (λ p. p.planning.unplanned) part) (omega (arith, grown, flash)) tt opens.is_made.one_device
 
+-- WHAT STAYS
+pub still_counted : (s t : UnitState) → Stays s t → keeps s.desk.cap ≡ false → keeps t.desk.cap ≡ false
+still_counted s t stays is = ap keeps stays.most ∙ is
+
 -- WHAT IS TOLD BEHIND A CALL
+-- what its device tells of a stack
+pub record Tells (s : UnitState) : Type 0 where
+  pub tied : s.ready ≡ true → IsTied s.desk s.hand (told_of s.device)
+  pub power : s.ready ≡ true → PowersOff s.desk (told_of s.device)
+
+-- a request that was answered had room
+had_room : (r : Result Reply AskFault) (reply : Reply) (room : Bool) → r ≡ Ok reply → IsErrOf r ask.NoRoom ↔ room ≡ false → IsTrue room
+had_room r reply true is exactly = refl
+had_room r reply false is exactly = let none : IsErrOf r ask.NoRoom = exactly.1 refl in absurd (cc (none, is))
+
+asks_by : (s t : UnitState) (request : Request) (reply : Reply) → IsTrue (fits s.desk.config s.desk.cap (state_of s.desk) 1) → t ≡ record s { desk = record s.desk { entries = s.desk.entries ++ Ask 0 request reply ∷ [] } }
+    → IsTied s.desk s.hand (told_of s.device) → IsTied t.desk t.hand (told_of t.device) → PowersOff s.desk (told_of s.device) → PowersOff t.desk (told_of t.device) → calls.Asks 0 request (Ok reply) (unit_told s) (unit_told t)
+asks_by s t request reply room adds tied tied_new power power_new =
+    let steps : HistoriesStep = histories_step in
+    let prices : SumsGrow = sums_grow in
+    search rules
+
+-- a request
+pub asks_told : (s t : UnitState) (request : Request) (r : Result Reply AskFault) (reply : Reply) → r ≡ Ok reply → IsErrOf r ask.NoRoom ↔ fits s.desk.config s.desk.cap (state_of s.desk) 1 ≡ false
+    → IfOk r (λ x. t ≡ record s { desk = record s.desk { entries = s.desk.entries ++ Ask 0 request x ∷ [] } }) → s.ready ≡ true → Tells s → Tells t → calls.Asks 0 request (Ok reply) (unit_told s) (unit_told t)
+asks_told s t request r reply is exactly ok ready old new =
+    let adds = subst (λ (x : Result Reply AskFault). IfOk x (λ y. t ≡ record s { desk = record s.desk { entries = s.desk.entries ++ Ask 0 request y ∷ [] } })) is ok in
+    let up : t.ready ≡ true = ap (λ (x : UnitState). x.ready) adds ∙ ready in
+    asks_by s t request reply (had_room r reply (fits s.desk.config s.desk.cap (state_of s.desk) 1) is exactly) adds (old.tied ready) (new.tied up) (old.power ready) (new.power up)
+
 -- a turn
 pub turns_told : (s t : UnitState) (answer : Turned) → UnitTurns answer s t → (t.ready ≡ s.ready → IsBehind told_of answer s t) → PowersOff s.desk (told_of s.device) → calls.Turns answer (unit_told s) (unit_told t)
 turns_told s t answer (inl half) behind power = ended told_of s t answer half (behind half.ready)
@@ -98,11 +134,10 @@ restarts_take s t found.Failed fails = ap (λ p. p.planning.takes) fails.fails.r
 restarts_take s t found.NoRoom stays = ap takes_of stays.0
 restarts_take s t found.Memory stays = ap takes_of stays
 
-pub restarted_lent : (s t : UnitState) (answer : FoundAnswer) (up : Bool) (plans : ℕ) → IsLent up plans s → Restarts told_of answer s t → IsLent (up_behind answer up) plans t
-restarted_lent s t answer up plans unit restarts =
-    let same = restarts_take s t answer restarts in
-    let was = unit.takes in record { is_up = restarts_up s t answer up unit.is_up restarts; takes = omega (arith, was, same) }
+pub restarted_lent : (s t : UnitState) (answer : FoundAnswer) (up : Bool) (plans : ℕ) → IsLent up plans s → Restarts told_of answer s t → Stays s t → IsLent (up_behind answer up) plans t
+restarted_lent s t answer up plans unit restarts stays =
+    record { is_up = restarts_up s t answer up unit.is_up restarts; takes = restarts_take s t answer restarts ∙ unit.takes; counted = still_counted s t stays unit.counted }
 
 -- a plan is one that was to be, where one might be
-pub planned_cut : (s t : UnitState) (nth keep plans : ℕ) → plans ≤ takes_of s → 1 ≤ nth → 1 ≤ plans → calls.Arms nth keep (unit_told s) (unit_told t) → PlansCut nth keep s t
+pub planned_cut : (s t : UnitState) (nth keep plans : ℕ) → takes_of s ≡ plans → 1 ≤ nth → 1 ≤ plans → calls.Arms nth keep (unit_told s) (unit_told t) → PlansCut nth keep s t
 planned_cut s t nth keep plans takes some left arms = (some, omega (arith, takes, left), arms)

@@ -21,7 +21,7 @@ use Rattle.lent_flash.specs.Flash.{flash_over}
 use Rattle.nvm_c.specs.Held.{Kept, origin_by}
 use Rattle.nvm_c.specs.Services.{answer_code, answer_value, number_of, request_of}
 use Rattle.nvm_c.specs.Unit.{UnitState, unit_told, given_last, last_line, Opens}
-use Rattle.nvm_c.specs.Work.{PlansCut, StaysDown}
+use Rattle.nvm_c.specs.Work.{PlansCut, PlansNone, StaysDown}
 use Rattle.nvm_c.specs.declared.services.Service.{Service}
 
 -- an open handle stays open, of the same opening, and its unit goes on so
@@ -59,9 +59,9 @@ turned_code turned.Off = 4
 abbrev pub IsTurned : ℕ → UnitState → UnitState → Type 0
 IsTurned code s t = ((answer : Turned) × (code ≡ turned_code answer) × Turns answer (unit_told s) (unit_told t)) ⊎ ((code ≡ 5) × StaysDown s t)
 
--- a power cut was planned; or none was, and nothing changed; or the last start-up failed
+-- a power cut was planned; or none was, since none could be, and nothing changed; or the last start-up failed
 abbrev pub IsPlanned : (nth keep code : ℕ) → UnitState → UnitState → Type 0
-IsPlanned nth keep code s t = ((code ≡ 0) × PlansCut nth keep s t) ⊎ (((code ≡ 6) × (t ≡ s)) ⊎ ((code ≡ 5) × StaysDown s t))
+IsPlanned nth keep code s t = ((code ≡ 0) × PlansCut nth keep s t) ⊎ (((code ≡ 6) × (t ≡ s) × PlansNone nth s) ⊎ ((code ≡ 5) × StaysDown s t))
 
 abbrev pub found_code : FoundAnswer → ℕ
 found_code found.Ready = 0

@@ -53,6 +53,12 @@ request_of service.WritePermanentRam block number content = Write block None 0
 request_of service.RestorePermanentRam block number content = Restore block true
 request_of service.PutRam block number content = PutRam block content
 
+-- whether it brings a content
+abbrev pub brings_content : Service → Bool
+brings_content service.WriteBlock = true
+brings_content service.PutRam = true
+brings_content v = false
+
 -- ANSWERS
 -- as C gets them: 0 accepted, 1 refused, 2 a value, 3 the history is full, 4 there is no memory
 abbrev pub answer_code : Result Reply AskFault → ℕ

@@ -1,9 +1,9 @@
 -- A unit: a stack over memory that is lent, behind its first start-up.
-use Rattle.std.specs.Prelude.{◌≡◌, ◌≤◌, ◌-◌, ℕ, Bool, List, length, Option, Some, IsSomeAnd, option_map, slice_get}
+use Rattle.std.specs.Prelude.{◌≡◌, ◌≤◌, ◌-◌, ℕ, Bool, false, List, length, Option, Some, IsSomeAnd, option_map, slice_get}
 use Rattle.nvm.specs.block_config.Config.{Configuration}
 use Rattle.nvm.specs.fls_devices.Cutter.{cutting, told_cutting}
 use Rattle.nvm.specs.fls_model.Told.{Told, bytes_now}
-use Rattle.nvm.specs.nv_desk.Recorder.{endless}
+use Rattle.nvm.specs.nv_desk.Recorder.{endless, keeps}
 use Rattle.nvm.specs.nvm_core.StartUps.{StartsUp}
 use Rattle.nvm.specs.nvm_core.nv_desk_copies.Front.{given_at}
 use Rattle.nvm.specs.nvm_flash.Made.{IsBack, IsMadeStack, IsOrigin}
@@ -20,10 +20,11 @@ use Rattle.script_player.specs.Told.{StackTold}
 abbrev pub unit_told : UnitState → StackTold
 unit_told = told_by told_of
 
--- at any time: it knows whether its last start-up stands, and its flash takes as many plans of power cuts as it knows of
+-- at any time: it knows whether its last start-up stands, and how many plans of power cuts its flash takes yet, and its entries are counted
 pub record IsLent (up : Bool) (plans : ℕ) (s : UnitState) : Type 0 where
   pub is_up : s.ready ≡ up
-  pub takes : plans ≤ takes_of s
+  pub takes : takes_of s ≡ plans
+  pub counted : keeps s.desk.cap ≡ false
 
 -- it is opened: its stack was made for the configuration, and made its first start-up
 pub record Opens (c : Configuration) (making : Making) (entry : Told) (s : UnitState) : Type 0 where

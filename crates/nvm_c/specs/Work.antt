@@ -1,10 +1,13 @@
 -- What is asked of the unit of a handle, and what comes of it.
-use Rattle.std.specs.Prelude.{◌≡◌, ◌≤◌, ℕ, false, true, Option, None, Some, IsSome, IsSomeAnd, IfOk, length}
+use Rattle.std.specs.Prelude.{◌≡◌, ◌⊎◌, ◌≤◌, ℕ, false, true, [], Bool, Option, None, Some, IsSome, IsSomeAnd, IfOk, IfSome, Result, length, option_map}
 use Rattle.nvm.specs.block_machine.Blocks.{block_at, status_of}
 use Rattle.nvm.specs.block_machine.Legal.{HasStore}
 use Rattle.nvm.specs.block_machine.Reply.{reply_of}
+use Rattle.nvm.specs.block_machine.Words.{Reply, Request}
 use Rattle.nvm.specs.fls_model.Told.{Told, bytes_now}
 use Rattle.nvm.specs.nv_desk.Desk.{state_of}
+use Rattle.nvm.specs.nv_desk.Request.{whole_request}
+use Rattle.nvm.specs.nv_desk.declared.ask.AskFault.{AskFault}
 use Rattle.nvm.specs.nvm_flash.Made.{ComesBack, IsOrigin}
 use Rattle.nvm.specs.nvm_flash.promise_device.Making.{Making}
 use Rattle.script_player.specs.Calls.{Arms, Asks, Restarts, Turns}
@@ -20,7 +23,16 @@ use Rattle.nvm_c.specs.declared.work.Outcome.TheVariants as outcome
 -- a request keeps the rule on numbers of stores
 abbrev pub CanDo : Task → UnitState → Type 0
 CanDo (task.Ask request) s = HasStore s.desk.config request
+CanDo (task.Call kind) s = HasStore s.desk.config (whole_request kind [])
+CanDo (task.Enter kind buffer) s = HasStore s.desk.config (whole_request kind buffer.content)
 CanDo x s = Unit {0}
+
+-- it asks this
+abbrev pub IsTaskOf : Request → Task → Type 0
+IsTaskOf r (task.Ask request) = request ≡ r
+IsTaskOf r (task.Call kind) = whole_request kind [] ≡ r
+IsTaskOf r (task.Enter kind buffer) = whole_request kind buffer.content ≡ r
+IsTaskOf r x = ⊥
 
 -- its last start-up failed, so nothing was done
 abbrev pub StaysDown : UnitState → UnitState → Type 0
@@ -30,20 +42,36 @@ StaysDown s t = (s.ready ≡ false) × (t ≡ s)
 abbrev pub PlansCut : (nth keep : ℕ) → UnitState → UnitState → Type 0
 PlansCut nth keep s t = (1 ≤ nth) × (1 ≤ (unit_told s).causes.takes) × Arms nth keep (unit_told s) (unit_told t)
 
-abbrev pub Does : Task → Outcome → UnitState → UnitState → Type 0
-Does (task.Ask request) (outcome.Asked answer) s t =
+-- a request was answered so
+abbrev pub IsTaken : Request → Result Reply AskFault → UnitState → UnitState → Type 0
+IsTaken request answer s t =
     (s.ready ≡ true) × Asks 0 request answer (unit_told s) (unit_told t) × IfOk answer (λ reply. reply ≡ reply_of s.desk.config s.desk.cap (state_of s.desk) request)
+
+-- none is: the operation would be no later one, or the flash takes no plan any more
+abbrev pub PlansNone : (nth : ℕ) → UnitState → Type 0
+PlansNone nth s = (nth ≡ 0) ⊎ ((unit_told s).causes.takes ≡ 0)
+
+abbrev pub Does : Task → Outcome → UnitState → UnitState → Type 0
+Does (task.Ask request) (outcome.Asked answer) s t = IsTaken request answer s t
 Does (task.Ask request) outcome.Down s t = StaysDown s t
+Does (task.Call kind) (outcome.Asked answer) s t = IsTaken (whole_request kind []) answer s t
+Does (task.Call kind) outcome.Down s t = StaysDown s t
+Does (task.Enter kind buffer) (outcome.Asked answer) s t = IsTaken (whole_request kind buffer.content) answer s t
+Does (task.Enter kind buffer) outcome.Down s t = StaysDown s t
+Does (task.Lend bytes) (outcome.Lent buffer) s t = IfSome buffer (λ b. bytes ≤ b.room) × (t ≡ s)
+Does (task.Keep buffer) outcome.Kept s t = t ≡ s
 Does task.Turn (outcome.Turned answer) s t = (s.ready ≡ true) × Turns answer (unit_told s) (unit_told t)
 Does task.Turn outcome.Down s t = StaysDown s t
 Does (task.Cut nth keep) outcome.Planned s t = (s.ready ≡ true) × PlansCut nth keep s t
-Does (task.Cut nth keep) outcome.NotPlanned s t = (s.ready ≡ true) × (t ≡ s)
+Does (task.Cut nth keep) outcome.NotPlanned s t = (s.ready ≡ true) × (t ≡ s) × PlansNone nth s
 Does (task.Cut nth keep) outcome.Down s t = StaysDown s t
 Does task.Restart (outcome.Found answer) s t = Restarts answer (unit_told s) (unit_told t)
 Does (task.Status block) (outcome.StatusIs result) s t = (result ≡ status_of (state_of s.desk) block) × (t ≡ s)
-Does (task.Ram block) (outcome.Content bytes) s t = (bytes ≡ (block_at (state_of s.desk) block).ram) × (t ≡ s)
+Does (task.Valid block) (outcome.Is valid) s t = (valid ≡ (block_at (state_of s.desk) block).valid) × (t ≡ s)
+Does (task.Ram block) (outcome.Content buffer) s t = (buffer.content ≡ (block_at (state_of s.desk) block).ram) × (t ≡ s)
 Does (task.Ram block) outcome.NoMemory s t = t ≡ s
-Does task.Given (outcome.Given bytes) s t = (bytes ≡ given_last s) × (t ≡ s)
+Does task.Given (outcome.Content buffer) s t = (given_last s ≡ Some buffer.content) × (t ≡ s)
+Does task.Given outcome.Nothing s t = (given_last s ≡ None) × (t ≡ s)
 Does task.Given outcome.NoMemory s t = t ≡ s
 Does task.Line (outcome.Line text) s t = (text ≡ last_line s) × (t ≡ s)
 Does task.Line outcome.NoMemory s t = t ≡ s

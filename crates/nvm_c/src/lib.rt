@@ -17,7 +17,7 @@ mod unit_opening;
 mod work;
 
 pub use handle::Handle;
-pub use looks::{nvm_entries, nvm_given, nvm_line, nvm_ram, nvm_status};
+pub use looks::{nvm_entries, nvm_given, nvm_line, nvm_ram, nvm_ram_is_valid, nvm_status};
 pub use room::Room;
 pub use services::nvm_ask;
 pub use texts::{BlockFacts, nvm_block, nvm_check};

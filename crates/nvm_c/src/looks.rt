@@ -4,10 +4,11 @@ ghost use Rattle.nvm.specs.block_machine.Blocks.{block_at, status_of};
 ghost use Rattle.nvm.specs.nv_base.Result.{code_of};
 ghost use Rattle.nvm.specs.nv_desk.Desk.{state_of};
 ghost use Rattle.nvm_c.specs.Exports.{IsFilled, IsGiven, IsLine, IsRam, Looks};
+ghost use Rattle.nvm_c.specs.Texts.{flag};
 
 use crate::handle::{Handle, work_on};
 use crate::work::{Outcome, Task, Work};
-use nvm::result_code;
+use nvm::{Buffer, result_code};
 use std::alloc::Global;
 
 /// The status of a block, by the standard's number (NvM_GetErrorStatus); of id 0 that of the last request on all blocks.
@@ -19,6 +20,19 @@ pub extern "C" fn nvm_status(alloc: Global, handle: &mut Handle, block: u16) -> 
     let task = Task::Status { block };
     match work_on(alloc, handle, Work::Serve { task }) {
         Outcome::StatusIs { result } => result_code(result),
+        _other => 0,
+    }
+}
+
+/// Whether the RAM of a block is valid. 1: it is. 0: it isn't, or the manager keeps none.
+#[unsafe(no_mangle)]
+pub extern "C" fn nvm_ram_is_valid(alloc: Global, handle: &mut Handle, block: u16) -> u8
+    requires open { IsSome handle.old.kept }
+    ensures valid { Looks handle.old.kept handle.new.kept (λ s. result ≡ flag (block_at (state_of s.desk) block).valid) }
+{
+    let task = Task::Valid { block };
+    match work_on(alloc, handle, Work::Serve { task }) {
+        Outcome::Is { valid: true } => 1,
         _other => 0,
     }
 }
@@ -47,6 +61,18 @@ fn fill(content: &[u8], into: &mut [u8]) -> usize
     size
 }
 
+// Puts the content of a unit's buffer at the front, where there is room for it, and gives the buffer back. Answers its size.
+fn hand_out(alloc: Global, handle: &mut Handle, buffer: Buffer, into: &mut [u8]) -> usize
+    requires open { IsSome handle.old.kept }
+    ensures same { handle.new.kept ≡ handle.old.kept }
+    ensures filled { IsFilled buffer.content result into.old into.new }
+{
+    let size = fill(buffer.content(), into);
+    let task = Task::Keep { buffer };
+    work_on(alloc, handle, Work::Serve { task });
+    size
+}
+
 /// Copies the content of a block's RAM to the front of `into`, where it has room for it, and tells its size. 0: so it was done. 4:
 /// there is no memory.
 #[unsafe(no_mangle)]
@@ -63,8 +89,8 @@ pub extern "C" fn nvm_ram(
     *size = 0;
     let task = Task::Ram { block };
     match work_on(alloc, handle, Work::Serve { task }) {
-        Outcome::Content { bytes } => {
-            *size = fill(bytes.as_slice(), into);
+        Outcome::Content { buffer } => {
+            *size = hand_out(alloc, handle, buffer, into);
             0
         }
         _other => 4,
@@ -86,13 +112,11 @@ pub extern "C" fn nvm_given(
     *size = 0;
     let task = Task::Given;
     match work_on(alloc, handle, Work::Serve { task }) {
-        Outcome::Given { bytes } => match bytes {
-            Some(bytes) => {
-                *size = fill(bytes.as_slice(), into);
-                0
-            }
-            None => 1,
-        },
+        Outcome::Content { buffer } => {
+            *size = hand_out(alloc, handle, buffer, into);
+            0
+        }
+        Outcome::Nothing => 1,
         _other => 4,
     }
 }

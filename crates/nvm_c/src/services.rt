@@ -1,11 +1,13 @@
 // The services.
-ghost use Rattle.std.specs.Prelude.{◌≡◌, ◌≢◌, None, IfOk, IfSome, IsSome};
-ghost use Rattle.nvm_c.specs.Services.{answer_code, answer_value, number_of, request_of};
+ghost use Rattle.std.specs.Prelude.{◌≡◌, ◌≢◌, ◌≤◌, ℕ, List, length, None, IfOk, IfSome, IsSome};
+ghost use Rattle.nvm.specs.nv_desk.Request.{whole_request};
+ghost use Rattle.nvm_c.specs.Services.{answer_code, answer_value, brings_content, number_of, request_of};
 ghost use Rattle.nvm_c.specs.Exports.{Goes, IsAsked};
+ghost use Rattle.nvm_c.specs.Work.{IsTaskOf};
 
 use crate::handle::{Handle, work_on};
 use crate::work::{Outcome, Task, Work};
-use nvm::{AskFault, Reply, Request, bytes_of, refusal_number, result_code};
+use nvm::{AskFault, Buffer, Reply, RequestKind, bytes_of, refusal_number, result_code};
 use std::alloc::{AllocError, Global};
 
 /// The services that ask something, by the standard's names; of a null pointer by those of its calls on permanent RAM.
@@ -57,50 +59,91 @@ fn service_of(number: u8) -> Option<Service>
     }
 }
 
-// What a service asks.
-fn request_of(
+// Whether it brings a content.
+fn brings_content(service: Service) -> bool
+    ensures { result ≡ brings_content service }
+{
+    matches!(service, Service::WriteBlock | Service::PutRam)
+}
+
+// What a service asks, without its content.
+fn kind_of(service: Service, block: u16, number: u8) -> RequestKind
+    ensures { (content : List ℕ) → whole_request result content ≡ request_of service block number content }
+{
+    let on = number != 0;
+    match service {
+        Service::SetDataIndex => RequestKind::SetIndex {
+            block,
+            index: number,
+        },
+        Service::GetDataIndex => RequestKind::GetIndex { block },
+        Service::SetBlockProtection => RequestKind::SetProtection { block, on },
+        Service::SetRamBlockStatus => RequestKind::SetRam { block, on },
+        Service::ReadBlock => RequestKind::Read { block, ram: false },
+        Service::WriteBlock => RequestKind::Write { block, store: 0 },
+        Service::RestoreBlockDefaults => RequestKind::Restore { block, ram: false },
+        Service::EraseNvBlock => RequestKind::Erase { block },
+        Service::CancelWriteAll => RequestKind::CancelWriteAll,
+        Service::InvalidateNvBlock => RequestKind::Invalidate { block },
+        Service::ReadAll => RequestKind::ReadAll,
+        Service::WriteAll => RequestKind::WriteAll,
+        Service::SetBlockLockStatus => RequestKind::SetLock { block, on },
+        Service::ReadPermanentRam => RequestKind::Read { block, ram: true },
+        Service::WritePermanentRam => RequestKind::WriteRam { block, store: 0 },
+        Service::RestorePermanentRam => RequestKind::Restore { block, ram: true },
+        Service::PutRam => RequestKind::PutRam { block },
+    }
+}
+
+// The task of a service: its content stands in the unit's buffer, or in memory of its own where that has no room for it.
+fn task_of(
     alloc: Global,
+    handle: &mut Handle,
     service: Service,
     block: u16,
     number: u8,
     content: &[u8],
-) -> Result<Request, AllocError>
-    ensures { IfOk result (λ request. request ≡ request_of service block number content.now) }
+) -> Result<Task, AllocError>
+    requires open { IsSome handle.old.kept }
+    ensures same { handle.new.kept ≡ handle.old.kept }
+    ensures task { IfOk result (λ task. IsTaskOf (request_of service block number content.now) task) }
 {
-    let on = number != 0;
-    Ok(match service {
-        Service::SetDataIndex => Request::SetIndex {
-            block,
-            index: number,
-        },
-        Service::GetDataIndex => Request::GetIndex { block },
-        Service::SetBlockProtection => Request::SetProtection { block, on },
-        Service::SetRamBlockStatus => Request::SetRam { block, on },
-        Service::ReadBlock => Request::Read { block, ram: false },
-        Service::WriteBlock => Request::Write {
-            block,
-            content: Some(bytes_of(alloc, content)?),
-            store: 0,
-        },
-        Service::RestoreBlockDefaults => Request::Restore { block, ram: false },
-        Service::EraseNvBlock => Request::Erase { block },
-        Service::CancelWriteAll => Request::CancelWriteAll,
-        Service::InvalidateNvBlock => Request::Invalidate { block },
-        Service::ReadAll => Request::ReadAll,
-        Service::WriteAll => Request::WriteAll,
-        Service::SetBlockLockStatus => Request::SetLock { block, on },
-        Service::ReadPermanentRam => Request::Read { block, ram: true },
-        Service::WritePermanentRam => Request::Write {
-            block,
-            content: None,
-            store: 0,
-        },
-        Service::RestorePermanentRam => Request::Restore { block, ram: true },
-        Service::PutRam => Request::PutRam {
-            block,
-            content: bytes_of(alloc, content)?,
-        },
-    })
+    let kind = kind_of(service, block, number);
+    if !brings_content(service) {
+        return Ok(Task::Call { kind });
+    }
+    match lent_buffer(alloc, handle, content.len()) {
+        Some(buffer) => Ok(Task::Enter {
+            kind,
+            buffer: filled(buffer, content),
+        }),
+        None => Ok(Task::Ask {
+            request: kind.whole(bytes_of(alloc, content)?),
+        }),
+    }
+}
+
+// The unit's buffer, where it has room for so many bytes.
+fn lent_buffer(alloc: Global, handle: &mut Handle, bytes: usize) -> Option<Buffer>
+    requires open { IsSome handle.old.kept }
+    ensures same { handle.new.kept ≡ handle.old.kept }
+    ensures room { IfSome result (λ b. bytes ≤ b.room) }
+{
+    let task = Task::Lend { bytes };
+    match work_on(alloc, handle, Work::Serve { task }) {
+        Outcome::Lent { buffer } => buffer,
+        _other => None,
+    }
+}
+
+// A buffer with this content.
+fn filled(buffer: Buffer, content: &[u8]) -> Buffer
+    requires { length content.now ≤ buffer.room }
+    ensures { result.content ≡ content.now }
+{
+    let mut buffer = buffer;
+    buffer.put(content);
+    buffer
 }
 
 // An answer as C gets it.
@@ -138,10 +181,9 @@ pub extern "C" fn nvm_ask(
     let Some(service) = service_of(service) else {
         return 6;
     };
-    let Ok(request) = request_of(alloc, service, block, number, content) else {
+    let Ok(task) = task_of(alloc, handle, service, block, number, content) else {
         return 4;
     };
-    let task = Task::Ask { request };
     match work_on(alloc, handle, Work::Serve { task }) {
         Outcome::Asked { answer } => {
             let (code, told) = answer_of(answer);

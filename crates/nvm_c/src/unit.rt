@@ -1,22 +1,24 @@
 // A unit: a stack over memory that C lends, behind its first start-up.
-ghost use Rattle.std.specs.Prelude.{◌≡◌, ◌≤◌, false, true, IfOk, length, option_copied};
-ghost use Rattle.nvm.specs.block_machine.Blocks.{block_at, status_of};
+ghost use Rattle.std.specs.Prelude.{◌≡◌, ◌≤◌, ◌↔◌, false, true, Some, None, IfOk, IfSome, IsErrOf, length, option_copied};
+ghost use Rattle.nvm.specs.block_machine.Blocks.{asked_block, block_at, desc_of, status_of};
 ghost use Rattle.nvm.specs.block_machine.Legal.{HasStore};
 ghost use Rattle.nvm.specs.block_machine.Reply.{reply_of};
 ghost use Rattle.nvm.specs.nv_desk.Desk.{state_of};
 ghost use Rattle.nvm.specs.nv_desk.Event.{entry_of};
+ghost use Rattle.nvm.specs.nv_desk.Recorder.{keeps};
+ghost use Rattle.nvm.specs.nv_desk.Request.{request_lent, whole_request};
 ghost use Rattle.nvm_script.specs.Lines.{entry_line};
 ghost use Rattle.script_player.specs.Calls.{Asks, Restarts, Turns};
 ghost use Rattle.nvm.specs.Unit.{Stands, takes_of};
 ghost use Rattle.nvm_c.specs.Unit.{CameBack, TakenFrom, given_last, last_line, unit_told};
-ghost use Rattle.nvm_c.specs.Work.{PlansCut};
+ghost use Rattle.nvm_c.specs.Work.{PlansCut, PlansNone};
 
 use lent_flash::{Lent, LentFlash};
 use nvm::nvm_flash::FlashStack;
 use nvm::nvm_flash::fee_core::Origin;
 use nvm::{
-    AskFault, Bytes, Event, FoundAnswer, Last, Reply, ReqResult, Request, Turned, UnitStack,
-    bytes_of,
+    AskFault, Buffer, Bytes, Entry, Event, FoundAnswer, Last, LentRequest, Reply, ReqResult,
+    Request, RequestKind, Turned, UnitStack, bytes_of,
 };
 use nvm_script::entry_text;
 use std::alloc::{AllocError, Global};
@@ -25,12 +27,14 @@ use std::marker::Model;
 /// The stack that a unit is made of.
 pub type LentStack<O> = FlashStack<LentFlash, O>;
 
-/// The stack of a unit, whether its last start-up stands, and how many power cuts may be planned yet. Contracts see the stack.
+/// The stack of a unit, whether its last start-up stands, how many power cuts may be planned yet, and memory for one content, where it
+/// isn't lent. Contracts see the stack.
 #[derive(Drop)]
 pub struct LentUnit<O: Origin> {
     unit: UnitStack<LentFlash, O>,
     up: bool,
     plans: u32,
+    buffer: Option<Buffer>,
 }
 
 impl<O: Origin> Model for LentUnit<O> {
@@ -44,16 +48,18 @@ impl<O: Origin> Model for LentUnit<O> {
 }
 
 impl<O: Origin> LentUnit<O> {
-    /// The unit of a stack whose first start-up stands, and of whose flash so many power cuts can be planned.
+    /// The unit of a stack that counts its entries, whose first start-up stands, and of whose flash so many power cuts can be planned.
     pub(crate) fn over(unit: UnitStack<LentFlash, O>, plans: u32) -> LentUnit<O>
         requires ready { unit.ready ≡ true }
-        requires plans { plans ≤ takes_of unit }
+        requires plans { takes_of unit ≡ plans }
+        requires counted { keeps unit.desk.cap ≡ false }
         ensures { result ≡ unit }
     {
         LentUnit {
             unit,
             up: true,
             plans,
+            buffer: None,
         }
     }
 
@@ -77,6 +83,49 @@ impl<O: Origin> LentUnit<O> {
         let after = self.unit.stack();
         let _behind = after.device();
         Ok(reply)
+    }
+
+    /// Takes a request of the one caller, whose content is lent. It takes memory only for a content that is longer than its block's,
+    /// which is refused.
+    pub fn enter(
+        &mut self,
+        alloc: Global,
+        kind: RequestKind,
+        content: &[u8],
+    ) -> Result<Reply, AskFault>
+        requires ready { self.old.ready ≡ true }
+        requires store { HasStore self.old.desk.config (whole_request kind content.now) }
+        ensures asks { Asks 0 (whole_request kind content.now) result (unit_told self.old) (unit_told self.new) }
+        ensures replies { IfOk result (λ reply. reply ≡ reply_of self.old.desk.config self.old.desk.cap (state_of self.old.desk) (whole_request kind content.now)) }
+        ensures total { length content.now ≤ (desc_of self.old.desk.config (asked_block (whole_request kind content.now))).length
+            → IsErrOf result AskFault.Memory → ⊥ }
+    {
+        let request = LentRequest { kind, content };
+        let before = self.unit.stack();
+        if !before.content_fits(request) {
+            let content = bytes_of(alloc, content)?;
+            return self.ask(alloc, kind.whole(content));
+        }
+        let _device = before.device();
+        let reply = self.unit.enter(0, request)?;
+        let after = self.unit.stack();
+        let _behind = after.device();
+        Ok(reply)
+    }
+
+    /// Lends its buffer, where it has that and room for so many bytes.
+    pub fn lend(&mut self, bytes: usize) -> Option<Buffer>
+        ensures same { self.new ≡ self.old }
+        ensures room { IfSome result (λ b. bytes ≤ b.room) }
+    {
+        take_buffer(&mut self.buffer, bytes)
+    }
+
+    /// This is its buffer from now on.
+    pub fn keep(&mut self, buffer: Buffer)
+        ensures { self.new ≡ self.old }
+    {
+        self.buffer = Some(buffer);
     }
 
     /// One turn of the main function.
@@ -110,7 +159,7 @@ impl<O: Origin> LentUnit<O> {
     pub fn arm(&mut self, nth: u32, keep: u32) -> bool
         requires { self.old.ready ≡ true }
         ensures planned { result ≡ true → PlansCut nth keep self.old self.new }
-        ensures none { result ≡ false → self.new ≡ self.old }
+        ensures none { result ≡ false → (self.new ≡ self.old) × PlansNone nth self.old }
     {
         if nth == 0 || self.plans == 0 {
             return false;
@@ -129,21 +178,35 @@ impl<O: Origin> LentUnit<O> {
         self.unit.status(block)
     }
 
-    /// A copy of a block's RAM.
-    pub fn ram(&self, alloc: Global, block: u16) -> Result<Bytes, AllocError>
-        ensures { IfOk result (λ bytes. bytes ≡ (block_at (state_of self.now.desk) block).ram) }
+    /// Whether the RAM of a block is valid.
+    pub fn ram_is_valid(&self, block: u16) -> bool
+        ensures { result ≡ (block_at (state_of self.now.desk) block).valid }
     {
-        bytes_of(alloc, self.unit.ram(block))
+        self.unit.ram_is_valid(block)
     }
 
-    /// A copy of what the last entry gave, where that is a Post that gave something.
-    pub fn last_given(&self, alloc: Global) -> Result<Option<Bytes>, AllocError>
-        ensures { IfOk result (λ given. given ≡ given_last self.now) }
+    /// Lends its buffer with what a block's RAM holds, where it has that and room for it.
+    pub fn lend_ram(&mut self, block: u16) -> Option<Buffer>
+        ensures same { self.new ≡ self.old }
+        ensures ram { IfSome result (λ b. b.content ≡ (block_at (state_of self.old.desk) block).ram) }
     {
-        match self.unit.stack().last_given() {
-            Some(given) => Ok(Some(bytes_of(alloc, given)?)),
-            None => Ok(None),
-        }
+        buffer_with(&mut self.buffer, self.unit.ram(block))
+    }
+
+    /// Whether the last entry gave something: whether it is a Post that did.
+    pub fn gave(&self) -> bool
+        ensures { result ≡ false ↔ given_last self.now ≡ None }
+    {
+        self.unit.stack().last_given().is_some()
+    }
+
+    /// Lends its buffer with what the last entry gave, where it has that and room for it.
+    pub fn lend_given(&mut self) -> Option<Buffer>
+        ensures same { self.new ≡ self.old }
+        ensures given { IfSome result (λ b. given_last self.old ≡ Some b.content) }
+    {
+        let given = self.unit.stack().last_given()?;
+        buffer_with(&mut self.buffer, given)
     }
 
     /// The line of the last entry, with its newline, where there is an entry.
@@ -153,6 +216,13 @@ impl<O: Origin> LentUnit<O> {
         match self.unit.stack().last() {
             Some(Last::Added(entry)) => Ok(Some(entry_text(alloc, entry)?)),
             Some(Last::OfJob { event, content }) => Ok(Some(job_line(alloc, event, content)?)),
+            Some(
+                Last::OfRequest {
+                    caller,
+                    request,
+                    reply,
+                },
+            ) => Ok(Some(request_line(alloc, caller, request, reply)?)),
             None => Ok(None),
         }
     }
@@ -182,12 +252,60 @@ impl<O: Origin> LentUnit<O> {
     }
 }
 
+// A buffer, where it is there and has room for so many bytes.
+fn take_buffer(buffer: &mut Option<Buffer>, bytes: usize) -> Option<Buffer>
+    ensures { IfSome result (λ b. bytes ≤ b.room) }
+{
+    if !has_room(buffer, bytes) {
+        return None;
+    }
+    buffer.take()
+}
+
+// Whether a buffer is there that has room for so many bytes.
+fn has_room(buffer: &Option<Buffer>, bytes: usize) -> bool
+    ensures { result ≡ true → IfSome buffer.now (λ b. bytes ≤ b.room) }
+{
+    match buffer {
+        Some(buffer) => bytes <= buffer.room(),
+        None => false,
+    }
+}
+
+// A buffer with this content, where it is there and has room for it.
+fn buffer_with(buffer: &mut Option<Buffer>, content: &[u8]) -> Option<Buffer>
+    ensures { IfSome result (λ b. b.content ≡ content.now) }
+{
+    let mut buffer = take_buffer(buffer, content.len())?;
+    buffer.put(content);
+    Some(buffer)
+}
+
 // The line of an entry of a job, whose content stands beside it.
 fn job_line(alloc: Global, event: Event, content: Option<&[u8]>) -> Result<Bytes, AllocError>
     ensures { IfOk result (λ line. line ≡ entry_line (entry_of event (option_copied content.entry))) }
 {
     let content = copy_of(alloc, content)?;
     let entry = event.entry(content);
+    entry_text(alloc, &entry)
+}
+
+// The line of a request, whose content stands beside it.
+fn request_line(
+    alloc: Global,
+    caller: u8,
+    request: LentRequest<'_>,
+    reply: Reply,
+) -> Result<Bytes, AllocError>
+    ensures { IfOk result (λ line. line ≡ entry_line (Entry.Ask caller (request_lent request.entry) reply)) }
+{
+    let content = bytes_of(alloc, request.content)?;
+    let request = request.kind.whole(content);
+    let entry = Entry::Ask {
+        caller,
+        request,
+        reply,
+    };
     entry_text(alloc, &entry)
 }
 

@@ -1,5 +1,5 @@
 // What is done with the unit of a handle, whatever it was made of.
-ghost use Rattle.std.specs.Prelude.{None};
+ghost use Rattle.std.specs.Prelude.{◌≡◌, None, IfErr, IfOk};
 ghost use Rattle.nvm_c.specs.declared.work.Task.TheVariants as Task;
 ghost use Rattle.nvm_c.specs.declared.work.Work.TheVariants as Work;
 ghost use Rattle.nvm_c.specs.Work.{CanDo, CanServe, Does, Serves};
@@ -9,7 +9,10 @@ use crate::unit::LentUnit;
 use crate::unit_opening::open;
 use lent_flash::{Lent, LentFlash};
 use nvm::nvm_flash::fee_core::Origin;
-use nvm::{AskFault, Bytes, Config, FoundAnswer, MakeFault, Reply, ReqResult, Request, Turned};
+use nvm::{
+    AskFault, Buffer, Bytes, Config, FoundAnswer, MakeFault, Reply, ReqResult, Request,
+    RequestKind, Turned, longest_content,
+};
 use std::alloc::Global;
 
 /// What is asked of a unit.
@@ -30,11 +33,22 @@ pub enum Work {
 #[derive(Drop)]
 pub enum Task {
     Ask { request: Request },
+    /// A request that brings no content.
+    Call { kind: RequestKind },
+    /// A request whose content stands in the buffer that was lent, which comes back with it.
+    Enter { kind: RequestKind, buffer: Buffer },
+    /// The buffer, for a content of so many bytes.
+    Lend { bytes: usize },
+    /// The buffer comes back.
+    Keep { buffer: Buffer },
     Turn,
     Cut { nth: u32, keep: u32 },
     Restart,
     Status { block: u16 },
+    Valid { block: u16 },
+    /// The buffer, with what a block's RAM holds.
     Ram { block: u16 },
+    /// The buffer, with what the last entry gave.
     Given,
     Line,
     Entries,
@@ -48,13 +62,16 @@ pub enum Outcome {
     Down,
     NoMemory,
     Asked { answer: Result<Reply, AskFault> },
+    Lent { buffer: Option<Buffer> },
+    Kept,
     Turned { turned: Turned },
     Planned,
     NotPlanned,
     Found { found: FoundAnswer },
     StatusIs { result: ReqResult },
-    Content { bytes: Bytes },
-    Given { bytes: Option<Bytes> },
+    Is { valid: bool },
+    Content { buffer: Buffer },
+    Nothing,
     Line { text: Option<Bytes> },
     Count { entries: u32 },
     Closed { lent: Lent },
@@ -74,10 +91,7 @@ pub fn serve<O: Origin>(alloc: Global, room: UnitRoom<O>, work: Work) -> (UnitRo
             flash,
             cuts,
         } => open_room(alloc, config, flash, cuts),
-        Work::Close => {
-            let unit = Box::into_inner(room.into_box(alloc));
-            (Room::empty(), Outcome::Closed { lent: unit.close() })
-        }
+        Work::Close => close_room(alloc, room),
         Work::Serve { task } => {
             let mut unit = room.into_box(alloc);
             let outcome = do_task(alloc, &mut unit, task);
@@ -86,7 +100,18 @@ pub fn serve<O: Origin>(alloc: Global, room: UnitRoom<O>, work: Work) -> (UnitRo
     }
 }
 
+// Closes the unit of a room. It stands apart, as the opening does: a call pays at entry for all that its function may hold.
+#[inline(never)]
+fn close_room<O: Origin>(alloc: Global, room: UnitRoom<O>) -> (UnitRoom<O>, Outcome)
+    requires { CanServe O.making O.entry Work.Close room.value }
+    ensures { Serves O.making O.entry Work.Close result.1 room.value result.0.value }
+{
+    let unit = Box::into_inner(room.into_box(alloc));
+    (Room::empty(), Outcome::Closed { lent: unit.close() })
+}
+
 // Opens a unit, and puts it into a room.
+#[inline(never)]
 fn open_room<O: Origin>(
     alloc: Global,
     config: Config,
@@ -96,14 +121,15 @@ fn open_room<O: Origin>(
     requires { CanServe O.making O.entry (Work.Open config flash cuts) None }
     ensures { Serves O.making O.entry (Work.Open config flash cuts) result.1 None result.0.value }
 {
+    let longest = longest_content(&config);
     match open::<O>(alloc, config, flash, cuts) {
-        Ok(unit) => match Box::new(alloc, unit) {
+        Ok(unit) => match boxed(alloc, unit, longest) {
             Ok(unit) => (Room::of(unit), Outcome::Opened),
-            Err(failed) => (
+            Err(unit) => (
                 Room::empty(),
                 Outcome::NotOpened {
                     fault: MakeFault::Memory,
-                    lent: failed.value.close(),
+                    lent: unit.close(),
                 },
             ),
         },
@@ -117,39 +143,84 @@ fn open_room<O: Origin>(
     }
 }
 
+// A unit on the heap, with a buffer of the longest content. At Err the unit is handed back.
+fn boxed<O: Origin>(
+    alloc: Global,
+    unit: LentUnit<O>,
+    longest: usize,
+) -> Result<Box<LentUnit<O>>, LentUnit<O>>
+    ensures ok { IfOk result (λ boxed. boxed.value ≡ unit) }
+    ensures err { IfErr result (λ same. same ≡ unit) }
+{
+    let mut unit = unit;
+    let Ok(buffer) = Buffer::make(alloc, longest) else {
+        return Err(unit);
+    };
+    unit.keep(buffer);
+    match Box::new(alloc, unit) {
+        Ok(boxed) => Ok(boxed),
+        Err(failed) => Err(failed.value),
+    }
+}
+
 // Does a task of a unit. While its last start-up stands it takes requests, makes turns, and plans cuts.
 fn do_task<O: Origin>(alloc: Global, unit: &mut LentUnit<O>, task: Task) -> Outcome
     requires { CanDo task unit.old }
     ensures { Does task result unit.old unit.new }
 {
     match task {
-        Task::Restart => Outcome::Found {
-            found: unit.restart(alloc),
-        },
+        Task::Restart => restart(alloc, unit),
         Task::Status { block } => Outcome::StatusIs {
             result: unit.status(block),
         },
-        Task::Ram { block } => match unit.ram(alloc, block) {
-            Ok(bytes) => Outcome::Content { bytes },
-            Err(_) => Outcome::NoMemory,
+        Task::Valid { block } => Outcome::Is {
+            valid: unit.ram_is_valid(block),
         },
-        Task::Given => match unit.last_given(alloc) {
-            Ok(bytes) => Outcome::Given { bytes },
-            Err(_) => Outcome::NoMemory,
+        Task::Ram { block } => match unit.lend_ram(block) {
+            Some(buffer) => Outcome::Content { buffer },
+            None => Outcome::NoMemory,
         },
-        Task::Line => match unit.last_line(alloc) {
-            Ok(text) => Outcome::Line { text },
-            Err(_) => Outcome::NoMemory,
+        Task::Given => given(unit),
+        Task::Lend { bytes } => Outcome::Lent {
+            buffer: unit.lend(bytes),
         },
+        Task::Keep { buffer } => {
+            unit.keep(buffer);
+            Outcome::Kept
+        }
+        Task::Line => line(alloc, unit),
         Task::Entries => Outcome::Count {
             entries: unit.entries(),
         },
         Task::Ask { request } => ask(alloc, unit, request),
+        Task::Call { kind } => call(alloc, unit, kind),
+        Task::Enter { kind, buffer } => enter(alloc, unit, kind, buffer),
         Task::Turn => turn(unit),
         Task::Cut { nth, keep } => cut(unit, nth, keep),
     }
 }
 
+// What is done seldom, and needs room for it, stands apart, as the opening does.
+#[inline(never)]
+fn restart<O: Origin>(alloc: Global, unit: &mut LentUnit<O>) -> Outcome
+    ensures { Does Task.Restart result unit.old unit.new }
+{
+    Outcome::Found {
+        found: unit.restart(alloc),
+    }
+}
+
+#[inline(never)]
+fn line<O: Origin>(alloc: Global, unit: &LentUnit<O>) -> Outcome
+    ensures { Does Task.Line result unit.now unit.now }
+{
+    match unit.last_line(alloc) {
+        Ok(text) => Outcome::Line { text },
+        Err(_) => Outcome::NoMemory,
+    }
+}
+
+#[inline(never)]
 fn ask<O: Origin>(alloc: Global, unit: &mut LentUnit<O>, request: Request) -> Outcome
     requires { CanDo (Task.Ask request) unit.old }
     ensures { Does (Task.Ask request) result unit.old unit.new }
@@ -159,6 +230,48 @@ fn ask<O: Origin>(alloc: Global, unit: &mut LentUnit<O>, request: Request) -> Ou
     }
     Outcome::Asked {
         answer: unit.ask(alloc, request),
+    }
+}
+
+fn call<O: Origin>(alloc: Global, unit: &mut LentUnit<O>, kind: RequestKind) -> Outcome
+    requires { CanDo (Task.Call kind) unit.old }
+    ensures { Does (Task.Call kind) result unit.old unit.new }
+{
+    if !unit.is_up() {
+        return Outcome::Down;
+    }
+    Outcome::Asked {
+        answer: unit.enter(alloc, kind, &[]),
+    }
+}
+
+fn enter<O: Origin>(
+    alloc: Global,
+    unit: &mut LentUnit<O>,
+    kind: RequestKind,
+    buffer: Buffer,
+) -> Outcome
+    requires { CanDo (Task.Enter kind buffer) unit.old }
+    ensures { Does (Task.Enter kind buffer) result unit.old unit.new }
+{
+    if !unit.is_up() {
+        unit.keep(buffer);
+        return Outcome::Down;
+    }
+    let answer = unit.enter(alloc, kind, buffer.content());
+    unit.keep(buffer);
+    Outcome::Asked { answer }
+}
+
+fn given<O: Origin>(unit: &mut LentUnit<O>) -> Outcome
+    ensures { Does Task.Given result unit.old unit.new }
+{
+    if !unit.gave() {
+        return Outcome::Nothing;
+    }
+    match unit.lend_given() {
+        Some(buffer) => Outcome::Content { buffer },
+        None => Outcome::NoMemory,
     }
 }
 

@@ -8,17 +8,17 @@ use Rattle.nvm_c.proofs.unit.LentUnit.restart.Goals as goal
 pub invariant_of-self : goal.invariant_of-self
 invariant_of-self g c =
     let up = c.self.inside.up in let plans = c.self.inside.plans in let t = c.restart-found.new.self in
-    subst (λ (answer : FoundAnswer). IsLent (up_behind answer up) plans t) c.in-Ready.is (restarted_lent c.self.inside.unit t c.restart-found.result up plans c.self.invariant c.restart-found.ensures.restarts)
+    subst (λ (answer : FoundAnswer). IsLent (up_behind answer up) plans t) c.in-Ready.is (restarted_lent c.self.inside.unit t c.restart-found.result up plans c.self.invariant c.restart-found.ensures.restarts c.restart-found.ensures.stays)
 
 pub invariant_of-self-in-Failed : goal.invariant_of-self-in-Failed
 invariant_of-self-in-Failed g c =
     let up = c.self.inside.up in let plans = c.self.inside.plans in let t = c.restart-found.new.self in
-    subst (λ (answer : FoundAnswer). IsLent (up_behind answer up) plans t) c.in-Failed.is (restarted_lent c.self.inside.unit t c.restart-found.result up plans c.self.invariant c.restart-found.ensures.restarts)
+    subst (λ (answer : FoundAnswer). IsLent (up_behind answer up) plans t) c.in-Failed.is (restarted_lent c.self.inside.unit t c.restart-found.result up plans c.self.invariant c.restart-found.ensures.restarts c.restart-found.ensures.stays)
 
 pub invariant_of-self-in-NoRoom : goal.invariant_of-self-in-NoRoom
 invariant_of-self-in-NoRoom g c =
     let up = c.self.inside.up in let plans = c.self.inside.plans in let t = c.restart-found.new.self in
-    let goes = restarted_lent c.self.inside.unit t c.restart-found.result up plans c.self.invariant c.restart-found.ensures.restarts in
+    let goes = restarted_lent c.self.inside.unit t c.restart-found.result up plans c.self.invariant c.restart-found.ensures.restarts c.restart-found.ensures.stays in
     elim (c.in-NoRoom.is) [
       | inl is ↦ subst (λ (answer : FoundAnswer). IsLent (up_behind answer up) plans t) is goes
       | inr is ↦ subst (λ (answer : FoundAnswer). IsLent (up_behind answer up) plans t) is goes

@@ -1,5 +1,5 @@
 use Rattle.std.specs.Prelude.{map}
-use Rattle.std.proofs.Common.{◌≡◌, true, ap, ◌∙◌, subst, arith}
+use Rattle.std.proofs.Common.{◌≡◌, true, ap, ◌∙◌, subst}
 use Rattle.nvm.specs.nvm_flash.fee_told.Device.{told_of}
 use Rattle.nvm.specs.nvm_flash.nvm_laws.Ties.{IsTied}
 use Rattle.nvm.specs.nvm_core.Stack.{PowersOff}
@@ -8,15 +8,17 @@ use Rattle.nvm.specs.ram_blocks.Plain.{told_of as copy_told}
 use Rattle.script_player.specs.Calls.{Turns}
 use Rattle.nvm.proofs.UnitLaws.{turns_take, turns_up}
 use Rattle.nvm_c.specs.Unit.{UnitState, unit_told}
-use Rattle.nvm_c.proofs.UnitLaws.{turns_told}
+use Rattle.nvm_c.proofs.UnitLaws.{still_counted, turns_told}
 use Rattle.nvm_c.proofs.unit.LentUnit.turn.Goals as goal
 
 pub invariant_of-self : goal.invariant_of-self
 invariant_of-self g c =
     let s = c.self.inside.unit in let t = c.turn-turned.new.self in
-    let same = turns_take s t c.turn-turned.result c.turn-turned.ensures.turns in
-    let was = c.self.invariant.takes in
-    record { is_up = turns_up s t c.turn-turned.result c.turn-turned.ensures.turns ∙ c.self.invariant.is_up; takes = omega (arith, was, same) }
+    record {
+      is_up = turns_up s t c.turn-turned.result c.turn-turned.ensures.turns ∙ c.self.invariant.is_up;
+      takes = turns_take s t c.turn-turned.result c.turn-turned.ensures.turns ∙ c.self.invariant.takes;
+      counted = still_counted s t c.turn-turned.ensures.stays c.self.invariant.counted;
+    }
 
 -- what its device tells of a stack
 record Tells (s : UnitState) : Type 0 where
