@@ -38,6 +38,7 @@ uint8 NvM_SimRule(void);                                /* which rule of docs/CO
 boolean NvM_SimIsOff(void);                             /* whether the last turn told that the power is off */
 boolean NvM_SimIsIdle(void);                            /* whether nothing waits, and the last turn had nothing to do */
 uint8 NvM_SimRefusal(void);                             /* why the last service was refused, by docs/SCRIPT.md, 0 for none */
+boolean NvM_SimRamIsValid(NvM_BlockIdType BlockId);     /* whether a block has a RAM block that is valid */
 uint32 NvM_SimEntries(void);                            /* how long the history is */
 /* The power goes off in the nth changing operation from now, with so many bytes of it done. E_NOT_OK where none is planned: nth is 0, or
    as many were planned as NvM_SimFlash was told. */

@@ -54,6 +54,9 @@ uint8_t nvm_given(nvm_handle *handle, uint8_t *into, size_t room, size_t *size);
    call by which nvm_entries grew has the history. The line of a start-up is as long as what it found. */
 uint8_t nvm_line(nvm_handle *handle, uint8_t *into, size_t room, size_t *size);
 
+/* Whether a block's RAM is valid, 1 or 0; 0 too of a block without RAM, and where there is no such block. */
+uint8_t nvm_ram_is_valid(nvm_handle *handle, uint16_t block);
+
 void nvm_close(nvm_handle *handle, nvm_memory *back);
 
 /* Of the text of a configuration, without a unit. 0 it is one; 1 it breaks a rule, the first by its number in docs/CONFIGURATION.md, at a

@@ -4,8 +4,6 @@
 #include "shim.h"
 #include <string.h>
 
-enum { OWN_BLOCK = 1 };
-
 static int is_write(void) { return NvMShim.all.service == NVM_WRITE_ALL_API_ID; }
 static int is_member(NvM_BlockIdType id) { return NvMShim_Is(id, is_write() ? NVM_IN_WRITEALL : NVM_IN_READALL); }
 
@@ -60,6 +58,7 @@ void NvMShim_EndAll(void) {
     uint32 opening = NvMShim.opening;
     NvM_RequestResultType result = NvMShim_ResultOf(0);
     NvMShim.all.phase = PHASE_NONE;
+    NvMShim.all.told = result;
     if (NvMShim.config->job_mode) NvMShim.config->job_mode(service, result);
     if (NvMShim_IsSame(opening) && NvMShim.config->all_done) NvMShim.config->all_done(service, result);
 }
@@ -145,6 +144,7 @@ void NvMShim_AskAll(void) {
 static void end_member(NvM_BlockIdType id) {
     NvM_RequestResultType result = NvMShim_ResultOf(id);
     if (id == OWN_BLOCK) return;
+    NvMShim_NoteMark(id, NvMShim_StatusOf(id));
     if (is_write()) NvMShim_End(id, result);
     else NvMShim_EndRead(id, result);
 }
@@ -164,7 +164,7 @@ static void result_of_all(void) {
     for (unsigned number = FIRST_BLOCK; number <= NvMShim_LastId(); number++) {
         NvM_BlockIdType id = (NvM_BlockIdType)number;
         if (!is_member(id)) continue;
-        has_own |= NvMShim.blocks[id].told != NO_RESULT;
+        has_own |= NvMShim.blocks[id].is_own;
         has_failed |= NvMShim_IsFailed(NvMShim_ResultOf(id));
     }
     if (has_own && NvMShim_StatusOf(0) != NVM_REQ_CANCELED) NvMShim.all.told = has_failed ? NVM_REQ_NOT_OK : NVM_REQ_OK;

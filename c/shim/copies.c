@@ -25,7 +25,7 @@ static void copy_out(NvM_BlockIdType id) {
     if (!NvMShim_CopyOut(id) || !NvMShim_IsSame(opening) || state->phase != PHASE_COPY_OUT) return;
     why = state->is_copied ? NvMShim_Ask(NVM_WRITE_PERMANENT_RAM, id, 0, NULL, 0, NULL) : 0;
     if (state->is_copied && !why) {
-        state->phase = PHASE_ASKED;
+        NvMShim_Put(id, PHASE_ASKED);
         return;
     }
     if (why) (void)NvMShim_Refuse(state->service, why);
@@ -41,6 +41,12 @@ static void copy_in(NvM_BlockIdType id) {
     if (!NvMShim_IsSame(opening) || state->phase != PHASE_COPY_IN) return;
     if (is_taken) NvMShim_End(id, NvMShim_StatusOf(id));
     else if (++state->tries > block->repeats) NvMShim_End(id, NVM_REQ_NOT_OK);
+}
+
+/* Whether defaults are what the application makes of its RAM block by itself. (A dataset has none.) */
+int NvMShim_IsMade(NvM_BlockIdType id) {
+    const NvM_BlockDescriptorType *block = NvMShim_BlockOf(id);
+    return block && block->ram && block->init && !(block->is & (NVM_HAS_DEFAULTS | NVM_IS_DATASET));
 }
 
 /* Where a read would give the defaults, and there are none, the application makes its RAM block by itself: what the result is then. */

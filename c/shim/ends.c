@@ -18,12 +18,6 @@ static int is_read(uint8 service) {
     return service == NVM_READ_BLOCK_API_ID || service == NVM_READ_PRAM_BLOCK_API_ID || service == NVM_READ_ALL_API_ID || is_restore(service);
 }
 
-/* What the last request that ended has come to, of one block, or by 0 of all. */
-NvM_RequestResultType NvMShim_ResultOf(NvM_BlockIdType id) {
-    uint8 told = id ? NvMShim.blocks[id].told : NvMShim.all.told;
-    return told != NO_RESULT ? told : NvMShim_StatusOf(id);
-}
-
 /* The first half of a block's FirstInitAll. */
 static int is_first_half(NvM_BlockIdType id) {
     return NvMShim.all.phase == PHASE_LIST && NvMShim.all.at == id && is_restore(NvMShim.blocks[id].service);
@@ -31,6 +25,18 @@ static int is_first_half(NvM_BlockIdType id) {
 
 /* Whether the RAM block holds defaults now, which aren't stored. */
 static int has_defaults(uint8 service, NvM_RequestResultType result) { return result == NVM_REQ_RESTORED_FROM_ROM || is_restore(service); }
+
+/* Whether the RAM block of a request is still to be stored: one that nothing could be read into isn't valid, and one whose write failed is. */
+static uint8 mark_behind(uint8 before, uint8 service, NvM_RequestResultType result) {
+    if (NvMShim_Gives(result)) return has_defaults(service, result) != 0;
+    return is_read(service) && !is_restore(service) && NvMShim_IsFailed(result) ? 0 : before;
+}
+
+/* Likewise as the stack has it, of a job that it has posted (docs/MODEL.md). */
+void NvMShim_NoteMark(NvM_BlockIdType id, NvM_RequestResultType result) {
+    NvMShim_Block *state = &NvMShim.blocks[id];
+    if (state->of_ram) state->is_marked = mark_behind(state->is_marked, state->service, result);
+}
 
 /* The callbacks come last, since they may ask for more, or end the unit: BswM's before the application's, which often asks for the block's
    next job, so that BswM hears of both in their order. */
@@ -40,9 +46,10 @@ void NvMShim_End(NvM_BlockIdType id, NvM_RequestResultType result) {
     uint32 opening = NvMShim.opening;
     int is_half = is_first_half(id);
     uint8 service = is_half ? (uint8)NVM_FIRST_INIT_ALL_API_ID : state->service;
-    state->phase = is_half && NvMShim_Gives(result) ? PHASE_IN_ALL : PHASE_NONE;    /* (its defaults are still to be stored) */
-    state->told = result == NvMShim_StatusOf(id) ? (uint8)NO_RESULT : result;
-    if (state->of_ram && NvMShim_Gives(result)) state->is_changed = has_defaults(service, result) != 0;
+    NvMShim_Put(id, is_half && NvMShim_Gives(result) ? PHASE_IN_ALL : PHASE_NONE);  /* (its defaults are still to be stored) */
+    state->is_own = result != NvMShim_StatusOf(id);
+    state->told = id == OWN_BLOCK ? (uint8)NO_RESULT : result;
+    if (state->of_ram) state->is_changed = mark_behind(state->is_changed, service, result);
     if (!block || state->phase == PHASE_IN_ALL) return;
     if ((block->is & NVM_TELLS_BSWM) && NvMShim.config->block_mode) NvMShim.config->block_mode(id, result);
     if (NvMShim_IsSame(opening) && block->done) (void)block->done(service, result);
@@ -63,7 +70,7 @@ static void give_ram(NvM_BlockIdType id, NvM_RequestResultType result) {
     } else if (!block->from_nvm) {
         NvMShim_End(id, result);
     } else {
-        NvMShim.blocks[id].phase = PHASE_COPY_IN;
+        NvMShim_Put(id, PHASE_COPY_IN);
         NvMShim.blocks[id].tries = 0;
         NvMShim_BeginWaiting(id);
     }
@@ -93,6 +100,7 @@ void NvMShim_EndPosted(void) {
         if (NvMShim.blocks[id].phase != PHASE_ASKED) continue;
         result = NvMShim_StatusOf(id);
         if (result == NVM_REQ_PENDING) continue;
+        NvMShim_NoteMark(id, result);
         if (is_read(NvMShim.blocks[id].service)) NvMShim_EndRead(id, result);
         else NvMShim_End(id, result);
         return;

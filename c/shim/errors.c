@@ -35,10 +35,3 @@ Std_ReturnType NvMShim_RefusePointer(uint8 service) {
     NvMShim_Report(service, NVM_E_PARAM_POINTER);
     return E_NOT_OK;
 }
-
-int NvMShim_IsReady(uint8 service) {
-    NvMShim.refusal = 0;
-    if (NvMShim_IsUp()) return 1;
-    NvMShim_Report(service, NVM_E_UNINIT);
-    return 0;
-}

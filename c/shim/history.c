@@ -2,13 +2,13 @@
    each call that added one. */
 #include "shim.h"
 
-static void (*told_to)(const char *line);
+void (*NvMShim_ToldTo)(const char *line);
 static uint8 *line_room;
 static size_t line_size;
 static uint32 told;
 
 void NvM_SimHistory(void (*line)(const char *text), uint8 *room, size_t size) {
-    told_to = line;
+    NvMShim_ToldTo = room && size ? line : NULL;
     line_room = room;
     line_size = size;
 }
@@ -16,12 +16,12 @@ void NvM_SimHistory(void (*line)(const char *text), uint8 *room, size_t size) {
 /* (a unit that is opened anew counts from 0 again) */
 void NvMShim_BeginHistory(void) { told = 0; }
 
-void NvMShim_Tell(void) {
+void NvMShim_TellLine(void) {
     size_t size = 0;
-    uint32 entries = told_to ? nvm_entries(&NvMShim.handle) : 0;
-    if (!told_to || entries == told) return;
+    uint32 entries = nvm_entries(&NvMShim.handle);
+    if (entries == told) return;
     told = entries;
     if (nvm_line(&NvMShim.handle, line_room, line_size, &size) != 0 || size == 0 || size > line_size) return;
     line_room[size - 1] = 0;
-    told_to((const char *)line_room);
+    NvMShim_ToldTo((const char *)line_room);
 }

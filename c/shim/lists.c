@@ -18,22 +18,35 @@ static NvM_BlockIdType next_of(NvM_BlockIdType id) {
     return next;
 }
 
+/* (what the application makes of its RAM block is made as for a restore) */
 static uint8 begin_block(NvM_BlockIdType id) {
     uint8 *room = NvMShim.config->room;
     int has_defaults = NvMShim_Is(id, NVM_HAS_DEFAULTS);
-    uint8 why = NvMShim_Ask(has_defaults ? NVM_RESTORE_BLOCK_DEFAULTS : NVM_INVALIDATE_NV_BLOCK, id, 0, NULL, 0, NULL);
+    uint8 why;
+    if (NvMShim_IsMade(id)) {
+        NvMShim_Begin(id, NVM_RESTORE_PRAM_BLOCK_DEFAULTS_API_ID, PHASE_INIT, NULL, 1);
+        return 0;
+    }
+    why = NvMShim_Ask(has_defaults ? NVM_RESTORE_BLOCK_DEFAULTS : NVM_INVALIDATE_NV_BLOCK, id, 0, NULL, 0, NULL);
     NvMShim_Begin(id, has_defaults ? NVM_RESTORE_BLOCK_DEFAULTS_API_ID : NVM_FIRST_INIT_ALL_API_ID, PHASE_ASKED, has_defaults ? room : NULL, 0);
     return why;
 }
 
 /* (it is pending already, so nobody is told of another beginning) */
 static uint8 store_defaults(NvM_BlockIdType id) {
+    const NvM_BlockDescriptorType *block = NvMShim_BlockOf(id);
+    int is_synchronized = block->to_nvm && NvMShim_IsMade(id);
+    uint8 why;
     NvMShim.blocks[id].service = NVM_FIRST_INIT_ALL_API_ID;
-    NvMShim.blocks[id].phase = PHASE_ASKED;
-    return NvMShim_Ask(NVM_WRITE_BLOCK, id, 0, NvMShim.config->room, NvMShim_BlockOf(id)->length, NULL);
+    NvMShim_Put(id, is_synchronized ? PHASE_COPY_OUT : PHASE_ASKED);
+    if (is_synchronized) return 0;
+    if (!NvMShim_IsMade(id)) return NvMShim_Ask(NVM_WRITE_BLOCK, id, 0, NvMShim.config->room, block->length, NULL);
+    why = NvMShim_PutRam(id, block->ram);
+    return why ? why : NvMShim_Ask(NVM_WRITE_PERMANENT_RAM, id, 0, NULL, 0, NULL);
 }
 
-/* One block after the other: its defaults are read and stored, or it is invalidated where it has none. */
+/* One block after the other: its defaults are read, or the application makes its RAM block, and stored; or it is invalidated where it has
+   none. */
 static void first_init(void) {
     NvM_BlockIdType id = NvMShim.all.at;
     uint32 opening = NvMShim.opening;

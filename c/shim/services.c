@@ -1,13 +1,6 @@
 /* The services of one block. */
 #include "shim.h"
 
-/* No request on one block is under way. */
-int NvMShim_IsAlone(void) {
-    for (unsigned id = 1; id <= NvMShim_LastId(); id++)
-        if (NvMShim.blocks[id].phase != PHASE_NONE && NvMShim.blocks[id].phase != PHASE_IN_ALL) return 0;
-    return 1;
-}
-
 /* What is refused here, since the stack doesn't know what waits here. All else it refuses itself. */
 static uint8 why_not(NvM_BlockIdType id) {
     if (id > NvMShim_LastId()) return REFUSED_BLOCK;
@@ -16,17 +9,24 @@ static uint8 why_not(NvM_BlockIdType id) {
     return NvMShim.blocks[id].phase != PHASE_NONE ? (uint8)REFUSED_PENDING : 0;
 }
 
+/* A RAM block that is to be written is taken as changed until it is. */
+static int writes_ram(uint8 service, uint8 of_ram) {
+    return of_ram && (service == NVM_WRITE_BLOCK_API_ID || service == NVM_WRITE_PRAM_BLOCK_API_ID);
+}
+
 /* BswM's call comes last, since it may ask for more. */
 void NvMShim_Begin(NvM_BlockIdType id, uint8 service, NvMShim_Phase phase, void *destination, uint8 of_ram) {
     NvMShim_Block *block = &NvMShim.blocks[id];
     block->service = service;
-    block->phase = phase;
+    NvMShim_Put(id, phase);
     block->destination = destination;
     block->of_ram = of_ram;
+    if (writes_ram(service, of_ram)) block->is_changed = 1;
     block->tries = 0;
     block->is_copied = 0;
+    block->is_own = 0;
     block->told = NO_RESULT;
-    if (NvMShim_Is(id, NVM_TELLS_BSWM) && NvMShim.config->block_mode) NvMShim.config->block_mode(id, NVM_REQ_PENDING);
+    if (NvMShim.config->block_mode && NvMShim_Is(id, NVM_TELLS_BSWM)) NvMShim.config->block_mode(id, NVM_REQ_PENDING);
 }
 
 /* A service that makes a job: what it gives goes to the destination, or to the block's RAM. asked is the stack's number of it. */
@@ -54,14 +54,8 @@ static Std_ReturnType write_ram(uint8 service, NvM_BlockIdType id) {
     return E_OK;
 }
 
-/* Whether defaults are what the application makes of its RAM block by itself. (A dataset has none.) */
-static int is_made(NvM_BlockIdType id) {
-    const NvM_BlockDescriptorType *block = NvMShim_BlockOf(id);
-    return block && block->ram && block->init && !(block->is & (NVM_HAS_DEFAULTS | NVM_IS_DATASET));
-}
-
 static Std_ReturnType restore_ram(uint8 service, NvM_BlockIdType id) {
-    if (!is_made(id) || !NvMShim_IsUp() || why_not(id)) return ask_job(service, NVM_RESTORE_PERMANENT_RAM, id, NULL, 0, NULL);
+    if (!NvMShim_IsMade(id) || !NvMShim_IsUp() || why_not(id)) return ask_job(service, NVM_RESTORE_PERMANENT_RAM, id, NULL, 0, NULL);
     NvMShim.refusal = 0;
     NvMShim_Begin(id, service, PHASE_INIT, NULL, 1);
     return E_OK;
@@ -142,7 +136,7 @@ void NvM_SetBlockLockStatus(NvM_BlockIdType BlockId, boolean BlockLocked) {
 /* The content is taken by the WriteAll itself. */
 Std_ReturnType NvM_SetRamBlockStatus(NvM_BlockIdType BlockId, boolean BlockChanged) {
     Std_ReturnType answer = ask_now(NVM_SET_RAM_BLOCK_STATUS_API_ID, NVM_SET_RAM_BLOCK_STATUS, BlockId, BlockChanged, NULL);
-    if (answer == E_OK) NvMShim.blocks[BlockId].is_changed = BlockChanged != 0;
+    if (answer == E_OK) NvMShim.blocks[BlockId].is_changed = NvMShim.blocks[BlockId].is_marked = BlockChanged != 0;
     return answer;
 }
 

@@ -5,9 +5,10 @@
 uint8 NvMShim_Ask(uint8 service, NvM_BlockIdType id, uint8 number, const void *content, size_t length, uint8 *value) {
     static const uint8 nothing = 0;     /* (a pointer is never null) */
     uint8 told = 0, code = nvm_ask(&NvMShim.handle, service, id, number, length ? (const uint8 *)content : &nothing, length, &told);
+    NvMShim.is_at_rest = 0;
     NvMShim_Tell();
+    if (code == 0) return 0;
     switch (code) {
-    case 0: return 0;
     case 1: return told;
     case 2:
         if (value) *value = told;
@@ -22,8 +23,12 @@ uint8 NvMShim_PutRam(NvM_BlockIdType id, const void *content) {
     return NvMShim_Ask(NVM_PUT_RAM, id, 0, content, NvMShim_BlockOf(id)->length, NULL);
 }
 
-/* Whether the next WriteAll stores the stack's copy of a RAM block. */
-uint8 NvMShim_SetChanged(NvM_BlockIdType id, uint8 is_changed) { return NvMShim_Ask(NVM_SET_RAM_BLOCK_STATUS, id, is_changed, NULL, 0, NULL); }
+/* Whether the next WriteAll stores the stack's copy of a RAM block. (One that isn't marked stays as it is: it may be valid.) */
+uint8 NvMShim_SetChanged(NvM_BlockIdType id, uint8 is_changed) {
+    uint8 why = is_changed || NvMShim.blocks[id].is_marked ? NvMShim_Ask(NVM_SET_RAM_BLOCK_STATUS, id, is_changed, NULL, 0, NULL) : 0;
+    if (!why) NvMShim.blocks[id].is_marked = is_changed;
+    return why;
+}
 
 /* The RAM block gets the stack's copy. Tells whether it did: there may be no memory for it. */
 int NvMShim_TakeRam(NvM_BlockIdType id) {

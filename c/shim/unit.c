@@ -2,31 +2,19 @@
 #include "shim.h"
 #include <string.h>
 
-NvMShim_Unit NvMShim = { .fault = NVM_SIM_CLOSED };
+NvMShim_Unit NvMShim = { .fault = NVM_SIM_CLOSED, .in_phase = { PLACES } };
 
-/* (a configuration that was refused has no blocks: what it points to isn't looked at again) */
-unsigned NvMShim_LastId(void) { return NvMShim.handle.at ? NvMShim.config->count + 1u : 0u; }
-
-const NvM_BlockDescriptorType *NvMShim_BlockOf(NvM_BlockIdType id) {
-    return id >= FIRST_BLOCK && id <= NvMShim_LastId() ? &NvMShim.config->blocks[id - FIRST_BLOCK] : NULL;
-}
-
-int NvMShim_Is(NvM_BlockIdType id, uint8 flag) {
-    const NvM_BlockDescriptorType *block = NvMShim_BlockOf(id);
-    return block && (block->is & flag);
-}
-
-int NvMShim_IsUp(void) { return NvMShim.fault == NVM_SIM_UP; }
-int NvMShim_IsSame(uint32 opening) { return NvMShim.opening == opening; }
 static int is_open(void) { return NvMShim.fault == NVM_SIM_UP || NvMShim.fault == NVM_SIM_DOWN; }
 
+/* As a start-up leaves them: no request is under way, and each result is OK. (There may be a switch of banks to go on with.) */
 static void forget_requests(void) {
     memset(NvMShim.blocks, 0, sizeof NvMShim.blocks);
-    for (unsigned id = 0; id < MOST_BLOCKS + FIRST_BLOCK; id++) NvMShim.blocks[id].told = NO_RESULT;
+    memset(NvMShim.in_phase, 0, sizeof NvMShim.in_phase);
+    NvMShim.in_phase[PHASE_NONE] = PLACES;
+    NvMShim.blocks[OWN_BLOCK].told = NO_RESULT;
     memset(&NvMShim.all, 0, sizeof NvMShim.all);
-    NvMShim.all.told = NO_RESULT;
-    NvMShim.is_off = 0;
-    NvMShim.is_idle = 1;    /* (a start-up leaves nothing to do) */
+    NvMShim.is_off = NvMShim.is_at_rest = 0;
+    NvMShim.is_idle = 1;
     NvMShim.opening++;
 }
 
@@ -65,6 +53,7 @@ static uint8 open_unit(void) {
     if (!fault) fault = NvMShim_FaultOfTable(config->room, length);
     if (!fault) fault = nvm_open(&NvMShim.handle, config->room, length, NvMShim.flash, NvMShim.most_cuts, &back);
     if (fault) return fault;
+    NvMShim.last_id = (uint16)(config->count + 1u);
     NvMShim_BeginHistory();
     NvMShim_Tell();
     return NVM_SIM_UP;
@@ -96,6 +85,7 @@ void NvM_SimClose(void) {
     nvm_memory back = {0};
     if (!is_open()) return;
     nvm_close(&NvMShim.handle, &back);
+    NvMShim.last_id = 0;
     NvMShim.fault = NVM_SIM_CLOSED;
     forget_requests();
 }
@@ -125,6 +115,11 @@ NvM_BlockIdType NvM_SimFaultBlock(void) { return NvMShim.fault_block; }
 boolean NvM_SimIsOff(void) { return (boolean)(NvMShim.is_off != 0); }
 boolean NvM_SimIsIdle(void) { return (boolean)(NvMShim.is_idle && NvMShim.all.phase == PHASE_NONE && NvMShim_IsAlone()); }
 uint8 NvM_SimRefusal(void) { return NvMShim.refusal; }
+boolean NvM_SimRamIsValid(NvM_BlockIdType BlockId) {
+    if (!is_open() || BlockId > NvMShim_LastId()) return FALSE;
+    return (boolean)(NvMShim.blocks[BlockId].is_changed || nvm_ram_is_valid(&NvMShim.handle, BlockId));
+}
+
 uint32 NvM_SimEntries(void) { return is_open() ? nvm_entries(&NvMShim.handle) : 0; }
 
 void NvM_GetVersionInfo(Std_VersionInfoType *versioninfo) {

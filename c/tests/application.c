@@ -10,7 +10,7 @@
 
 uint8 Member[4], Single[4], Made[2], Always[4], shared[8];
 seen_of seen;
-unsigned copies_refused, late_refused, checks, failures;
+unsigned copies_refused, late_refused, makes_refused, checks, failures;
 void (*in_plain_done)(void), (*in_member_done)(void), (*in_member_mode)(void), (*in_all_done)(void);
 void (*in_shared_copy)(void), (*in_make)(void), (*in_error)(void);
 
@@ -121,6 +121,10 @@ Std_ReturnType LateDone(uint8 service, NvM_RequestResultType result) {
 
 Std_ReturnType MakeMade(void) {
     seen.made_by_callback++;
+    if (makes_refused) {
+        makes_refused--;
+        return E_NOT_OK;
+    }
     memset(Made, 0x66, sizeof Made);
     once(&in_make);
     return E_OK;

@@ -19,6 +19,7 @@ typedef struct {
 } seen_of;
 extern seen_of seen;
 extern unsigned copies_refused, late_refused;   /* so many copies to come are refused, of Shared and of Late */
+extern unsigned makes_refused;              /* so many calls of MakeMade make nothing */
 extern void (*in_plain_done)(void);         /* what PlainDone does, once */
 extern void (*in_member_done)(void);        /* what MemberDone does, once */
 extern void (*in_member_mode)(void);        /* what BswM does when it is told of Member, once */

@@ -481,6 +481,11 @@ uint8_t nvm_status(nvm_handle *handle, uint16_t block) {
 
 uint32_t nvm_entries(nvm_handle *handle) { (void)handle; return entries; }
 
+uint8_t nvm_ram_is_valid(nvm_handle *handle, uint16_t block) {
+    if (handle->at != &anchor) abort();
+    return block < BLOCKS && states[block].valid;
+}
+
 static uint8_t fill(const uint8_t *from, size_t length, uint8_t *into, size_t room, size_t *size) {
     *size = length;
     if (length <= room) memcpy(into, from, length);

@@ -173,6 +173,7 @@ static void shut_down_and_start(void) {
     memset(shared, 0x51, 8);
     memset(Always, 0x91, 4);            /* nobody says that it changed */
     CHECK(NvM_SetRamBlockStatus(ID(Member), TRUE) == E_OK && NvM_SetRamBlockStatus(ID(Shared), TRUE) == E_OK);
+    CHECK(NvM_SetRamBlockStatus(ID(Made), TRUE) == E_OK);   /* (it isn't valid any more, since nothing was there to read) */
     memset(Member, 0x32, 4);            /* what it holds when WriteAll works is stored */
     copies_refused = 1;
     before = seen.members_before_all;
@@ -325,6 +326,48 @@ static void lists(void) {
     NvM_FirstInitAll();
     CHECK(await(0) == NVM_REQ_NOT_OK && status(ID(Plain)) == NVM_REQ_BLOCK_SKIPPED && status(ID(Member)) == NVM_REQ_OK);
     NvM_SetBlockLockStatus(ID(Plain), FALSE);
+}
+
+/* Which RAM blocks are valid: none behind a start-up, and those that something was read into, or that the application says are. */
+static void valid_rams(void) {
+    CHECK(!NvM_SimRamIsValid(0) && !NvM_SimRamIsValid(99) && !NvM_SimRamIsValid(ID(Plain)));
+    NvM_Init(NULL);
+    CHECK(!NvM_SimRamIsValid(ID(Member)) && !NvM_SimRamIsValid(ID(Single)) && !NvM_SimRamIsValid(1));
+    NvM_ReadAll();
+    CHECK(await(0) == NVM_REQ_OK && NvM_SimRamIsValid(ID(Member)) && NvM_SimRamIsValid(ID(Made)) && NvM_SimRamIsValid(1) && !NvM_SimRamIsValid(ID(Single)));
+    NvM_WriteAll();                     /* one that it doesn't store stays valid */
+    CHECK(await(0) == NVM_REQ_OK && status(ID(Member)) == NVM_REQ_BLOCK_SKIPPED && NvM_SimRamIsValid(ID(Member)));
+    CHECK(NvM_SetRamBlockStatus(ID(Single), TRUE) == E_OK && NvM_SimRamIsValid(ID(Single)));
+    CHECK(NvM_SetRamBlockStatus(ID(Single), FALSE) == E_OK && !NvM_SimRamIsValid(ID(Single)));
+    CHECK(NvM_WritePRAMBlock(ID(Single)) == E_OK && NvM_SimRamIsValid(ID(Single)) && await(ID(Single)) == NVM_REQ_OK && NvM_SimRamIsValid(ID(Single)));
+}
+
+/* What an application makes of its RAM block by itself are its defaults: FirstInitAll stores them. */
+static void lists_make(void) {
+    unsigned before = seen.made.count, makes = seen.made_by_callback;
+    memset(Made, 0, 2);
+    NvM_FirstInitAll();
+    CHECK(await(0) == NVM_REQ_OK && seen.made.count == before + 1 && seen.made.service == NVM_FIRST_INIT_ALL_API_ID);
+    CHECK(seen.made_by_callback == makes + 1 && is_all(Made, 2, 0x66));
+    memset(Made, 0, 2);
+    CHECK(NvM_ReadPRAMBlock(ID(Made)) == E_OK && await(ID(Made)) == NVM_REQ_OK && is_all(Made, 2, 0x66) && seen.made_by_callback == makes + 1);
+    makes_refused = 1;                  /* where it makes none, nothing is stored */
+    memset(Made, 0, 2);
+    NvM_FirstInitAll();
+    CHECK(await(0) == NVM_REQ_NOT_OK && status(ID(Made)) == NVM_REQ_NOT_OK && seen.made.count == before + 3 && makes_refused == 0);
+    CHECK(NvM_ReadPRAMBlock(ID(Made)) == E_OK && await(ID(Made)) == NVM_REQ_OK && is_all(Made, 2, 0x66));
+}
+
+/* A RAM block that nothing could be read into isn't valid, so the next WriteAll doesn't store it, marked as it was before. */
+static void nothing_to_read(void) {
+    CHECK(NvM_InvalidateNvBlock(ID(Made)) == E_OK && await(ID(Made)) == NVM_REQ_OK);
+    CHECK(NvM_SetRamBlockStatus(ID(Made), TRUE) == E_OK && NvM_ReadPRAMBlock(ID(Made)) == E_OK && await(ID(Made)) == NVM_REQ_NV_INVALIDATED);
+    CHECK(!NvM_SimRamIsValid(ID(Made)));
+    NvM_WriteAll();
+    CHECK(await(0) == NVM_REQ_OK && status(ID(Made)) == NVM_REQ_BLOCK_SKIPPED);
+    CHECK(NvM_SetRamBlockStatus(ID(Made), TRUE) == E_OK);
+    NvM_WriteAll();
+    CHECK(await(0) == NVM_REQ_OK && status(ID(Made)) == NVM_REQ_OK);
 }
 
 /* The services of the modules below answer by their errors. */
@@ -565,6 +608,8 @@ static void histories(void) {
     CHECK(NvM_WriteBlock(ID(Plain), four) == E_OK && await(ID(Plain)) == NVM_REQ_OK && told.lines < NvM_SimEntries());
     NvM_SimHistory(take_line, room, 4);     /* (no line is as short) */
     CHECK(NvM_WriteBlock(ID(Plain), four) == E_OK && await(ID(Plain)) == NVM_REQ_OK && told.founds == 2 && told.posts == 1);
+    NvM_SimHistory(take_line, NULL, sizeof room);   /* (without a room there is no line) */
+    CHECK(NvM_WriteBlock(ID(Plain), four) == E_OK && await(ID(Plain)) == NVM_REQ_OK && told.founds == 2 && told.posts == 1);
     NvM_SimHistory(NULL, NULL, 0);
 }
 
@@ -721,6 +766,9 @@ int main(int count, char **words) {
     changed_between();
     write_all_behind_a_write();
     lists();
+    valid_rams();
+    lists_make();
+    nothing_to_read();
     below();
     callbacks_that_call();
     makers_that_call();

@@ -154,6 +154,17 @@ static void look_at_ends(void) {
     }
 }
 
+/* A status that the services keep is the stack's, of a block whose results are the stack's alone. */
+NvM_RequestResultType NvMShim_StatusOf(NvM_BlockIdType id);
+
+static void look_at_statuses(void) {
+    static const NvM_BlockIdType OF_STACK[] = { 1, ID(Plain), ID(Single), ID(Urgent), ID(Set) };
+    NvM_RequestResultType result;
+    if (NvM_SimFault() != NVM_SIM_UP) return;
+    for (size_t i = 0; i < sizeof OF_STACK / sizeof OF_STACK[0]; i++)
+        CHECK(NvM_GetErrorStatus(OF_STACK[i], &result) == E_OK && (result == NvMShim_StatusOf(OF_STACK[i]) || result == NVM_REQ_PENDING));
+}
+
 /* Behind it nothing fails: each block is read, and holds what it may, a default, or nothing. */
 static void look(void) {
     static const uint8 DEFAULTS[LAST + 1] = { 0, 0, 0, 0x33, 0, 0x55, 0x66, 0, 0xAA, 0, 0 };
@@ -186,6 +197,7 @@ int main(int count, char **words) {
         for (uint32 cycles = draw(12); cycles > 0; cycles--) cycle();
         look_at_rams();
         look_at_ends();
+        look_at_statuses();
     }
     look();
     printf("seed %lu, %lu steps: %u checks, %u failed\n", (unsigned long)seed, steps, checks, failures);

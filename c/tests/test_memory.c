@@ -1,0 +1,147 @@
+/* What a unit takes of memory beside its flash, by its own size: the linker puts what stands below in the place of the C library's heap, so that
+   each byte that it is asked for is counted. A unit may take what docs/COST.md has: the flash once more, a bank, its blocks' contents, once more those
+   of permanent RAM, two of the longest content, a page, so much for each block and each stored instance, and 8 KB; a start-up once more what it
+   finds, and an opening the flash once more. */
+#include "nvm_c.h"
+#include <stdio.h>
+#include <stdlib.h>
+#include <string.h>
+
+void *__wrap_malloc(size_t size);
+void *__wrap_realloc(void *at, size_t size);
+void __wrap_free(void *at);
+void *__real_malloc(size_t size);
+void *__real_realloc(void *at, size_t size);
+void __real_free(void *at);
+
+/* A size stands before each piece of memory, as far in front of it as its alignment asks. */
+enum { BEFORE = 16, TEXT = 65536, MOST_LENGTH = 4096, A_BLOCK = 600, AN_INSTANCE = 80, BANKS = 2, FIXED = 8192 };
+static size_t standing, most;
+static long pieces;
+
+static void *note(unsigned char *at, size_t size) {
+    if (!at) return NULL;
+    memcpy(at, &size, sizeof size);
+    standing += size;
+    pieces++;
+    if (standing > most) most = standing;
+    return at + BEFORE;
+}
+
+static void forget(const unsigned char *at) {
+    size_t size;
+    memcpy(&size, at - BEFORE, sizeof size);
+    standing -= size;
+    pieces--;
+}
+
+void *__wrap_malloc(size_t size) { return note((unsigned char *)__real_malloc(size + BEFORE), size); }
+
+void __wrap_free(void *at) {
+    if (!at) return;
+    forget((unsigned char *)at);
+    __real_free((unsigned char *)at - BEFORE);
+}
+
+/* (the old piece and the new one stand beside each other, as they do where the heap moves it) */
+void *__wrap_realloc(void *at, size_t size) {
+    size_t old = 0;
+    void *made = __wrap_malloc(size);
+    if (!at || !made) return made;
+    memcpy(&old, (unsigned char *)at - BEFORE, sizeof old);
+    memcpy(made, at, old < size ? old : size);
+    __wrap_free(at);
+    return made;
+}
+
+/* A unit of so many blocks of one length, the last one of another. */
+typedef struct {
+    const char *name;
+    unsigned page, sector, sectors, count, length, longest;
+    const char *more;       /* keys of each block */
+    unsigned instances;     /* stored, of each block */
+    int is_permanent;
+} unit;
+
+static const unit UNITS[] = {
+    { "1 block of 4 bytes", 16, 1024, 2, 1, 4, 4, "", 1, 0 },
+    { "1 block of 4,096 bytes, permanent", 16, 32768, 2, 1, 4096, 4096, ",\"ram\":\"permanent\"", 1, 1 },
+    { "40 blocks of 32 bytes, permanent", 32, 4096, 16, 40, 32, 32, ",\"ram\":\"permanent\",\"readall\":true,\"writeall\":true", 1, 1 },
+    { "40 redundant blocks of 32 bytes", 32, 4096, 16, 40, 32, 32, ",\"kind\":\"redundant\"", 2, 0 },
+    { "20 datasets of 16, of 8 bytes", 16, 4096, 16, 20, 8, 8, ",\"kind\":\"dataset\",\"nv\":16", 16, 0 },
+    { "500 blocks of 4 bytes beside one of 4,096", 64, 8192, 64, 501, 4, 4096, "", 1, 0 },
+    { "100 blocks of 256 bytes over 1 MiB", 64, 16384, 64, 100, 256, 256, "", 1, 0 },
+    { "100 blocks of 256 bytes over 4 MiB", 256, 65536, 64, 100, 256, 256, "", 1, 0 },
+};
+
+static size_t write_text(const unit *it, char *into) {
+    size_t at = (size_t)sprintf(into, "{\"id\":1,\"page\":%u,\"sector\":%u,\"sectors\":%u,\"standard\":8,\"immediate\":4,\"blocks\":[",
+                                it->page, it->sector, it->sectors);
+    for (unsigned i = 0; i < it->count; i++)
+        at += (size_t)sprintf(into + at, "%s{\"length\":%u%s}", i ? "," : "", i + 1 == it->count ? it->longest : it->length, it->more);
+    return at + (size_t)sprintf(into + at, "]}");
+}
+
+/* What a start-up finds: each stored instance, with its content. */
+static size_t found(const unit *it) {
+    size_t contents = (size_t)(it->count - 1) * it->length + it->longest;
+    return (contents + (size_t)it->count * AN_INSTANCE) * it->instances;
+}
+
+static size_t allowed(const unit *it) {
+    size_t contents = (size_t)(it->count - 1) * it->length + it->longest, flash = (size_t)it->sector * it->sectors;
+    return flash + flash / BANKS + contents * (it->is_permanent ? 2u : 1u) + 2u * it->longest + it->page + (size_t)A_BLOCK * it->count + found(it)
+           + FIXED;
+}
+
+/* Each block is written once, so that a further start-up finds all of them; and what is read stands in the last entry. */
+static int use(nvm_handle *handle, const unit *it) {
+    static const uint8_t content[MOST_LENGTH] = { 1 };
+    uint8_t value = 0;
+    for (unsigned i = 0; i < it->count; i++) {
+        uint16_t length = (uint16_t)(i + 1 == it->count ? it->longest : it->length);
+        if (nvm_ask(handle, NVM_WRITE_BLOCK, (uint16_t)(i + 2), 0, content, length, &value)) return 0;
+        while (nvm_turn(handle) != 0) {}
+        if (nvm_status(handle, (uint16_t)(i + 2))) return 0;
+    }
+    return nvm_ask(handle, NVM_READ_ALL, 0, 0, content, 0, &value) == 0;
+}
+
+/* Tells whether a unit keeps to what is allowed. */
+static int measure(const unit *it) {
+    static char text[TEXT];
+    size_t length = write_text(it, text), flash = (size_t)it->sector * it->sectors, opened, behind, begun = standing;
+    nvm_memory lent = { NULL, 0 }, back = { NULL, 0 };
+    nvm_handle handle = { NULL };
+    int well;
+    lent.at = (uint8_t *)__real_malloc(flash);
+    lent.length = flash;
+    if (!lent.at) return 0;
+    memset(lent.at, 0xFF, flash);
+    most = standing;
+    if (nvm_open(&handle, (const uint8_t *)text, length, lent, 0, &back)) {
+        uint8_t rule = 0;
+        uint16_t block = 0;
+        (void)nvm_check((const uint8_t *)text, length, &rule, &block);
+        printf("%s: it isn't opened; rule %u, block %u\n", it->name, (unsigned)rule, (unsigned)block);
+        return 0;
+    }
+    opened = most - begun;
+    most = standing;
+    well = use(&handle, it);
+    behind = most - begun;
+    well = well && nvm_restart(&handle) == 0;
+    well = well && behind <= allowed(it) && opened <= allowed(it) + flash && most - begun <= allowed(it) + found(it);
+    printf("%-45s %8zu %8zu %8zu %8zu %8zu%s\n", it->name, flash, allowed(it), behind, opened, most - begun, well ? "" : "  more");
+    nvm_close(&handle, &back);
+    well = well && standing == begun && back.at == lent.at;
+    __real_free(lent.at);
+    return well;
+}
+
+int main(void) {
+    int well = 1;
+    printf("%-45s %8s %8s %8s %8s %8s\n", "bytes", "flash", "allowed", "taken", "opening", "reset");
+    for (size_t i = 0; i < sizeof UNITS / sizeof UNITS[0]; i++) well = measure(&UNITS[i]) && well;
+    return !well || pieces != 0;
+}
