@@ -7,11 +7,13 @@
 
 Each call is one of c/nvm_c.h, of libnvm.so, where it says what is proved; the package itself is tried, not proved. What is asked for by the
 names of a unit file, and told in words, is its own. It is Python 3.9 or later with its standard library alone; docs/BENCH.md is its page."""
-from natukeri.answers import (BadConfiguration, Failed, HistoryFull, NoSuchBlock, PowerOff, Refusal, Refused, Result, Service, StartUpFailed, Turn,
-                              UnitClosed, UnitError)
+from natukeri.answers import (BadConfiguration, Failed, HistoryFull, ImageFault, ImageInUse, NoSuchBlock, PowerOff, Refusal, Refused, Result,
+                              SecondDevice, Service, StartUpFailed, Turn, UnitClosed, UnitError, WrongImageSize)
 from natukeri.configuration import Configuration
+from natukeri.image_file import StoredUnit
 from natukeri.sweeps import Cut, behind_cut, cuts_of, image_behind, operations_of, sweep
 from natukeri.unit import Unit
 
-__all__ = ["BadConfiguration", "Configuration", "Cut", "Failed", "HistoryFull", "NoSuchBlock", "PowerOff", "Refusal", "Refused", "Result", "Service",
-           "StartUpFailed", "Turn", "Unit", "UnitClosed", "UnitError", "behind_cut", "cuts_of", "image_behind", "operations_of", "sweep"]
+__all__ = ["BadConfiguration", "Configuration", "Cut", "Failed", "HistoryFull", "ImageFault", "ImageInUse", "NoSuchBlock", "PowerOff", "Refusal",
+           "Refused", "Result", "SecondDevice", "Service", "StartUpFailed", "StoredUnit", "Turn", "Unit", "UnitClosed", "UnitError",
+           "WrongImageSize", "behind_cut", "cuts_of", "image_behind", "operations_of", "sweep"]

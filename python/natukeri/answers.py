@@ -4,6 +4,7 @@ docs/SCRIPT.md has the numbers with what to do about each."""
 from __future__ import annotations
 
 from enum import Enum
+from typing import Optional
 
 
 class Service(Enum):
@@ -92,7 +93,16 @@ class UnitError(Exception):
 
 
 class BadConfiguration(UnitError):
-    """The unit file says no configuration that this stack runs."""
+    """The unit file says no configuration that this stack runs. Where it breaks a rule of docs/CONFIGURATION.md, `rule` is the first by its number,
+    and `block` the id of the block that breaks it, or 0; else both are None."""
+
+    def __init__(self, text: str, rule: Optional[int] = None, block: Optional[int] = None):
+        super().__init__(text)
+        self.rule, self.block = rule, block
+
+
+class SecondDevice(BadConfiguration):
+    """The configuration names a second device, which isn't run here."""
 
 
 class NoSuchBlock(UnitError):
@@ -129,3 +139,15 @@ class HistoryFull(UnitError):
 
 class UnitClosed(UnitError):
     """The unit was closed."""
+
+
+class ImageFault(UnitError):
+    """The image file couldn't be opened, locked, read, written or synced. A unit over it answers nothing else behind that."""
+
+
+class ImageInUse(ImageFault):
+    """Another process has the image file, or makes it."""
+
+
+class WrongImageSize(ImageFault):
+    """The image file hasn't the size of the flash."""

@@ -1,12 +1,14 @@
 """The configuration of a unit: what its file says, by the names of its blocks."""
 from __future__ import annotations
 
+import ctypes
 import functools
 import os
 import sys
 from pathlib import Path
-from typing import Union
+from typing import Any, Union
 
+from natukeri import library
 from natukeri.answers import BadConfiguration, NoSuchBlock
 
 # the tools stand beside the package, as in the repository and in a release; a wheel brings their modules along
@@ -24,30 +26,42 @@ MOST_ID = 0xFFFF
 
 
 class Configuration:
-    """What a unit file says, or the first line of a script (docs/CONFIGURATION.md).
+    """What a unit file says, or the first line of a script (docs/CONFIGURATION.md); BadConfiguration where that is none.
 
-    `line` is the text that the stack reads, `flash_size` the bytes of the flash, `page` those that one operation programs, and `names` has the
-    ids of the blocks by their names. The application's RAM of a block with "ram": "sync" is the manager's here, as it is in C."""
+    `line` is the text that the stack reads, `flash_size` the bytes of the flash, `page` those that one operation programs, `blocks` the keys of
+    each block by its id, and `names` has the ids by the names. The application's RAM of a block with "ram": "sync" is the manager's here, as it
+    is in C."""
 
     def __init__(self, path: UnitPath):
         self.path = os.fspath(path)
         try:
-            given = units.read_source(self.path)
-            unit = units.Unit(*given)
-            self.line: str = units.line_with_mirrors(given.source)
-            self.flash_size, self.page = int(unit.size), int(unit.page)
-            self.names: dict[str, int] = {block["name"]: number for number, block in unit.blocks.items() if block.get("name")}
-            self._lengths = {number: int(block["length"]) for number, block in unit.blocks.items()}
+            self._given = units.read_source(self.path)
         except calls.Stop as stop:
             raise BadConfiguration(str(stop)) from None
-        except (AttributeError, KeyError, TypeError, ValueError, ZeroDivisionError):
-            raise self.is_bad() from None
-        if not 0 < self.flash_size <= units.MOST_BYTES:
-            raise self.is_bad()
+        self._stop_unless_accepted()
+        self.described = units.Unit(*self._given)
+        self.line: str = units.line_with_mirrors(self._given.source)
+        self.flash_size, self.page = int(self.described.size), int(self.described.page)
+        self.blocks: dict[int, dict[str, Any]] = self.described.blocks
+        self.names: dict[str, int] = {block["name"]: number for number, block in self.blocks.items() if block.get("name")}
 
-    def is_bad(self) -> BadConfiguration:
-        """What tells that the stack refuses it."""
-        return BadConfiguration(f"{self.path} is no configuration: nvm-lint (tools/lint) says which rule is broken, and where")
+    def _stop_unless_accepted(self) -> None:
+        """The first rule that the line breaks is told by the library (nvm_check), and in the words of the manual."""
+        line = units.DEMO if self._given.line == units.DEMO_LINE else self._given.line
+        text, rule, block = line.encode(), ctypes.c_uint8(), ctypes.c_uint16()
+        code = library.load().nvm_check(text, len(text), rule, block)
+        if code == 4:
+            raise MemoryError
+        if code == 0:
+            return
+        told = f"rule {rule.value}" + (f", block {block.value}" if block.value else "")
+        try:
+            finding = units.refusal(self._given, self._given.source, f"config rule {rule.value} block {block.value}", code)
+            told = f"{finding.place}: {finding.text}"
+        except calls.Stop:
+            # (without the page that has the words)
+            told = f"{self.path}: {told} is broken"
+        raise BadConfiguration(told, rule.value, block.value)
 
     def id(self, block: Block) -> int:
         """The id of a block by its name; a number stands for itself."""
@@ -62,9 +76,16 @@ class Configuration:
     def length(self, block: Block) -> int:
         """The bytes of a block's content."""
         number = self.id(block)
-        if number not in self._lengths:
-            raise NoSuchBlock(f"no block {number}; the last one is {max(self._lengths)}")
-        return self._lengths[number]
+        if number not in self.blocks:
+            raise NoSuchBlock(f"no block {number}; the last one is {max(self.blocks)}")
+        return int(self.blocks[number]["length"])
+
+    def datasets(self, block: Block) -> int:
+        """How many datasets a block has, those in ROM among them; 1 of another kind."""
+        self.length(block)
+        number = self.id(block)
+        is_dataset = self.blocks[number].get("kind") == "dataset"
+        return self.described.instances(number) + len(self.blocks[number].get("rom", [])) if is_dataset else 1
 
     def content(self, block: Block, value: Value) -> bytes:
         """A value as the block's bytes; OverflowError where a number takes more than it has. Others may have any length: the stack refuses a
@@ -79,7 +100,7 @@ class Configuration:
 
 
 @functools.lru_cache(maxsize=64)
-def _read(path: str, _changed: int) -> Configuration:
+def _read(path: str, _whole: str, _changed: int) -> Configuration:
     return Configuration(path)
 
 
@@ -87,9 +108,9 @@ def configuration_of(unit: Union[UnitPath, Configuration]) -> Configuration:
     """The configuration of a unit file, which is read again where it was changed."""
     if isinstance(unit, Configuration):
         return unit
-    path = os.path.abspath(unit)
+    path = os.fspath(unit)
     try:
         changed = os.stat(path).st_mtime_ns
     except OSError as error:
         raise BadConfiguration(f"{path}: {error.strerror}") from None
-    return _read(path, changed)
+    return _read(path, os.path.abspath(path), changed)

@@ -32,9 +32,11 @@ CALLS = {
     "nvm_status": (_u8, _handle, _u16),
     "nvm_entries": (_u32, _handle),
     "nvm_ram": (_u8, _handle, _u16, ctypes.c_char_p, _size, ctypes.POINTER(_size)),
+    "nvm_ram_is_valid": (_u8, _handle, _u16),
     "nvm_given": (_u8, _handle, ctypes.c_char_p, _size, ctypes.POINTER(_size)),
     "nvm_line": (_u8, _handle, ctypes.c_char_p, _size, ctypes.POINTER(_size)),
     "nvm_close": (None, _handle, _memory),
+    "nvm_check": (_u8, ctypes.c_char_p, _size, ctypes.POINTER(_u8), ctypes.POINTER(_u16)),
 }
 
 

@@ -8,14 +8,17 @@ from collections.abc import Collection
 from typing import Optional, Union
 
 from natukeri import library
-from natukeri.answers import (BadConfiguration, Failed, HistoryFull, PowerOff, Refusal, Refused, Result, Service, StartUpFailed, Turn, UnitClosed,
-                              UnitError)
+from natukeri.answers import (BadConfiguration, Failed, HistoryFull, PowerOff, Refusal, Refused, Result, SecondDevice, Service, StartUpFailed,
+                              Turn, UnitClosed, UnitError)
 from natukeri.configuration import Block, Configuration, UnitPath, Value, configuration_of
+from natukeri.judge import Judge
 
 _RESULTS, _TURNS = tuple(Result), tuple(Turn)
 _ASKED, _REFUSED, _INDEX, _FULL, _NO_MEMORY, _DOWN = range(6)
 # with these a read gives a content
 GIVES = (Result.OK, Result.REDUNDANCY_FAILED, Result.RESTORED_FROM_ROM)
+# and with these it gives none, without a failure of the flash
+GIVES_NONE = (Result.INTEGRITY_FAILED, Result.NV_INVALIDATED)
 MOST_INDEX, MOST_OPERATIONS = 0xFF, 0xFFFFFFFF
 # bytes of a line of the history that is no start-up's, as a rule
 LINE = 256
@@ -36,9 +39,10 @@ class Unit:
     """The stack of a unit file over a flash in memory, behind its first start-up.
 
     The flash begins with the bytes of `image`, or blank; `cuts` is how many power cuts can be planned. `history` has a line for each entry, as the
-    program prints them (docs/SCRIPT.md). A unit is used in one thread. Without `with` it is closed when nothing names it any more."""
+    program prints them (docs/SCRIPT.md), and none where `keeps_history` is false, as for a unit that serves for long. A unit is used in one
+    thread. Without `with` it is closed when nothing names it any more."""
 
-    def __init__(self, unit: Union[UnitPath, Configuration], image: Optional[bytes] = None, cuts: int = 1000):
+    def __init__(self, unit: Union[UnitPath, Configuration], image: Optional[bytes] = None, cuts: int = 1000, keeps_history: bool = True):
         self.configuration = configuration_of(unit)
         size = self.configuration.flash_size
         if image is not None and len(image) != size:
@@ -47,7 +51,9 @@ class Unit:
         self._flash = (ctypes.c_uint8 * size).from_buffer_copy(b"\xff" * size if image is None else image)
         self._is_off = False
         self.history: list[str] = []
-        self._entries = 0
+        self._keeps_history, self._entries = keeps_history, 0
+        self._judge, self._judged = Judge(self.configuration), 0
+        self._chosen: dict[int, int] = {}
         self._open(_within(cuts, 0, MOST_OPERATIONS, "cuts"))
         self._closing = weakref.finalize(self, _close, self._calls, self._handle, self._flash)
         self._tell()
@@ -59,9 +65,9 @@ class Unit:
         if code == _NO_MEMORY:
             raise MemoryError
         if code == 1:
-            raise self.configuration.is_bad()
+            raise BadConfiguration(f"{self.configuration.path} is no configuration of a unit in C")
         if code == 5:
-            raise BadConfiguration(f"{self.configuration.path} names a second device, which isn't run here")
+            raise SecondDevice(f"{self.configuration.path} names a second device, which isn't run here")
         if code:
             raise StartUpFailed(f"nvm_open answers {code}")
 
@@ -95,6 +101,8 @@ class Unit:
         return getattr(self._calls, name)(self._handle, *given)
 
     def _tell(self) -> None:
+        if not self._keeps_history:
+            return
         # (a call adds one entry at most, and the library keeps the last one alone)
         entries = self._call("nvm_entries")
         if entries != self._entries:
@@ -119,6 +127,8 @@ class Unit:
             raise MemoryError
         if code == _DOWN:
             raise StartUpFailed
+        if service is Service.SET_DATA_INDEX:
+            self._chosen[self.configuration.id(block)] = number
         return value.value if code == _INDEX else None
 
     def _refused(self, service: Service, block: Block, reason: Refusal) -> UnitError:
@@ -179,7 +189,8 @@ class Unit:
                 return into.raw[:size.value]
             room = size.value
 
-    def _given(self, block: Block) -> bytes:
+    def given(self, block: Block) -> bytes:
+        """What the job of the block gave that was posted in the last turn."""
         return self._look("nvm_given", room=self.configuration.length(block))
 
     # one block: each makes turns until its job has ended; Failed where it ended otherwise than was asked for
@@ -192,16 +203,40 @@ class Unit:
         """What is stored, or the defaults. Behind it `status` tells which: OK, RESTORED_FROM_ROM, or REDUNDANCY_FAILED where one of two copies
         was served."""
         self._serve(Service.READ_BLOCK, block, wanted=GIVES)
-        return self._given(block)
+        return self.given(block)
 
     def read_number(self, block: Block) -> int:
         """The same as a number with its highest byte first."""
         return int.from_bytes(self.read(block), "big")
 
+    def held(self, block: Block) -> Optional[bytes]:
+        """What a read gives, or None where it gives nothing: nothing is stored and there are no defaults, or it was invalidated."""
+        try:
+            return self.read(block)
+        except Failed as failed:
+            if failed.result in GIVES_NONE:
+                return None
+            raise
+
+    def may_hold(self, block: Block, index: Optional[int] = None) -> list[Optional[bytes]]:
+        """What the block may hold behind a power cut, as `held` tells it: by the history the content that was stored last, and each that a job took
+        in hand for it since. `index` is that of a dataset, else the one that is chosen.
+
+        Before a cut it is what a cut in the next turn may leave; behind a restart what this start-up might have found, until the block is stored
+        again. What is asked for and waits isn't among them. So `held(block) in may_hold(block)` judges a start-up by what came before it."""
+        if not self._keeps_history:
+            raise UnitError(f"the history of {self!r} isn't kept, by which it is told")
+        number = self.configuration.id(block)
+        most = self.configuration.datasets(number)
+        self._judge.go_on(self.history[self._judged:])
+        self._judged = len(self.history)
+        at = self.chosen(number) if index is None else index
+        return self._judge.values(number, _within(at, 0, most - 1, "the index"))
+
     def restore(self, block: Block) -> bytes:
         """The block's defaults; nothing is stored."""
         self._serve(Service.RESTORE_BLOCK_DEFAULTS, block, wanted=GIVES)
-        return self._given(block)
+        return self.given(block)
 
     def erase(self, block: Block) -> None:
         """Erases an immediate block."""
@@ -221,6 +256,10 @@ class Unit:
         """The dataset that is chosen."""
         return self.ask(Service.GET_DATA_INDEX, block) or 0
 
+    def chosen(self, block: Block) -> int:
+        """The same without asking the stack: the one that was set last since the start-up, or 0."""
+        return self._chosen.get(self.configuration.id(block), 0)
+
     def protect(self, block: Block, on: bool = True) -> None:
         """Sets the block's write protection, or takes it off."""
         self.ask(Service.SET_BLOCK_PROTECTION, block, on)
@@ -239,6 +278,10 @@ class Unit:
     def ram(self, block: Block) -> bytes:
         """What the RAM block holds; zeros behind a start-up."""
         return self._look("nvm_ram", self.configuration.id(block), room=self.configuration.length(block))
+
+    def ram_is_valid(self, block: Block) -> bool:
+        """Whether the RAM block is valid: something was read or restored into it, or the application said so, since the start-up."""
+        return bool(self._call("nvm_ram_is_valid", self.configuration.id(block)))
 
     def write_ram(self, block: Block) -> None:
         """Stores the RAM block."""
@@ -291,4 +334,5 @@ class Unit:
         if code:
             raise StartUpFailed
         self._is_off = False
+        self._chosen.clear()
         self._tell()

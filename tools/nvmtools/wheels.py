@@ -41,6 +41,8 @@ def packed(library):
     """The files of a wheel by their names: the package, the modules that it takes from the tools, and the library."""
     found = [(f"natukeri/{os.path.basename(it)}", it) for it in [*glob.glob(f"{TOP}/python/natukeri/*.py"), f"{TOP}/python/natukeri/py.typed"]]
     found += [(f"nvmtools/{os.path.basename(it)}", it) for it in glob.glob(f"{TOP}/tools/nvmtools/*.py")]
+    # (of which the words of a broken rule are)
+    found.append(("nvmtools/docs/CONFIGURATION.md", f"{TOP}/docs/CONFIGURATION.md"))
     files = {}
     for name, path in [*sorted(found), ("natukeri/libnvm.so", library)]:
         with open(path, "rb") as file:
