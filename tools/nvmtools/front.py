@@ -39,6 +39,8 @@ TOOLS = [("lint", "what is wrong with a unit or a script, in words"),
          ("picture", "what an image file holds"), ("plan", "room, turns and wear of a configuration"),
          ("provision", "an image file of given values"),
          ("header", "NvM_Cfg.h and NvM_Cfg.c of a unit, for software in C"),
+         ("arxml", "a unit of an ECU configuration in ARXML, and back"),
+         ("judge", "whether a history that was printed elsewhere is one that may be"),
          ("build", "the program and the judge of sweeps: proved, or without proofs"),
          ("take", "a repository of one's own, with what a program over the stack needs"),
          ("release", "a tarball and a Debian package of what the gate proved")]

@@ -4,6 +4,10 @@ import re
 
 from nvmtools.calls import TOP, Stop, read_text
 
+# the pages stand beside the tools, as in the repository and in a release; a wheel brings those that its modules read along
+BESIDE = os.path.join(os.path.dirname(os.path.abspath(__file__)), "docs")
+PAGES = BESIDE if os.path.isdir(BESIDE) else os.path.join(TOP, "docs")
+
 
 def plain(cell):
     """A cell without the marks of Markdown."""
@@ -13,7 +17,7 @@ def plain(cell):
 def tables(page):
     """The tables of a page of docs/: the headings of each, and its rows by heading."""
     found, headings = [], None
-    for line in read_text(os.path.join(TOP, "docs", page)).splitlines():
+    for line in read_text(os.path.join(PAGES, page)).splitlines():
         cells = [plain(cell) for cell in line.strip().strip("|").split("|")] if line.startswith("|") else None
         if cells is None:
             headings = None

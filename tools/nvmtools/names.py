@@ -73,3 +73,10 @@ def text_of(word):
     except ValueError:
         return None
     return text
+
+
+def word_of_c(name, number):
+    """The name of a block, if it has one, as one word of C: of "fault memory" it is FaultMemory."""
+    parts = re.findall(r"[A-Za-z0-9]+", name or f"Block {number}")
+    text = "".join(part[0].upper() + part[1:] for part in parts)
+    return text if re.fullmatch("[A-Za-z_][A-Za-z0-9_]*", text) else f"Block{number}{text}"

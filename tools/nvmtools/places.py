@@ -26,6 +26,10 @@ def without_comments(text):
     return IGNORED.sub(lambda it: it[1] or " " * len(it[0]), text)
 
 
+def has_comments(text):
+    return any(it[0].startswith("//") for it in IGNORED.finditer(text))
+
+
 def parse(path, text, what="rule 1: no JSON"):
     """What a JSON text says, or an end that shows the place where it is none."""
     bare = without_comments(text)

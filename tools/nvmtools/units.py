@@ -24,7 +24,7 @@ FLAGS = ("readall", "writeall", "once", "protected", "resistant")
 TRIES = ("reads", "writes", "repeats")
 BLOCK_KEYS = ("kind", "length", "priority", "ram", "defaults", "nv", "rom", *FLAGS, *TRIES, "device")
 # the keys that the program's line doesn't have
-OURS = ("name", "id", "did", "c")
+OURS = ("name", "id", "did", "security", "c")
 MANAGERS_OWN = {"kind": "redundant", "length": 2, "ram": "permanent", "name": "configuration id", "reads": 1, "writes": 1,
                 "priority": 255}
 # (a half of a character that takes two numbers is none)
