@@ -20,10 +20,12 @@ _nvm_tool() {
     plan | nvm-plan) options="-h --help --writes --endurance --turn-ms --json" ;;
     provision | nvm-provision) options="-h --help --replace --json" ;;
     header | nvm-header) options="-h --help --include --det --all-done --bswm --line" ;;
+    arxml | nvm-arxml) options="-h --help --from-unit --into --replace --values --elf --flash --package --strict --anyway --definitions --json" ;;
+    judge | nvm-judge) options="-h --help --image --json" ;;
     build | nvm-build) options="-h --help --unproved" ;;
     take | nvm-take) options="-h --help --rooms" ;;
     release | nvm-release) options="-h --help --proof --unproved --archive --kit --maintainer" ;;
     esac
     if [[ $2 == -* ]]; then mapfile -t COMPREPLY < <(compgen -W "$options" -- "$2"); fi
 }
-complete -o default -F _nvm_tool tools/lint ./tools/lint nvm-lint tools/sweep ./tools/sweep nvm-sweep tools/cuts ./tools/cuts nvm-cuts tools/timeline ./tools/timeline nvm-timeline tools/picture ./tools/picture nvm-picture tools/plan ./tools/plan nvm-plan tools/provision ./tools/provision nvm-provision tools/header ./tools/header nvm-header tools/build ./tools/build nvm-build tools/take ./tools/take nvm-take tools/release ./tools/release nvm-release
+complete -o default -F _nvm_tool tools/lint ./tools/lint nvm-lint tools/sweep ./tools/sweep nvm-sweep tools/cuts ./tools/cuts nvm-cuts tools/timeline ./tools/timeline nvm-timeline tools/picture ./tools/picture nvm-picture tools/plan ./tools/plan nvm-plan tools/provision ./tools/provision nvm-provision tools/header ./tools/header nvm-header tools/arxml ./tools/arxml nvm-arxml tools/judge ./tools/judge nvm-judge tools/build ./tools/build nvm-build tools/take ./tools/take nvm-take tools/release ./tools/release nvm-release

@@ -12,7 +12,7 @@ from collections import namedtuple
 
 from nvmtools import calls
 
-UNIT, SCRIPT = "examples/unit.json", "examples/first.nvm"
+UNIT, SCRIPT, DESCRIPTION = "examples/unit.json", "examples/first.nvm", "examples/engine_controller.arxml"
 LONG = "9" * 5000
 SCRIPTS = ("sweep", "cuts", "timeline")
 CONFIGS = ("lint -", "plan -", *(f"{it} -" for it in SCRIPTS), "picture $image -", "provision - $none $new")
@@ -67,6 +67,13 @@ def broken_others():
     yield Try(f"../nvm --rule {LONG}", b"", 2, "there is no rule 9.*")
     for line in (b"post 2 77 ops 1", b"found x", b"wrote 2 data 11 ops 3", b"<script>", b"ask 0 write 2 00 -> refused 99"):
         yield Try(f"timeline {SCRIPT} --history -", b"found 0 ops 0\n%s\n" % line, 4, "-:2: no line of a history: .*")
+    for name, line in (("zeros", ".*: no XML: .*"), ("endless", ".*: no XML: .*")):
+        yield Try(f"arxml ${name}", b"", 4, f"FOLDER/{name}{line}")
+    yield Try("arxml $folder", b"", 2, "FOLDER/folder: Is a directory")
+    yield Try("arxml -", b"", 5, "standard input is closed", streams="<&-")
+    yield Try(f"arxml {DESCRIPTION} --elf $endless", b"", 2, "FOLDER/endless: it has more than 268,435,456 bytes")
+    yield Try(f"arxml {DESCRIPTION} --values $zeros", b"", 12, "FOLDER/zeros:1:1: no JSON: .*")
+    yield Try("arxml --from-unit $zeros", b"", 3, "FOLDER/zeros:1:1: rule 1: no JSON: .*")
     yield Try("picture $zeros examples/first.nvm --text", b"", 2, r"FOLDER/zeros has 100 bytes, and .*")
     yield Try("picture $endless examples/first.nvm --text", b"", 2, "FOLDER/endless: it has more than 16,777,216 bytes")
     yield Try(f"picture $image {SCRIPT} --other $endless", b"", 2, "FOLDER/endless: it has more than 16,777,216 bytes")
@@ -75,7 +82,7 @@ def broken_others():
 def programs_that_do_not_answer():
     silent = {"NVM": "FOLDER/silent", "NVM_ROWS": "FOLDER/silent", "NVM_SECONDS": "1"}
     endless, absent = ({"NVM": f"FOLDER/{it}", "NVM_ROWS": f"FOLDER/{it}"} for it in ("yes", "absent"))
-    for words in (f"lint {UNIT}", f"plan {UNIT}", *(f"{it} {SCRIPT}" for it in SCRIPTS), f"picture $image {SCRIPT}",
+    for words in (f"lint {UNIT}", f"plan {UNIT}", f"arxml {DESCRIPTION}", f"arxml --from-unit {UNIT}", *(f"{it} {SCRIPT}" for it in SCRIPTS), f"picture $image {SCRIPT}",
                   f"provision {UNIT} $none $new"):
         yield Try(words, b"", 127, "FOLDER/silent doesn't answer: nothing came for 1 seconds", silent)
         yield Try(words, b"", 127, "FOLDER/yes doesn't end: more than .* came", endless)
@@ -85,7 +92,7 @@ def programs_that_do_not_answer():
 
 def outputs_that_cannot_be_written():
     told = [f"lint {UNIT}", f"lint {UNIT} --json", f"plan {UNIT}", f"sweep {SCRIPT}", f"cuts {SCRIPT}", f"timeline {SCRIPT}",
-            f"picture $image {SCRIPT} --text", f"provision {UNIT} $none $made --replace", "../nvm --help", "dev/manual lint", "lint --help",
+            f"picture $image {SCRIPT} --text", f"provision {UNIT} $none $made --replace", "../nvm --help", "dev/manual lint", "lint --help", f"arxml {DESCRIPTION}", f"arxml {DESCRIPTION} --json", f"arxml --from-unit {UNIT}",
             "dev/edges", "dev/edges nvm_top", "dev/try --help"]
     for words in told:
         yield Try(words, b"", 6, "standard output is closed", streams=">&-")
@@ -98,6 +105,7 @@ def outputs_that_are_no_plain_files():
         line = f"FOLDER/{name} is no plain file, which alone is replaced: .*"
         yield Try(f"provision {UNIT} $none ${name} --replace", b"", 2, line)
         yield Try(f"sweep {SCRIPT} --junit ${name}", b"", 2, line)
+        yield Try(f"arxml --from-unit {UNIT} --into ${name} --replace", b"", 2, line)
     yield Try(f"provision {UNIT} $none '' --replace", b"", 2, "an empty name is no plain file, .*")
     yield Try(f"provision {UNIT} $none . --replace", b"", 2, r"\. is no plain file, .*")
     yield Try(f"provision {UNIT} $none $absent/new", b"", 2, "FOLDER/absent/new: No such file or directory")
