@@ -94,7 +94,8 @@ MayPick c s block kind t next = ⊥
 
 -- WROTE
 
--- a job in hand wrote its mark to one of its instances: once since its Pick, copy 0 not after copy 1, no more than its records
+-- A job in hand wrote its mark to one of its instances: once since its Pick, copy 0 not after copy 1. So it wrote no more than its
+-- records, which `left` says for the entries that are reserved for them.
 pub record IsWrote (c : Configuration) (s : State) (j : Job) (i : Instance) (mark : Mark) : Type 0 where
   pub same_block : i.block ≡ job_block j
   pub one_of_its : IsTrue (is_in (indices_of c s (job_block j)) i.index)

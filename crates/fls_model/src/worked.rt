@@ -1,6 +1,6 @@
 // Worked cases of the definitions.
 ghost use Rattle.std.specs.Prelude.{◌≡◌, [], ◌∷◌, Some, None, false, true};
-ghost use Rattle.nv_base.specs.Count.{Rose};
+ghost use Rattle.nv_base.specs.Count.{Rose, WereCounted, last_count};
 ghost use Rattle.nv_base.specs.Held.{more_writes};
 ghost use Rattle.fls_model.specs.Op.{after_op, MayLeave, Program, Erase};
 ghost use Rattle.nv_base.specs.Plan.{Planning, planned, no_planning};
@@ -45,11 +45,14 @@ pub fn room_cases()
     ensures two_places { ¬ IsChanged (Program 0 []) Done (listing (Some []) 2) (listing (Some one_change) 0) }
 {}
 
-/// Worked cases of counts and of answers: a count of faults that stands didn't rise, the power goes off with a cut that is counted,
-/// and while it is off nothing is read.
+/// Worked cases of counts and of answers: a count of faults that stands didn't rise, and what it was before counts for nothing; the
+/// power goes off with a cut that is counted, and while it is off nothing is read.
 pub fn answer_cases()
     ensures rises { Rose 3 4 }
     ensures stands { ¬ Rose 3 3 }
+    ensures two { WereCounted 2 3 5 }
+    ensures one_of_two { ¬ WereCounted 2 3 4 }
+    ensures at_its_end { WereCounted 2 3 last_count }
     ensures cut { HasCause Off (cut_so_often 3 false) (cut_so_often 4 true) }
     ensures without_a_cut { ¬ HasCause Off (cut_so_often 3 false) (cut_so_often 3 true) }
     ensures read { IsRead 0 (cut_so_often 3 false) [] Done [] (cut_so_often 3 false) }
