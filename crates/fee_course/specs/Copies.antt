@@ -1,5 +1,5 @@
 -- What a switch has to copy, and in how many turns.
-use Rattle.std.specs.Prelude.{◌+◌, ℕ, Bool, true, false, if◌then◌else◌, List, [], ◌∷◌, set, max, Option, Some, None, option_map}
+use Rattle.std.specs.Prelude.{◌≡◌, ◌+◌, ℕ, suc, Bool, true, false, if◌then◌else◌, List, [], ◌∷◌, set, max, Option, Some, None, option_map}
 use Rattle.nv_base.specs.declared.instance.DeviceNumber.{DeviceNumber}
 use Rattle.nv_base.specs.Pages.{record_pages_of}
 use Rattle.fee_image.specs.declared.place.Place.{Place}
@@ -22,6 +22,11 @@ abbrev pub next_copy : List (DeviceNumber × ℕ) → List Place → List Bool �
 next_copy (n ∷ ns) (place ∷ places) (done ∷ copied) =
     if is_left place done then Some (record { index = 0; length = n.1; place = place }) else option_map (later 1) (next_copy ns places copied)
 next_copy _ _ _ = None
+
+-- of the first numbers, so many, no copy is to be made
+abbrev pub NoneLeft : ℕ → List Place → List Bool → Type 0
+NoneLeft (suc n) (place ∷ places) (done ∷ copied) = (is_left place done ≡ false) × NoneLeft n places copied
+NoneLeft _ _ _ = Unit {0}
 
 -- TURNS
 -- those of one number's copy: each page of its record takes one, three of a mark without content, and a content is read before

@@ -1,6 +1,6 @@
 // The copies that a switch has to make.
-ghost use Rattle.std.specs.Prelude.{◌≡◌, ◌<◌, ◌≤◌, ◌*◌, ◌^◌, length, get_or};
-ghost use Rattle.fee_course.specs.Copies.{turns_of, is_left, next_copy, copies_left, as_copied, as_cleared, as_appended, copies_most, greatest};
+ghost use Rattle.std.specs.Prelude.{◌≡◌, ◌<◌, ◌≤◌, ◌*◌, ◌^◌, length, get_or, IfSome};
+ghost use Rattle.fee_course.specs.Copies.{turns_of, is_left, next_copy, NoneLeft, copies_left, as_copied, as_cleared, as_appended, copies_most, greatest};
 
 use fee_image::Place;
 use nv_base::{Lengths, record_pages};
@@ -20,14 +20,22 @@ fn is_left(place: Place, copied: bool) -> bool
     !copied && place != Place::Unwritten
 }
 
-/// The first number that has a record and no copy. It looks at each number once at most.
-pub fn next_copy(numbers: &Lengths, places: &[Place], copied: &[bool]) -> Option<Source>
+/// The first number that has a record and no copy, which none of the first ones, so many, is. It looks at each of the others once
+/// at most.
+pub fn next_copy(
+    numbers: &Lengths,
+    places: &[Place],
+    copied: &[bool],
+    first: usize,
+) -> Option<Source>
     requires places { length places.now ≡ length numbers.now }
     requires copied { length copied.now ≡ length numbers.now }
-    ensures { result ≡ next_copy numbers.now places.now copied.now }
+    requires none { NoneLeft first places.now copied.now }
+    ensures next { result ≡ next_copy numbers.now places.now copied.now }
+    ensures before { IfSome result (λ s. NoneLeft s.index places.now copied.now) }
 {
     let numbers = numbers.as_slice();
-    for i in 0..numbers.len() {
+    for i in first..numbers.len() {
         if is_left(places[i], copied[i]) {
             return Some(Source {
                 index: i,

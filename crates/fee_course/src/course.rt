@@ -1,9 +1,10 @@
 // How far a switch has come.
-ghost use Rattle.std.specs.Prelude.{◌≡◌, ◌≤◌, ◌+◌, ◌*◌, ◌^◌, length};
-ghost use Rattle.fee_course.specs.Copies.{as_copied, as_cleared, as_appended, copies_left};
+ghost use Rattle.std.specs.Prelude.{◌≡◌, ◌≤◌, ◌+◌, ◌*◌, ◌^◌, ℕ, Bool, List, length};
+ghost use Rattle.nv_base.specs.declared.instance.DeviceNumber.{DeviceNumber};
+ghost use Rattle.fee_course.specs.Copies.{next_copy, as_copied, as_cleared, as_appended, copies_left};
 ghost use Rattle.fee_course.specs.Course.{begun, settled, after_done, flag_due, appended_to, after_failed, turns_left, most_turns, IsShort};
 
-use crate::{Source, copies_left, copies_most, next_copy};
+use crate::{Source, copies_left, copies_most};
 use fee_image::Place;
 use nv_base::{Lengths, record_pages};
 
@@ -49,12 +50,10 @@ fn begun(page: u32, source: Option<Source>) -> Course
 }
 
 // No copy is in work: the next one comes, or the head where none is left.
-fn settled(numbers: &Lengths, places: &[Place], copied: &[bool]) -> Course
-    requires places { length places.now ≡ length numbers.now }
-    requires copied { length copied.now ≡ length numbers.now }
-    ensures { result ≡ settled numbers.now places.now copied.now }
+fn settled(next: Option<Source>) -> Course
+    ensures { (numbers : List (DeviceNumber × ℕ)) (places : List Place) (copied : List Bool) → next ≡ next_copy numbers places copied → result ≡ settled numbers places copied }
 {
-    if next_copy(numbers, places, copied).is_some() {
+    if next.is_some() {
         Course::Copy { work: None }
     } else {
         Course::Head
@@ -72,33 +71,25 @@ impl Course {
         }
     }
 
-    /// What comes behind the next operation where it was done, and this flag is set.
-    pub fn done(
-        self,
-        page: u32,
-        sectors: u32,
-        numbers: &Lengths,
-        places: &[Place],
-        copied: &[bool],
-    ) -> Course
+    /// What comes behind the next operation where it was done, and this flag is set. `next` is the number that is copied next
+    /// then.
+    pub fn done(self, page: u32, sectors: u32, next: Option<Source>) -> Course
         requires low { 16 ≤ page }
         requires high { page ≤ 256 }
         requires short { IsShort sectors self }
-        requires places { length places.now ≡ length numbers.now }
-        requires copied { length copied.now ≡ length numbers.now }
-        ensures { result ≡ after_done page sectors numbers.now places.now copied.now self }
+        ensures { (numbers : List (DeviceNumber × ℕ)) (places : List Place) (copied : List Bool) → next ≡ next_copy numbers places copied → result ≡ after_done page sectors numbers places copied self }
     {
         match self {
             Course::Erase { done } if done + 1 != sectors => Course::Erase { done: done + 1 },
-            Course::Erase { .. } => settled(numbers, places, copied),
-            Course::Copy { work: None } => begun(page, next_copy(numbers, places, copied)),
+            Course::Erase { .. } => settled(next),
+            Course::Copy { work: None } => begun(page, next),
             Course::Copy { work: Some(work) } if work.pages != 1 => Course::Copy {
                 work: Some(Copying {
                     pages: work.pages - 1,
                     ..work
                 }),
             },
-            Course::Copy { .. } => settled(numbers, places, copied),
+            Course::Copy { .. } => settled(next),
             Course::Head => Course::Gate { failed: false },
             gate => gate,
         }

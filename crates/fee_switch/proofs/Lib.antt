@@ -1,3 +1,4 @@
+mod Flags
 pub mod Picks
 pub mod Starts
 pub mod Targets

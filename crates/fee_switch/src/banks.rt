@@ -34,11 +34,14 @@ pub struct Banks {
     pub(crate) target: u32,
     pub(crate) course: Option<Course>,
     pub(crate) log: Log,
+    // of the first numbers of the log, so many, no copy is to be made
+    pub(crate) first: usize,
     pub(crate) copies: Log,
     pub(crate) buffer: Vec<u8>,
 }
 
 impl Model for Banks {
+    ghost use Rattle.fee_course.specs.Copies.{NoneLeft};
     ghost use Rattle.fee_switch.specs.Banks.{BanksState, IsBanksState};
     ghost use Rattle.fee_switch.specs.Inside.{shown};
 
@@ -46,7 +49,7 @@ impl Model for Banks {
 
     ghost view = { shown };
 
-    ghost invariant = { λ b. IsBanksState (shown b) };
+    ghost invariant = { λ b. IsBanksState (shown b) × NoneLeft b.first b.log.places b.log.flags };
 }
 
 impl Banks {
@@ -72,6 +75,7 @@ impl Banks {
             target: 0,
             course: None,
             log,
+            first: 0,
             copies,
             buffer,
         })
@@ -135,7 +139,7 @@ impl Banks {
             return false;
         };
         let (numbers, places, flags) = self.log.lists();
-        match next_copy(numbers, places, flags) {
+        match next_copy(numbers, places, flags, self.first) {
             Some(source) => reads_place(source.place),
             None => false,
         }
@@ -195,6 +199,7 @@ impl Banks {
             }
         }
         self.log.clear_flags();
+        self.first = 0;
         self.copies.move_to(self.target);
         self.course = Some(Course::Erase { done: 0 });
         BankBegin::Begun
@@ -211,6 +216,7 @@ impl Banks {
         ensures { self.new ≡ append_begun self.old head }
     {
         let index = self.log.lists().0.place_of(head.number);
+        self.first = 0;
         self.log.append_start(head);
         if let (Some(course), Some(index)) = (self.course, index) {
             self.course = Some(course.appended_to(index));
@@ -230,6 +236,7 @@ impl Banks {
         ensures after { self.new ≡ record self.old { log = after_step self.old.log (answer_of result) } }
         ensures same { fls.new ≡ record fls.old { flash = fls.new.flash; result = closed_as (answer_of result) } }
     {
+        self.first = 0;
         self.log.step(fls, body)
     }
 
@@ -238,6 +245,7 @@ impl Banks {
         requires active { is_some self.old.active ≡ true }
         ensures { self.new ≡ record self.old { log = given_up self.old.log } }
     {
+        self.first = 0;
         self.log.abandon();
     }
 }

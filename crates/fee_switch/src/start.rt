@@ -117,6 +117,7 @@ impl Banks {
         ensures flash_of { IsSameFlash self.old self.new }
     {
         self.activate(None);
+        self.first = 0;
         let mut first = None;
         let answer = take_banks(
             fls,
@@ -129,6 +130,7 @@ impl Banks {
         if let FlashAnswer::Done = answer {
             self.activate(first);
             if first.is_none() {
+                self.first = 0;
                 self.log.move_to(0);
             }
             BankStart::Ready

@@ -12,7 +12,7 @@ ghost use Rattle.fee_switch.specs.Copy.{CanBegin, BeginsAt, CanCopy, BeginsNext,
 ghost use Rattle.fee_switch.specs.Banks.{is_worn_out, target_at, ended, advanced, fallen_back, after_answer};
 
 use crate::copy::{begin_mark, copy_page, head_at, read_content};
-use crate::due::{set_flag_due, target_of};
+use crate::due::{next_source, set_flag_due, target_of};
 use crate::{ActiveBank, Banks, Stage, Target};
 use fee_course::{Course, Source, next_copy};
 use fee_format::{BankHead, NEW_FORMAT};
@@ -64,6 +64,7 @@ impl Banks {
         });
         let target = target_of(active, self.banks);
         std::mem::swap(&mut self.log, &mut self.copies);
+        self.first = 0;
         self.copies.move_to(target);
         self.active = active;
         self.target = target;
@@ -77,8 +78,8 @@ impl Banks {
     {
         set_flag_due(&mut self.log, course);
         let sectors = self.geometry.bank_sectors(self.banks);
-        let (numbers, places, flags) = self.log.lists();
-        self.course = Some(course.done(self.geometry.page, sectors, numbers, places, flags));
+        let next = next_source(&self.log, &mut self.first);
+        self.course = Some(course.done(self.geometry.page, sectors, next));
     }
 
     // An operation failed: the gate is made again, and behind any other the first erase comes, or the same.
@@ -90,6 +91,7 @@ impl Banks {
         match next {
             Course::Erase { .. } => {
                 self.log.clear_flags();
+                self.first = 0;
                 self.copies.move_to(self.target);
                 self.course = Some(next);
             }
@@ -150,7 +152,7 @@ impl Banks {
         ensures same { fls.new ≡ record fls.old { flash = fls.new.flash; result = closed_as result } }
     {
         let (numbers, places, flags) = self.log.lists();
-        let Some(source) = next_copy(numbers, places, flags) else {
+        let Some(source) = next_copy(numbers, places, flags, self.first) else {
             unreachable!();
         };
         let Some(&(number, _)) = numbers.as_slice().get(source.index) else {
