@@ -6,7 +6,7 @@ use Rattle.serde_json.specs.Find.{as_array}
 use Rattle.serde_json.specs.View.{view}
 use Rattle.serde_json.specs.declared.value.Value.{Value}
 use Rattle.block_config.specs.Field.{needed}
-use Rattle.block_config.specs.Head.{list_of, some_of, blocks_at}
+use Rattle.block_config.specs.Head.{list_of, blocks_at}
 use Rattle.block_config.proofs.LegalItem.{both_true, le_from_test}
 
 abbrev AreFew : List Data → Type 0
@@ -16,7 +16,7 @@ given_few : (b : Bool) (ds es : List Data) → (if b then Some ds else None) ≡
 given_few true ds es h few = let same : ds ≡ es = cc in subst AreFew same (few refl)
 given_few false ds es h few = cc h
 
-found_few : (o : Option Items) (es : List Data) → option_and_then (λ ds. some_of (list_of ds)) o ≡ Some es → AreFew es
+found_few : (o : Option Items) (es : List Data) → option_and_then (λ ds. if nat_le 1 (length (list_of ds)) && nat_le (length (list_of ds)) 511 then Some (list_of ds) else None) o ≡ Some es → AreFew es
 found_few None es h = cc h
 found_few (Some items) es h =
     let ds = list_of items in

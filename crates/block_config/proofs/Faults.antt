@@ -3,16 +3,22 @@ use Rattle.std.proofs.Common.{◌≡◌, ◌<◌, ℕ, zero, suc, ◌+◌, ◌-�
 use Rattle.std.proofs.Math.ListN.{get_or-map}
 use Rattle.std.proofs.lemmas.List.{length-map}
 use Rattle.std.specs.List.{range_with_len, AllPass}
+use Rattle.std.specs.Option.{option_map_or}
 use Rattle.std.proofs.lemmas.List.Elements.{All-nil, All-cons, All-map}
 use Rattle.serde_json.specs.Data.{Data}
 use Rattle.serde_json.specs.View.{view}
 use Rattle.serde_json.specs.declared.value.Value.{Value}
 use Rattle.block_config.specs.declared.block.BlockDesc.{BlockDesc}
 use Rattle.block_config.specs.declared.fault.ConfigFault.{ConfigFault}
+use Rattle.block_config.specs.declared.fault.ConfigFault.TheVariants.{Broken}
 use Rattle.block_config.specs.Item.{keeps, block_of}
-use Rattle.block_config.specs.Reading.{breaker, fault_or, first_fault, item_rules}
+use Rattle.block_config.specs.Reading.{breaker, first_fault, item_rules}
 use Rattle.block_config.specs.Rules.{IsLegalBlock}
 use Rattle.block_config.proofs.LegalItem.{block_legal, device_legal}
+
+-- a rule's fault at a block, or else a later one
+abbrev fault_or : ℕ → Option ℕ → Option ConfigFault → Option ConfigFault
+fault_or number broken later = option_map_or (λ block. Some (Broken number block)) broken later
 
 -- a rule that is kept leaves the fault to the rules behind it
 pub first_fault-kept : (r : ℕ) (ds : List Data) → r < 23 → breaker r 2 ds ≡ None → first_fault (range_with_len r (23 - r)) ds ≡ first_fault (range_with_len (r + 1) (23 - (r + 1))) ds

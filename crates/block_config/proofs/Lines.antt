@@ -6,7 +6,11 @@ use Rattle.serde_json.specs.Data.{Data}
 use Rattle.serde_json.specs.Read.{read as json_value}
 use Rattle.block_config.specs.declared.fault.ConfigFault.TheVariants.{Broken}
 use Rattle.block_config.specs.Head.{◌>>=◌, rule}
-use Rattle.block_config.specs.Reading.{config_of, value_of, meaning_of}
+use Rattle.block_config.specs.Reading.{config_of, meaning_of}
+
+-- the value of a line
+abbrev value_of : List ℕ → Option Data
+value_of line = if is_utf8 line then json_value line else None
 
 meaning_of-value_of : (line : List ℕ) (o : Option Data) → bytes_eq line (codes "@demo") ≡ false → value_of line ≡ o → meaning_of line ≡ (rule 1 o >>= config_of)
 meaning_of-value_of line o other is =

@@ -44,12 +44,5 @@ id_bytes id = id / 256 ∷ id % 256 ∷ []
 
 -- block 1, which the manager keeps for itself: it holds the configuration id, and is a member of both sweeps
 abbrev pub manager_block : ℕ → BlockDesc
-manager_block id = record (plain_block 2) {
-  kind = Redundant;
-  priority = 255;
-  defaults = Some (id_bytes id);
-  readall = true;
-  writeall = true;
-  reads = 1;
-  writes = 1;
-}
+manager_block id =
+    record (plain_block 2) { kind = Redundant; priority = 255; defaults = Some (id_bytes id); readall = true; writeall = true; reads = 1; writes = 1 }

@@ -26,28 +26,21 @@ Err e >>= f = Err e
 
 -- 2: the value is an object whose keys are all among the nine
 abbrev pub is_head_key : List ℕ → Bool
-is_head_key k = bytes_eq k (codes "id") || bytes_eq k (codes "page") || bytes_eq k (codes "sector") || bytes_eq k (codes "sectors") || bytes_eq k (codes "standard") || bytes_eq k (codes "immediate") || bytes_eq k (codes "blocks") || bytes_eq k (codes "eeprom") || bytes_eq k (codes "banks")
+is_head_key k =
+    bytes_eq k (codes "id") || bytes_eq k (codes "page") || bytes_eq k (codes "sector") || bytes_eq k (codes "sectors")
+    || bytes_eq k (codes "standard") || bytes_eq k (codes "immediate") || bytes_eq k (codes "blocks") || bytes_eq k (codes "eeprom") || bytes_eq k (codes "banks")
 
 -- 4: a page has 16, 32, 64, 128 or 256 bytes
-abbrev pub page_of : ℕ → Option ℕ
-page_of n = if n == 16 || n == 32 || n == 64 || n == 128 || n == 256 then Some n else None
-
 abbrev pub page_at : Data → Option ℕ
-page_at d = option_and_then page_of (needed (codes "page") (number_in 16 256) d)
+page_at d = option_and_then (λ n. if n == 16 || n == 32 || n == 64 || n == 128 || n == 256 then Some n else None) (needed (codes "page") (number_in 16 256) d)
 
 -- 5: a sector has whole pages, four or more, and at most 65,536 bytes
-abbrev pub sector_of : ℕ → ℕ → Option ℕ
-sector_of page n = if n % page == 0 && nat_le (4 * page) n then Some n else None
-
 abbrev pub sector_at : ℕ → Data → Option ℕ
-sector_at page d = option_and_then (sector_of page) (needed (codes "sector") (number_in 0 65536) d)
+sector_at page d = option_and_then (λ n. if n % page == 0 && nat_le (4 * page) n then Some n else None) (needed (codes "sector") (number_in 0 65536) d)
 
 -- 6: there are 2 to 64 sectors, an even number
-abbrev pub even_of : ℕ → Option ℕ
-even_of n = if n % 2 == 0 then Some n else None
-
 abbrev pub sectors_at : Data → Option ℕ
-sectors_at d = option_and_then even_of (needed (codes "sectors") (number_in 2 64) d)
+sectors_at d = option_and_then (λ n. if n % 2 == 0 then Some n else None) (needed (codes "sectors") (number_in 2 64) d)
 
 -- 4 to 7; 7: the flash has at most 4,194,304 bytes
 abbrev pub geometry_of : Data → Result Geometry ConfigFault
@@ -68,21 +61,16 @@ head_of d = do
   immediate ← rule 9 (needed (codes "immediate") (number_in 1 256) d)
   Ok (record { id = id; geometry = geometry; standard = standard; immediate = immediate })
 
--- the items of an array
+-- the values of an array
 abbrev pub list_of : Items → List Data
 list_of no_items = []
 list_of (item d ds) = d ∷ list_of ds
 
 -- 10: there are 1 to 511 blocks
-abbrev pub some_of : List Data → Option (List Data)
-some_of ds = if nat_le 1 (length ds) && nat_le (length ds) 511 then Some ds else None
-
 abbrev pub blocks_at : Data → Option (List Data)
-blocks_at d = option_and_then (λ ds. some_of (list_of ds)) (needed (codes "blocks") as_array d)
+blocks_at d =
+    option_and_then (λ ds. if nat_le 1 (length (list_of ds)) && nat_le (length (list_of ds)) 511 then Some (list_of ds) else None) (needed (codes "blocks") as_array d)
 
 -- 29: so many banks share the sectors, 2 to 8, and two where none is named
-abbrev pub shared_by : Geometry → ℕ → Option ℕ
-shared_by g n = if g.sectors % n == 0 then Some n else None
-
 abbrev pub banks_at : Geometry → Data → Option ℕ
-banks_at g d = option_and_then (shared_by g) (optional (codes "banks") 2 (number_in 2 8) d)
+banks_at g d = option_and_then (λ n. if g.sectors % n == 0 then Some n else None) (optional (codes "banks") 2 (number_in 2 8) d)

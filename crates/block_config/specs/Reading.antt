@@ -1,5 +1,6 @@
 -- What a configuration line means.
-use Rattle.std.specs.Prelude.{ℕ, ◌+◌, ◌*◌, nat_le, Bool, true, if◌then◌else◌, List, [], ◌∷◌, map, codes, Option, Some, None, Result, Ok, Err, ⊤}
+use Rattle.std.specs.Prelude.{ℕ, ◌+◌, ◌*◌, nat_le, true, if◌then◌else◌, List, [], ◌∷◌, map, codes, Option, Some, None, option_map, Result, Ok, Err, ⊤}
+use Rattle.std.specs.Option.{option_map_or}
 use Rattle.std.specs.List.{range_with_len}
 use Rattle.std.specs.Str.{bytes_eq, is_utf8}
 use Rattle.serde_json.specs.Data.{Data}
@@ -25,14 +26,10 @@ abbrev pub breaker : ℕ → ℕ → List Data → Option ℕ
 breaker number id [] = None
 breaker number id (d ∷ ds) = if keeps number d then breaker number (id + 1) ds else Some id
 
-abbrev pub fault_or : ℕ → Option ℕ → Option ConfigFault → Option ConfigFault
-fault_or number None later = later
-fault_or number (Some block) later = Some (Broken number block)
-
 -- the first of these rules that a block breaks, with the first such block; the items begin at block 2
 abbrev pub first_fault : List ℕ → List Data → Option ConfigFault
 first_fault [] ds = None
-first_fault (r ∷ rs) ds = fault_or r (breaker r 2 ds) (first_fault rs ds)
+first_fault (r ∷ rs) ds = option_map_or (λ block. Some (Broken r block)) (breaker r 2 ds) (first_fault rs ds)
 
 -- 11 to 22
 abbrev pub item_rules : List ℕ
@@ -42,22 +39,17 @@ abbrev pub unless_fault : Option ConfigFault → Result ⊤ ConfigFault
 unless_fault None = Ok tt
 unless_fault (Some fault) = Err fault
 
--- 24, where rule 29 holds: the pages that are needed have room in a bank
-abbrev pub has_room : Geometry → Measures → Option ℕ → Bool
-has_room g m None = true
-has_room g m (Some banks) = nat_le (need_of m) (pages_of_bank g banks)
-
--- 23: there are at most 4,096 instances; 24
+-- 23: there are at most 4,096 instances; 24, where rule 29 holds: the pages that are needed have room in a bank
 abbrev pub sized : Geometry → Option ℕ → Measures → Result ⊤ ConfigFault
 sized g shared m = do
   _ ← holds 23 (nat_le m.instances 4096)
-  holds 24 (has_room g m shared)
+  holds 24 (option_map_or (λ banks. nat_le (need_of m) (pages_of_bank g banks)) shared true)
 
 -- 27; 28: two slots of two sectors for each instance
 abbrev pub second_fits : List BlockDesc → Option Geometry → Result ⊤ ConfigFault
 second_fits blocks None = Ok tt
 second_fits blocks (Some g) = do
-  _ ← unless_fault (fault_or 27 (too_long g.sector 1 blocks) None)
+  _ ← unless_fault (option_map (λ block. Broken 27 block) (too_long g.sector 1 blocks))
   holds 28 (nat_le (4 * second_instances blocks) g.sectors)
 
 -- 26 to 28
@@ -90,9 +82,6 @@ config_of d = do
   described head d items (manager_block head.id ∷ map block_of items)
 
 -- 1: the line is UTF-8 and a JSON text of nesting at most 127. Where a key stands twice, the last value counts.
-abbrev pub value_of : List ℕ → Option Data
-value_of line = if is_utf8 line then json_value line else None
-
--- the configuration, or the first broken rule with its first block
+-- The configuration, or the first broken rule with its first block.
 abbrev pub meaning_of : List ℕ → Result Configuration ConfigFault
-meaning_of line = if bytes_eq line (codes "@demo") then Ok demo_config else (rule 1 (value_of line) >>= config_of)
+meaning_of line = if bytes_eq line (codes "@demo") then Ok demo_config else (rule 1 (if is_utf8 line then json_value line else None) >>= config_of)
