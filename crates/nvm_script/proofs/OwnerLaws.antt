@@ -3,16 +3,24 @@ use Rattle.std.proofs.Common.{◌≡◌, ◌≢◌, ◌≤◌, ◌<◌, ◌+◌,
 use Rattle.std.proofs.lemmas.Bool.{eqb-true, eq-eqb}
 use Rattle.std.proofs.lemmas.List.{length-set, get_or-set_same, get_or-set_other, get_or-replicate, length-replicate}
 use Rattle.std.proofs.lemmas.Option.{slice_get-get_or, slice_get_within}
-use Rattle.std.specs.Option.{option_and_then, is_some}
+use Rattle.std.specs.Option.{option_and_then, option_map_or, is_some}
 use Rattle.block_config.specs.Config.{Configuration}
 use Rattle.block_config.specs.declared.block.BlockDesc.{BlockDesc}
 use Rattle.nvm_script.specs.declared.step.Step.{Step}
 use Rattle.nvm_script.specs.declared.step.StepKind.{StepKind}
 use Rattle.nvm_script.specs.declared.script.Mode.{Mode}
 use Rattle.nvm_script.specs.declared.script.Mode.TheVariants.{Play, Run}
-use Rattle.nvm_script.specs.Owners.{ram_block_of, is_block, owner_of, is_owner, may_own, keeps_owner, owner_in, noted_where, noted_at, noted}
+use Rattle.nvm_script.specs.Owners.{ram_block_of, owner_of, may_own, keeps_owner, owner_in, noted_where, noted_at, noted}
 use Rattle.nvm_script.specs.Rules.{length_where_sync, sync_length_of}
 use Rattle.nvm_script.specs.ScriptReading.{Owns}
+
+-- a step is of this block
+abbrev pub is_block : ℕ → Option ℕ → Bool
+is_block block o = option_map_or (λ b. b == block) o false
+
+-- a caller is the owner, if there is one
+abbrev pub is_owner : ℕ → Option ℕ → Bool
+is_owner caller owner = option_map_or (λ o. o == caller) owner true
 
 -- what a lookup gives
 at_place : (table : List (Option ℕ)) (block : ℕ) → block < length table → slice_get table block ≡ Some (owner_in table block)
@@ -121,7 +129,7 @@ tested : (c : Configuration) (table : List (Option ℕ)) (steps : List Step) (ca
 tested c table steps caller block true sync owns = ap (is_owner caller) (owns.owners block (block_within c block sync))
 tested c table steps caller block false sync owns = refl
 
-own_same : (c : Configuration) (table : List (Option ℕ)) (steps : List Step) (caller : ℕ) (o : Option ℕ) → Owns c table steps → may_own c (owner_in table) caller o ≡ may_own c (owner_of steps) caller o
+own_same : (c : Configuration) (table : List (Option ℕ)) (steps : List Step) (caller : ℕ) (o : Option ℕ) → Owns c table steps → option_map_or (may_own c (owner_in table) caller) o true ≡ option_map_or (may_own c (owner_of steps) caller) o true
 own_same c table steps caller None owns = refl
 own_same c table steps caller (Some block) owns = tested c table steps caller block (is_some (sync_length_of c block)) refl owns
 

@@ -26,7 +26,7 @@ use Rattle.nvm_script.specs.declared.word.Word.{Word}
 use Rattle.nvm_script.specs.declared.word.Word.TheVariants.{Read, ReadRam, Write, WriteRam, Restore, RestoreRam, Erase, Invalidate, SetIndex, GetIndex, Protect, Lock, SetRam, Ram, Status, WriteAll, Cancel}
 use Rattle.nvm_script.specs.Word.{word_of}
 use Rattle.nvm_script.specs.Words.{content_text, mark_text, switch_text, request_text, reply_text, job_text}
-use Rattle.nvm_script.specs.Values.{IsNumber, IsContent, IsRequestValue, IsReplyValue, IsMarkValue}
+use Rattle.nvm_script.specs.Values.{IsNumber, IsBlockNumber, IsContent, IsRequestValue, IsReplyValue, IsMarkValue}
 use Rattle.nvm_script.proofs.ContentLaws.{content-lacks, content_from, content_from-text}
 use Rattle.nvm_script.proofs.Cuts.{Lacks}
 use Rattle.nvm_script.proofs.Fields.{before, behind, before-field, behind-field, number_to, number_to-field, behind-number}
@@ -142,16 +142,19 @@ by_word None l = (request.ReadAll, l)
 pub read_request : List ℕ → Request × List ℕ
 read_request l = by_word (word_of (before 32 l)) (behind 32 l)
 
-block_read : (f : ℕ → Request) (block : ℕ) (s : List ℕ) → IsNumber block → of_block f (decimal block ++ 32 ∷ s) ≡ (f block, s)
-unfolding of_block
-block_read f block s fits = rw (number_to-field 32 block s refl fits, behind-number 32 block s refl fits) refl
+block_fits : (block : ℕ) → IsBlockNumber block → IsNumber block
+block_fits block le = omega arith
 
-with_read : (f : ℕ → List ℕ → Request) (block : ℕ) (field s : List ℕ) → IsNumber block → Lacks 32 field → of_block_with f ((decimal block ++ 32 ∷ field) ++ 32 ∷ s) ≡ (f block field, s)
+block_read : (f : ℕ → Request) (block : ℕ) (s : List ℕ) → IsBlockNumber block → of_block f (decimal block ++ 32 ∷ s) ≡ (f block, s)
+unfolding of_block
+block_read f block s fits = rw (number_to-field 32 block s refl (block_fits block fits), behind-number 32 block s refl (block_fits block fits)) refl
+
+with_read : (f : ℕ → List ℕ → Request) (block : ℕ) (field s : List ℕ) → IsBlockNumber block → Lacks 32 field → of_block_with f ((decimal block ++ 32 ∷ field) ++ 32 ∷ s) ≡ (f block field, s)
 unfolding of_block_with
 with_read f block field s fits lacks =
-    rw (append_assoc (decimal block) (32 ∷ field) (32 ∷ s), number_to-field 32 block (field ++ 32 ∷ s) refl fits, behind-number 32 block (field ++ 32 ∷ s) refl fits, before-field 32 field s lacks, behind-field 32 field s lacks) refl
+    rw (append_assoc (decimal block) (32 ∷ field) (32 ∷ s), number_to-field 32 block (field ++ 32 ∷ s) refl (block_fits block fits), behind-number 32 block (field ++ 32 ∷ s) refl (block_fits block fits), before-field 32 field s lacks, behind-field 32 field s lacks) refl
 
-with_content : (f : ℕ → List ℕ → Request) (block : ℕ) (bytes s : List ℕ) → IsNumber block → IsContent bytes → of_block_with (λ b field. f b (content_from field)) ((decimal block ++ 32 ∷ content_text bytes) ++ 32 ∷ s) ≡ (f block bytes, s)
+with_content : (f : ℕ → List ℕ → Request) (block : ℕ) (bytes s : List ℕ) → IsBlockNumber block → IsContent bytes → of_block_with (λ b field. f b (content_from field)) ((decimal block ++ 32 ∷ content_text bytes) ++ 32 ∷ s) ≡ (f block bytes, s)
 with_content f block bytes s fits is =
     with_read (λ b field. f b (content_from field)) block (content_text bytes) s fits (content-lacks 32 bytes refl is) ∙ ap (λ (c : List ℕ). (f block c, s)) (content_from-text bytes is)
 
@@ -163,23 +166,23 @@ switch-value : (on : Bool) → (digits_value 10 (switch_text on) == 1) ≡ on
 switch-value true = refl
 switch-value false = refl
 
-with_switch : (f : ℕ → Bool → Request) (block : ℕ) (on : Bool) (s : List ℕ) → IsNumber block → of_block_with (λ b field. f b (digits_value 10 field == 1)) ((decimal block ++ 32 ∷ switch_text on) ++ 32 ∷ s) ≡ (f block on, s)
+with_switch : (f : ℕ → Bool → Request) (block : ℕ) (on : Bool) (s : List ℕ) → IsBlockNumber block → of_block_with (λ b field. f b (digits_value 10 field == 1)) ((decimal block ++ 32 ∷ switch_text on) ++ 32 ∷ s) ≡ (f block on, s)
 with_switch f block on s fits =
     with_read (λ b field. f b (digits_value 10 field == 1)) block (switch_text on) s fits (switch-lacks on) ∙ ap (λ (b : Bool). (f block b, s)) (switch-value on)
 
-with_index : (block index : ℕ) (s : List ℕ) → IsNumber block → IsNumber index → of_block_with (λ b field. request.SetIndex b (digits_value 10 field)) ((decimal block ++ 32 ∷ decimal index) ++ 32 ∷ s) ≡ (request.SetIndex block index, s)
+with_index : (block index : ℕ) (s : List ℕ) → IsBlockNumber block → IsNumber index → of_block_with (λ b field. request.SetIndex b (digits_value 10 field)) ((decimal block ++ 32 ∷ decimal index) ++ 32 ∷ s) ≡ (request.SetIndex block index, s)
 with_index block index s fits small =
     with_read (λ b field. request.SetIndex b (digits_value 10 field)) block (decimal index) s fits (decimal-lacks 32 index refl small) ∙ ap (λ (n : ℕ). (request.SetIndex block n, s)) (digits_value-decimal model index small)
 
 -- a write of the RAM, with its store where it isn't 0
-ram_write : (block store : ℕ) (s : List ℕ) (b : Bool) → (store == 0) ≡ b → IsNumber block → IsNumber store
+ram_write : (block store : ℕ) (s : List ℕ) (b : Bool) → (store == 0) ≡ b → IsBlockNumber block → IsNumber store
     → by_word (Some WriteRam) ((decimal block ++ (if b then [] else codes " store " ++ decimal store)) ++ 32 ∷ (45 ∷ s)) ≡ (request.Write block None store, 45 ∷ s)
 unfolding by_word asked_by stored_write
 ram_write block store s true none fits small =
     let zero_store : store ≡ 0 = eqb-true store 0 none in
-    rw (append-nil (decimal block), number_to-field 32 block (45 ∷ s) refl fits, behind-number 32 block (45 ∷ s) refl fits, zero_store) refl
+    rw (append-nil (decimal block), number_to-field 32 block (45 ∷ s) refl (block_fits block fits), behind-number 32 block (45 ∷ s) refl (block_fits block fits), zero_store) refl
 ram_write block store s false some fits small =
-    rw (append_assoc (decimal block) (codes " store " ++ decimal store) (32 ∷ (45 ∷ s)), number_to-field 32 block (codes "store " ++ (decimal store ++ 32 ∷ (45 ∷ s))) refl fits, behind-number 32 block (codes "store " ++ (decimal store ++ 32 ∷ (45 ∷ s))) refl fits, number_to-field 32 store (45 ∷ s) refl small, behind-number 32 store (45 ∷ s) refl small) refl
+    rw (append_assoc (decimal block) (codes " store " ++ decimal store) (32 ∷ (45 ∷ s)), number_to-field 32 block (codes "store " ++ (decimal store ++ 32 ∷ (45 ∷ s))) refl (block_fits block fits), behind-number 32 block (codes "store " ++ (decimal store ++ 32 ∷ (45 ∷ s))) refl (block_fits block fits), number_to-field 32 store (45 ∷ s) refl small, behind-number 32 store (45 ∷ s) refl small) refl
 
 -- what a request's own write brings has no store
 abbrev pub NoStore : Request → Type 0
@@ -197,7 +200,7 @@ read_request-text (request.Restore block false) s is none = block_read (λ b. re
 read_request-text (request.Restore block true) s is none = block_read (λ b. request.Restore b true) block (45 ∷ s) is
 read_request-text (request.Erase block) s is none = block_read (λ b. request.Erase b) block (45 ∷ s) is
 read_request-text (request.Invalidate block) s is none = block_read (λ b. request.Invalidate b) block (45 ∷ s) is
-read_request-text (request.SetIndex block index) s is none = with_index block index (45 ∷ s) is.0 is.1
+read_request-text (request.SetIndex block index) s is none = with_index block index (45 ∷ s) is.0 (omega (arith, is.1))
 read_request-text (request.GetIndex block) s is none = block_read (λ b. request.GetIndex b) block (45 ∷ s) is
 read_request-text (request.SetProtection block on) s is none = with_switch (λ b on. request.SetProtection b on) block on (45 ∷ s) is
 read_request-text (request.SetLock block on) s is none = with_switch (λ b on. request.SetLock b on) block on (45 ∷ s) is

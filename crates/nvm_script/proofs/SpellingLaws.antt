@@ -15,10 +15,15 @@ use Rattle.nv_base.specs.Decimal.{decimal_number_of}
 use Rattle.nvm_script.specs.Word.{word_text, word_of}
 use Rattle.nvm_script.specs.Words.{of_block_with as block_text_with, switch_text}
 use Rattle.nvm_script.specs.Reading.{without_fields, of_block, with_one, with_number, with_content, of_block_with, with_two, with_field, with_fields, spelled}
-use Rattle.nvm_script.specs.Spelling.{OfBlock, OfBlockWith, SpellsRequest, Spells}
+use Rattle.nvm_script.specs.Spelling.{OfBlock, SpellsRequest, Spells}
+use Rattle.nvm_script.specs.Values.{IsBlockNumber}
 use Rattle.nvm_script.proofs.Cuts.{Joins, cut_at-joins, cut_at-append, cut_at-lacks}
 use Rattle.nvm_script.proofs.Numerals.{decimal_number_of-spelled, decimal_number_of-decimal, decimal-lacks}
 use Rattle.nvm_script.proofs.WordLaws.{word_of-word_text, word_text-lacks, word_of-found}
+
+-- a word, a block and one field more
+abbrev pub OfBlockWith : Word → ℕ → List ℕ → List ℕ → Type 0
+OfBlockWith w block field text = IsBlockNumber block × (text ≡ block_text_with (word_text w) block field)
 
 -- a step that was read, if one was, is spelled by the text
 abbrev pub IsSound : Option StepKind → List ℕ → Type 0
@@ -33,10 +38,14 @@ map_sound P None f text has each = tt
 map_sound P (Some x) f text has each = each x has
 
 alone_sound : (w : Word) (text : List ℕ) → text ≡ word_text w → IsSound (without_fields w) text
-alone_sound ReadAll text e = e
-alone_sound _ text e = search rules
+alone_sound ReadAll text e = (tt, e)
+alone_sound WriteAll text e = (tt, e)
+alone_sound Cancel text e = (tt, e)
+alone_sound Drain text e = e
+alone_sound Restart text e = e
+alone_sound _ text e = tt
 
-block_sound : (w : Word) (block : ℕ) (text : List ℕ) → OfBlock w block text → IsSound (of_block w block) text
+block_sound : (w : Word) (block : ℕ) (text : List ℕ) → OfBlock (word_text w) block text → IsSound (of_block w block) text
 block_sound WriteRam block text is = (refl, is)
 block_sound _ block text is = search rules
 
@@ -70,7 +79,7 @@ switch_is w block n field text is number = field_is w block field (switch_text (
 
 number_sound : (w : Word) (block : ℕ) (field text : List ℕ) → OfBlockWith w block field text → IsSound (with_number w block field) text
 number_sound SetIndex block field text is =
-    map_sound (IsNumber 0 255 field) (decimal_number_of 0 255 field) (λ i. step.Ask (request.SetIndex block i)) text (decimal_number_of-spelled 0 255 field (small 255 (omega arith))) (λ i number. (number.1, field_is SetIndex block field (decimal i) text is number.2))
+    map_sound (IsNumber 0 255 field) (decimal_number_of 0 255 field) (λ i. step.Ask (request.SetIndex block i)) text (decimal_number_of-spelled 0 255 field (small 255 (omega arith))) (λ i number. let spelled_so = field_is SetIndex block field (decimal i) text is number.2 in ((spelled_so.0, number.1), spelled_so.1))
 number_sound Protect block field text is =
     map_sound (IsNumber 0 1 field) (decimal_number_of 0 1 field) (λ n. step.Ask (request.SetProtection block (n == 1))) text (decimal_number_of-spelled 0 1 field (small 1 (omega arith))) (λ n number. switch_is Protect block n field text is number)
 number_sound Lock block field text is =
@@ -78,7 +87,7 @@ number_sound Lock block field text is =
 number_sound SetRam block field text is =
     map_sound (IsNumber 0 1 field) (decimal_number_of 0 1 field) (λ n. step.Ask (request.SetRam block (n == 1))) text (decimal_number_of-spelled 0 1 field (small 1 (omega arith))) (λ n number. switch_is SetRam block n field text is number)
 number_sound Refuse block field text is =
-    map_sound (IsNumber 1 1000 field) (decimal_number_of 1 1000 field) (λ n. step.Refuse block n) text (decimal_number_of-spelled 1 1000 field (small 1000 (omega arith))) (λ n number. (number.0, number.1, field_is Refuse block field (decimal n) text is number.2))
+    map_sound (IsNumber 1 1000 field) (decimal_number_of 1 1000 field) (λ n. step.Refuse block n) text (decimal_number_of-spelled 1 1000 field (small 1000 (omega arith))) (λ n number. let spelled_so = field_is Refuse block field (decimal n) text is number.2 in (number.0, number.1, spelled_so.0, spelled_so.1))
 number_sound _ block field text is = tt
 
 itself : {A : Type 0} (o : Option A) → IfSome o (λ x. o ≡ Some x)
@@ -87,11 +96,11 @@ itself (Some x) = refl
 
 ram_sound : (block : ℕ) (field text : List ℕ) → OfBlockWith Ram block field text → IsSound (with_content Ram block field) text
 ram_sound block field text is =
-    map_sound (λ content. content_of field ≡ Some content) (content_of field) (λ content. step.Ask (request.PutRam block content)) text (itself (content_of field)) (λ content e. (field, e, is))
+    map_sound (λ content. content_of field ≡ Some content) (content_of field) (λ content. step.Ask (request.PutRam block content)) text (itself (content_of field)) (λ content e. (field, e, is.0, is.1))
 
 write_sound : (block : ℕ) (field text : List ℕ) → OfBlockWith Write block field text → IsSound (with_content Write block field) text
 write_sound block field text is =
-    map_sound (λ content. content_of field ≡ Some content) (content_of field) (λ content. step.Ask (request.Write block (Some content) 0)) text (itself (content_of field)) (λ content e. (refl, (field, e, is)))
+    map_sound (λ content. content_of field ≡ Some content) (content_of field) (λ content. step.Ask (request.Write block (Some content) 0)) text (itself (content_of field)) (λ content e. (refl, (field, e, is.0, is.1)))
 
 with_sound : (w : Word) (block : ℕ) (field text : List ℕ) → OfBlockWith w block field text → IsSound (of_block_with w block field) text
 with_sound Write block field text is = write_sound block field text is
@@ -154,7 +163,7 @@ two_read w n second le =
 block_number : (block : ℕ) → block ≤ 65535 → decimal_number_of 0 65535 (decimal block) ≡ Some block
 block_number block le = decimal_number_of-decimal 0 65535 block (omega arith) le (small 65535 (omega arith))
 
-block_read : (w : Word) (block : ℕ) (text : List ℕ) → OfBlock w block text → with_one w (decimal block) ≡ option_and_then (of_block w) (decimal_number_of 0 65535 (decimal block)) → spelled text ≡ of_block w block
+block_read : (w : Word) (block : ℕ) (text : List ℕ) → OfBlock (word_text w) block text → with_one w (decimal block) ≡ option_and_then (of_block w) (decimal_number_of 0 65535 (decimal block)) → spelled text ≡ of_block w block
 block_read w block text is e =
     ap spelled is.1 ∙ one_read w block (omega (arith, is.0)) ∙ e ∙ ap (λ (o : Option ℕ). option_and_then (of_block w) o) (block_number block is.0)
 
@@ -176,24 +185,24 @@ request_read : (asked : Request) (text : List ℕ) → SpellsRequest asked text 
 request_read (request.Read block false) text is = block_read Read block text is refl
 request_read (request.Read block true) text is = block_read ReadRam block text is refl
 request_read (request.Write block (Some content) store) text is =
-    with_read Write block is.1.0 text is.1.2 refl ∙ ap (λ (o : Option (List ℕ)). option_map (λ content. step.Ask (request.Write block (Some content) 0)) o) is.1.1 ∙ ap (λ (n : ℕ). Some (step.Ask (request.Write block (Some content) n))) (sym is.0)
+    with_read Write block is.1.0 text (is.1.2, is.1.3) refl ∙ ap (λ (o : Option (List ℕ)). option_map (λ content. step.Ask (request.Write block (Some content) 0)) o) is.1.1 ∙ ap (λ (n : ℕ). Some (step.Ask (request.Write block (Some content) n))) (sym is.0)
 request_read (request.Write block None store) text is = block_read WriteRam block text is.1 refl ∙ ap (λ (n : ℕ). Some (step.Ask (request.Write block None n))) (sym is.0)
 request_read (request.Restore block false) text is = block_read Restore block text is refl
 request_read (request.Restore block true) text is = block_read RestoreRam block text is refl
 request_read (request.Erase block) text is = block_read Erase block text is refl
 request_read (request.Invalidate block) text is = block_read Invalidate block text is refl
 request_read (request.SetIndex block index) text is =
-    with_read SetIndex block (decimal index) text is.1 refl ∙ ap (λ (o : Option ℕ). option_map (λ i. step.Ask (request.SetIndex block i)) o) (decimal_number_of-decimal 0 255 index (omega arith) is.0 (small 255 (omega arith)))
+    with_read SetIndex block (decimal index) text (is.0.0, is.1) refl ∙ ap (λ (o : Option ℕ). option_map (λ i. step.Ask (request.SetIndex block i)) o) (decimal_number_of-decimal 0 255 index (omega arith) is.0.1 (small 255 (omega arith)))
 request_read (request.GetIndex block) text is = block_read GetIndex block text is refl
 request_read (request.SetProtection block on) text is = with_read Protect block (switch_text on) text is refl ∙ switched (λ on. step.Ask (request.SetProtection block on)) on
 request_read (request.SetLock block on) text is = with_read Lock block (switch_text on) text is refl ∙ switched (λ on. step.Ask (request.SetLock block on)) on
 request_read (request.SetRam block on) text is = with_read SetRam block (switch_text on) text is refl ∙ switched (λ on. step.Ask (request.SetRam block on)) on
 request_read (request.PutRam block content) text is =
-    with_read Ram block is.0 text is.2 refl ∙ ap (λ (o : Option (List ℕ)). option_map (λ content. step.Ask (request.PutRam block content)) o) is.1
+    with_read Ram block is.0 text (is.2, is.3) refl ∙ ap (λ (o : Option (List ℕ)). option_map (λ content. step.Ask (request.PutRam block content)) o) is.1
 request_read (request.Status block) text is = block_read Status block text is refl
-request_read request.ReadAll text is = alone_read ReadAll text is
-request_read request.WriteAll text is = alone_read WriteAll text is
-request_read request.CancelWriteAll text is = alone_read Cancel text is
+request_read request.ReadAll text is = alone_read ReadAll text is.1
+request_read request.WriteAll text is = alone_read WriteAll text is.1
+request_read request.CancelWriteAll text is = alone_read Cancel text is.1
 
 -- what the text spells is read
 pub spelled-complete : (kind : StepKind) (text : List ℕ) → Spells kind text → spelled text ≡ Some (read_as kind)
@@ -208,5 +217,5 @@ spelled-complete (step.Cut nth keep) text is =
     ∙ ap (λ (o : Option ℕ). option_and_then (λ nth. option_map (λ keep. step.Cut nth keep) (decimal_number_of 0 256 (decimal keep))) o) (decimal_number_of-decimal 1 1000000 nth is.0 is.1 (small 1000000 (omega arith)))
     ∙ ap (λ (o : Option ℕ). option_map (λ keep. step.Cut nth keep) o) (decimal_number_of-decimal 0 256 keep (omega arith) is.2 (small 256 (omega arith)))
 spelled-complete (step.Refuse block count) text is =
-    with_read Refuse block (decimal count) text is.2 refl ∙ ap (λ (o : Option ℕ). option_map (λ n. step.Refuse block n) o) (decimal_number_of-decimal 1 1000 count is.0 is.1 (small 1000 (omega arith)))
+    with_read Refuse block (decimal count) text (is.2, is.3) refl ∙ ap (λ (o : Option ℕ). option_map (λ n. step.Refuse block n) o) (decimal_number_of-decimal 1 1000 count is.0 is.1 (small 1000 (omega arith)))
 spelled-complete (step.Await block) text is = block_read Await block text is refl

@@ -1,5 +1,6 @@
 -- Who stores into synchronized RAM.
-use Rattle.std.specs.Prelude.{ℕ, ◌==◌, Bool, true, not, ◌||◌, List, [], ◌∷◌, slice_get, slice_set, Option, Some, None, option_and_then, is_some, if◌then◌else◌}
+use Rattle.std.specs.Prelude.{ℕ, ◌==◌, Bool, true, false, not, ◌||◌, List, [], ◌∷◌, slice_get, slice_set, Option, Some, None, option_and_then, is_some, if◌then◌else◌}
+use Rattle.std.specs.Option.{option_map_or}
 use Rattle.nv_base.specs.declared.request.Request.TheVariants.{Write}
 use Rattle.block_config.specs.Config.{Configuration}
 use Rattle.nvm_script.specs.declared.step.Step.{Step}
@@ -15,28 +16,19 @@ ram_block_of (Store block content) = Some block
 ram_block_of (Ask (Write block None store)) = Some block
 ram_block_of _ = None
 
-abbrev pub is_block : ℕ → Option ℕ → Bool
-is_block block None = not true
-is_block block (Some b) = b == block
-
 -- the owner of a block's RAM: the caller of the first step that stores into it or writes it
 abbrev pub owner_of : List Step → ℕ → Option ℕ
 owner_of [] block = None
-owner_of (s ∷ steps) block = if is_block block (ram_block_of s.kind) then Some s.caller else owner_of steps block
+owner_of (s ∷ steps) block = if option_map_or (λ b. b == block) (ram_block_of s.kind) false then Some s.caller else owner_of steps block
 
-abbrev pub is_owner : ℕ → Option ℕ → Bool
-is_owner caller None = true
-is_owner caller (Some owner) = owner == caller
-
--- whether the caller may own the block's RAM, where it is synchronized
-abbrev pub may_own : Configuration → (ℕ → Option ℕ) → ℕ → Option ℕ → Bool
-may_own c owner caller None = true
-may_own c owner caller (Some block) = not (is_some (sync_length_of c block)) || is_owner caller (owner block)
+-- the caller may own the RAM of this block, where it is synchronized: it has no owner, or this one
+abbrev pub may_own : Configuration → (ℕ → Option ℕ) → ℕ → ℕ → Bool
+may_own c owner caller block = not (is_some (sync_length_of c block)) || option_map_or (λ o. o == caller) (owner block) true
 
 -- in a run the RAM of a synchronized block has one owner
 abbrev pub keeps_owner : Configuration → Mode → (ℕ → Option ℕ) → ℕ → StepKind → Bool
 keeps_owner c Play owner caller kind = true
-keeps_owner c Run owner caller kind = may_own c owner caller (ram_block_of kind)
+keeps_owner c Run owner caller kind = option_map_or (may_own c owner caller) (ram_block_of kind) true
 
 -- the owner in a table by blocks
 abbrev pub owner_in : List (Option ℕ) → ℕ → Option ℕ

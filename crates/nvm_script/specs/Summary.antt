@@ -41,15 +41,8 @@ abbrev pub head_lines : ℕ → ℕ → ℕ → ℕ → List ℕ
 head_lines entries asks refused posts =
     codes "entries " ++ (decimal entries ++ (codes "\nasks " ++ (decimal asks ++ (codes " refused " ++ (decimal refused ++ (codes "\nposts " ++ (decimal posts ++ codes "\n")))))))
 
--- the head, the lines of the results, and the operations
-abbrev pub summary_lines : List ℕ → List ℕ → ℕ → List ℕ
-summary_lines head results ops = head ++ (results ++ (codes "ops " ++ (decimal ops ++ codes "\n")))
-
--- the numbers of the results, 0 to 8
-abbrev pub all_codes : List ℕ
-all_codes = range_with_len 0 9
-
--- the summary of these entries
+-- the summary of these entries: the head, the lines of the results 0 to 8, and the operations
 abbrev pub summary : List Entry → List ℕ
 summary h =
-    summary_lines (head_lines (length h) (count_by is_ask h) (count_by is_refused h) (count_by is_post h)) (flat_map (λ code. result_line code (count_by (is_post_with code) h)) all_codes) (last_ops h)
+    head_lines (length h) (count_by is_ask h) (count_by is_refused h) (count_by is_post h)
+    ++ (flat_map (λ code. result_line code (count_by (is_post_with code) h)) (range_with_len 0 9) ++ (codes "ops " ++ (decimal (last_ops h) ++ codes "\n")))

@@ -1,11 +1,11 @@
 -- Numbers and bytes as the types of an entry have them.
-use Rattle.std.specs.Prelude.{◌<◌, ◌^◌, ℕ, List, [], ◌∷◌, length, Option, Some, None}
+use Rattle.std.specs.Prelude.{◌<◌, ◌≤◌, ◌^◌, ℕ, List, [], ◌∷◌, length, Option, Some, None}
 use Rattle.hex.specs.Hex.{IsBytes}
 use Rattle.nv_base.specs.declared.instance.Instance.{Instance}
 use Rattle.nv_base.specs.declared.mark.Mark.{Mark}
 use Rattle.nv_base.specs.declared.mark.Mark.TheVariants.{Content}
 use Rattle.nv_base.specs.declared.request.Request.{Request}
-use Rattle.nv_base.specs.declared.request.Request.TheVariants.{Read, Write, Restore, Erase, Invalidate, SetIndex, GetIndex, SetProtection, SetLock, SetRam, PutRam, Status, ReadAll, WriteAll, CancelWriteAll}
+use Rattle.nv_base.specs.declared.request.Request.TheVariants.{Read, Write, Restore, Erase, Invalidate, SetIndex, GetIndex, SetProtection, SetLock, SetRam, PutRam, Status}
 use Rattle.nv_base.specs.declared.request.Reply.{Reply}
 use Rattle.nv_base.specs.declared.request.Reply.TheVariants.{IndexIs}
 use Rattle.nv_base.specs.declared.entry.Taken.{Taken}
@@ -22,23 +22,24 @@ pub record IsContent (bytes : List ℕ) : Type 0 where
   pub bytes_small : IsBytes bytes
   pub length_small : IsNumber (length bytes)
 
+abbrev pub IsBlockNumber : ℕ → Type 0
+IsBlockNumber block = block ≤ 65535
+
 abbrev pub IsRequestValue : Request → Type 0
-IsRequestValue (Read block ram) = IsNumber block
-IsRequestValue (Write block None store) = IsNumber block × IsNumber store
-IsRequestValue (Write block (Some bytes) store) = IsNumber block × IsContent bytes
-IsRequestValue (Restore block ram) = IsNumber block
-IsRequestValue (Erase block) = IsNumber block
-IsRequestValue (Invalidate block) = IsNumber block
-IsRequestValue (SetIndex block index) = IsNumber block × IsNumber index
-IsRequestValue (GetIndex block) = IsNumber block
-IsRequestValue (SetProtection block on) = IsNumber block
-IsRequestValue (SetLock block on) = IsNumber block
-IsRequestValue (SetRam block on) = IsNumber block
-IsRequestValue (PutRam block bytes) = IsNumber block × IsContent bytes
-IsRequestValue (Status block) = IsNumber block
-IsRequestValue ReadAll = Unit {0}
-IsRequestValue WriteAll = Unit {0}
-IsRequestValue CancelWriteAll = Unit {0}
+IsRequestValue (Read block ram) = IsBlockNumber block
+IsRequestValue (Write block None store) = IsBlockNumber block × IsNumber store
+IsRequestValue (Write block (Some bytes) store) = IsBlockNumber block × IsContent bytes
+IsRequestValue (Restore block ram) = IsBlockNumber block
+IsRequestValue (Erase block) = IsBlockNumber block
+IsRequestValue (Invalidate block) = IsBlockNumber block
+IsRequestValue (SetIndex block index) = IsBlockNumber block × (index ≤ 255)
+IsRequestValue (GetIndex block) = IsBlockNumber block
+IsRequestValue (SetProtection block on) = IsBlockNumber block
+IsRequestValue (SetLock block on) = IsBlockNumber block
+IsRequestValue (SetRam block on) = IsBlockNumber block
+IsRequestValue (PutRam block bytes) = IsBlockNumber block × IsContent bytes
+IsRequestValue (Status block) = IsBlockNumber block
+IsRequestValue _ = Unit {0}
 
 abbrev pub IsReplyValue : Reply → Type 0
 IsReplyValue (IndexIs index) = IsNumber index

@@ -1,10 +1,9 @@
 // The lines of a history.
 ghost use Rattle.std.specs.Prelude.{◌≡◌, length, IfOk};
 ghost use Rattle.std.specs.List.{flat_map};
-ghost use Rattle.nv_base.specs.Result.{code_of};
+ghost use Rattle.nv_base.specs.declared.entry.Entry.TheVariants.{Ask, Pick, Wrote, Post, Found};
 ghost use Rattle.nvm_script.specs.Text.{Adds};
-ghost use Rattle.nvm_script.specs.Words.{mark_text, request_text, reply_text, job_text, taken_text, given_text, refused_text};
-ghost use Rattle.nvm_script.specs.Lines.{ops_text, ask_line as ask_text, pick_line as pick_text, instance_text, wrote_line as wrote_text, post_line as post_text, found_text, found_line as found_line_text, entry_line, end_line};
+ghost use Rattle.nvm_script.specs.Lines.{ops_text, instance_text, found_text, entry_line, end_line};
 
 use crate::text::Text;
 use crate::words::job_word;
@@ -25,7 +24,7 @@ impl Text {
     }
 
     fn ask_line(&mut self, caller: u8, request: &Request, reply: Reply)
-        ensures { Adds (ask_text caller (request_text request.now) (reply_text reply)) self.old self.new }
+        ensures { Adds (entry_line (Ask caller request.now reply)) self.old self.new }
     {
         self.word("ask ");
         self.number(caller as u64);
@@ -37,7 +36,7 @@ impl Text {
     }
 
     fn pick_line(&mut self, block: u16, job: JobKind, taken: &Taken, ops: u64)
-        ensures { Adds (pick_text block (job_text job) (taken_text taken.now) ops) self.old self.new }
+        ensures { Adds (entry_line (Pick block job taken.now ops)) self.old self.new }
     {
         self.word("pick ");
         self.number(block as u64);
@@ -48,7 +47,7 @@ impl Text {
     }
 
     fn instance(&mut self, instance: Instance, mark: &Mark)
-        ensures { Adds (instance_text instance (mark_text mark.now)) self.old self.new }
+        ensures { Adds (instance_text instance mark.now) self.old self.new }
     {
         self.number(instance.block as u64);
         self.word(".");
@@ -58,7 +57,7 @@ impl Text {
     }
 
     fn wrote_line(&mut self, instance: Instance, mark: &Mark, ops: u64)
-        ensures { Adds (wrote_text (instance_text instance (mark_text mark.now)) ops) self.old self.new }
+        ensures { Adds (entry_line (Wrote instance mark.now ops)) self.old self.new }
     {
         self.word("wrote ");
         self.instance(instance, mark);
@@ -73,7 +72,7 @@ impl Text {
         refused: u8,
         ops: u64,
     )
-        ensures { Adds (post_text block (code_of outcome) (given_text given.now) (refused_text refused) ops) self.old self.new }
+        ensures { Adds (entry_line (Post block outcome given.now refused ops)) self.old self.new }
     {
         self.word("post ");
         self.number(block as u64);
@@ -103,7 +102,7 @@ impl Text {
     }
 
     fn found_line(&mut self, marks: &Marks, ops: u64)
-        ensures { Adds (found_line_text (length marks.now) (flat_map found_text marks.now) ops) self.old self.new }
+        ensures { Adds (entry_line (Found marks.now ops)) self.old self.new }
     {
         self.word("found ");
         self.number(marks.len() as u64);

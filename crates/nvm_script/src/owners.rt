@@ -1,6 +1,7 @@
 // The callers that store into synchronized RAM.
-ghost use Rattle.std.specs.Prelude.{◌≡◌, ◌<◌, length, replicate, None, IfOk, option_copied};
-ghost use Rattle.nvm_script.specs.Owners.{ram_block_of, is_owner, may_own, keeps_owner, owner_in, noted_at, noted};
+ghost use Rattle.std.specs.Prelude.{◌≡◌, ◌<◌, length, replicate, None, IfOk, option_copied, true, ◌==◌};
+ghost use Rattle.std.specs.Option.{option_map_or};
+ghost use Rattle.nvm_script.specs.Owners.{ram_block_of, may_own, keeps_owner, owner_in, noted_at, noted};
 
 use crate::rules::sync_length;
 use crate::{Mode, StepKind};
@@ -41,7 +42,7 @@ fn ram_block(kind: &StepKind) -> Option<u16>
 }
 
 fn is_owner(caller: u8, owner: Option<u8>) -> bool
-    ensures { result ≡ is_owner caller owner }
+    ensures { result ≡ option_map_or (λ o. o == caller) owner true }
 {
     match owner {
         Some(owner) => owner == caller,
@@ -69,7 +70,7 @@ impl Owners {
     }
 
     fn may_own(&self, config: &Config, caller: u8, block: Option<u16>) -> bool
-        ensures { result ≡ may_own config.now (owner_in self.now) caller block }
+        ensures { result ≡ option_map_or (may_own config.now (owner_in self.now) caller) block true }
     {
         match block {
             Some(block) => {

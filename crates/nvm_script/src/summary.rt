@@ -1,8 +1,9 @@
 // The summary of a history.
-ghost use Rattle.std.specs.Prelude.{◌≡◌, slice_index, IfOk};
-ghost use Rattle.std.specs.List.{flat_map};
+ghost use Rattle.std.specs.Prelude.{◌≡◌, ◌++◌, codes, slice_index, IfOk};
+ghost use Rattle.std.specs.List.{flat_map, range_with_len};
+ghost use Rattle.std.specs.Fmt.{decimal};
 ghost use Rattle.nvm_script.specs.Text.{Adds};
-ghost use Rattle.nvm_script.specs.Summary.{result_line as result_text, head_lines as head_text, summary_lines as lines_text, all_codes, summary};
+ghost use Rattle.nvm_script.specs.Summary.{result_line as result_text, head_lines as head_text, summary};
 
 use crate::counts::{Counts, counts_of};
 use crate::text::Text;
@@ -23,7 +24,7 @@ impl Text {
 
     // One line for each result.
     fn result_lines(&mut self, results: &[u32; 9])
-        ensures { Adds (flat_map (λ code. result_text code (slice_index results.now code)) all_codes) self.old self.new }
+        ensures { Adds (flat_map (λ code. result_text code (slice_index results.now code)) (range_with_len 0 9)) self.old self.new }
     {
         for code in 0..9 {
             self.result_line(code, results[code]);
@@ -45,7 +46,7 @@ impl Text {
     }
 
     fn summary_lines(&mut self, entries: u32, counts: &Counts)
-        ensures { Adds (lines_text (head_text entries counts.now.asks counts.now.refused counts.now.posts) (flat_map (λ code. result_text code (slice_index counts.now.results code)) all_codes) counts.now.ops) self.old self.new }
+        ensures { Adds (head_text entries counts.now.asks counts.now.refused counts.now.posts ++ (flat_map (λ code. result_text code (slice_index counts.now.results code)) (range_with_len 0 9) ++ (codes "ops " ++ (decimal counts.now.ops ++ codes "\n")))) self.old self.new }
     {
         self.head_lines(entries, counts);
         self.result_lines(&counts.results);

@@ -1,6 +1,6 @@
 -- Each line of a script of `run` is a step that can be run.
 use Rattle.std.specs.Prelude.{slice_get}
-use Rattle.std.specs.Option.{unwrap_or, is_some}
+use Rattle.std.specs.Option.{option_map_or, unwrap_or, is_some}
 use Rattle.std.proofs.Common.{◌≡◌, ◌≤◌, ◌+◌, ℕ, zero, suc, Bool, true, false, not, ◌||◌, List, [], ◌∷◌, ◌++◌, Option, Some, None, inl, inr, refl, sym, ap, ◌∙◌, subst, arith, ◌⊎◌, if◌then◌else◌}
 use Rattle.std.proofs.lemmas.Bool.{eqb-true, eq-eqb}
 use Rattle.std.proofs.lemmas.List.Elements.{All-push, All-nil}
@@ -8,10 +8,10 @@ use Rattle.nv_base.specs.declared.request.Request.TheVariants as request
 use Rattle.nvm_script.specs.declared.script.Mode.TheVariants.{Run}
 use Rattle.nvm_script.specs.Step.{IsStep}
 use Rattle.nvm_script.specs.Line.{IsCalled, IsStepLine}
-use Rattle.nvm_script.specs.Owners.{ram_block_of, is_block, owner_of, is_owner, may_own, keeps_owner}
+use Rattle.nvm_script.specs.Owners.{ram_block_of, owner_of, may_own, keeps_owner}
 use Rattle.nvm_script.specs.Rules.{sync_length_of}
 use Rattle.nvm_script.specs.Script.{Follows, IsScript}
-use Rattle.nvm_script.proofs.OwnerLaws.{later, owner_of-append}
+use Rattle.nvm_script.proofs.OwnerLaws.{later, is_block, is_owner, owner_of-append}
 use Rattle.script_walks.specs.Words.{Step, StepKind, AskStep, Store, Turn, Drain, Restart, Cut, Refuse, Await}
 use Rattle.block_machine.specs.Words.{Configuration}
 use Rattle.script_callers.specs.RunScripts.{CanBeRun, IsRunBy, HasOneOwner, AreRun}
@@ -64,7 +64,7 @@ added c before s i block x own keeps at sync names =
       | inl old ↦ owner_of-append before s block ∙ ap (λ (o : Option ℕ). later o s block) (own i block x old sync names)
       | inr is ↦
           let named : ram_block_of s.kind ≡ Some block = ap (λ (y : Step). ram_block_of y.kind) is ∙ names in
-          let kept : (not (is_some (sync_length_of c block)) || is_owner s.caller (owner_of before block)) ≡ true = subst (λ (o : Option ℕ). may_own c (owner_of before) s.caller o ≡ true) named keeps in
+          let kept : (not (is_some (sync_length_of c block)) || is_owner s.caller (owner_of before block)) ≡ true = subst (λ (o : Option ℕ). option_map_or (may_own c (owner_of before) s.caller) o true ≡ true) named keeps in
           owner_of-append before s block ∙ owns (owner_of before block) s block (may (is_some (sync_length_of c block)) (is_owner s.caller (owner_of before block)) sync kept) named
           ∙ ap (λ (y : Step). Some y.caller) is
     ]

@@ -1,9 +1,10 @@
 -- One round more.
-use Rattle.std.proofs.Common.{◌≡◌, ℕ, ◌+◌, ◌*◌, ◌/◌, ◌^◌, [], ◌∷◌, ◌++◌, length, refl, sym, ap, ◌∙◌, arith, add-one}
+use Rattle.std.proofs.Common.{◌≡◌, ℕ, ◌+◌, ◌-◌, ◌*◌, ◌/◌, ◌%◌, ◌^◌, [], ◌∷◌, ◌++◌, length, refl, sym, ap, ◌∙◌, arith, add-one}
 use Rattle.std.proofs.lemmas.List.FromFn.{map-range_with_len_more, length-map-range_with_len}
 use Rattle.block_config.specs.Config.{Configuration}
+use Rattle.nvm_script.specs.declared.step.StepKind.{StepKind}
 use Rattle.script_soak.specs.Draws.{next_state, state_after, draw}
-use Rattle.script_soak.specs.Rounds.{step_drawn, step_of_round}
+use Rattle.script_soak.specs.Rounds.{step_by, step_of_round}
 use Rattle.script_soak.specs.Soak.{step_at, rounds}
 
 pub state_more : (seed n : ℕ) → state_after seed (n + 1) ≡ next_state (state_after seed n)
@@ -20,6 +21,10 @@ state_after_round seed n =
 
 pub rounds_count : (c : Configuration) (seed n : ℕ) → length (rounds c seed n) ≡ n
 rounds_count c seed n = length-map-range_with_len (λ r. step_at r (step_of_round c seed r)) 0 n
+
+-- a round's step, from its three draws
+abbrev pub step_drawn : Configuration → ℕ → ℕ → ℕ → StepKind
+step_drawn c first second third = step_by c (first % 8) (2 + second % (length c.blocks - 1)) (third % 256)
 
 -- the draws from a state on, three for a round
 drawn : ℕ → ℕ

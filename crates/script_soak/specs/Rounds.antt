@@ -1,18 +1,15 @@
 -- The step of a round.
-use Rattle.std.specs.Prelude.{ℕ, ◌+◌, ◌-◌, ◌*◌, ◌%◌, ◌==◌, nat_lt, false, length, replicate, option_map, unwrap_or, Some, if◌then◌else◌}
+use Rattle.std.specs.Prelude.{ℕ, ◌+◌, ◌-◌, ◌*◌, ◌%◌, ◌==◌, nat_lt, false, length, replicate, Some, if◌then◌else◌}
+use Rattle.std.specs.Option.{option_map_or}
 use Rattle.nv_base.specs.declared.request.Request.TheVariants.{Read, Write}
 use Rattle.block_config.specs.Config.{Configuration, block_of}
 use Rattle.nvm_script.specs.declared.step.StepKind.{StepKind}
 use Rattle.nvm_script.specs.declared.step.StepKind.TheVariants.{Ask, Turn, Drain, Restart}
 use Rattle.script_soak.specs.Draws.{draw}
 
--- the bytes of a block's contents
-abbrev pub length_of : Configuration → ℕ → ℕ
-length_of c id = unwrap_or (option_map (λ b. b.length) (block_of c id)) 0
-
 -- a write of the block whose bytes are all this one
 abbrev pub write_of : Configuration → ℕ → ℕ → StepKind
-write_of c block value = Ask (Write block (Some (replicate (length_of c block) value)) 0)
+write_of c block value = Ask (Write block (Some (replicate (option_map_or (λ b. b.length) (block_of c block) 0) value)) 0)
 
 -- a kind of step from 0 to 7, a block and a value from 0 to 255: a write of that value, a read, turns, turns until all is
 -- done, or a start-up
@@ -25,10 +22,6 @@ step_by c kind block value =
     else (if nat_lt value 16 then Restart
     else Turn 1))))
 
--- a round's step, from its three draws: a kind, a block other than block 1, and a value
-abbrev pub step_drawn : Configuration → ℕ → ℕ → ℕ → StepKind
-step_drawn c first second third = step_by c (first % 8) (2 + second % (length c.blocks - 1)) (third % 256)
-
--- round r, from 0, takes draws 3 r + 1 to 3 r + 3
+-- round r, from 0, takes draws 3 r + 1 to 3 r + 3: a kind, a block other than block 1, and a value
 abbrev pub step_of_round : Configuration → ℕ → ℕ → StepKind
-step_of_round c seed r = step_drawn c (draw seed (3 * r + 1)) (draw seed (3 * r + 2)) (draw seed (3 * r + 3))
+step_of_round c seed r = step_by c (draw seed (3 * r + 1) % 8) (2 + draw seed (3 * r + 2) % (length c.blocks - 1)) (draw seed (3 * r + 3) % 256)

@@ -1,6 +1,8 @@
 // The step of a round.
-ghost use Rattle.std.specs.Prelude.{◌≡◌, ◌<◌, ◌≤◌, IfOk};
-ghost use Rattle.script_soak.specs.Rounds.{length_of, write_of, step_by, step_drawn};
+ghost use Rattle.std.specs.Prelude.{◌≡◌, ◌<◌, ◌≤◌, ◌+◌, ◌-◌, ◌%◌, IfOk, length};
+ghost use Rattle.std.specs.Option.{option_map_or};
+ghost use Rattle.block_config.specs.Config.{block_of};
+ghost use Rattle.script_soak.specs.Rounds.{write_of, step_by};
 
 use block_config::Config;
 use nv_base::{Bytes, Request};
@@ -9,7 +11,7 @@ use std::alloc::{AllocError, Global};
 
 // The bytes of a block's contents.
 fn length_of(config: &Config, block: u16) -> u16
-    ensures { result ≡ length_of config.now block }
+    ensures { result ≡ option_map_or (λ b. b.length) (block_of config.now block) 0 }
 {
     match config.block(block) {
         Some(desc) => desc.length,
@@ -60,7 +62,7 @@ pub fn step_drawn(
     second: u32,
     third: u32,
 ) -> Result<StepKind, AllocError>
-    ensures { IfOk result (λ k. k ≡ step_drawn config.now first second third) }
+    ensures { IfOk result (λ k. k ≡ step_by config.now (first % 8) (2 + second % (length config.now.blocks - 1)) (third % 256)) }
 {
     let others = u32::from(config.blocks()) - 1;
     let block = (2 + second % others) as u16;
