@@ -63,10 +63,7 @@ module _ (s : State) (sw : Sweep) (sweep : s.sweep ≡ Some sw) (none : jobs_of 
       ap (λ (e : Entry). Some e) (post_is block r given refused ops sw.under_way
           (subst (λ (n : Next). MayPostNext c s block (r, given) refused n) next (subst (λ (o : Option Job). MayPost c s block (r, given) refused o) hand allowed.1))),
     )
-    by_entry cap (Ask caller r reply) allowed begins = absurd (cc begins)
-    by_entry cap (Wrote i mark ops) allowed begins = absurd (cc begins)
-    by_entry cap (Off ops) allowed begins = absurd (cc begins)
-    by_entry cap (Found marks ops) allowed begins = absurd (cc begins)
+    by_entry cap e allowed begins = absurd (cc begins)
 
 -- a Pick or a Post that the machine allows
 pub allowed_ends : (c : Configuration) (cap : ℕ) (s : State) (e : Entry) → IsAllowed c cap s e → IsTrue (begins_with_pick_or_post (e ∷ [])) → EndsCanceled s (Some e)

@@ -32,8 +32,7 @@ module _ (old new : StackNow) (clock clock_new : Clock) where
       next_on made.0.1.0 number turns old.desk new.desk old.hand new.hand old.device new.device clock_new made.0.1.1 adds paired calm on unfinished due
   next_by turned.Idle number turns made adds paired busy unfinished none calm on due = absurd (let P : false ≡ true = sym busy ∙ made.0.0 in cc P)
   next_by turned.Off number turns made adds paired busy unfinished none calm on due = absurd (cc none)
-  next_by turned.Picked number turns made adds paired busy unfinished none calm on due = absurd made
-  next_by turned.Posted number turns made adds paired busy unfinished none calm on due = absurd made
+  next_by a number turns made adds paired busy unfinished none calm on due = absurd made
 
   module _ (answer : Turned) (made : TurnsDevice answer old.device clock new.device clock_new) (adds : AddsOne new.device.ops old.desk new.desk (entry_by answer)) (paired : IsPaired old.desk.config (state_of old.desk) old.hand old.device)
       (busy : nothing_open old.device ≡ false) (unfinished : post_first old.hand ≡ 0) (second : old.device.second.faults ≤ new.device.second.faults)

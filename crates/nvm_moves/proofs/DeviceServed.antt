@@ -49,16 +49,11 @@ mark_leaves c s number (Some mark) ops =
 
 ended_leaves : (c : Configuration) (s : State) (j : device.Job) (r : JobResult) (given : List ℕ) (ops : ℕ) → LeavesNext c s (after_from c s (entry_list (settled_by (Open j) (Closed r given) ops)))
 ended_leaves c s j JobOk given ops = mark_leaves c s j.number j.mark ops
-ended_leaves c s j JobFailed given ops = same_leaves c s
-ended_leaves c s j JobPending given ops = same_leaves c s
-ended_leaves c s j JobCanceled given ops = same_leaves c s
-ended_leaves c s j BlockInconsistent given ops = same_leaves c s
-ended_leaves c s j BlockInvalid given ops = same_leaves c s
+ended_leaves c s j r given ops = same_leaves c s
 
 settled_leaves : (c : Configuration) (s : State) (a b : Stand) (ops : ℕ) → LeavesNext c s (after_from c s (entry_list (settled_by a b ops)))
 settled_leaves c s (Open j) (Closed r given) ops = ended_leaves c s j r given ops
-settled_leaves c s (Open j) (Open k) ops = same_leaves c s
-settled_leaves c s (Closed r given) b ops = same_leaves c s
+settled_leaves c s a b ops = same_leaves c s
 
 -- A STANDARD JOB AT THE DEVICE
 never_both : {t : Bool} → t ≡ true → t ≡ false → ⊥

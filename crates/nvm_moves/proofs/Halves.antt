@@ -77,8 +77,7 @@ pub as_turn : (answer : Turned) (old : DeviceTold) (clock : Clock) (new : Device
 as_turn turned.Idle old clock new clock_new turns = (turn.Idle, turns)
 as_turn turned.Worked old clock new clock_new turns = (turn.Worked, turns)
 as_turn turned.Off old clock new clock_new turns = (turn.Off, turns)
-as_turn turned.Picked old clock new clock_new turns = absurd turns
-as_turn turned.Posted old clock new clock_new turns = absurd turns
+as_turn answer old clock new clock_new turns = absurd turns
 
 one_by : (a b : ℕ) → (b ≡ a) ⊎ (b ≡ next_count a) → b ≤ a + 1
 one_by a b (inl same) = omega (arith, same)
@@ -105,12 +104,7 @@ not_picked answer a b ops = by (asked_by answer a b ops) (asked_picks_none answe
   where
     by : (e : Option Entry) → IfSome e IsNoPick → is_picked e ≡ true → ⊥
     by (Some (Pick block kind t n)) none is = none block n kind t refl
-    by (Some (Ask caller r reply)) none is = cc is
-    by (Some (Wrote i mark n)) none is = cc is
-    by (Some (Post block r given refused n)) none is = cc is
-    by (Some (Off n)) none is = cc is
-    by (Some (Found marks n)) none is = cc is
-    by None none is = cc is
+    by e none is = cc is
 
 -- THE ENTRY OF A FIRST HALF
 begins_by : (t : Bool) → IsTrue (not t || true)
@@ -134,11 +128,7 @@ device_fits s answer a b ops = by (asked_by answer a b ops) (asked_picks_none an
     by : (e : Option Entry) → IfSome e IsNoPick → is_posted e ≡ false → FitsHand s e
     by (Some (Pick block kind t n)) none posts = absurd (none block n kind t refl)
     by (Some (Post block r given refused n)) none posts = absurd (cc posts)
-    by (Some (Ask caller r reply)) none posts = tt
-    by (Some (Wrote i mark n)) none posts = tt
-    by (Some (Off n)) none posts = tt
-    by (Some (Found marks n)) none posts = tt
-    by None none posts = tt
+    by e none posts = tt
 
 -- it serves what is due; and at rest there is none
 pub record IsEntryOf (W : Type 0) (ops : ℕ) (old new : DeskState) (hand hand_new : Option HandState) (d d_new : DeviceTold) (e : Option Entry) : Type 0 where
@@ -180,10 +170,7 @@ module _ (W : Type 0) (ops : ℕ) (old new : DeskState) (hand hand_new : Option 
       rests = λ rest. absurd (let same : EndSweep sw ≡ Nothing = sym n ∙ (rests_next old.config (state_of old) rest).1 in cc same);
     },
   )
-  posts_next (PickJob j) before after none out n is = absurd is
-  posts_next (BeginSweep sw) before after none out n is = absurd is
-  posts_next (PickMember sw id) before after none out n is = absurd is
-  posts_next Nothing before after none out n is = absurd is
+  posts_next _ before after none out n is = absurd is
 
   pub half_entry : (answer : Turned) (Holds : ℕ → Taken → Type 0) (Fits : Type 0) (before after : List Told) → (answer ≡ turned.Off → (state_of old).off ≡ true) → (answer ≡ turned.Picked → W) → (answer ≡ turned.Posted → (state_of new).hand ≡ None) → ops ≡ ops_of d_new
       → IsHalf (Ended answer) Holds Fits old new before after d_new → AtDevice (Ended answer) hand d new hand_new d_new → (e : Option Entry) × IsEntryOf W ops old new hand hand_new d d_new e
@@ -336,8 +323,7 @@ module _ {D C : Type 0} (told : D → DeviceTold) (clock : D → Clock) (copies 
       let off : (state_of new.desk).off ≡ true = ap (λ (x : DeskState). (state_of x).off) adds.0 ∙ ap (λ (s : State). s.off) (histories_step old.desk.config old.desk.entries (Off (ops_of (told new.device)))) in
       absurd (let no_ : true ≡ false = sym off ∙ on in cc no_)
   fewer_by turned.Idle left old new shut takes none turns adds on = absurd (let no_ : true ≡ false = sym turns.0.0 ∙ shut in cc no_)
-  fewer_by turned.Picked left old new shut takes none turns adds on = absurd turns
-  fewer_by turned.Posted left old new shut takes none turns adds on = absurd turns
+  fewer_by answer left old new shut takes none turns adds on = absurd turns
 
   -- in all it takes one, whatever fails
   lowers_by : (answer : Turned) (hand between : Option HandState) (d : DeviceTold) (old new : StackState D C) → LeavesDevice d (told old.device) → GoesOn hand d between (told old.device)
@@ -351,8 +337,7 @@ module _ {D C : Type 0} (told : D → DeviceTold) (clock : D → Clock) (copies 
       let off : (state_of new.desk).off ≡ true = ap (λ (x : DeskState). (state_of x).off) adds.0 ∙ ap (λ (s : State). s.off) (histories_step old.desk.config old.desk.entries (Off (ops_of (told new.device)))) in
       absurd (let no_ : true ≡ false = sym off ∙ on in cc no_)
   lowers_by turned.Idle hand between d old new leaves goes paired shut turns adds fixed order hands paired_new on held = absurd (let no_ : true ≡ false = sym turns.0.0 ∙ shut in cc no_)
-  lowers_by turned.Picked hand between d old new leaves goes paired shut turns adds fixed order hands paired_new on held = absurd turns
-  lowers_by turned.Posted hand between d old new leaves goes paired shut turns adds fixed order hands paired_new on held = absurd turns
+  lowers_by answer hand between d old new leaves goes paired shut turns adds fixed order hands paired_new on held = absurd turns
 
   module _ (old new : StackState D C) (U V : Type 0) (uncut : U → V) (stays : StaysKept old.desk old.hand (told old.device) (clock old.device) new.desk new.hand (told new.device) (clock new.device)) where
     -- THE FIRST HALF

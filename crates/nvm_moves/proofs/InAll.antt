@@ -63,8 +63,7 @@ part_falls q (Ended r given) b old new clock on turns = absurd (let no_ : false 
 
 no_hand : (a b : Stand) → hand_by a b None ≡ None
 no_hand (Open j) (Open k) = refl
-no_hand (Open j) (Ended r given) = refl
-no_hand (Ended r given) b = refl
+no_hand a b = refl
 
 at_open : (c : Configuration) (s : State) (h : HandState) (d : DeviceTold) → IsInHand c s (with_start h) d → is_open d.stand ≡ true
 at_open c s h d is = ap is_open is.at.stands

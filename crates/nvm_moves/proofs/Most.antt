@@ -66,11 +66,7 @@ MostOf f o = option_map (λ h. most_turns f h.program) o
 -- nor do the device's turn and what begins at it
 pub turned_most : (f : Fixed) (old new : Stand) (hand : Option HandState) → MostOf f (hand_by old new hand) ≡ MostOf f hand
 turned_most f (Open j) (Ended r given) (Some h) = ap (λ (n : ℕ). Some n) (after_most f h.program (next_in h.program) (outcome_by j.mark r))
-turned_most f (Open j) (Ended r given) None = refl
-turned_most f (Open j) (Open k) (Some h) = refl
-turned_most f (Open j) (Open k) None = refl
-turned_most f (Ended r given) new (Some h) = refl
-turned_most f (Ended r given) new None = refl
+turned_most f old new hand = refl
 
 pub begun_most : (f : Fixed) (hand behind : Option HandState) (old new : DeviceTold) → GoesOn hand old behind new → MostOf f behind ≡ MostOf f hand
 begun_most f None behind old new goes = ap (MostOf f) goes.0
@@ -79,14 +75,11 @@ begun_most f (Some h) behind old new goes = ap (MostOf f) goes.1
 -- AT ANY TIME
 -- the operation of a job by its mark
 op_is : (kind : JobKind) (content : Option (List ℕ × ℕ)) → works kind ≡ true → (kind ≡ WriteJob → IsSome content) → op_of (mark_by kind content) ≡ operation kind
-op_is ReadJob content works_on has = refl
 op_is WriteJob None works_on has = absurd (cc (has refl))
-op_is WriteJob (Some x) works_on has = refl
-op_is InvalidateJob content works_on has = refl
-op_is EraseJob content works_on has = refl
 op_is RestoreJob content works_on has = cc
 op_is ReadAllJob content works_on has = cc
 op_is WriteAllJob content works_on has = cc
+op_is kind content works_on has = refl
 
 module _ (c : Configuration) (s : State) (h : HandState) (d : DeviceTold) (clock : Clock) (order : InOrder d clock) (is : IsInHand c s h d) where
   abbrev count : ℕ → ℕ

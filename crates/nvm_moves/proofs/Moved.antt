@@ -364,28 +364,17 @@ asks_behind now [] = refl
 asks_behind now (e ∷ es) = asks_behind now es
 
 no_pick : (e : Entry) → is_asked (Some e) ≡ true → is_picked (Some e) ≡ false
-no_pick (Ask caller r reply) is = refl
 no_pick (Pick block kind t ops) is = absurd (let P : false ≡ true = is in cc P)
-no_pick (Wrote i mark ops) is = refl
-no_pick (Post block r given refused ops) is = refl
-no_pick (Off ops) is = refl
-no_pick (Found marks ops) is = refl
+no_pick e is = refl
 
 asked_price : (c : Configuration) (s : State) (e : Entry) → is_asked (Some e) ≡ true → price_in_faults c s e ≡ 0
 asked_price c s (Ask caller r reply) is = refl
-asked_price c s (Pick block kind t ops) is = absurd (let P : false ≡ true = is in cc P)
-asked_price c s (Wrote i mark ops) is = absurd (let P : false ≡ true = is in cc P)
-asked_price c s (Post block r given refused ops) is = absurd (let P : false ≡ true = is in cc P)
-asked_price c s (Off ops) is = absurd (let P : false ≡ true = is in cc P)
-asked_price c s (Found marks ops) is = absurd (let P : false ≡ true = is in cc P)
+asked_price c s e is = absurd (let P : false ≡ true = is in cc P)
 
 ask_fits : (s : State) (e : Entry) → is_asked (Some e) ≡ true → FitsHand s (Some e)
-ask_fits s (Ask caller r reply) is = tt
 ask_fits s (Pick block kind t ops) is = absurd (let P : false ≡ true = is in cc P)
-ask_fits s (Wrote i mark ops) is = tt
 ask_fits s (Post block r given refused ops) is = absurd (let P : false ≡ true = is in cc P)
-ask_fits s (Off ops) is = tt
-ask_fits s (Found marks ops) is = tt
+ask_fits s e is = tt
 
 asks_found : (now : Moment) (since : ℕ) (es : List Entry) → AreAsked es → since ≡ found_behind since (asked_moves now es)
 asks_found now since [] are = refl
@@ -445,11 +434,7 @@ module _ (c : Configuration) where
   asks_urgency h [] are = ap (λ (l : List Entry). is_hand_urgent c (after c l)) (sym (append-nil h))
   asks_urgency h (Ask caller r reply ∷ es) (one, rest) =
       asked_urgency c h caller r reply ∙ asks_urgency (h ++ Ask caller r reply ∷ []) es rest ∙ ap (λ (l : List Entry). is_hand_urgent c (after c l)) (append_assoc h (Ask caller r reply ∷ []) es)
-  asks_urgency h (Pick block kind t ops ∷ es) (one, rest) = absurd (let P : false ≡ true = one in cc P)
-  asks_urgency h (Wrote i mark ops ∷ es) (one, rest) = absurd (let P : false ≡ true = one in cc P)
-  asks_urgency h (Post block r given refused ops ∷ es) (one, rest) = absurd (let P : false ≡ true = one in cc P)
-  asks_urgency h (Off ops ∷ es) (one, rest) = absurd (let P : false ≡ true = one in cc P)
-  asks_urgency h (Found marks ops ∷ es) (one, rest) = absurd (let P : false ≡ true = one in cc P)
+  asks_urgency h es (one, rest) = absurd (let P : false ≡ true = one in cc P)
 
 begun_on : (f : Frame) (now : Moment) (k : Cursor) (es : List Entry) → AreAsked es → (o : Option Begun) → IfSome o (λ b. f.within ≡ true) → IfSome o (λ b. Among b.state k.since)
     → IfSome o (λ b. Among b.state (cursor_behind f k (asked_moves now es)).since)
@@ -600,27 +585,15 @@ half_moved within old new is =
 -- A START-UP
 no_ask_found : (e : Entry) → is_found (Some e) ≡ true → (is_asked (Some e) ≡ false) × (is_picked (Some e) ≡ false)
 no_ask_found (Found marks ops) is = (refl, refl)
-no_ask_found (Ask caller r reply) is = absurd (cc is)
-no_ask_found (Pick block kind t ops) is = absurd (cc is)
-no_ask_found (Wrote i mark ops) is = absurd (cc is)
-no_ask_found (Post block r given refused ops) is = absurd (cc is)
-no_ask_found (Off ops) is = absurd (cc is)
+no_ask_found e is = absurd (cc is)
 
 found_fits : (s : State) (e : Entry) → is_found (Some e) ≡ true → FitsHand s (Some e)
 found_fits s (Found marks ops) is = tt
-found_fits s (Ask caller r reply) is = absurd (cc is)
-found_fits s (Pick block kind t ops) is = absurd (cc is)
-found_fits s (Wrote i mark ops) is = absurd (cc is)
-found_fits s (Post block r given refused ops) is = absurd (cc is)
-found_fits s (Off ops) is = absurd (cc is)
+found_fits s e is = absurd (cc is)
 
 found_price : (c : Configuration) (s : State) (e : Entry) → is_found (Some e) ≡ true → price_in_faults c s e ≡ 0
 found_price c s (Found marks ops) is = refl
-found_price c s (Ask caller r reply) is = absurd (cc is)
-found_price c s (Pick block kind t ops) is = absurd (cc is)
-found_price c s (Wrote i mark ops) is = absurd (cc is)
-found_price c s (Post block r given refused ops) is = absurd (cc is)
-found_price c s (Off ops) is = absurd (cc is)
+found_price c s e is = absurd (cc is)
 
 pub start_moved : (within : Bool) (old new : Seen) → IsStartTold old new → HasMoved within old new
 start_moved within old new is =

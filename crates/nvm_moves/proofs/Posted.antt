@@ -43,8 +43,6 @@ wrote_on s i mark (Some j) = refl
 
 picked_on : (c : Configuration) (s : State) (t : Taken) (next : Next) → (picked c s t next).off ≡ s.off
 picked_on c s t (PickJob j) = refl
-picked_on c s t (BeginSweep sw) = refl
-picked_on c s t (PickMember sw id) = refl
 picked_on c s t next = refl
 
 module _ (f : Frame) (clock : Clock) (k : Cursor) (m : Move) (one : IsLawful f.config clock k m) where
@@ -101,11 +99,7 @@ module _ (f : Frame) (clock : Clock) (k : Cursor) (m : Move) (one : IsLawful f.c
     where
       none : true ≡ false → ⊥
       none e = cc
-  picks picked (Some (Ask caller r reply)) is = absurd (let no_ : true ≡ false = sym picked ∙ ap is_picked is in cc no_)
-  picks picked (Some (Wrote i mark ops)) is = absurd (let no_ : true ≡ false = sym picked ∙ ap is_picked is in cc no_)
-  picks picked (Some (Post block r given refused ops)) is = absurd (let no_ : true ≡ false = sym picked ∙ ap is_picked is in cc no_)
-  picks picked (Some (Off ops)) is = absurd (let no_ : true ≡ false = sym picked ∙ ap is_picked is in cc no_)
-  picks picked (Some (Found marks ops)) is = absurd (let no_ : true ≡ false = sym picked ∙ ap is_picked is in cc no_)
+  picks picked o is = absurd (let no_ : true ≡ false = sym picked ∙ ap is_picked is in cc no_)
 
   picked_left : (j : Job) → is_picked m.entry ≡ true → next.hand ≡ Some j → left_behind f k m ≡ Some (bound_of f next j)
   picked_left j picked held = let (asked, found, on) = picks picked m.entry refl in rw (asked, found, picked) (ap (option_map (bound_of f next)) held)

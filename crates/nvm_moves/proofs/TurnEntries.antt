@@ -58,11 +58,7 @@ isnt_found ops (Some e) of = no_start e of.kind
 
 never_asks : (c : Configuration) (s : State) (e : Entry) (id : ℕ) → is_asked (Some e) ≡ false → urgent_block c s (Some e) ≡ Some id → ⊥
 never_asks c s (Ask caller r reply) id none is = cc none
-never_asks c s (Pick block kind t ops) id none is = let P : ⊥ = cc is in P
-never_asks c s (Wrote i mark ops) id none is = let P : ⊥ = cc is in P
-never_asks c s (Post block r given refused ops) id none is = let P : ⊥ = cc is in P
-never_asks c s (Off ops) id none is = let P : ⊥ = cc is in P
-never_asks c s (Found marks ops) id none is = let P : ⊥ = cc is in P
+never_asks c s e id none is = let P : ⊥ = cc is in P
 
 -- an urgent write is accepted by a request alone
 pub asks_urgent : (c : Configuration) (s : State) (e : Option Entry) (id : ℕ) → is_asked e ≡ false → urgent_block c s e ≡ Some id → ⊥
@@ -92,10 +88,7 @@ none_added ops old new same = record { adds = same ∙ none_more old; of = tt }
 posted_next : (n : Next) (ops : ℕ) (old new : DeskState) (before after : List Told) → IsPostedNext n ops old new before after → (e : Option Entry) × AddsOne ops old new e × (is_off e ≡ false)
 posted_next (PostMember sw id) ops old new before after is = (Some (Post id is.result is.given is.refused ops), record { adds = is.adds; of = record { told = refl; kind = inl refl } }, refl)
 posted_next (EndSweep sw) ops old new before after is = (Some (Post 0 is.result is.given is.refused ops), record { adds = is.adds; of = record { told = refl; kind = inl refl } }, refl)
-posted_next (PickJob j) ops old new before after is = absurd is
-posted_next (BeginSweep sw) ops old new before after is = absurd is
-posted_next (PickMember sw id) ops old new before after is = absurd is
-posted_next Nothing ops old new before after is = absurd is
+posted_next n ops old new before after is = absurd is
 
 pub half_adds_one : (answer : Turned) (Holds : ℕ → Taken → Type 0) (Fits : Type 0) (old new : DeskState) (before after : List Told) (d : DeviceTold) → IsHalf (Ended answer) Holds Fits old new before after d
     → (e : Option Entry) × AddsOne (device.ops_of d) old new e × (is_off e ≡ false)
@@ -119,23 +112,15 @@ wrote_of number (Some mark) ops = record { told = refl; kind = inl refl }
 
 ended_of : (j : device.Job) (r : JobResult) (given : List ℕ) (ops : ℕ) → IfSome (settled_by (Open j) (Closed r given) ops) (IsOfTurn ops)
 ended_of j JobOk given ops = wrote_of j.number j.mark ops
-ended_of j JobFailed given ops = tt
-ended_of j JobPending given ops = tt
-ended_of j JobCanceled given ops = tt
-ended_of j BlockInconsistent given ops = tt
-ended_of j BlockInvalid given ops = tt
+ended_of j r given ops = tt
 
 settled_of : (old new : Stand) (ops : ℕ) → IfSome (settled_by old new ops) (IsOfTurn ops)
 settled_of (Open j) (Closed r given) ops = ended_of j r given ops
-settled_of (Open j) (Open k) ops = tt
-settled_of (Closed r given) new ops = tt
+settled_of old new ops = tt
 
 asked_of : (answer : Turned) (old new : Stand) (ops : ℕ) → IfSome (asked_by answer old new ops) (IsOfTurn ops)
 asked_of turned.Off old new ops = record { told = refl; kind = inr refl }
-asked_of turned.Idle old new ops = settled_of old new ops
-asked_of turned.Worked old new ops = settled_of old new ops
-asked_of turned.Picked old new ops = settled_of old new ops
-asked_of turned.Posted old new ops = settled_of old new ops
+asked_of answer old new ops = settled_of old new ops
 
 pub device_adds_one : (answer : Turned) (a b : Stand) (ops : ℕ) (old new : DeskState) → AddsBy (asked_by answer a b ops) old new → AddsOne ops old new (asked_by answer a b ops)
 device_adds_one answer a b ops old new adds = by_one ops (asked_by answer a b ops) old new (asked_of answer a b ops) adds

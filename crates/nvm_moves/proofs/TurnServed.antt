@@ -102,10 +102,7 @@ module _ {D C : Type 0} (told : D → DeviceTold) (clock : D → Clock) (copies 
   module _ (answer : Turned) (half : IsFirstHalf told copies is_store looked (Ended answer) old new) (serves : (number turns : ℕ) → IsDue number turns (now_of told old) → IsServedBy (Ended answer) number turns (now_of told old) (now_of told new)) where
     comes : (a : Turned) (number turns : ℕ) → (a ≡ turned.Off → ⊥) → IsServedBy (Ended a) number turns (now_of told old) (now_of told new) → PostsDue number old.desk new.desk ⊎ IsNearer number turns (now_of told new)
     comes turned.Off number turns never served = absurd (never refl)
-    comes turned.Picked number turns never served = served
-    comes turned.Posted number turns never served = served
-    comes turned.Idle number turns never served = served
-    comes turned.Worked number turns never served = served
+    comes a number turns never served = served
 
     -- the power is on behind it
     never_off : (state_of new.desk).off ≡ false → answer ≡ turned.Off → ⊥
