@@ -15,7 +15,7 @@ from nvmtools import calls
 UNIT, SCRIPT, DESCRIPTION = "examples/unit.json", "examples/first.nvm", "examples/engine_controller.arxml"
 LONG = "9" * 5000
 SCRIPTS = ("sweep", "cuts", "timeline")
-CONFIGS = ("lint -", "plan -", *(f"{it} -" for it in SCRIPTS), "picture $image -", "provision - $none $new")
+CONFIGS = ("lint -", "plan -", *(f"{it} -" for it in SCRIPTS), "picture $image -", "provision - $none $new", "header - $folder", "judge - $history")
 NO_UTF8 = {"LC_ALL": "C", "LANG": "C", "PYTHONUTF8": "0", "PYTHONCOERCECLOCALE": "0"}
 SECONDS = 600
 AT_ONCE = 4
@@ -67,6 +67,19 @@ def broken_others():
     yield Try(f"../nvm --rule {LONG}", b"", 2, "there is no rule 9.*")
     for line in (b"post 2 77 ops 1", b"found x", b"wrote 2 data 11 ops 3", b"<script>", b"ask 0 write 2 00 -> refused 99"):
         yield Try(f"timeline {SCRIPT} --history -", b"found 0 ops 0\n%s\n" % line, 4, "-:2: no line of a history: .*")
+    history = f"judge {SCRIPT} -"
+    for given, status, line in ((b"\xff", 2, "-: byte 0 isn't UTF-8"), (b"found 0 ops 0\npost 2 77 ops 1\n", 4, "-:2: no line of a history: .*"),
+                                (b"", 4, "-: no history: .*"), (b"off ops 0\n", 4, "-: no history: .*"), (b"found 0 ops 0\n", 4, "-: one start-up alone, .*"),
+                                (b"found 0 ops 0\nfound 1 9.0 data 00 ops 0\n", 4, f"-: no history of {SCRIPT}, which has no instance 9.0: .*"),
+                                (b"found 0 ops 0\npick 9 write 00 ops 0\n", 4, f"-: no history of {SCRIPT}, which has no block 9: .*"),
+                                (b"found 0 ops 0\nwrote 2.0 data 00 ops 4\n", 4, f"-: no history of {SCRIPT}, which has 4 bytes in block 2: .*")):
+        yield Try(history, given, status, line)
+    yield Try(history, b"", 5, "standard input is closed", streams="<&-")
+    yield Try(f"judge {SCRIPT} $endless", b"", 2, "FOLDER/endless: it has more than 16,777,216 bytes")
+    yield Try(f"judge {SCRIPT} $history --image $zeros", b"", 4, "FOLDER/zeros: the program ends with status 9: .*")
+    yield Try(f"judge {SCRIPT} $history --image $endless", b"", 2, "FOLDER/endless: it has more than 16,777,216 bytes")
+    yield Try(f"judge {SCRIPT} $history --image $absent", b"", 2, "FOLDER/absent: No such file or directory")
+    yield Try(f"header {UNIT} $none", b"", 2, "FOLDER/none: File exists")
     for name, line in (("zeros", ".*: no XML: .*"), ("endless", ".*: no XML: .*")):
         yield Try(f"arxml ${name}", b"", 4, f"FOLDER/{name}{line}")
     yield Try("arxml $folder", b"", 2, "FOLDER/folder: Is a directory")
@@ -83,7 +96,7 @@ def programs_that_do_not_answer():
     silent = {"NVM": "FOLDER/silent", "NVM_ROWS": "FOLDER/silent", "NVM_SECONDS": "1"}
     endless, absent = ({"NVM": f"FOLDER/{it}", "NVM_ROWS": f"FOLDER/{it}"} for it in ("yes", "absent"))
     for words in (f"lint {UNIT}", f"plan {UNIT}", f"arxml {DESCRIPTION}", f"arxml --from-unit {UNIT}", *(f"{it} {SCRIPT}" for it in SCRIPTS), f"picture $image {SCRIPT}",
-                  f"provision {UNIT} $none $new"):
+                  f"provision {UNIT} $none $new", f"header {UNIT} $folder", f"judge {SCRIPT} $history"):
         yield Try(words, b"", 127, "FOLDER/silent doesn't answer: nothing came for 1 seconds", silent)
         yield Try(words, b"", 127, "FOLDER/yes doesn't end: more than .* came", endless)
         yield Try(words, b"", 127, "FOLDER/absent: No such file or directory", absent)
@@ -93,7 +106,7 @@ def programs_that_do_not_answer():
 def outputs_that_cannot_be_written():
     told = [f"lint {UNIT}", f"lint {UNIT} --json", f"plan {UNIT}", f"sweep {SCRIPT}", f"cuts {SCRIPT}", f"timeline {SCRIPT}",
             f"picture $image {SCRIPT} --text", f"provision {UNIT} $none $made --replace", "../nvm --help", "dev/manual lint", "lint --help", f"arxml {DESCRIPTION}", f"arxml {DESCRIPTION} --json", f"arxml --from-unit {UNIT}",
-            "dev/edges", "dev/edges nvm_top", "dev/try --help"]
+            "dev/edges", "dev/edges nvm_top", "dev/try --help", f"judge {SCRIPT} $history", f"header {UNIT} --line"]
     for words in told:
         yield Try(words, b"", 6, "standard output is closed", streams=">&-")
         yield Try(words, b"", 6, "standard output: No space left on device", streams=">/dev/full")
@@ -123,6 +136,7 @@ def make(folder):
     write(f"{folder}/zeros", bytes(100))
     write(f"{folder}/aim", b"kept")
     write(f"{folder}/image", b"\xff" * 2048)
+    write(f"{folder}/history", b"found 0 ops 0\nfound 0 ops 0\n")
     # (an endless file is a link to what is one, which is only read)
     os.symlink("/dev/zero", f"{folder}/endless")
     os.symlink(f"{folder}/aim", f"{folder}/link")

@@ -3,6 +3,8 @@ is')."""
 import re
 from collections import namedtuple
 
+from nvmtools import contents
+from nvmtools.files import MOST, read_text
 from nvmtools.tool import Stop
 
 RESULTS = ("done", "FAILED", "pending", "never written, no defaults", "passed over", "invalidated", "canceled",
@@ -36,14 +38,40 @@ def entries(lines, path="the program's output"):
     """The entries of a history, without its last line."""
     found = []
     for number, line in enumerate(lines, 1):
+        if not line or LAST.fullmatch(line):
+            continue
         if not LINE.fullmatch(line):
-            if LAST.fullmatch(line):
-                continue
             raise Stop(f"{path}:{number}: no line of a history: {line[:60]}", 4)
         text, _, ops = line.rpartition(" ops ") if not line.startswith("ask ") else (line, "", None)
         kind, _, rest = text.partition(" ")
         found.append(Entry(line, kind, rest.split(), ops and int(ops)))
     return found
+
+
+def history_of(unit, path, most=MOST):
+    """The entries of a history of this unit, of at most so many bytes, that a file holds, or standard input where the path is '-'."""
+    found = entries(read_text(path, most).split("\n"), path)
+    if not found or found[0].kind != "found":
+        raise Stop(f"{path}: no history: its first line is a start-up, found ..", 4)
+    for it in found:
+        if why := why_of_another(unit, it):
+            raise Stop(f"{path}: no history of {unit.path}, which has {why}: {it.line[:60]}", 4)
+    return found
+
+
+def why_of_another(unit, entry):
+    """What a unit has otherwise than an entry tells, or None."""
+    if entry.kind in ("pick", "post") and block_of(entry) not in (0, *unit.blocks):
+        return f"no block {block_of(entry)}"
+    marks = found_marks(entry) if entry.kind == "found" else {entry.words[0]: mark_in(entry.words[1:])[0]} if entry.kind == "wrote" else {}
+    for instance, mark in marks.items():
+        block, index = map(int, instance.split("."))
+        if block not in unit.blocks or index >= unit.instances(block):
+            return f"no instance {instance}"
+        length = unit.blocks[block]["length"]
+        if mark not in (None, "invalid") and len(contents.read_content(mark) or b"") != length:
+            return f"{length} bytes in block {block}"
+    return None
 
 
 def block_of(entry):

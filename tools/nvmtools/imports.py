@@ -393,10 +393,10 @@ class Importer:
             self.taker.drop(it, value, f"no parameter of {it.definition} that this tool knows")
         elif known.key:
             self.taker.drop(it, value, f"{known.key}: no block stands on it")
-        elif not self.is_fixed(module, it, value, known):
+        elif not self.is_fixed(it, value, known):
             self.taker.drop(it, value, re.sub("^(true|false): ", "", known.means))
 
-    def is_fixed(self, module, it, value, known):
+    def is_fixed(self, it, value, known):
         """Whether a parameter has the value that the stack has."""
         text = value.text or ""
         if value.name == "NvMNvBlockBaseNumber":
