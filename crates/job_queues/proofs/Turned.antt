@@ -1,7 +1,9 @@
 -- A ring that is turned.
-use Rattle.std.proofs.Common.{◌≡◌, ℕ, zero, suc, ◌+◌, ◌<◌, ◌==◌, not, Bool, true, false, if◌then◌else◌, List, [], ◌∷◌, ◌++◌, length, take, drop, slice_get, fold, refl, ap, append_assoc, arith, add-one, Option, Some, None}
+use Rattle.std.proofs.Common.{◌≡◌, ℕ, zero, suc, ◌+◌, ◌<◌, ◌==◌, ◌&&◌, not, Bool, true, false, if◌then◌else◌, List, [], ◌∷◌, ◌++◌, length, take, drop, slice_get, get_or, subst, refl, ap, ◌∙◌, append_assoc, arith, add-one, Some}
+use Rattle.std.specs.List.{list_all}
+use Rattle.std.proofs.lemmas.Bool.{eq-eqb}
+use Rattle.std.proofs.lemmas.List.Elements.{filter-append}
 use Rattle.job_queues.specs.declared.waiting.Waiting.{Waiting}
-use Rattle.job_queues.specs.Order.{first_of, first_of_two, first_with}
 use Rattle.job_queues.specs.Jobs.{without, turned}
 
 append_none : (xs : List Waiting) → xs ++ [] ≡ xs
@@ -32,12 +34,22 @@ pub turned_first : (n : ℕ) (xs : List Waiting) (w : Waiting) → slice_get xs 
 turned_first n [] w is other = cc
 turned_first n (x ∷ xs) w is other = let e : x ≡ w = cc in rw (e, other) refl
 
-first_from : (i : ℕ) (xs : List Waiting) (o : Option Waiting) → fold first_of_two o (take (suc i) xs) ≡ first_with (fold first_of_two o (take i xs)) (slice_get xs i)
-first_from zero [] o = refl
-first_from (suc i) [] o = refl
-first_from zero (x ∷ xs) o = refl
-first_from (suc i) (x ∷ xs) o = first_from i xs (first_of_two o x)
+kept_by : (t r : Bool) (x : Waiting) (xs ys : List Waiting) → (t && r) ≡ true → (r ≡ true → ys ≡ xs) → (if t then x ∷ ys else ys) ≡ x ∷ xs
+kept_by true r x xs ys both same = ap (λ zs. x ∷ zs) (same both)
+kept_by false r x xs ys both same = cc
 
--- one more job was looked at
-pub first_of_more : (i : ℕ) (xs : List Waiting) → first_of (take (i + 1) xs) ≡ first_with (first_of (take i xs)) (slice_get xs i)
-first_of_more i xs = rw (add-one i) (first_from i xs None)
+all_kept : (n : ℕ) (xs : List Waiting) → list_all (λ w. not (w.number == n)) xs ≡ true → without n xs ≡ xs
+all_kept n [] all = refl
+all_kept n (x ∷ xs) all = kept_by (not (x.number == n)) (list_all (λ w. not (w.number == n)) xs) x xs (without n xs) all (all_kept n xs)
+
+first_leaves : (t : Bool) (x : Waiting) (xs ys : List Waiting) → t ≡ true → ys ≡ xs → (if not t then x ∷ ys else ys) ≡ xs
+first_leaves t x xs ys is same = rw is same
+
+-- a first job that alone has its number leaves the others
+pub without_first_alone : (n : ℕ) (front back items : List Waiting) (d : Waiting) → front ++ back ≡ items → (length front == 0) ≡ false → (get_or front 0 d).number ≡ n
+    → list_all (λ w. not (w.number == n)) (drop 1 front) ≡ true → list_all (λ w. not (w.number == n)) back ≡ true → without n items ≡ drop 1 items
+without_first_alone n [] back items d is some first rest behind = cc
+without_first_alone n (x ∷ others) back items d is some first rest behind =
+    subst (λ (ws : List Waiting). without n ws ≡ drop 1 ws) is
+    (first_leaves (x.number == n) x (others ++ back) (without n (others ++ back)) (eq-eqb x.number n first)
+    (filter-append (λ w. not (w.number == n)) others back ∙ rw (all_kept n others rest, all_kept n back behind) refl))

@@ -11,11 +11,6 @@ abbrev pub first_of_two : Option Waiting → Waiting → Option Waiting
 first_of_two None w = Some w
 first_of_two (Some best) w = if goes_before (rank_of w) (rank_of best) then Some w else Some best
 
--- the same, where there is another one
-abbrev pub first_with : Option Waiting → Option Waiting → Option Waiting
-first_with first None = first
-first_with first (Some w) = first_of_two first w
-
 -- the one that goes before all others
 abbrev pub first_of : List Waiting → Option Waiting
 first_of ws = fold first_of_two None ws

@@ -94,8 +94,8 @@ impl Queues {
     }
 
     /// Takes the job that goes before all others. None exactly where both queues are empty. It looks at each job of the
-    /// immediate queue once, or where that is empty at each of the standard queue, whatever their priorities, and turns
-    /// that queue once, which closes the gap.
+    /// immediate queue twice, or where that is empty at each of the standard queue, and moves none where the one that
+    /// goes is the first that came; else it turns that queue once, which closes the gap.
     pub fn next(&mut self) -> Option<Waiting>
         ensures first { result ≡ first_in self.old }
         ensures taken { self.new ≡ without_first self.old }
@@ -109,8 +109,8 @@ impl Queues {
         Some(first)
     }
 
-    /// Takes the job of a block. None exactly where neither queue has one. It looks at each job once at most, and turns
-    /// its queue once, which closes the gap.
+    /// Takes the job of a block. None exactly where neither queue has one. It looks at each job twice at most, and turns
+    /// its queue once, which closes the gap, where the job isn't the first that came.
     pub fn remove(&mut self, block: u16) -> Option<Waiting>
         ensures found { result ≡ found_in block self.old }
         ensures taken { self.new ≡ without_block block self.old }

@@ -1,6 +1,7 @@
 // One queue: a ring of jobs, in the order in which they came.
-ghost use Rattle.std.specs.Prelude.{◌≡◌, ◌==◌, find, option_copied};
-ghost use Rattle.job_queues.specs.Order.{first_of, first_with};
+ghost use Rattle.std.specs.Prelude.{◌≡◌, ◌==◌, IsTrue, not, drop, find, fold};
+ghost use Rattle.std.specs.List.{list_all};
+ghost use Rattle.job_queues.specs.Order.{first_of, first_of_two};
 ghost use Rattle.job_queues.specs.Jobs.{without, turned};
 
 use crate::Waiting;
@@ -10,23 +11,28 @@ use circular_buffer::HeapCircularBuffer;
 pub fn first_of(ring: &HeapCircularBuffer<Waiting>) -> Option<Waiting>
     ensures { result ≡ first_of ring.now.items }
 {
-    let mut first = None;
-    for i in 0..ring.len() {
-        first = first_with(first, ring.get(i).copied());
+    let (front, back) = ring.as_slices();
+    first_among(first_among(None, front), back)
+}
+
+// The one that goes first, with these looked at.
+fn first_among(first: Option<Waiting>, jobs: &[Waiting]) -> Option<Waiting>
+    ensures { result ≡ fold first_of_two first jobs.now }
+{
+    let mut first = first;
+    for job in jobs {
+        first = first_of_two(first, *job);
     }
     first
 }
 
-// The one that goes first, with one more looked at.
-fn first_with(first: Option<Waiting>, next: Option<Waiting>) -> Option<Waiting>
-    ensures { result ≡ first_with first next }
+// The one of two that goes first.
+fn first_of_two(first: Option<Waiting>, job: Waiting) -> Option<Waiting>
+    ensures { result ≡ first_of_two first job }
 {
-    let Some(next) = next else {
-        return first;
-    };
     match first {
-        Some(first) if !next.goes_before(&first) => Some(first),
-        _ => Some(next),
+        Some(first) if !job.goes_before(&first) => Some(first),
+        _ => Some(job),
     }
 }
 
@@ -37,8 +43,41 @@ pub fn job_of(ring: &HeapCircularBuffer<Waiting>, block: u16) -> Option<Waiting>
     ring.iter().copied().find(|w| w.block == block)
 }
 
-/// Takes the job with a number out. The ring is turned once, and the others keep their order.
+/// Takes the job with a number out. Where it stands first, and no other has its number, nothing else moves; else the ring is
+/// turned once. The others keep their order.
 pub fn take_out(ring: &mut HeapCircularBuffer<Waiting>, number: u64)
+    ensures { ring.new ≡ record ring.old { items = without number ring.old.items } }
+{
+    if is_first_alone(ring, number) {
+        let _first = ring.pop_front();
+    } else {
+        turn(ring, number);
+    }
+}
+
+// Whether the first job has this number, and no other one.
+fn is_first_alone(ring: &HeapCircularBuffer<Waiting>, number: u64) -> bool
+    ensures { IsTrue result → without number ring.now.items ≡ drop 1 ring.now.items }
+{
+    let (front, back) = ring.as_slices();
+    if front.is_empty() || front[0].number != number {
+        return false;
+    }
+    if !has_none(&front[1..], number) {
+        return false;
+    }
+    has_none(back, number)
+}
+
+// Whether no job has this number. Each is looked at once.
+fn has_none(jobs: &[Waiting], number: u64) -> bool
+    ensures { result ≡ list_all (λ w. not (w.number == number)) jobs.now }
+{
+    jobs.iter().all(|job| job.number != number)
+}
+
+// Turns the ring once, without the job with a number.
+fn turn(ring: &mut HeapCircularBuffer<Waiting>, number: u64)
     ensures { ring.new ≡ record ring.old { items = without number ring.old.items } }
 {
     for _ in 0..ring.len() {

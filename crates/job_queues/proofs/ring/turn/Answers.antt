@@ -1,7 +1,7 @@
 use Rattle.std.proofs.Common.{arith, ◌<◌, length, ap, ◌∙◌}
 use Rattle.circular_buffer.specs.Buffer.{buffer}
 use Rattle.job_queues.proofs.Turned.{turned_next}
-use Rattle.job_queues.proofs.ring.take_out.Goals as goal
+use Rattle.job_queues.proofs.ring.turn.Goals as goal
 
 pub loop-preserved : goal.loop-preserved
 loop-preserved c =
