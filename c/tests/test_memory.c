@@ -1,58 +1,14 @@
-/* What a unit takes of memory beside its flash, by its own size: the linker puts what stands below in the place of the C library's heap, so that
-   each byte that it is asked for is counted. A unit may take what docs/COST.md has: the flash once more, a bank, its blocks' contents, once more those
-   of permanent RAM, two of the longest content, a page, so much for each block and each stored instance, and 8 KB; a start-up once more what it
-   finds, and an opening the flash once more. */
+/* What a unit takes of memory beside its flash, by its own size: each byte is counted that the C library's heap is asked for. A unit may take what
+   docs/COST.md has: the flash once more, a bank, its blocks' contents, once more those of permanent RAM, two of the longest content, a page, so much
+   for each block and each stored instance, and 8 KB; a start-up once more what it finds, and an opening the flash once more. */
+#include "heap.h"
 #include "nvm_c.h"
 #include <stdio.h>
 #include <stdlib.h>
 #include <string.h>
 
-void *__wrap_malloc(size_t size);
-void *__wrap_realloc(void *at, size_t size);
-void __wrap_free(void *at);
-void *__real_malloc(size_t size);
-void *__real_realloc(void *at, size_t size);
-void __real_free(void *at);
-
-/* A size stands before each piece of memory, as far in front of it as its alignment asks. */
-enum { BEFORE = 16, TEXT = 65536, MOST_LENGTH = 4096, A_BLOCK = 600, AN_INSTANCE = 80, BANKS = 2, FIXED = 8192 };
-static size_t standing, most;
-static long pieces;
-
-static void *note(unsigned char *at, size_t size) {
-    if (!at) return NULL;
-    memcpy(at, &size, sizeof size);
-    standing += size;
-    pieces++;
-    if (standing > most) most = standing;
-    return at + BEFORE;
-}
-
-static void forget(const unsigned char *at) {
-    size_t size;
-    memcpy(&size, at - BEFORE, sizeof size);
-    standing -= size;
-    pieces--;
-}
-
-void *__wrap_malloc(size_t size) { return note((unsigned char *)__real_malloc(size + BEFORE), size); }
-
-void __wrap_free(void *at) {
-    if (!at) return;
-    forget((unsigned char *)at);
-    __real_free((unsigned char *)at - BEFORE);
-}
-
-/* (the old piece and the new one stand beside each other, as they do where the heap moves it) */
-void *__wrap_realloc(void *at, size_t size) {
-    size_t old = 0;
-    void *made = __wrap_malloc(size);
-    if (!at || !made) return made;
-    memcpy(&old, (unsigned char *)at - BEFORE, sizeof old);
-    memcpy(made, at, old < size ? old : size);
-    __wrap_free(at);
-    return made;
-}
+/* What a block and a stored instance may take, and all that grows with nothing. */
+enum { TEXT = 65536, MOST_LENGTH = 4096, A_BLOCK = 600, AN_INSTANCE = 80, BANKS = 2, FIXED = 8192 };
 
 /* A unit of so many blocks of one length, the last one of another. */
 typedef struct {
@@ -110,7 +66,7 @@ static int use(nvm_handle *handle, const unit *it) {
 /* Tells whether a unit keeps to what is allowed. */
 static int measure(const unit *it) {
     static char text[TEXT];
-    size_t length = write_text(it, text), flash = (size_t)it->sector * it->sectors, opened, behind, begun = standing;
+    size_t length = write_text(it, text), flash = (size_t)it->sector * it->sectors, opened, behind, begun = heap_standing;
     nvm_memory lent = { NULL, 0 }, back = { NULL, 0 };
     nvm_handle handle = { NULL };
     int well;
@@ -118,7 +74,7 @@ static int measure(const unit *it) {
     lent.length = flash;
     if (!lent.at) return 0;
     memset(lent.at, 0xFF, flash);
-    most = standing;
+    heap_most = heap_standing;
     if (nvm_open(&handle, (const uint8_t *)text, length, lent, 0, &back)) {
         uint8_t rule = 0;
         uint16_t block = 0;
@@ -126,15 +82,15 @@ static int measure(const unit *it) {
         printf("%s: it isn't opened; rule %u, block %u\n", it->name, (unsigned)rule, (unsigned)block);
         return 0;
     }
-    opened = most - begun;
-    most = standing;
+    opened = heap_most - begun;
+    heap_most = heap_standing;
     well = use(&handle, it);
-    behind = most - begun;
+    behind = heap_most - begun;
     well = well && nvm_restart(&handle) == 0;
-    well = well && behind <= allowed(it) && opened <= allowed(it) + flash && most - begun <= allowed(it) + found(it);
-    printf("%-45s %8zu %8zu %8zu %8zu %8zu%s\n", it->name, flash, allowed(it), behind, opened, most - begun, well ? "" : "  more");
+    well = well && behind <= allowed(it) && opened <= allowed(it) + flash && heap_most - begun <= allowed(it) + found(it);
+    printf("%-45s %8zu %8zu %8zu %8zu %8zu%s\n", it->name, flash, allowed(it), behind, opened, heap_most - begun, well ? "" : "  more");
     nvm_close(&handle, &back);
-    well = well && standing == begun && back.at == lent.at;
+    well = well && heap_standing == begun && back.at == lent.at;
     __real_free(lent.at);
     return well;
 }
@@ -143,5 +99,5 @@ int main(void) {
     int well = 1;
     printf("%-45s %8s %8s %8s %8s %8s\n", "bytes", "flash", "allowed", "taken", "opening", "reset");
     for (size_t i = 0; i < sizeof UNITS / sizeof UNITS[0]; i++) well = measure(&UNITS[i]) && well;
-    return !well || pieces != 0;
+    return !well || heap_pieces != 0;
 }
