@@ -44,7 +44,8 @@ class _Told(Enum):
     """A number with its words."""
     words: str
 
-    def __new__(cls, number: int, words: str):
+    # (words are left out where a member is looked up by its number)
+    def __new__(cls, number: int, words: str = ""):
         it = object.__new__(cls)
         it._value_, it.words = number, words
         return it

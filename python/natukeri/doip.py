@@ -25,7 +25,7 @@ from natukeri.configuration import configuration_of
 from natukeri.doip_messages import (ANSWERS, ANY_VERSION, HEADER, MOST_PAYLOAD, OVER_TCP, OVER_UDP, VERSIONS, Activation, Header, Nack, Payload,
                                     header_fault, message)
 from natukeri.image_file import StoredUnit
-from natukeri.uds import NEGATIVE, P2, P2_PENDING, Code, KeyOf, Server, Session, complement, described_by
+from natukeri.uds import NEGATIVE, P2, P2_PENDING, Answer, Code, KeyOf, Server, Session, complement, described_by
 from natukeri.unit import Unit
 from nvmtools.files import read_text
 from nvmtools.tool import Stop, run_tool
@@ -43,12 +43,12 @@ BAD_CONFIGURATION, FLASH_FAULT, WRONG_SIZE, HISTORY_FULL, NO_SECOND, IN_USE = 3,
 
 
 class Link:
-    """A tester's connection: its address once its routing is active, and its session."""
+    """A tester's connection: its address once its routing is active, its session, and whether a request of it is being served."""
 
     def __init__(self, writer: asyncio.StreamWriter):
         self.writer, self.version, self.opened = writer, VERSIONS[0], time.monotonic()
         self.tester: Optional[int] = None
-        self.session, self.is_alive = Session(), asyncio.Event()
+        self.session, self.is_alive, self.is_served = Session(), asyncio.Event(), False
 
     def send(self, kind: Payload, payload: bytes = b"") -> None:
         self.writer.write(message(self.version, kind, payload))
@@ -72,7 +72,8 @@ class Entity:
         # (as a locally administered address of Ethernet)
         self.eid = b"\x02\0\0\0" + address.to_bytes(2, "big") if eid is None else eid
         self.links: set[Link] = set()
-        self._activating, self._serving = asyncio.Lock(), asyncio.Lock()
+        # (who has `serving` has the unit)
+        self._activating, self.serving = asyncio.Lock(), asyncio.Lock()
         self.failed: "asyncio.Future[None]" = asyncio.get_running_loop().create_future()
 
     # over UDP
@@ -151,8 +152,6 @@ class Entity:
         source, kind = struct.unpack_from(">HB", payload)
         async with self._activating:
             code = await self._activation(link, source, kind)
-        if code is Activation.ACTIVE and link.tester is None:
-            link.tester = source
         link.send(Payload.ACTIVATION_ANSWER, struct.pack(">HHBI", source, self.address, code, 0))
         return code is Activation.ACTIVE
 
@@ -181,7 +180,8 @@ class Entity:
         _, waiting = await asyncio.wait([asyncio.ensure_future(it.is_alive.wait()) for it in links], timeout=ALIVE_SECONDS)
         for task in waiting:
             task.cancel()
-        dead = [it for it in links if not it.is_alive.is_set()]
+        # (nothing is read from one whose request is being served)
+        dead = [it for it in links if not it.is_alive.is_set() and not it.is_served]
         for it in dead:
             it.tester = None
             it.writer.transport.abort()
@@ -198,26 +198,29 @@ class Entity:
             return True
         link.send(Payload.DIAGNOSTIC_ACK, back + b"\0")
         await link.flush()
-        if self._gap:
-            await asyncio.sleep(self._gap)
-        answer = await self._answered(link, request, target == self.functional)
-        if answer is not None:
-            self._answer(link, answer)
+        link.is_served = True
+        try:
+            if self._gap:
+                await asyncio.sleep(self._gap)
+            await self._answer(link, request, target == self.functional)
+        finally:
+            link.is_served = False
+            link.is_alive.set()
         return True
 
-    def _answer(self, link: Link, answer: bytes) -> None:
-        link.send(Payload.DIAGNOSTIC, struct.pack(">HH", self.address, link.tester or 0) + answer)
-
-    async def _answered(self, link: Link, request: bytes, functional: bool) -> Optional[bytes]:
-        """The answer of the unit; where it takes longer than P2, it is told to be pending meanwhile."""
-        work, limit = asyncio.ensure_future(self._served(link, request, functional)), P2
+    async def _answer(self, link: Link, request: bytes, functional: bool) -> None:
+        """Sends the answer of the unit; where it takes longer than P2, it is told to be pending meanwhile, and comes then in any case."""
+        back = struct.pack(">HH", self.address, link.tester or 0)
+        work, limit, is_pending = asyncio.ensure_future(self._served(link, request, functional)), P2, False
         while not (await asyncio.wait({work}, timeout=limit * 0.8))[0]:
-            self._answer(link, bytes([NEGATIVE, request[0], Code.RESPONSE_PENDING]))
-            limit = P2_PENDING
-        return work.result()
+            link.send(Payload.DIAGNOSTIC, back + bytes([NEGATIVE, request[0], Code.RESPONSE_PENDING]))
+            limit, is_pending = P2_PENDING, True
+        answer = work.result()
+        if is_pending or not answer.is_withheld:
+            link.send(Payload.DIAGNOSTIC, back + answer.data)
 
-    async def _served(self, link: Link, request: bytes, functional: bool) -> Optional[bytes]:
-        async with self._serving:
+    async def _served(self, link: Link, request: bytes, functional: bool) -> Answer:
+        async with self.serving:
             if self.failed.done():
                 raise ConnectionAbortedError
             steps = self.server.serve(request, link.session, functional)
@@ -225,7 +228,8 @@ class Entity:
                 try:
                     next(steps)
                 except StopIteration as end:
-                    return end.value
+                    answer: Answer = end.value
+                    return answer
                 # (other connections go on between two turns)
                 await asyncio.sleep(0)
 
@@ -248,7 +252,7 @@ class Datagrams(asyncio.DatagramProtocol):
     def connection_made(self, transport: asyncio.BaseTransport) -> None:
         self._transport = transport  # type: ignore[assignment]
 
-    def datagram_received(self, data: bytes, address: tuple) -> None:
+    def datagram_received(self, data: bytes, address: tuple[str, int]) -> None:
         answer = self._entity.datagram(data)
         if answer and self._transport:
             with contextlib.suppress(OSError):

@@ -40,8 +40,10 @@ class Judge:
 
     def marks(self, instance: str) -> list[Optional[str]]:
         """The marks that may stand in an instance, which is named as in a history, as 7.1: a content, "invalid", or None where it is erased."""
-        is_known = self._before is None or instance in self._stored
-        least = [self._marks.settled.get(instance)] if is_known else self._before.get(instance, [ERASED])
+        if self._before is None or instance in self._stored:
+            least = [self._marks.settled.get(instance)]
+        else:
+            least = self._before.get(instance, [ERASED])
         return list(dict.fromkeys([*least, *self._marks.doubts.get(instance, [])]))
 
     def values(self, block: int, index: int) -> list[Optional[bytes]]:

@@ -83,6 +83,9 @@ def power_cut() -> Optional[Cut]:
 def unit(request: Any, power_cut: Optional[Cut]) -> Iterator[Unit]:
     """A unit over a blank flash; of a test with the mark power_cuts the unit behind one of these cuts and the next start-up."""
     config, given = _configuration(request.node), _power_cuts(request.node)
-    is_cut = given is not None and power_cut is not None
-    with behind_cut(config, given.of, power_cut, _image(config, given.before)) if is_cut else Unit(config) as it:
-        yield it
+    if given is None or power_cut is None:
+        made = Unit(config)
+    else:
+        made = behind_cut(config, given.of, power_cut, _image(config, given.before))
+    with made:
+        yield made

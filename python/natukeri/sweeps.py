@@ -57,11 +57,11 @@ def _is_cut(config: Configuration, drive: Drive, nth: int, image: Optional[bytes
 
 def keeps_of(page: int, keep: Keep = "some") -> list[int]:
     """How many bytes of an operation are done, of a flash with pages of so many bytes."""
-    if keep == "some":
-        return [0, page // 2, page - 1, page]
-    kept = list(range(page + 1) if keep == "each" else keep)
-    wrong = [it for it in kept if not isinstance(it, int) or not 0 <= it <= page]
-    if wrong or not kept:
+    if isinstance(keep, str):
+        kept = {"some": [0, page // 2, page - 1, page], "each": list(range(page + 1))}.get(keep, [])
+    else:
+        kept = list(keep)
+    if not kept or not all(isinstance(it, int) and 0 <= it <= page for it in kept):
         raise ValueError(f'keep is "some", "each", or numbers of 0 to {page}: {keep!r} isn\'t')
     return kept
 

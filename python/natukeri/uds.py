@@ -9,7 +9,7 @@ import time
 from collections.abc import Generator
 from dataclasses import dataclass, field
 from enum import IntEnum
-from typing import Callable, Optional
+from typing import Callable, NamedTuple, Optional
 
 from natukeri.answers import BadConfiguration, PowerOff, Refused, Result, Service, Turn
 from natukeri.configuration import Configuration
@@ -36,6 +36,7 @@ class Code(IntEnum):
 
 
 SESSION, RESET, READ, SECURITY, WRITE, PRESENT, NEGATIVE = 0x10, 0x11, 0x22, 0x27, 0x2E, 0x3E, 0x7F
+WITH_SUB_FUNCTION = (SESSION, RESET, SECURITY, PRESENT)
 POSITIVE, SUPPRESSED = 0x40, 0x80
 DEFAULT_SESSION, PROGRAMMING_SESSION, EXTENDED_SESSION = 1, 2, 3
 HARD_RESET, KEY_OFF_ON, SOFT_RESET = 1, 2, 3
@@ -53,6 +54,12 @@ UNANSWERED = (Code.SERVICE_NOT_SUPPORTED, Code.SUB_FUNCTION_NOT_SUPPORTED, Code.
 KeyOf = Callable[[int, bytes], bytes]
 # what makes turns: it yields behind each one, and returns its answer
 Steps = Generator[None, None, bytes]
+
+
+class Answer(NamedTuple):
+    """An answer, and whether it is withheld: then it is sent to a tester alone who was told meanwhile that it is pending."""
+    data: bytes
+    is_withheld: bool
 
 
 class _Negative(Exception):
@@ -111,21 +118,22 @@ class Server:
             try:
                 next(steps)
             except StopIteration as end:
-                return end.value
+                answer: Answer = end.value
+                return None if answer.is_withheld else answer.data
 
-    def serve(self, request: bytes, session: Session, functional: bool = False) -> Generator[None, None, Optional[bytes]]:
+    def serve(self, request: bytes, session: Session, functional: bool = False) -> Generator[None, None, Answer]:
         """The same turn by turn: it yields behind each one. `functional` is a request to all units at once, which isn't answered with some codes."""
         if not request:
-            return None
+            return Answer(b"", True)
         self._bring_up_to_date(session)
         try:
-            answer = yield from self._served(request, session)
+            data = yield from self._served(request, session)
         except (_Negative, Refused) as stop:
             code = stop.code if isinstance(stop, _Negative) else Code.CONDITIONS_NOT_CORRECT
-            return None if functional and code in UNANSWERED else bytes([NEGATIVE, request[0], code])
+            return Answer(bytes([NEGATIVE, request[0], code]), functional and code in UNANSWERED)
         finally:
             session.last = self._clock()
-        return None if request[0] in (SESSION, RESET, SECURITY, PRESENT) and request[1] & SUPPRESSED else answer
+        return Answer(data, request[0] in WITH_SUB_FUNCTION and bool(request[1] & SUPPRESSED))
 
     def _bring_up_to_date(self, session: Session) -> None:
         """A session ends with a reset, and where its tester was silent for too long."""
@@ -196,8 +204,11 @@ class Server:
     def _key(self, request: bytes, session: Session, level: int) -> bytes:
         if session.seed is None or session.seed[0] != level:
             raise _Negative(Code.REQUEST_SEQUENCE_ERROR)
-        (_, seed), session.seed = session.seed, None
-        if request[2:] != self._key_of(level, seed):
+        key = self._key_of(level, session.seed[1])
+        if len(request) != 2 + len(key):
+            raise _Negative(Code.INCORRECT_LENGTH)
+        session.seed = None
+        if request[2:] != key:
             self._wrong_keys[level] += 1
             if self._wrong_keys[level] < ATTEMPTS:
                 raise _Negative(Code.INVALID_KEY)

@@ -98,7 +98,7 @@ class Unit:
     def _call(self, name: str, *given: object) -> int:
         if not self._closing.alive:
             raise UnitClosed(f"the unit of {self.configuration.path} is closed")
-        return getattr(self._calls, name)(self._handle, *given)
+        return int(getattr(self._calls, name)(self._handle, *given))
 
     def _tell(self) -> None:
         if not self._keeps_history:

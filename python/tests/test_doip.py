@@ -1,5 +1,6 @@
 """A unit behind DoIP as a tester meets it, also one that sends what is none. python3 -m unittest runs it."""
 import asyncio
+import contextlib
 import os
 import random
 import socket
@@ -24,6 +25,55 @@ EID = bytes.fromhex("020000001010")
 SIZE = 8 * 4096
 # kilobytes that a server may have more behind what its testers sent
 MOST_GROWTH = 16384
+
+
+class Inside:
+    """A connection to a server that runs in this process."""
+
+    def __init__(self, reader, writer, tester):
+        self.reader, self.writer, self.tester = reader, writer, tester
+
+    async def activate(self):
+        self.writer.write(message(5, struct.pack(">HBI", self.tester, 0, 0)))
+        return (await self.receive(6))[4]
+
+    def request(self, text, target=ENTITY):
+        self.writer.write(message(0x8001, struct.pack(">HH", self.tester, target) + bytes.fromhex(text)))
+
+    async def receive(self, wanted):
+        """The payload of the next message of a type; others are passed over."""
+        while True:
+            _, kind, length = struct.unpack(">HHI", await self.reader.readexactly(8))
+            payload = await self.reader.readexactly(length)
+            if kind == wanted:
+                return payload
+
+    async def answers(self):
+        """The answers up to one that doesn't say that one is pending."""
+        found = []
+        while not found or found[-1][4:] == "78":
+            found.append((await self.receive(0x8001))[4:].hex())
+        return found
+
+
+async def served(unit, trial):
+    """What comes of a trial, which is given an entity over a unit and how testers connect to it."""
+    entity, testers = doip.Entity(uds.Server(unit)), []
+    server = await asyncio.start_server(entity.connection, "127.0.0.1", 0)
+
+    async def connect(tester=TESTER, activates=True):
+        it = Inside(*await asyncio.open_connection(*server.sockets[0].getsockname()), tester)
+        testers.append(it)
+        if activates and await it.activate() != 0x10:
+            raise AssertionError(f"{tester:04x} isn't activated")
+        return it
+
+    try:
+        return await trial(entity, connect)
+    finally:
+        server.close()
+        for it in [*testers, *entity.links]:
+            it.writer.transport.abort()
 
 
 class Served(unittest.TestCase):
@@ -204,14 +254,25 @@ class Streams(Served):
         self.assertEqual(it.ask("2e0102" + "00" * 4096, "22" + "0102" * 16), ["7f2e13", "62" + ("0102" + "00" * 8) * 16])
 
     def test_connections_that_drop(self):
-        whole = message(0x8001, struct.pack(">HH", 0x0E15, ENTITY) + bytes.fromhex("2e0201" + "33" * 16))
-        for size in range(0, len(whole) + 1, 3):
+        def drop(value, size=None, reset=False):
             it = Client(self.port, 0x0E15)
-            it.socket.sendall(whole[:size])
-            # (with a reset of the connection, each second time)
-            it.socket.setsockopt(socket.SOL_SOCKET, socket.SO_LINGER, struct.pack("ii", size % 2, 0))
+            it.socket.sendall(message(0x8001, struct.pack(">HH", 0x0E15, ENTITY) + bytes.fromhex("2e0203" + value * 16))[:size])
+            it.socket.setsockopt(socket.SOL_SOCKET, socket.SO_LINGER, struct.pack("ii", reset, 0))
             it.close()
-        self.assertEqual(self.connected(0x0E16).ask("220102"), ["620102" + "00" * 8])
+
+        self.assertEqual(self.good.ask("2e0203" + "33" * 16), ["6e0203"])
+        for size in range(0, 31):
+            drop("44", size, size % 2)
+        self.assertEqual(self.good.ask("220203"), ["620203" + "33" * 16])
+        # (what was asked for whole is written, whoever is gone)
+        drop("55")
+        end = time.monotonic() + 60
+        while self.good.ask("220203") == ["620203" + "33" * 16] and time.monotonic() < end:
+            pass
+        self.assertEqual(self.good.ask("220203"), ["620203" + "55" * 16])
+        # (behind a reset that comes before it was read it isn't)
+        drop("66", reset=True)
+        self.assertIn(self.good.ask("220203"), [["620203" + it * 16] for it in ("55", "66")])
 
     def test_random_bytes(self):
         draws = random.Random(7)
@@ -221,12 +282,17 @@ class Streams(Served):
                                       for _ in range(4)))
             for _ in range(draws.randrange(6)):
                 data[draws.randrange(len(data))] = draws.randrange(256)
-            it.socket.sendall(data)
-            it.socket.shutdown(socket.SHUT_WR)
+            # (behind what closes a connection the rest isn't taken)
+            with contextlib.suppress(OSError):
+                while data:
+                    size = draws.choice((1, 7, 8, 9, len(data)))
+                    it.socket.sendall(data[:size])
+                    data = data[size:]
+                it.socket.shutdown(socket.SHUT_WR)
             while it.receive() is not None:
                 pass
             it.close()
-            datagram(self.port, bytes(data), 0.01)
+            datagram(self.port, draws.randbytes(draws.randrange(60)), 0.01)
 
     def test_memory_is_bounded(self):
         before, greedy = self.server.kilobytes(), self.connected(0x0E18)
@@ -319,45 +385,51 @@ class Written(unittest.TestCase):
             server.wait()
 
     def test_a_sync_that_fails_ends_it_without_an_answer(self):
-        async def trial(unit):
-            entity = doip.Entity(uds.Server(unit))
-            server = await asyncio.start_server(entity.connection, "127.0.0.1", 0)
-            reader, writer = await asyncio.open_connection(*server.sockets[0].getsockname())
-            writer.write(message(5, struct.pack(">HBI", TESTER, 0, 0)))
-            await reader.readexactly(8 + 9)
+        async def trial(entity, connect):
+            it = await connect()
             with mock.patch("os.fsync", side_effect=OSError(5, "Input/output error")):
-                writer.write(message(0x8001, struct.pack(">HH", TESTER, ENTITY) + b"\x2e\xf1\x90" + VIN))
-                rest = await reader.read()
-            writer.close()
-            server.close()
+                it.request("2ef190" + VIN.hex())
+                rest = await it.reader.read()
+            self.assertEqual(rest, message(0x8002, struct.pack(">HHB", ENTITY, TESTER, 0)))
             await entity.failed
-            return rest
 
         with StoredUnit(ECU, self.image) as unit:
             with self.assertRaisesRegex(answers.ImageFault, "ecu.img: Input/output error"):
-                asyncio.run(trial(unit))
+                asyncio.run(served(unit, trial))
             self.assertRaises(answers.ImageFault, unit.write, "odometer", 1)
 
-    def test_a_slow_answer_is_pending_first(self):
-        async def trial(unit):
-            entity = doip.Entity(uds.Server(unit))
-            server = await asyncio.start_server(entity.connection, "127.0.0.1", 0)
-            reader, writer = await asyncio.open_connection(*server.sockets[0].getsockname())
-            writer.write(message(5, struct.pack(">HBI", TESTER, 0, 0)))
-            writer.write(message(0x8001, struct.pack(">HH", TESTER, ENTITY) + b"\x2e\xf1\x90" + VIN))
-            found = []
-            while not found or found[-1][:1] != b"\x6e":
-                _, kind, length = struct.unpack(">HHI", await reader.readexactly(8))
-                payload = await reader.readexactly(length)
-                found += [payload[4:]] if kind == 0x8001 else []
-            writer.close()
-            server.close()
-            return found
 
-        sync = os.fsync
-        with StoredUnit(ECU, self.image) as unit, mock.patch("os.fsync", lambda file: (time.sleep(0.03), sync(file))):
-            found = asyncio.run(trial(unit))
-        self.assertEqual((found[0], found[-1]), (b"\x7f\x2e\x78", b"\x6e\xf1\x90"))
+class Busy(unittest.TestCase):
+    """Where a request waits until another one has been served."""
+
+    def tried(self, trial):
+        with Unit(ECU) as unit:
+            return asyncio.run(served(unit, trial))
+
+    def test_an_answer_that_was_pending_comes_in_any_case(self):
+        async def trial(entity, connect):
+            testers = [await connect(TESTER + number) for number in range(3)]
+            async with entity.serving:
+                for it, request, target in zip(testers, ("220102", "3e80", "31"), (ENTITY, ENTITY, FUNCTIONAL)):
+                    it.request(request, target)
+                    await it.receive(0x8002)
+                await asyncio.sleep(2 * uds.P2)
+            return [await it.answers() for it in testers]
+
+        # (neither a TesterPresent without a response nor a service that isn't there, asked for of all units, is answered else)
+        self.assertEqual(self.tried(trial), [["7f2278", "620102" + "00" * 8], ["7f3e78", "7e00"], ["7f3178", "7f3111"]])
+
+    def test_a_tester_whose_request_is_served_is_alive(self):
+        async def trial(entity, connect):
+            first, second = await connect(), await connect(activates=False)
+            async with entity.serving:
+                first.request("3e00")
+                await first.receive(0x8002)
+                code = await second.activate()
+            return code, (await first.answers())[-1]
+
+        with mock.patch.object(doip, "ALIVE_SECONDS", 0.02):
+            self.assertEqual(self.tried(trial), (0x03, "7e00"))
 
 
 class Announced(unittest.TestCase):

@@ -9,7 +9,7 @@ TOP = os.path.dirname(os.path.dirname(HERE))
 sys.path.insert(0, os.path.dirname(HERE))
 
 import natukeri  # noqa: E402
-from natukeri import Result, Service, Unit, uds  # noqa: E402
+from natukeri import Unit, uds  # noqa: E402
 from natukeri.configuration import Configuration  # noqa: E402
 
 ECU = os.path.join(HERE, "ecu.json")
@@ -120,12 +120,17 @@ class Services(unittest.TestCase):
         self.assertEqual(self.ask(write, "2701"), ["7f2e33", "7f277f"])
 
     def test_wrong_keys(self):
-        self.assertEqual(self.ask("1003", "2701", "270200000000", "270200000000", "2701", "270200", "2701", "2702", "2701")[1:],
+        self.assertEqual(self.ask("1003", "2701", "270200000000", "270200000000", "2701", "270200000000", "2701", "270200000000", "2701")[1:],
                          ["670100000001", "7f2735", "7f2724", "670100000002", "7f2735", "670100000003", "7f2736", "7f2737"])
         for _ in range(3):
             self.clock.seconds += 3.4
             self.ask("3e80")
         self.assertEqual(self.ask("2701", "2702fffffffb"), ["670100000004", "6702"])
+
+    def test_a_key_of_another_length_is_none(self):
+        # (it counts as no wrong one, and the seed stays)
+        self.assertEqual(self.ask("1003", "2701", *["2702", "270200", "2702fffffffeff"] * 3, "2702fffffffe", "2702fffffffe")[2:],
+                         [*["7f2713"] * 9, "6702", "7f2724"])
 
     def test_an_algorithm_of_ones_own(self):
         self.server = uds.Server(self.unit, lambda level, seed: bytes([level]) + seed, self.clock, self.seed)
