@@ -69,6 +69,7 @@ impl<'a, H: Hold> Caller<'a, H> {
         };
         self.hold.before(self.number, line);
         let answer = shared.ask(rt, self.alloc, pass, self.number, request);
+        self.round.tell();
         self.hold.answered(self.number, line);
         match answer {
             Ok((_reply, _number)) => Ok(()),

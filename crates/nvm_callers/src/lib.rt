@@ -12,6 +12,7 @@ mod caller;
 mod callers;
 mod dealing;
 mod ending;
+mod event_count;
 mod gathering;
 mod hold;
 mod joining;

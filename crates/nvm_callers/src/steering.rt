@@ -25,12 +25,13 @@ pub struct SteeringOf<'a, P, T> {
 /// Of a shared stack. It is an alias, as `Worker`.
 pub type Steering<'a, D, C> = SteeringOf<'a, StackPass, Driver<D, C>>;
 
-// A turn. Where it found nothing to do others get the processor.
+// A turn. Where it found nothing to do the driver rests until callers tell it of something.
 fn make_turn<W: Wait, D: MemDevice, C: NotedCopies + Drop>(
     rt: &W,
     shared: &Shared,
     pass: &mut StackPass,
     driver: &mut Driver<D, C>,
+    round: &Round,
 )
     requires driver { IsDriverOf D.told D.clock C.told shared.now pass.old driver.old }
     requires telling { TellsAlways D.told shared.now.terms }
@@ -38,14 +39,17 @@ fn make_turn<W: Wait, D: MemDevice, C: NotedCopies + Drop>(
     ensures driver { IsDriverOf D.told D.clock C.told shared.now pass.new driver.new }
     ensures steers { HasSteered D.told D.clock C.told C.is_store C.looked C.over C.stands shared.now.terms (knows pass.old) (knows pass.new) driver.old driver.new }
 {
+    let news = round.news();
     let turned = driver.turn(rt, shared, pass);
-    give_way(turned);
+    if has_nothing_to_do(turned) {
+        round.rest(rt, news);
+    }
 }
 
-fn give_way(turned: Turned) {
+fn has_nothing_to_do(turned: Turned) -> bool {
     match turned {
-        Turned::Idle | Turned::Off => thread::yield_now(),
-        Turned::Picked | Turned::Posted | Turned::Worked => {}
+        Turned::Idle | Turned::Off => true,
+        Turned::Picked | Turned::Posted | Turned::Worked => false,
     }
 }
 
@@ -72,7 +76,7 @@ fn steer<W: Wait, D: MemDevice, C: NotedCopies + Drop>(
         if !round.has_begun() {
             left -= 1;
         }
-        make_turn(rt, shared, pass, driver);
+        make_turn(rt, shared, pass, driver, round);
     }
     unreachable!()
 }

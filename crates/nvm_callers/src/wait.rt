@@ -13,8 +13,9 @@ use std::thread;
 // The status of the power's word from an Off on.
 const POWER_IS_OFF: u8 = 1;
 
-/// Polls until the block isn't PENDING or the power is off. While nobody makes turns it gives up after so many looks. It tells whether
-/// the wait is over. It never takes the lock.
+/// Polls until the block isn't PENDING or the power is off. Behind some looks it sleeps until the driver has nothing left to do, and for
+/// some milliseconds at most, before it looks again. While nobody makes turns it gives up after so many looks. It tells whether the wait
+/// is over. It never takes the lock.
 pub fn await_end<W: Wait>(
     rt: &W,
     shared: &Shared,
@@ -30,7 +31,9 @@ pub fn await_end<W: Wait>(
     ensures over { result ≡ true → IsOver shared.now.terms block (knows pass.new) }
 {
     let mut left = MOST_LOOKS;
+    let mut awake = round.looks_awake();
     for _ in rt.forever() {
+        let rests = round.rests();
         if look(shared, pass, block) {
             return true;
         }
@@ -39,8 +42,13 @@ pub fn await_end<W: Wait>(
         }
         if !round.is_driven() {
             left -= 1;
+            thread::yield_now();
+        } else if awake > 0 {
+            awake -= 1;
+            thread::yield_now();
+        } else {
+            round.sleep(rt, rests);
         }
-        thread::yield_now();
     }
     unreachable!()
 }
