@@ -41,15 +41,14 @@ fn make_turn<W: Wait, D: MemDevice, C: NotedCopies + Drop>(
 {
     let news = round.news();
     let turned = driver.turn(rt, shared, pass);
-    if has_nothing_to_do(turned) {
-        round.rest(rt, news);
-    }
+    give_way(rt, round, news, turned);
 }
 
-fn has_nothing_to_do(turned: Turned) -> bool {
+// Rests behind a turn that found nothing to do, when callers had told so much.
+fn give_way<W: Wait>(rt: &W, round: &Round, news: u64, turned: Turned) {
     match turned {
-        Turned::Idle | Turned::Off => true,
-        Turned::Picked | Turned::Posted | Turned::Worked => false,
+        Turned::Idle | Turned::Off => round.rest(rt, news),
+        Turned::Picked | Turned::Posted | Turned::Worked => {}
     }
 }
 
