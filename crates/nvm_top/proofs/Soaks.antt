@@ -1,5 +1,5 @@
 -- The steps and the words of `soak`.
-use Rattle.std.specs.Prelude.{nat_le, IfSome, slice_get}
+use Rattle.std.specs.Prelude.{nat_le, IfSome, slice_get, option_and_then, option_map}
 use Rattle.std.specs.Str.Parse.{digits_value}
 use Rattle.std.proofs.Common.{◌≡◌, ◌≤◌, ◌⊎◌, ◌&&◌, ℕ, Bool, true, false, List, [], ◌∷◌, Option, Some, None, if◌then◌else◌, refl, ap, subst, inl, inr}
 use Rattle.std.proofs.lemmas.Bool.{leb-true}
@@ -8,8 +8,7 @@ use Rattle.nvm_flash.specs.nv_base.Decimal.{is_numeral, decimal_number_of}
 use Rattle.nvm_flash.specs.nv_base.Geometry.{size_of}
 use Rattle.nvm_flash.specs.block_config.Config.{Configuration}
 use Rattle.nvm_flash.specs.fls_model.Told.{Told}
-use Rattle.nvm_words.specs.Words.{are_words, command_named, soak_of, command_with, command_in, command_of}
-use Rattle.nvm_words.specs.Fields.{Places, places_of}
+use Rattle.nvm_words.specs.Words.{are_words, command_named, command_in, command_of}
 use Rattle.nvm_words.specs.declared.words.CommandKind.{CommandKind}
 use Rattle.nvm_words.specs.declared.words.CommandKind.TheVariants.{Play, Run, Dump, Check, Soak, Uds}
 use Rattle.nvm_script.specs.declared.script.Mode.TheVariants as mode
@@ -37,6 +36,10 @@ within : (low high n : ℕ) (text : List ℕ) → decimal_number_of low high tex
 unfolding decimal_number_of
 within low high n text is = picked (is_numeral text) (nat_le low (digits_value 10 text)) (nat_le (digits_value 10 text) high) (digits_value 10 text) n high (leb-true (digits_value 10 text) high) is
 
+-- a seed and a count, where both are numbers
+abbrev soak_of : Option ℕ → Option ℕ → Option CommandKind
+soak_of seed count = option_and_then (λ s. option_map (λ n. Soak s n) count) seed
+
 soak_few : (seed count : Option ℕ) (s n : ℕ) → soak_of seed count ≡ Some (Soak s n) → count ≡ Some n
 soak_few None count s n is = cc
 soak_few (Some x) None s n is = cc
@@ -53,19 +56,17 @@ no_soak_if false k o s n one other is = other is
 not_soak : (word : List ℕ) (s n : ℕ) → command_named word ≡ Some (Soak s n) → ⊥
 not_soak word s n = no_soak_if _ Play _ s n (λ e. cc) (no_soak_if _ Run _ s n (λ e. cc) (no_soak_if _ Dump _ s n (λ e. cc) (no_soak_if _ Check _ s n (λ e. cc) (no_soak_if _ Uds None s n (λ e. cc) (λ e. cc)))))
 
-with_few : (word : List ℕ) (seed count : Option (List ℕ)) (s n : ℕ) → command_with word seed count ≡ Some (Soak s n) → n ≤ 10000
-with_few word None None s n is = absurd (not_soak word s n is)
-with_few word (Some x) (Some y) s n is = within 0 10000 n y (soak_few (decimal_number_of 0 4294967295 x) (decimal_number_of 0 10000 y) s n (soak_if _ (soak_of (decimal_number_of 0 4294967295 x) (decimal_number_of 0 10000 y)) s n is))
-with_few word None (Some y) s n is = cc
-with_few word (Some x) None s n is = cc
-
-in_few : (places : Option Places) (s n : ℕ) → command_in places ≡ Some (Soak s n) → n ≤ 10000
-in_few None s n is = cc
-in_few (Some p) s n is = with_few p.command p.seed p.count s n is
+in_few : (words : List (List ℕ)) (s n : ℕ) → command_in words ≡ Some (Soak s n) → n ≤ 10000
+in_few [] s n is = cc
+in_few (a ∷ []) s n is = cc
+in_few (a ∷ word ∷ []) s n is = absurd (not_soak word s n is)
+in_few (a ∷ word ∷ x ∷ []) s n is = cc
+in_few (a ∷ word ∷ x ∷ y ∷ []) s n is = within 0 10000 n y (soak_few (decimal_number_of 0 4294967295 x) (decimal_number_of 0 10000 y) s n (soak_if _ (soak_of (decimal_number_of 0 4294967295 x) (decimal_number_of 0 10000 y)) s n is))
+in_few (a ∷ word ∷ x ∷ y ∷ z ∷ rest) s n is = cc
 
 -- the words name no more than this many
 pub few_rounds : (words : List (List ℕ)) (s n : ℕ) → command_of words ≡ Some (Soak s n) → n ≤ 10000
-few_rounds words s n is = in_few (places_of words) s n (soak_if (are_words words) (command_in (places_of words)) s n is)
+few_rounds words s n is = in_few words s n (soak_if (are_words words) (command_in words) s n is)
 
 -- A CALL
 

@@ -1,9 +1,8 @@
 -- What the words of a call mean; how they are told to `clap` says Grammar.
-use Rattle.std.specs.Prelude.{ℕ, ◌==◌, ◌&&◌, Bool, true, false, not, if◌then◌else◌, List, [], ◌∷◌, codes, Option, Some, None}
+use Rattle.std.specs.Prelude.{ℕ, ◌==◌, ◌&&◌, Bool, true, false, not, if◌then◌else◌, List, [], ◌∷◌, codes, Option, Some, None, option_and_then, option_map}
 use Rattle.std.specs.List.{list_all}
 use Rattle.std.specs.Str.{bytes_eq}
 use Rattle.nv_base.specs.Decimal.{decimal_number_of}
-use Rattle.nvm_words.specs.Fields.{Places, places_of}
 use Rattle.nvm_words.specs.declared.words.CommandKind.{CommandKind}
 use Rattle.nvm_words.specs.declared.words.CommandKind.TheVariants.{Play, Run, Dump, Check, Soak, Uds}
 
@@ -16,32 +15,28 @@ abbrev pub are_words : List (List ℕ) → Bool
 are_words words = list_all is_word words
 
 -- THE COMMANDS
+
 -- those of one word
 abbrev pub command_named : List ℕ → Option CommandKind
-command_named word = if bytes_eq word (codes "play") then Some Play else (if bytes_eq word (codes "run") then Some Run else (if bytes_eq word (codes "dump") then Some Dump else (if bytes_eq word (codes "check") then Some Check else (if bytes_eq word (codes "uds") then Some Uds else None))))
+command_named word =
+    if bytes_eq word (codes "play") then Some Play else (if bytes_eq word (codes "run") then Some Run else (if bytes_eq word (codes "dump") then Some Dump
+    else (if bytes_eq word (codes "check") then Some Check else (if bytes_eq word (codes "uds") then Some Uds else None))))
 
 -- `soak`, a seed and a count of rounds
-abbrev pub soak_of : Option ℕ → Option ℕ → Option CommandKind
-soak_of None count = None
-soak_of (Some seed) None = None
-soak_of (Some seed) (Some count) = Some (Soak seed count)
-
 abbrev pub soak_named : List ℕ → List ℕ → List ℕ → Option CommandKind
-soak_named word seed count = if bytes_eq word (codes "soak") then soak_of (decimal_number_of 0 4294967295 seed) (decimal_number_of 0 10000 count) else None
-
-abbrev pub command_with : List ℕ → Option (List ℕ) → Option (List ℕ) → Option CommandKind
-command_with word None None = command_named word
-command_with word (Some seed) (Some count) = soak_named word seed count
-command_with word _ _ = None
+soak_named word seed count =
+    if bytes_eq word (codes "soak") then option_and_then (λ s. option_map (λ n. Soak s n) (decimal_number_of 0 10000 count)) (decimal_number_of 0 4294967295 seed) else None
 
 -- A CALL
-abbrev pub command_in : Option Places → Option CommandKind
-command_in None = None
-command_in (Some p) = command_with p.command p.seed p.count
 
 -- an image, and the words of a command behind it; None where the words are of no command
+abbrev pub command_in : List (List ℕ) → Option CommandKind
+command_in (image ∷ word ∷ []) = command_named word
+command_in (image ∷ word ∷ seed ∷ count ∷ []) = soak_named word seed count
+command_in words = None
+
 abbrev pub command_of : List (List ℕ) → Option CommandKind
-command_of words = if are_words words then command_in (places_of words) else None
+command_of words = if are_words words then command_in words else None
 
 abbrev pub is_play : Option CommandKind → Bool
 is_play (Some Play) = true
@@ -64,6 +59,7 @@ is_uds (Some Uds) = true
 is_uds _ = false
 
 -- THE IMAGE
+
 -- `mem` stands for a flash in memory, any other word for the path of an image file
 abbrev pub is_memory : List ℕ → Bool
 is_memory image = bytes_eq image (codes "mem")

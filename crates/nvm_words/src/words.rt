@@ -1,7 +1,7 @@
 // What the words of a call ask for.
 ghost use Rattle.std.specs.Prelude.{◌≡◌, IfOk, Some, map, option_map, string_bytes};
-ghost use Rattle.nvm_words.specs.Fields.{shown};
-ghost use Rattle.nvm_words.specs.Words.{is_word, are_words, command_named as kind_named, soak_named as soak_kind, command_in as kind_in, command_of as command_by, works_on_flash, image_path as path_of};
+ghost use Rattle.nvm_words.specs.Fields.{shown, command_at};
+ghost use Rattle.nvm_words.specs.Words.{is_word, are_words, command_named as kind_named, soak_named as soak_kind, command_of as command_by, works_on_flash, image_path as path_of};
 
 use crate::fields::{Fields, read_fields};
 use nv_base::decimal_number;
@@ -60,7 +60,7 @@ fn soak_named(word: &str, seed: &str, count: &str) -> Option<CommandKind>
 }
 
 fn command_in(fields: &Fields<'_>) -> Option<CommandKind>
-    ensures { result ≡ kind_in (Some (shown fields.now)) }
+    ensures { result ≡ command_at (shown fields.now) }
 {
     match (fields.seed, fields.count) {
         (None, None) => command_named(fields.command),
