@@ -1,12 +1,13 @@
 -- When each negative code comes.
 use Rattle.std.specs.Prelude.{◌≢◌, ◌↔◌, ◌==◌, nat_le, length, drop, get_or, unwrap_or}
+use Rattle.std.specs.Option.{option_map_or}
 use Rattle.std.proofs.Common.{◌≡◌, ◌⊎◌, ℕ, true, false, if◌then◌else◌, List, [], ◌∷◌, ◌++◌, Option, Some, None, Result, Ok, Err, refl, sym, ap, ◌∙◌, subst, inl, inr}
 use Rattle.std.proofs.lemmas.Bool.{cases_Bool}
 use Rattle.nvm_moves.specs.block_machine.Words.{ReqResult, Fine, RedundancyFailed, Restored, Request, Read, Write, Entry, Configuration}
 use Rattle.nvm_moves.specs.block_machine.Blocks.{desc_of}
 use Rattle.uds_gateway.specs.declared.code.NegativeCode.{NegativeCode}
 use Rattle.uds_gateway.specs.declared.code.NegativeCode.TheVariants.{ServiceNotSupported, IncorrectLength, ConditionsNotCorrect, OutOfRange, ProgrammingFailure}
-use Rattle.uds_gateway.specs.Services.{read_service, write_service, number_of, block_by, read_of, write_of, read_by, write_by, service_in, asked_by}
+use Rattle.uds_gateway.specs.Services.{read_service, write_service, number_of, block_by, write_of, read_by, write_by, service_in, asked_by}
 use Rattle.uds_gateway.specs.Answers.{identifier_in, negative, content_answer, read_answer, write_answer, posted_answer, answer_in, answer_by}
 use Rattle.uds_gateway.specs.Jobs.{IsOwn, IsRefused, EndsPosted}
 use Rattle.uds_gateway.specs.Served.{HasPiece}
@@ -18,11 +19,11 @@ use Rattle.uds_gateway.proofs.Served.{posted_answers}
 ok_same : {x y : Request} → ◌≡◌ {A = Result Request NegativeCode} (Ok x) (Ok y) → x ≡ y
 ok_same is = cc is
 
-of_block : (P : Request → Type 0) → ((block : ℕ) → P (Read block false)) → (block : Option ℕ) (asked : Request) → read_of block ≡ Ok asked → P asked
+of_block : (P : Request → Type 0) → ((block : ℕ) → P (Read block false)) → (block : Option ℕ) (asked : Request) → option_map_or (λ b. Ok (Read b false)) block (Err OutOfRange) ≡ Ok asked → P asked
 of_block P read None asked is = absurd (cc is)
 of_block P read (Some block) asked is = subst P (ok_same is) (read block)
 
-write_block : (P : Request → Type 0) → ((block : ℕ) (bytes : List ℕ) → P (Write block (Some bytes) 0)) → (c : Configuration) (bytes : List ℕ) (block : Option ℕ) (asked : Request) → write_of c bytes block ≡ Ok asked → P asked
+write_block : (P : Request → Type 0) → ((block : ℕ) (bytes : List ℕ) → P (Write block (Some bytes) 0)) → (c : Configuration) (bytes : List ℕ) (block : Option ℕ) (asked : Request) → option_map_or (write_of c bytes) block (Err OutOfRange) ≡ Ok asked → P asked
 write_block P write c bytes None asked is = absurd (cc is)
 write_block P write c bytes (Some block) asked is = elim (cases_Bool (length bytes == (desc_of c block).length)) [
   | inl same ↦ let writes : Ok (Write block (Some bytes) 0) ≡ Ok asked = rw same at is in subst P (ok_same writes) (write block bytes)

@@ -1,7 +1,8 @@
 -- The first entry that decides, among those of a piece.
+use Rattle.std.specs.Option.{option_or}
 use Rattle.std.proofs.Common.{◌≡◌, ◌<◌, ◌≤◌, ◌+◌, ◌-◌, ℕ, zero, suc, true, false, is_some, List, [], ◌∷◌, length, take, drop, Option, Some, None, slice_get, refl, sym, ap, ◌∙◌, subst, arith}
 use Rattle.nvm_moves.specs.block_machine.Words.{Entry}
-use Rattle.uds_gateway.specs.Answers.{answer_at, answer_in, or_else}
+use Rattle.uds_gateway.specs.Answers.{answer_at, answer_in}
 
 some_same : {X : Type 0} {a b : X} → Some a ≡ Some b → a ≡ b
 some_same is = cc is
@@ -20,18 +21,18 @@ drop_past (y ∷ ys) (suc i) past = drop_past ys i (omega (arith, past))
 take_one : {X : Type 0} (x : X) (xs : List X) (i to : ℕ) → i < to → take (to - i) (x ∷ xs) ≡ x ∷ take (to - (i + 1)) xs
 take_one x xs i to less = let more : to - i ≡ suc (to - (i + 1)) = omega (arith, less) in ap (λ n. take n (x ∷ xs)) more
 
-at_entry : (request : List ℕ) (es : List Entry) (i to : ℕ) (e : Entry) → i < to → slice_get es i ≡ Some e → answer_in request (take (to - i) (drop i es)) ≡ or_else (answer_at request e) (answer_in request (take (to - (i + 1)) (drop (i + 1) es)))
+at_entry : (request : List ℕ) (es : List Entry) (i to : ℕ) (e : Entry) → i < to → slice_get es i ≡ Some e → answer_in request (take (to - i) (drop i es)) ≡ option_or (answer_at request e) (answer_in request (take (to - (i + 1)) (drop (i + 1) es)))
 at_entry request es i to e less at =
     let next : suc i ≡ i + 1 = omega arith in
     ap (λ (xs : List Entry). answer_in request (take (to - i) xs)) (drop_at es i e at ∙ ap (λ n. e ∷ drop n es) next) ∙ ap (answer_in request) (take_one e (drop (i + 1) es) i to less)
 
 -- it decides
 pub decides : (request : List ℕ) (es : List Entry) (i to : ℕ) (e : Entry) (answer : List ℕ) → i < to → slice_get es i ≡ Some e → answer_at request e ≡ Some answer → answer_in request (take (to - i) (drop i es)) ≡ Some answer
-decides request es i to e answer less at is = at_entry request es i to e less at ∙ ap (λ (a : Option (List ℕ)). or_else a (answer_in request (take (to - (i + 1)) (drop (i + 1) es)))) is
+decides request es i to e answer less at is = at_entry request es i to e less at ∙ ap (λ (a : Option (List ℕ)). option_or a (answer_in request (take (to - (i + 1)) (drop (i + 1) es)))) is
 
 -- or those behind it
 pub passes : (request : List ℕ) (es : List Entry) (i to : ℕ) (e : Entry) → i < to → slice_get es i ≡ Some e → answer_at request e ≡ None → answer_in request (take (to - i) (drop i es)) ≡ answer_in request (take (to - (i + 1)) (drop (i + 1) es))
-passes request es i to e less at is = at_entry request es i to e less at ∙ ap (λ (a : Option (List ℕ)). or_else a (answer_in request (take (to - (i + 1)) (drop (i + 1) es)))) is
+passes request es i to e less at is = at_entry request es i to e less at ∙ ap (λ (a : Option (List ℕ)). option_or a (answer_in request (take (to - (i + 1)) (drop (i + 1) es)))) is
 
 -- behind all of them there is none
 take_nil : {X : Type 0} (n : ℕ) (xs : List X) → xs ≡ [] → take n xs ≡ []

@@ -1,4 +1,5 @@
 -- The entries of a request, with its answer.
+use Rattle.std.specs.Option.{option_or}
 use Rattle.std.specs.Prelude.{IsTrue, ◌≢◌, ◌↔◌, unwrap_or, IfOk, IfErr, IsErrOf, OnOk, Result, Ok, Err}
 use Rattle.std.specs.List.{list_all}
 use Rattle.std.proofs.Common.{◌≡◌, ◌<◌, ◌≤◌, ◌+◌, ℕ, Bool, true, false, List, [], ◌∷◌, ◌++◌, length, Option, Some, None, refl, sym, ap, ◌∙◌, subst, inl, inr, arith, append-nil}
@@ -19,7 +20,7 @@ use Rattle.uds_gateway.specs.declared.code.NegativeCode.TheVariants.{ConditionsN
 use Rattle.uds_gateway.specs.declared.stop.ServeStop.{ServeStop}
 use Rattle.uds_gateway.specs.declared.stop.ServeStop.TheVariants as stop
 use Rattle.uds_gateway.specs.Services.{asked_by}
-use Rattle.uds_gateway.specs.Answers.{negative, posted_answer, answer_at, answer_in, or_else}
+use Rattle.uds_gateway.specs.Answers.{negative, posted_answer, answer_at, answer_in}
 use Rattle.uds_gateway.specs.Jobs.{HasNone, HasOne, IsOwn, is_under_way, EndsPosted}
 use Rattle.uds_gateway.specs.Turning.{ComesToPost, ComesToOff, Goes, is_on_way}
 use Rattle.uds_gateway.specs.Serving.{ServesBy, Serves, Finishes}
@@ -28,7 +29,7 @@ use Rattle.uds_gateway.proofs.JobTurns.{behind, adds_more}
 
 -- the entry behind those on the way decides
 pub answered : (request : List ℕ) (way : List Entry) (e : Entry) (answer : List ℕ) → IsTrue (list_all is_under_way way) → answer_at request e ≡ Some answer → answer_in request (way ++ e ∷ []) ≡ Some answer
-answered request [] e answer under is = ap (λ (a : Option (List ℕ)). or_else a None) is
+answered request [] e answer under is = ap (λ (a : Option (List ℕ)). option_or a None) is
 answered request (Pick block kind t ops ∷ es) e answer under is = answered request es e answer (and_parts true (list_all is_under_way es) under).1 is
 answered request (Wrote i mark ops ∷ es) e answer under is = answered request es e answer (and_parts true (list_all is_under_way es) under).1 is
 answered request (Ask caller r reply ∷ es) e answer under is = absurd (cc (and_parts false (list_all is_under_way es) under).0)

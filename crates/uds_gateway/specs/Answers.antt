@@ -1,5 +1,6 @@
 -- The answer of a request, by the entries of its job.
 use Rattle.std.specs.Prelude.{◌≡◌, ℕ, ◌==◌, List, [], ◌∷◌, ◌++◌, take, drop, unwrap_or, if◌then◌else◌, Option, Some, None, Result, Ok, Err}
+use Rattle.std.specs.Option.{option_or}
 use Rattle.nvm_moves.specs.block_machine.Words.{ReqResult, Fine, RedundancyFailed, Restored, Request, Refused, Entry, Ask, Post, Configuration}
 use Rattle.uds_gateway.specs.declared.code.NegativeCode.{NegativeCode}
 use Rattle.uds_gateway.specs.declared.code.NegativeCode.TheVariants.{ConditionsNotCorrect, ProgrammingFailure}
@@ -45,14 +46,10 @@ answer_at request (Ask caller r (Refused why)) = Some (negative request Conditio
 answer_at request (Post block r given refused ops) = Some (posted_answer request r given)
 answer_at request e = None
 
-abbrev pub or_else : Option (List ℕ) → Option (List ℕ) → Option (List ℕ)
-or_else (Some answer) other = Some answer
-or_else None other = other
-
 -- the first entry that decides; where none does, as where the power goes off before the Post, there is no answer
 abbrev pub answer_in : List ℕ → List Entry → Option (List ℕ)
 answer_in request [] = None
-answer_in request (e ∷ es) = or_else (answer_at request e) (answer_in request es)
+answer_in request (e ∷ es) = option_or (answer_at request e) (answer_in request es)
 
 abbrev pub answer_by : List ℕ → Result Request NegativeCode → List Entry → Option (List ℕ)
 answer_by request (Err code) entries = Some (negative request code)

@@ -1,5 +1,6 @@
 -- The two services, and what a request asks the NVRAM Manager for (ISO 14229-1).
 use Rattle.std.specs.Prelude.{ℕ, ◌+◌, ◌*◌, ◌-◌, ◌==◌, ◌&&◌, nat_le, false, List, length, drop, get_or, if◌then◌else◌, Option, Some, None, Result, Ok, Err}
+use Rattle.std.specs.Option.{option_map_or}
 use Rattle.nvm_moves.specs.block_machine.Words.{Request, Read, Write, Configuration}
 use Rattle.nvm_moves.specs.block_machine.Blocks.{desc_of}
 use Rattle.uds_gateway.specs.declared.code.NegativeCode.{NegativeCode}
@@ -30,21 +31,18 @@ block_by c high low = let id = high * 256 + low in if nat_le 0x0102 id && nat_le
 
 -- REQUESTS
 
-abbrev pub read_of : Option ℕ → Result Request NegativeCode
-read_of None = Err OutOfRange
-read_of (Some block) = Ok (Read block false)
-
-abbrev pub write_of : Configuration → List ℕ → Option ℕ → Result Request NegativeCode
-write_of c bytes None = Err OutOfRange
-write_of c bytes (Some block) = if length bytes == (desc_of c block).length then Ok (Write block (Some bytes) 0) else Err IncorrectLength
-
 -- three bytes, the last two an identifier
 abbrev pub read_by : Configuration → List ℕ → Result Request NegativeCode
-read_by c request = if length request == 3 then read_of (block_by c (get_or request 1 0) (get_or request 2 0)) else Err IncorrectLength
+read_by c request =
+    if length request == 3 then option_map_or (λ block. Ok (Read block false)) (block_by c (get_or request 1 0) (get_or request 2 0)) (Err OutOfRange) else Err IncorrectLength
+
+abbrev pub write_of : Configuration → List ℕ → ℕ → Result Request NegativeCode
+write_of c bytes block = if length bytes == (desc_of c block).length then Ok (Write block (Some bytes) 0) else Err IncorrectLength
 
 -- four at least, those behind the identifier the content
 abbrev pub write_by : Configuration → List ℕ → Result Request NegativeCode
-write_by c request = if nat_le 4 (length request) then write_of c (drop 3 request) (block_by c (get_or request 1 0) (get_or request 2 0)) else Err IncorrectLength
+write_by c request =
+    if nat_le 4 (length request) then option_map_or (write_of c (drop 3 request)) (block_by c (get_or request 1 0) (get_or request 2 0)) (Err OutOfRange) else Err IncorrectLength
 
 -- the first byte is the service's number
 abbrev pub service_in : List ℕ → ℕ

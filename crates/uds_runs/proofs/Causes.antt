@@ -1,5 +1,6 @@
 -- Why requests fail.
 use Rattle.std.specs.Prelude.{unwrap_or, IsSome, ◌==◌, nat_le, length, drop, get_or}
+use Rattle.std.specs.Option.{option_map_or}
 use Rattle.std.proofs.Common.{◌≡◌, ◌≢◌, ◌⊎◌, ℕ, Bool, true, false, if◌then◌else◌, List, [], ◌∷◌, ◌++◌, Option, Some, None, Result, Ok, Err, refl, sym, ap, ◌∙◌, subst, inl, inr, append_assoc}
 use Rattle.std.proofs.lemmas.Bool.{cases_Bool}
 use Rattle.uds_gateway.specs.block_machine.Words.{Fine, ReadJob, Request, Read, Write, Accepted, Entry, Ask, Post, Found, Configuration}
@@ -15,7 +16,7 @@ use Rattle.uds_gateway.specs.promise_run.Promise.{making_of}
 use Rattle.uds_gateway.specs.block_machine.StartUp.{at_first}
 use Rattle.uds_gateway.specs.declared.code.NegativeCode.TheVariants.{ServiceNotSupported, IncorrectLength, ConditionsNotCorrect, OutOfRange, ProgrammingFailure}
 use Rattle.uds_gateway.specs.declared.code.NegativeCode.{NegativeCode}
-use Rattle.uds_gateway.specs.Services.{read_service, write_service, block_by, read_of, write_of, read_by, write_by, service_in, asked_by}
+use Rattle.uds_gateway.specs.Services.{read_service, write_service, block_by, write_of, read_by, write_by, service_in, asked_by}
 use Rattle.uds_gateway.specs.Jobs.{HasNone, IsOwn, IsRefused, EndsPosted}
 use Rattle.uds_gateway.specs.Served.{IsServedBy, AreServed}
 use Rattle.uds_gateway.specs.Codes.{is_read, gives_content, CaseBy}
@@ -79,11 +80,11 @@ err_same is = cc is
 is_so : (x why : NegativeCode) → is_early x ≡ true → ◌≡◌ {A = Result Request NegativeCode} (Err x) (Err why) → is_early why ≡ true
 is_so x why early is = subst (λ (code : NegativeCode). is_early code ≡ true) (err_same is) early
 
-early_read : (block : Option ℕ) (why : NegativeCode) → read_of block ≡ Err why → is_early why ≡ true
+early_read : (block : Option ℕ) (why : NegativeCode) → option_map_or (λ b. Ok (Read b false)) block (Err OutOfRange) ≡ Err why → is_early why ≡ true
 early_read None why is = is_so OutOfRange why refl is
 early_read (Some block) why is = absurd (cc is)
 
-early_write : (c : Configuration) (bytes : List ℕ) (block : Option ℕ) (why : NegativeCode) → write_of c bytes block ≡ Err why → is_early why ≡ true
+early_write : (c : Configuration) (bytes : List ℕ) (block : Option ℕ) (why : NegativeCode) → option_map_or (write_of c bytes) block (Err OutOfRange) ≡ Err why → is_early why ≡ true
 early_write c bytes None why is = is_so OutOfRange why refl is
 early_write c bytes (Some block) why is = elim (cases_Bool (length bytes == (desc_of c block).length)) [
   | inl same ↦ let write : Ok (Write block (Some bytes) 0) ≡ Err why = rw same at is in absurd (cc write)
