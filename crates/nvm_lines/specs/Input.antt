@@ -1,5 +1,5 @@
 -- The input as a whole.
-use Rattle.std.specs.Prelude.{◌≡◌, ◌<◌, ℕ, List, length, Option, Some, None}
+use Rattle.std.specs.Prelude.{◌≡◌, ◌<◌, ℕ, List, length, Option, Some, None, IfSome}
 
 -- the most bytes of input that are taken: 16 MiB
 abbrev pub input_limit : ℕ
@@ -12,5 +12,4 @@ IsAll None bytes = Unit {0}
 
 -- more bytes than so many are left, where they are told
 abbrev pub IsLonger : Option (List ℕ) → ℕ → Type 0
-IsLonger (Some left) limit = limit < length left
-IsLonger None limit = Unit {0}
+IsLonger left limit = IfSome left (λ bytes. limit < length bytes)

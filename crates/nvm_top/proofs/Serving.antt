@@ -33,7 +33,7 @@ use Rattle.nvm_top.specs.Play.{IsBeforeAttach, IsRightSize, IsFlashStop}
 use Rattle.nvm_top.specs.Promised.{HasNoRun, WritesText, played_call}
 use Rattle.nvm_top.specs.Stack.{AreToldOf, IsStarted, StopsAtStart, Vouches, run_of}
 use Rattle.nvm_lines.specs.Stop.{IsStop}
-use Rattle.nvm_top.specs.Uds.{lines_by, lines_of_history, lines_served, HasPieces, HasRequests, HasRequestsOf, HasWrongRequest, UdsStopsBy, WritesLines, status_served, line_served, end_served, TellsServed, TellsRequests, HasServing, HasAnswered}
+use Rattle.nvm_top.specs.Uds.{lines_by, lines_of_history, lines_served, HasPieces, HasRequests, HasWrongRequest, UdsStopsBy, WritesLines, status_served, line_served, end_served, TellsServed, TellsRequests, HasServing, HasAnswered}
 use Rattle.nvm_top.proofs.AnswerLines.{has_pieces, lines_of_pieces}
 use Rattle.nvm_script.specs.declared.script.Mode.TheVariants as mode
 use Rattle.nvm_top.proofs.Early.{early_has, found_in_use, no_second, wrong_size}
@@ -202,6 +202,10 @@ served_late end lines last w w' status.WriteFault is early = early
 served_late end lines last w w' x is early = status_late end (subst (λ (y : Status). IsBeforeAttach y) is.0 early)
 
 -- OF THE WHOLE CALL
+
+-- the input has this configuration, and requests
+abbrev pub HasRequestsOf : Configuration → List ℕ → Type 0
+HasRequestsOf c bytes = (requests : List (List ℕ)) × HasRequests bytes c requests
 
 has_requests : (left : Option (List ℕ)) (c : Configuration) (requests : List (List ℕ)) → IfSome left (λ bytes. HasRequests bytes c requests) → IfSome left (HasRequestsOf c)
 has_requests None c requests has = tt

@@ -14,7 +14,7 @@ use Rattle.nvm_flash.specs.promise_run.Call.{IsCourseOf, IsInputOf}
 use Rattle.nvm_script.specs.Script.{IsScript, later_lines}
 use Rattle.nvm_script.specs.declared.script.Mode.{Mode}
 use Rattle.nvm_script.specs.declared.script.Mode.TheVariants as mode
-use Rattle.nvm_top.specs.Ends.{HasScript, HasStepsOf, HasWrongLine}
+use Rattle.nvm_top.specs.Ends.{HasScript, HasWrongLine}
 use Rattle.nvm_top.specs.Play.{IsStartStop, IsBeforeAttach, IsFlashStop, StepsStopBy, StopsBy}
 use Rattle.nvm_top.specs.Reading.{IsReadStop}
 use Rattle.script_player.specs.declared.steps.StepFault.{StepFault}
@@ -126,9 +126,13 @@ unread IsWrong Has left reads reads' why w w' x told fault stops is = record {
 
 -- `PLAY` AND `RUN`
 
+-- the input has this configuration, and its later lines are steps of this mode
+abbrev pub HasStepsOf : Mode → Configuration → List ℕ → Type 0
+HasStepsOf m c bytes = (steps : List Step) × HasScript m bytes c steps
+
 has_steps : (m : Mode) (left : Option (List ℕ)) (c : Configuration) (steps : List Step) → IfSome left (λ bytes. HasScript m bytes c steps) → IfSome left (HasStepsOf m c)
 has_steps m None c steps has = tt
-has_steps m (Some bytes) c steps has = (has.config, steps, has.script)
+has_steps m (Some bytes) c steps has = (steps, has)
 
 pub steps_made : (m : Mode) (left : Option (List ℕ)) (reads reads' : ℕ) (x : Status) (c : Configuration) (steps : List Step) (entry exit : Told) (w w' : Written) → IfSome left (λ bytes. HasScript m bytes c steps)
     → HasRun m c steps (EndsIn History (call_by m left x entry exit w w')) entry exit ⊎ HasNoRun (IsFlashStop c entry.bytes) w w' x entry exit

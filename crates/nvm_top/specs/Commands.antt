@@ -1,5 +1,5 @@
 -- What a call of each command keeps; a call of the program keeps what the command keeps that its words name.
-use Rattle.std.specs.Prelude.{◌≡◌, ◌⊎◌, ℕ, Bool, true, false, List, Option, Some, None}
+use Rattle.std.specs.Prelude.{◌≡◌, ◌⊎◌, ℕ, Bool, true, false, List, Option, Some, None, IfSome}
 use Rattle.nvm_lines.specs.nv_streams.Sink.{Written}
 use Rattle.nvm_flash.specs.block_config.Config.{Configuration}
 use Rattle.nvm_flash.specs.fls_model.Told.{Told, ToldBytes}
@@ -14,9 +14,10 @@ use Rattle.nvm_lines.specs.declared.status.Status.{Status}
 use Rattle.nvm_lines.specs.declared.stop.Stop.{Stop}
 use Rattle.nvm_lines.specs.declared.stop.Stop.TheVariants as stop
 use Rattle.nvm_top.specs.Causes.{HasCauses}
-use Rattle.nvm_top.specs.Dump.{DumpsBy, KeepsFlashBy}
+use Rattle.nvm_top.specs.Dump.{DumpsBy, KeepsFlash}
 use Rattle.nvm_top.specs.Ends.{ChecksBy}
 use Rattle.nvm_lines.specs.Output.{Writes}
+use Rattle.nvm_lines.specs.Reading.{HasConfig}
 use Rattle.nvm_top.specs.Play.{IsBeforeAttach, IsBeforeStart, StepsStopBy}
 use Rattle.nvm_top.specs.Promised.{HasNoRun, HasPromise, HasSoaked, call_by}
 use Rattle.nvm_top.specs.Soak.{SoakStopsBy}
@@ -38,8 +39,8 @@ pub record Ended : Type 0 where
   pub exit : Told
 
 abbrev pub ended : Status → (left left' : Option (List ℕ)) (reads reads' : ℕ) (written written' : Written) (writes writes' : ℕ) (entry exit : Told) → Ended
-ended x left left' reads reads' written written' writes writes' entry exit =
-    record { status = x; left = left; left_after = left'; read_faults = reads; read_faults_after = reads'; written = written; written_after = written'; write_faults = writes; write_faults_after = writes'; entry = entry; exit = exit }
+ended x l l' r r' w w' f f' s t =
+    record { status = x; left = l; left_after = l'; read_faults = r; read_faults_after = r'; written = w; written_after = w'; write_faults = f; write_faults_after = f'; entry = s; exit = t }
 
 -- as a call of the promise
 abbrev pub call_in : Mode → Ended → Call
@@ -88,7 +89,7 @@ pub record KeepsCheck (e : Ended) : Type 0 where
 
 pub record KeepsDump (e : Ended) : Type 0 where
   pub by_input : WritesBy (DumpsBy e.left e.read_faults e.read_faults_after e.entry e.exit) e
-  pub kept : KeepsFlashBy e.left e.entry e.exit
+  pub kept : (e.exit ≡ e.entry) ⊎ ((c : Configuration) × IfSome e.left (λ bytes. HasConfig bytes c) × KeepsFlash c.geometry e.entry e.exit)
   pub untouched : IsBeforeStart e.status → e.exit ≡ e.entry
   pub causes : IsCaused e
 
@@ -100,6 +101,7 @@ pub record IsRefused (why : Stop) (e : Ended) : Type 0 where
   pub causes : IsCaused e
 
 -- THE PROGRAM
+
 -- words of no command call none
 abbrev pub KeepsCommand : Option CommandKind → Ended → Type 0
 KeepsCommand None e = IsRefused stop.BadWords e
@@ -111,6 +113,7 @@ KeepsCommand (Some Check) e = KeepsCheck e
 KeepsCommand (Some Dump) e = KeepsDump e
 
 -- A CALL OF ONE COMMAND
+
 -- it serves these words alone, and refuses all others, as words of no command are
 pub record KeepsOnly (is_served : Option CommandKind → Bool) (command : Option CommandKind) (e : Ended) : Type 0 where
   pub served : is_served command ≡ true → KeepsCommand command e

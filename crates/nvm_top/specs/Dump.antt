@@ -42,7 +42,3 @@ pub record KeepsFlash (g : Geometry) (s t : Told) : Type 0 where
   pub bytes : IfBothTold s.bytes t.bytes (λ old new. (new.now ≡ old.now) ⊎ (new.now ≡ enlarged (size_of g) old.now))
   pub ops : t.ops ≡ s.ops
   pub cuts : t.cuts ≡ s.cuts
-
--- so it is, by the shape of the input's configuration, or nothing of it changed
-abbrev pub KeepsFlashBy : Option (List ℕ) → (s t : Told) → Type 0
-KeepsFlashBy left s t = (t ≡ s) ⊎ ((c : Configuration) × IfSome left (λ bytes. HasConfig bytes c) × KeepsFlash c.geometry s t)

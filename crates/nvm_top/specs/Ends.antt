@@ -14,11 +14,7 @@ use Rattle.nvm_lines.specs.declared.stop.Stop.TheVariants as stop
 use Rattle.nvm_top.specs.Measures.{measures_line}
 use Rattle.nvm_lines.specs.Stop.{line_of}
 
--- the input has this configuration, and its later lines are steps of this mode
-abbrev pub HasStepsOf : Mode → Configuration → List ℕ → Type 0
-HasStepsOf m c bytes = HasConfig bytes c × (steps : List Step) × IsScript c m 2 [] (later_lines bytes) steps
-
--- this configuration, and these steps
+-- the input has this configuration, and its later lines are these steps of this mode
 pub record HasScript (m : Mode) (bytes : List ℕ) (c : Configuration) (steps : List Step) : Type 0 where
   pub config : HasConfig bytes c
   pub script : IsScript c m 2 [] (later_lines bytes) steps

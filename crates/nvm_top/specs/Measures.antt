@@ -8,14 +8,11 @@ use Rattle.nvm_flash.specs.block_config.Sizes.{measures_of}
 use Rattle.nvm_lines.specs.declared.status.Status.{Status}
 use Rattle.nvm_lines.specs.declared.status.Status.TheVariants as status
 
--- the line of these numbers, with its newline
-abbrev pub numbers_line : ℕ → ℕ → ℕ → ℕ → List ℕ
-numbers_line blocks instances need bank =
-    codes "config ok blocks " ++ (decimal blocks ++ (codes " instances " ++ (decimal instances ++ (codes " need " ++ (decimal need ++ (codes " bank " ++ (decimal bank ++ codes "\n")))))))
-
--- how many blocks and instances a configuration has, how many pages a bank needs, and how many it has
+-- how many blocks and instances a configuration has, how many pages a bank needs, and how many it has, as a line with its newline
 abbrev pub measures_line : Configuration → List ℕ
-measures_line c = numbers_line (length c.blocks) (measures_of c.geometry.page c.blocks).instances (need_pages_of c) (bank_pages_of c)
+measures_line c =
+    codes "config ok blocks " ++ (decimal (length c.blocks) ++ (codes " instances " ++ (decimal (measures_of c.geometry.page c.blocks).instances
+    ++ (codes " need " ++ (decimal (need_pages_of c) ++ (codes " bank " ++ (decimal (bank_pages_of c) ++ codes "\n")))))))
 
 -- a command ends well, and writes the measures last
 abbrev pub IsMeasured : Configuration → Status → List (List ℕ) → Type 0

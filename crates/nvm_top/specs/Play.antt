@@ -7,11 +7,12 @@ use Rattle.nvm_flash.specs.fls_model.Told.{Told, ToldBytes}
 use Rattle.nvm_flash.specs.promise_run.Run.{LeavesAlone}
 use Rattle.nvm_flash.specs.Made.{IsOnlyFaulty}
 use Rattle.nvm_script.specs.declared.script.Mode.{Mode}
+use Rattle.nvm_script.specs.declared.step.Step.{Step}
 use Rattle.nvm_lines.specs.declared.status.Status.{Status}
 use Rattle.nvm_lines.specs.declared.status.Status.TheVariants as status
 use Rattle.nvm_lines.specs.declared.stop.Stop.{Stop}
 use Rattle.nvm_lines.specs.declared.stop.Stop.TheVariants as stop
-use Rattle.nvm_top.specs.Ends.{HasStepsOf, HasWrongLine, ReadsBy}
+use Rattle.nvm_top.specs.Ends.{HasScript, HasWrongLine, ReadsBy}
 use Rattle.nvm_lines.specs.Stop.{line_of}
 
 -- a flash, where it tells its bytes, has neither none nor so many
@@ -55,6 +56,7 @@ IsBeforeStart status.WrongSize = Unit {0}
 IsBeforeStart x = IsBeforeAttach x
 
 -- HOW IT ENDS
+
 -- at the attach of a flash that is to have so many bytes
 abbrev pub IsPlayEnd : ℕ → Told → Told → Status → Type 0
 IsPlayEnd need s t status.FlashFault = Rose s.faults t.faults
@@ -73,6 +75,7 @@ IsStepsEnd need s t status.Memory = Unit {0}
 IsStepsEnd need s t _ = ⊥
 
 -- HOW IT IS PRINTED
+
 -- the flash has a wrong size, and the line tells how many bytes it has, where they are told, and how many are needed
 abbrev pub NamesSize : ℕ → Option ToldBytes → List (List ℕ) → Type 0
 NamesSize need bytes lines =
@@ -95,4 +98,4 @@ StopsBy IsWrong Has left reads reads' bytes x lines = ReadsBy left reads reads' 
 
 -- of `play`, or of `run`
 abbrev pub StepsStopBy : Mode → (left : Option (List ℕ)) (reads reads' : ℕ) → Option ToldBytes → Status → List (List ℕ) → Type 0
-StepsStopBy m = StopsBy (HasWrongLine m) (HasStepsOf m)
+StepsStopBy m = StopsBy (HasWrongLine m) (λ c bytes. (steps : List Step) × HasScript m bytes c steps)

@@ -155,4 +155,6 @@ WritesText meant entries lines written written' x = (x ≡ meant) × Puts writte
 
 -- there is a run of these steps that is this call's, and it keeps the promise
 abbrev pub HasSoaked : Option (List ℕ) → (Configuration → List Step) → Call → Type 0
-HasSoaked left steps call = (c : Configuration) × IfSome left (λ bytes. HasScript mode.Play bytes c []) × HasRun mode.Play c (steps c) (λ r. EndsWith [] (soak_lines r.end r.history) call r.end) call.entry call.exit
+HasSoaked left steps call =
+    (c : Configuration) × IfSome left (λ bytes. HasScript mode.Play bytes c [])
+    × HasRun mode.Play c (steps c) (λ r. EndsWith [] (soak_lines r.end r.history) call r.end) call.entry call.exit

@@ -38,9 +38,6 @@ pub record HasRequests (bytes : List ℕ) (c : Configuration) (requests : List (
   pub config : HasConfig bytes c
   pub lines : IsRequests 2 (later_lines bytes) requests
 
-abbrev pub HasRequestsOf : Configuration → List ℕ → Type 0
-HasRequestsOf c bytes = (requests : List (List ℕ)) × HasRequests bytes c requests
-
 -- of its later lines this is the first that is wrong
 abbrev pub HasWrongRequest : List ℕ → ℕ → Type 0
 HasWrongRequest bytes number = (c : Configuration) × HasConfig bytes c × IsFirstWrongRequest 2 (later_lines bytes) number
@@ -64,7 +61,7 @@ IsUdsStop = IsReadStop HasWrongRequest
 
 -- why it begins no run
 abbrev pub UdsStopsBy : (left : Option (List ℕ)) (reads reads' : ℕ) → Option ToldBytes → Status → List (List ℕ) → Type 0
-UdsStopsBy = StopsBy HasWrongRequest HasRequestsOf
+UdsStopsBy = StopsBy HasWrongRequest (λ c bytes. (requests : List (List ℕ)) × HasRequests bytes c requests)
 
 -- THE OUTPUT
 
@@ -151,11 +148,8 @@ pub record TellsServed (c : Configuration) (requests : List (List ℕ)) (call : 
   pub writes : WritesLines (status_served end) (lines_served c (Found marks ops) serves.first serves.pieces serves.rest) (line_served end r.history) call.written call.written_after x
 
 -- Or no start-up was made, for a fault or want of memory.
-abbrev pub TellsNone : Call → Run → Type 0
-TellsNone call r = (r.history ≡ []) × EndsWith [] (last_line r.end [] ∷ []) call r.end
-
 abbrev pub TellsRequests : Configuration → List (List ℕ) → Call → Status → Run → Type 0
-TellsRequests c requests call x r = TellsNone call r ⊎ TellsServed c requests call x r
+TellsRequests c requests call x r = ((r.history ≡ []) × EndsWith [] (last_line r.end [] ∷ []) call r.end) ⊎ TellsServed c requests call x r
 
 -- a run of steps that ask for requests and make turns, which the call tells
 abbrev pub HasServing : Configuration → List (List ℕ) → Call → Status → Type 0

@@ -1,10 +1,12 @@
 // The command `dump`: what an image holds, line by line.
-ghost use Rattle.std.specs.Prelude.{◌≡◌, length};
+ghost use Rattle.std.specs.Prelude.{◌≡◌, ◌⊎◌, IfSome, length};
 ghost use Rattle.nvm_flash.specs.nv_base.Count.{Rose};
 ghost use Rattle.nvm_flash.specs.fee_image.Image.{layout_of};
 ghost use Rattle.nvm_flash.specs.nv_base.Geometry.{IsLegal, HasBanks, size_of};
+ghost use Rattle.nvm_flash.specs.block_config.Config.{Configuration};
+ghost use Rattle.nvm_lines.specs.Reading.{HasConfig};
 ghost use Rattle.nvm_top.specs.Causes.{HasCauses};
-ghost use Rattle.nvm_top.specs.Dump.{DumpsBy, DumpsFlash, IsDump, KeepsFlash, KeepsFlashBy};
+ghost use Rattle.nvm_top.specs.Dump.{DumpsBy, DumpsFlash, IsDump, KeepsFlash};
 ghost use Rattle.nvm_lines.specs.Output.{IsReport, Writes};
 ghost use Rattle.nvm_top.specs.Play.{IsBeforeStart};
 
@@ -25,7 +27,7 @@ pub(crate) fn dump<S: Source, K: Sink, F: Flash>(
 ) -> (Status, F)
     ensures by_input { Writes (DumpsBy (S.left input.old) (S.faults input.old) (S.faults input.new) (F.told flash) (F.told result.1)) (K.written output.old) (K.written output.new) result.0 }
     ensures causes { HasCauses result.0 (S.faults input.old) (S.faults input.new) (K.faults output.old) (K.faults output.new) (S.left input.new) }
-    ensures kept { KeepsFlashBy (S.left input.old) (F.told flash) (F.told result.1) }
+    ensures kept { (F.told result.1 ≡ F.told flash) ⊎ ((c : Configuration) × IfSome (S.left input.old) (λ bytes. HasConfig bytes c) × KeepsFlash c.geometry (F.told flash) (F.told result.1)) }
     ensures untouched { IsBeforeStart result.0 → F.told result.1 ≡ F.told flash }
 {
     match read_configuration(alloc, input) {

@@ -1,21 +1,9 @@
 // The measures of a configuration.
 ghost use Rattle.std.specs.Prelude.{◌≡◌, IfOk, string_bytes};
-ghost use Rattle.nvm_top.specs.Measures.{numbers_line as numbers_text, measures_line as measures_text};
+ghost use Rattle.nvm_top.specs.Measures.{measures_line as measures_text};
 
 use nvm_flash::block_config::Config;
 use std::alloc::{AllocError, Global};
-
-fn numbers_line(
-    alloc: Global,
-    blocks: u16,
-    instances: u16,
-    need: u32,
-    bank: u32,
-) -> Result<String, AllocError>
-    ensures { IfOk result (λ t. string_bytes t ≡ numbers_text blocks instances need bank) }
-{
-    format!(in alloc; "config ok blocks {blocks} instances {instances} need {need} bank {bank}\n")
-}
 
 /// The line that tells how many blocks and instances a configuration has, how many pages a bank needs and how many it
 /// has, with its newline.
@@ -26,5 +14,5 @@ pub fn measures_line(alloc: Global, config: &Config) -> Result<String, AllocErro
     let instances = config.instances();
     let need = config.need_pages();
     let bank = config.bank_pages();
-    numbers_line(alloc, blocks, instances, need, bank)
+    format!(in alloc; "config ok blocks {blocks} instances {instances} need {need} bank {bank}\n")
 }

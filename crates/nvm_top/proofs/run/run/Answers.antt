@@ -1,7 +1,7 @@
 use Rattle.std.proofs.Common.{Err, ap, inr}
 use Rattle.nvm_script.specs.declared.script.Mode.TheVariants as mode
-use Rattle.nvm_top.specs.Ends.{HasStepsOf, HasWrongLine}
-use Rattle.nvm_top.proofs.WholeCalls.{steps_made, unread}
+use Rattle.nvm_top.specs.Ends.{HasWrongLine}
+use Rattle.nvm_top.proofs.WholeCalls.{HasStepsOf, steps_made, unread}
 use Rattle.nvm_top.proofs.run.run.Goals as goal
 
 pub returns-in-Err-clause-promise : goal.returns-in-Err-clause-promise

@@ -1,7 +1,7 @@
 use Rattle.std.proofs.Common.{Err, ap, inr}
-use Rattle.nvm_top.specs.Uds.{HasRequestsOf, HasWrongRequest}
+use Rattle.nvm_top.specs.Uds.{HasWrongRequest}
 use Rattle.nvm_top.proofs.WholeCalls.{unread}
-use Rattle.nvm_top.proofs.Serving.{answered}
+use Rattle.nvm_top.proofs.Serving.{HasRequestsOf, answered}
 use Rattle.nvm_top.proofs.uds.uds.Goals as goal
 
 pub returns-in-Err-clause-promise : goal.returns-in-Err-clause-promise
