@@ -13,6 +13,7 @@ AtOne c P s [] = ⊥
 AtOne c P s (e ∷ es) = P s e ⊎ AtOne c P (step c s e) es
 
 -- ACCEPTED
+
 -- a request asks for this mark of a block: for its own content, for what RAM holds when it is taken, for Invalid or Erased
 abbrev pub AsksFor : Request → ℕ → Mark → Type 0
 AsksFor (Write block (Some content) store) id mark = (block ≡ id) × (mark ≡ Content content)
@@ -59,6 +60,7 @@ pub record IsAccepted (c : Configuration) (h : List Entry) (i : Instance) (mark 
   pub brought : IsBroughtBy c h at_first i mark h
 
 -- ACKNOWLEDGED
+
 -- a Post tells of an instance that it was written: with 0 of each of its block, with 7 of the copy that was
 abbrev pub Tells : Configuration → State → Job → ReqResult → ℕ → Type 0
 Tells c s j Fine index = Contains (indices_of c s (job_block j)) index

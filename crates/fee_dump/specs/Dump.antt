@@ -12,6 +12,7 @@ use Rattle.fee_image.specs.Image.{Layout, bank_in, head_of_bank, active_of}
 use Rattle.fee_image.specs.RecordList.{Rec, records_of, end_of}
 
 -- A RECORD
+
 abbrev pub commit_text : Bool → List ℕ
 commit_text committed = if committed then codes "committed" else codes "abandoned"
 
@@ -29,6 +30,7 @@ record_line format r = numbers_line r.at r.head.number.0 (kind_byte r.head.kind)
     (if format == new_format then counted_text r.head.count (commit_text r.committed) else commit_text r.committed)
 
 -- THE TAIL
+
 -- n pages of a bank from page q on are blank
 abbrev pub are_blank : Bank → List ℕ → ℕ → ℕ → Bool
 are_blank b bytes q zero = true
@@ -42,6 +44,7 @@ abbrev pub tail_line : Bool → List ℕ
 tail_line blank = if blank then codes "tail blank\n" else codes "tail used\n"
 
 -- A BANK
+
 abbrev pub none_line : ℕ → List ℕ
 none_line k = codes "bank " ++ (decimal k ++ codes " none\n")
 
@@ -58,6 +61,7 @@ bank_text l bytes k None = none_line k
 bank_text l bytes k (Some h) = head_line k h ++ log_text h.format (records_of (bank_in l h.format k) bytes) (has_blank_tail (bank_in l h.format k) bytes)
 
 -- AN IMAGE
+
 -- the first n banks, one after another
 abbrev pub banks_text : Layout → List ℕ → ℕ → List ℕ
 banks_text l bytes zero = []

@@ -37,6 +37,7 @@ abbrev pub IsNoBankHead : ℕ → List ℕ → Type 0
 IsNoBankHead p page = (h : BankHead) → IsBankHead p page h → ⊥
 
 -- THE SAME, COMPUTED
+
 -- the head that a page would have
 abbrev pub bank_head_in : List ℕ → BankHead
 bank_head_in page = record { format = get_or page 1 0; generation = from_be_bytes w32 (take 4 (drop 2 page)) }

@@ -17,6 +17,7 @@ GuardsHold =
     → Grown (guarded xs ++ rest) (guarded ys ++ more) → xs ≡ ys
 
 -- WHAT MAY COME TO BE GUARDED
+
 -- bytes of which some are known, and the others are any
 abbrev pub IsAs : Option ℕ → ℕ → Type 0
 IsAs None b = b < 256

@@ -45,6 +45,7 @@ abbrev pub IsNoRecHead : ℕ → ℕ → List ℕ → Type 0
 IsNoRecHead format p page = (h : RecHead) → IsRecHead format p page h → ⊥
 
 -- THE SAME, COMPUTED
+
 -- the count that a page would have
 abbrev pub count_in : ℕ → List ℕ → ℕ
 count_in format page = if format == new_format then from_be_bytes w32 (take 4 (drop 6 page)) else 0

@@ -17,6 +17,7 @@ abbrev pub IsSoundHead : List ℕ → Type 0
 IsSoundHead page = IsSomeBankHead page ⊎ GrowsNoBankHead page
 
 -- THE SAME, COMPUTED
+
 -- a byte has no bits but those of another
 abbrev pub is_part : ℕ → ℕ → Bool
 is_part x byte = bit_and x byte == x

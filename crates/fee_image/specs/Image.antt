@@ -15,6 +15,7 @@ use Rattle.fee_image.specs.Found.{IsFound, shown_in}
 use Rattle.nv_base.specs.Held.{Held, never_written}
 
 -- BANKS
+
 -- how an image is cut into banks, one behind another
 pub record Layout : Type 0 where
   -- bytes of a page
@@ -48,6 +49,7 @@ abbrev pub BankStands : Layout → List ℕ → ℕ → BankHead → Type 0
 BankStands l bytes k h = StandsAs (bank_in l h.format k) bytes h
 
 -- THE ACTIVE BANK
+
 -- bank k with its head comes before bank j with this one: by a greater generation, and on a tie by the lesser number
 abbrev pub ComesFirst : ℕ → BankHead → ℕ → BankHead → Type 0
 ComesFirst k h j other = (other.generation < h.generation) ⊎ ((other.generation ≡ h.generation) × (k < j))
@@ -63,6 +65,7 @@ abbrev pub HasNoActive : Layout → List ℕ → Type 0
 HasNoActive l bytes = (k : ℕ) (h : BankHead) → k < l.banks → BankStands l bytes k h → ⊥
 
 -- THE FOUND MAP
+
 -- what a start-up finds for a number of this length: what the active bank holds, nothing where none is active
 abbrev pub IsFoundIn : Layout → List ℕ → ℕ → ℕ → Held → Type 0
 IsFoundIn l bytes number length held =
@@ -76,6 +79,7 @@ AreFound l (x ∷ xs) bytes marks =
     (held : Held) × (rest : List (Instance × Mark)) × IsFoundIn l bytes x.0.0 x.1 held × AreFound l xs bytes rest × (marks ≡ listed (instance_of x.0) held.mark rest)
 
 -- THE SAME, COMPUTED
+
 -- the head with which bank k stands
 abbrev pub head_of_bank : Layout → List ℕ → ℕ → Option BankHead
 head_of_bank l bytes k = if is_gate l.page (image_page l bytes k 1) then bank_head_of l.page (image_page l bytes k 0) else None

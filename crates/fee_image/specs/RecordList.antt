@@ -10,6 +10,7 @@ use Rattle.fee_format.specs.Pages.{blank_page, body_pages_of, record_pages_of}
 use Rattle.fee_image.specs.Bank.{Bank, page_of, pages_from}
 
 -- A STANDING BANK
+
 -- page 0 is a bank head and page 1 an open gate
 pub record StandsAs (b : Bank) (bytes : List ℕ) (h : BankHead) : Type 0 where
   pub head : IsBankHead b.page (page_of b bytes 0) h
@@ -20,6 +21,7 @@ abbrev pub StandsNot : Bank → List ℕ → Type 0
 StandsNot b bytes = (h : BankHead) → StandsAs b bytes h → ⊥
 
 -- RECORDS
+
 pub record Rec : Type 0 where
   -- the page of its bank where its header stands
   pub at : ℕ
@@ -62,6 +64,7 @@ pub record IsLog (b : Bank) (bytes : List ℕ) (records : List Rec) (end : ℕ) 
   pub stop : Stops b bytes end
 
 -- THE SAME, COMPUTED
+
 -- the record of a header at page q
 abbrev pub rec_of : Bank → List ℕ → ℕ → RecHead → Rec
 rec_of b bytes q h = record {
@@ -108,6 +111,7 @@ abbrev pub end_of : Bank → List ℕ → ℕ
 end_of b bytes = end_after b.page 2 (records_of b bytes)
 
 -- THE TAIL
+
 -- the tail, which is all pages from the log's end on, is blank
 abbrev pub IsTailBlank : Bank → List ℕ → ℕ → Type 0
 IsTailBlank b bytes end = (q : ℕ) → end ≤ q → q < b.pages → page_of b bytes q ≡ blank_page b.page

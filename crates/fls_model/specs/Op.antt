@@ -18,6 +18,7 @@ MayLeave (Program address page) old new = SameOutside address (length page) old 
 MayLeave (Erase address n) old new = SameOutside address n old new × Grown (piece address n old) (piece address n new)
 
 -- WHERE SO MANY BYTES OF ONE ARE LET BE DONE
+
 -- the first bytes of a page, filled up with 0xFF, which clears no bit
 abbrev pub kept_page : ℕ → List ℕ → List ℕ
 kept_page keep page = take keep page ++ replicate (length page - keep) 255

@@ -61,6 +61,7 @@ IfBothTold None None P = Unit {0}
 IfBothTold _ _ P = ⊥
 
 -- WHERE A CALL MAY REACH
+
 pub record HasRange (t : Told) (address n : ℕ) : Type 0 where
   pub inside : address + n ≤ size_of t.geometry
 

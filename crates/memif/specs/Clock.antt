@@ -41,6 +41,7 @@ abbrev pub untold : Clock
 untold = record { may_find = λ w m. ⊥; off_in = λ k. ⊥; failed = λ k. ⊥; worn = λ k n urgent. ⊥; of_second = λ k. ⊥; spare = λ k s. ⊥; was = λ t k. ⊥ }
 
 -- WHAT STAYS
+
 pub record SameClock (old new : Clock) : Type 0 where
   pub may_find : (w : When) (m : ℕ → Held) → new.may_find w m ↔ old.may_find w m
   pub off_in : (k : ℕ) → new.off_in k ↔ old.off_in k
@@ -67,6 +68,7 @@ GoesOff Off ops ops_new k = (k ≡ ops) × (k < ops_new)
 GoesOff answer ops ops_new k = ⊥
 
 -- WHAT IS FOUND
+
 -- each number has in a map what it may hold: what is settled, or a doubt
 abbrev pub ArePossible : DeviceTold → Option (List Slot) → (ℕ → Held) → Type 0
 ArePossible d (Some slots) m = (n : ℕ) → IsPossible (slot_at d.fixed.numbers slots n) (m n)
@@ -77,6 +79,7 @@ abbrev pub FindsNow : DeviceTold → Clock → Type 0
 FindsNow d c = (m : ℕ → Held) → c.may_find (After d.ops) m → ArePossible d d.slots m
 
 -- A TURN ON A PART
+
 pub record Ticks (p : Part) (answer : DeviceTurn) (old : DeviceTold) (clock : Clock) (new : DeviceTold) (clock_new : Clock) : Type 0 where
   pub past : Past old.ops clock clock_new
   -- what a cut in this turn may leave was possible before it

@@ -14,6 +14,7 @@ use Rattle.memif.specs.declared.answer.JobResult.{JobResult}
 use Rattle.memif.specs.declared.answer.JobResult.TheVariants.{JobPending}
 
 -- WHAT NEVER CHANGES
+
 -- the two parts of a device, each over a flash of its own, if it has one
 pub data Part : Type 0 where
   First : Part
@@ -41,6 +42,7 @@ pub record Fixed : Type 0 where
   pub two : Bool
 
 -- WHAT CHANGES
+
 -- of one number: what it holds for certain, and what a start-up may find beside it
 pub record Slot : Type 0 where
   pub settled : Held
@@ -93,6 +95,7 @@ pub record DeviceTold : Type 0 where
   pub wait : Option ℕ
 
 -- PARTS
+
 abbrev pub HasPart : Fixed → Part → Type 0
 HasPart f First = Unit {0}
 HasPart f Second = f.two ≡ true
@@ -134,6 +137,7 @@ abbrev pub armed : ℕ → ℕ → ℕ → DeviceTold → DeviceTold
 armed which nth keep d = if which == 0 then record d { first = plans nth keep d.first } else (if which == 1 then record d { second = plans nth keep d.second } else d)
 
 -- NUMBERS
+
 -- what stands for a number, of things in the order of the numbers; this one where it isn't configured
 abbrev pub at_number : {A : Type 0} → A → List (DeviceNumber × ℕ) → List A → ℕ → A
 at_number none [] things n = none
@@ -171,6 +175,7 @@ abbrev pub IsConfigured : DeviceTold → ℕ → Type 0
 IsConfigured d n = is_some (length_of d.fixed.numbers n) ≡ true
 
 -- WHAT IS OPEN
+
 abbrev pub is_open : Stand → Bool
 is_open (Open j) = true
 is_open (Ended result given) = false
@@ -196,6 +201,7 @@ given_by (Open j) = []
 given_by (Ended result given) = given
 
 -- TURNS
+
 -- the most turns of an operation
 abbrev pub most_of : Figures → DeviceOp → ℕ
 most_of f Read = f.read

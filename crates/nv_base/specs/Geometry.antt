@@ -11,6 +11,7 @@ abbrev pub pages_of_sector : Geometry → ℕ
 pages_of_sector g = g.sector / g.page
 
 -- OF ONE OF SO MANY BANKS
+
 abbrev pub sectors_of_bank : Geometry → ℕ → ℕ
 sectors_of_bank g banks = g.sectors / banks
 
@@ -25,6 +26,7 @@ abbrev pub address_of_page : Geometry → ℕ → ℕ → ℕ → ℕ
 address_of_page g banks bank page = (bank * pages_of_bank g banks + page) * g.page
 
 -- LEGAL SHAPES
+
 pub record IsPageSize (page : ℕ) : Type 0 where
   pub size : Contains (16 ∷ 32 ∷ 64 ∷ 128 ∷ 256 ∷ []) page
   pub low : 16 ≤ page
@@ -50,6 +52,7 @@ pub record HasBanks (g : Geometry) (banks : ℕ) : Type 0 where
   pub whole : g.sectors % banks ≡ 0
 
 -- LAWS
+
 -- the pages of all banks fill the flash, and each bank has four at least
 abbrev pub BanksFill : Type 0
 BanksFill = (g : Geometry) (banks : ℕ) → IsLegal g → HasBanks g banks → (pages_of_bank g banks * g.page * banks ≡ size_of g) × (4 ≤ pages_of_bank g banks)

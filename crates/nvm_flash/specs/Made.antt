@@ -57,6 +57,7 @@ pub record ComesBack (c : Configuration) (fault : MakeFault) (s t : Told) : Type
   pub cuts : s.cuts ≤ t.cuts
 
 -- THE DEVICE IS TAKEN APART
+
 -- What its part told of the flash is so, its operations were due, and few switches began again. Where it asked for no operation, the flash counted none.
 pub record IsBack (c : Configuration) (inner exit : Told) (before : PartTold) (now : DeviceTold) (clock : Clock) : Type 0 where
   pub operations : List Change
@@ -73,6 +74,7 @@ pub record IsBack (c : Configuration) (inner exit : Told) (before : PartTold) (n
   pub none : now.ops ≡ 0 → now.first.planning.unplanned ≡ inner.cuts → (operations ≡ []) × (exit.ops ≡ inner.ops) × (exit.cuts ≡ inner.cuts)
 
 -- THE STACK
+
 -- a device of one part
 abbrev pub one_part : PartTold → Part → PartTold
 one_part p First = p

@@ -37,6 +37,7 @@ abbrev pub last_found : List Entry → Option ℕ
 last_found h = found_from None h
 
 -- COUNTS
+
 -- the count of an instance that is due, where so many were found
 abbrev pub count_due : List Entry → (ℕ → ℕ) → ℕ → ℕ
 count_due h found n = more_writes (wrotes (instance_of (record { 0 = n })) h) (found n)

@@ -3,6 +3,7 @@ use Rattle.std.specs.Prelude.{ℕ, Bool, true, false, List, [], ◌∷◌, ◌++
 use Rattle.block_machine.specs.Words.{Entry, Ask, Pick, Off, Found}
 
 -- MOMENTS AND MOVES
+
 -- what the device told at a moment: its faults and its operations so far, and whether a job of it or work of its own, as a
 -- switch of banks, is open
 pub record Moment : Type 0 where
@@ -30,6 +31,7 @@ moment_behind before [] = before
 moment_behind before (m ∷ ms) = moment_behind m.behind ms
 
 -- WHAT THEY ADD
+
 abbrev pub is_asked : Option Entry → Bool
 is_asked (Some (Ask caller r reply)) = true
 is_asked e = false

@@ -12,6 +12,7 @@ use Rattle.block_machine.specs.History.{up_to}
 use Rattle.promise_blocks.specs.OverDevice.{is_of}
 
 -- OPERATIONS
+
 -- the job in hand, if there is one, is on one of these blocks
 abbrev pub is_on : (ℕ → Bool) → Option Job → Bool
 is_on of hand = option_map_or (λ j. of (job_block j)) hand false

@@ -12,6 +12,7 @@ use Rattle.promise_blocks.specs.Payment.{Worn}
 use Rattle.promise_blocks.specs.Moves.{Moment, Move, entry_list, is_found, is_off, is_picked}
 
 -- WHAT WORK TAKES
+
 -- what a device makes of its work at most
 pub record Costs : Type 0 where
   -- a switch of banks
@@ -23,6 +24,7 @@ pub record Costs : Type 0 where
   pub reserve : ℕ
 
 -- TRIES
+
 -- What the device is at: the turns that are left of what is open, where no fault comes, none where the power is off; the device
 -- number of which a try of a record is open; and how many tries more may begin of the job in hand.
 pub record Work : Type 0 where
@@ -86,6 +88,7 @@ EndsTry worn c s number before m =
     ⊎ ((j : Job) × (s.hand ≡ Some j) × worn m.behind.ops number (rank_of c j).immediate)
 
 -- OPERATIONS
+
 -- the free pages with which a try needs no switch: one that isn't urgent leaves those that are kept
 abbrev pub pages_needed : Costs → (urgent : Bool) → ℕ → ℕ
 pages_needed f urgent n = f.pages n + (if urgent then 0 else f.reserve)
@@ -134,6 +137,7 @@ AreWorked f room worn c before s w (m ∷ ms) (e ∷ es) = IsWorked f room worn 
 AreWorked f room worn c before s w ms es = ⊥
 
 -- HOW MANY TRIES
+
 -- so often one of the moves ends a try, or may
 abbrev pub ends_most : Moment → List Move → ℕ
 ends_most before [] = 0

@@ -92,6 +92,7 @@ pub record Bridges (r : Reading) (cutter : Bool) (f : FlashRun) (before : PartTo
       → IfSome (bytes_after f k) (λ image. clock.spare k (r.free (take k f.operations) image))
 
 -- A DEVICE OVER BANKS
+
 -- the reading of one: the sound images, the last generation and a bank without room are those of `Image`, computed
 abbrev pub reading_of : Making → Reading
 reading_of m = record {

@@ -29,6 +29,7 @@ abbrev pub may_be_closed : List Change → Bool
 may_be_closed operations = failed_from false operations
 
 -- OF ONE BANK
+
 -- the bank that an operation changes
 abbrev pub bank_of_op : Geometry → (banks : ℕ) → Op → ℕ
 bank_of_op g banks (Program address page) = address / g.page / pages_of_bank g banks

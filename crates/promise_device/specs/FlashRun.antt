@@ -35,6 +35,7 @@ abbrev pub WentOff : FlashRun → ℕ → Type 0
 WentOff f k = (x : Change) × (slice_get f.operations k ≡ Some x) × (x.answer ≡ Off)
 
 -- PREMISES
+
 pub record TellsBytes (f : FlashRun) : Type 0 where
   pub first : List ℕ
   pub entry : bytes_now f.entry ≡ Some first
@@ -56,6 +57,7 @@ abbrev pub StartsSound : Making → FlashRun → Type 0
 StartsSound m f = IfSome (bytes_now f.entry) (IsSoundFlash m)
 
 -- OPERATIONS AND BYTES
+
 -- each operation finds the bytes that the one before it left, from the first bytes on to the last
 abbrev pub IsChain : List ℕ → List Change → List ℕ → Type 0
 IsChain first [] last = last ≡ first

@@ -48,6 +48,7 @@ HasNoRoomFor pages m image =
     × (let b = bank_in (banks_of m) h.format k in IsClosed b image (end_of b image) ⊎ (b.pages < end_of b image + pages))
 
 -- THE SAME, COMPUTED
+
 abbrev pub is_of_last_generation : Making → List ℕ → Bool
 is_of_last_generation m image = option_map_or (λ x. x.1.generation == last_generation) (active_of (banks_of m) image) false
 

@@ -13,6 +13,7 @@ use Rattle.promise_device.specs.Wear.{is_failed, bank_of_op, are_due}
 use Rattle.promise_device.specs.Generations.{bank_of_generation, generation_of, IsUnused}
 
 -- THE GENERATIONS OF A BANK
+
 abbrev pub one_if : Bool → ℕ
 one_if b = if b then 1 else 0
 
@@ -26,6 +27,7 @@ abbrev pub SealsAreEven : Type 0
 SealsAreEven = (banks j k g : ℕ) → j < banks → k < banks → seals banks j g ≤ seals banks k g + 1
 
 -- THE ERASES
+
 -- the first sector of bank k is erased
 abbrev pub erases_first : Making → (k : ℕ) → Op → Bool
 erases_first m k (Program address page) = false

@@ -38,6 +38,7 @@ abbrev pub most_copied : Making → ℕ
 most_copied m = 1 + all_records m.geometry.page m.numbers + most_wanted m
 
 -- THE OPERATIONS BEFORE
+
 -- the last of these operations that changed bank k, where none did the one that is given
 abbrev pub last_in : Geometry → (banks k : ℕ) → Option Change → List Change → Option Change
 last_in g banks k last [] = last
@@ -56,12 +57,14 @@ abbrev pub is_repeated : Geometry → (banks : ℕ) → (earlier : List Change) 
 is_repeated g banks earlier op = option_map_or (repeats op) (last_in g banks (bank_of_op g banks op) None earlier) false
 
 -- THE NEXT BANK
+
 -- behind an active bank, and behind the last one of so many the first; where none is active the first too
 abbrev pub bank_behind : (banks : ℕ) → Option (ℕ × BankHead) → ℕ
 bank_behind banks None = 0
 bank_behind banks (Some x) = if x.0 + 1 == banks then 0 else x.0 + 1
 
 -- AN ERASE
+
 -- an active bank may be left: it hasn't the last generation, behind which none comes, and lacks the pages of a record, unless a
 -- program of it failed, which may have closed it
 abbrev pub may_leave : Making → (earlier : List Change) → List ℕ → ℕ × BankHead → Bool
@@ -90,6 +93,7 @@ is_in_order g banks earlier address length =
     || (option_map_or (leads_to address) (last_in g banks k None earlier) false || is_repeated g banks earlier (Erase address length))
 
 -- A PROGRAM
+
 -- its page is blank
 abbrev pub finds_blank : (page address : ℕ) → List ℕ → Bool
 finds_blank page address image = same_bytes (page_at page image (address / page)) (blank_page page)
@@ -105,6 +109,7 @@ leaves_room m address image =
     not (address / m.geometry.page == k * pages_of_bank m.geometry m.banks + 1) || has_room_behind m k image
 
 -- THE HEAD AND THE GATE
+
 -- the generation of an active bank, and 0 where none is
 abbrev pub generation_in : Option (ℕ × BankHead) → ℕ
 generation_in active = option_map_or (λ x. x.1.generation) active 0
@@ -154,6 +159,7 @@ is_front_due m earlier address page image =
     is_page_due m earlier (address / m.geometry.page / pages_of_bank m.geometry m.banks) (page_in_bank m.geometry m.banks address) address page image
 
 -- ALL OPERATIONS
+
 -- a program is of one page, an erase of one sector, and both of a bank
 abbrev pub is_whole : Geometry → Op → Bool
 is_whole g (Program address page) = (address % g.page == 0) && (length page == g.page)

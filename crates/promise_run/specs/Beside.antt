@@ -16,6 +16,7 @@ pub record Beside : Type 0 where
   pub blocks : ℕ → Bool
 
 -- WHICH OPERATION IS WHOSE
+
 -- a job on one of its blocks was in hand at this operation, by the history alone
 abbrev pub is_beside : Configuration → List Entry → Beside → ℕ → Bool
 is_beside c h b k = is_on b.blocks (after c (up_to k h)).hand

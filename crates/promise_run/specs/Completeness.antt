@@ -18,6 +18,7 @@ use Rattle.promise_run.specs.Run.{Run, Course, Played, Ran, FlashFault, Memory, 
 use Rattle.script_walks.specs.Looks.{Look}
 
 -- NOTHING FAILS
+
 abbrev pub is_calm_entry : Entry → Bool
 is_calm_entry (Off ops) = false
 is_calm_entry (Pick block kind (TookRefused count) ops) = false
@@ -37,6 +38,7 @@ ends_job id (Pick block kind t ops) = true
 ends_job id e = false
 
 -- EACH RESULT
+
 -- what each entry keeps: a fact on the state before it
 abbrev pub EachEntry : Configuration → (State → Entry → Type 0) → State → List Entry → Type 0
 EachEntry c P s [] = Unit {0}

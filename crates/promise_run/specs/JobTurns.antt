@@ -44,6 +44,7 @@ job_turns c s j =
     + 1
 
 -- URGENT WRITES
+
 -- the pages of the record of an instance, if it is configured
 abbrev pub pages_on : Configuration → Instance → ℕ
 pages_on c i = option_map_or (λ length. record_pages_of length c.geometry.page) (length_of (lengths_of c) (number_of i)) 0

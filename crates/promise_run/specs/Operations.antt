@@ -16,6 +16,7 @@ use Rattle.promise_device.specs.Bridge.{free_pages}
 use Rattle.promise_run.specs.JobTurns.{switch_at_most, try_on, pages_on}
 
 -- WHAT WORK TAKES
+
 -- what a device makes of its work at most, by a configuration
 abbrev pub costs_of : Configuration → Costs
 costs_of c = record {
@@ -26,6 +27,7 @@ costs_of c = record {
 }
 
 -- FREE PAGES
+
 -- once so many operations were made the bytes had so many pages free, in a bank of which no program failed
 abbrev pub has_free : Making → FlashRun → (operations pages : ℕ) → Bool
 has_free making f operations pages =
@@ -38,6 +40,7 @@ pub record HadRoom (making : Making) (f : FlashRun) (operations pages : ℕ) : T
   pub free : has_free making f operations pages ≡ true
 
 -- A RUN
+
 -- behind a start-up nothing is left, unless a fault was counted until then: a switch at most
 abbrev pub left_behind : Costs → Moment → ℕ
 left_behind f first = if nat_lt 0 first.faults then f.switch else 0

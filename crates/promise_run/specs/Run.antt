@@ -53,6 +53,7 @@ abbrev pub alone : Run → Run
 alone r = record r { beside = None }
 
 -- BOTH FLASHES
+
 -- a count of a flash, or its sum over both
 abbrev pub of_flashes : (FlashRun → ℕ) → Run → ℕ
 of_flashes count r = option_map_or (λ b. count r.flash + count b.flash) r.beside (count r.flash)
@@ -95,6 +96,7 @@ pub record LeavesAlone (s t : Told) : Type 0 where
   pub cuts : t.cuts ≡ s.cuts
 
 -- STEPS
+
 -- What each step of a run keeps: a fact on the state before its piece, the step, its piece, and the steps and pieces behind
 -- it.
 abbrev pub EachPiece : Configuration → (State → Step → List Entry → List Step → List (List Entry) → Type 0) → State → List Step → List (List Entry) → Type 0
@@ -102,6 +104,7 @@ EachPiece c P s (x ∷ xs) (p ∷ ps) = P s x p xs ps × EachPiece c P (after_fr
 EachPiece c P s xs ps = Unit {0}
 
 -- `PLAY`
+
 -- the next step has no room in a history of so many entries at most
 abbrev pub HasNoRoom : Configuration → ℕ → State → StepKind → Type 0
 HasNoRoom c most s (AskStep r) = IsTrue (not (fits c most s 1))
@@ -121,6 +124,7 @@ LeavesFor r s Memory left = Unit {0}
 LeavesFor r s end left = ⊥
 
 -- `RUN`
+
 -- at its end all requests were made and served, or a full history ended callers one by one; else some of each caller's were made,
 -- from its first on
 abbrev pub RunsBy : Configuration → ℕ → List Step → List Look → End → List Entry → Type 0
@@ -130,6 +134,7 @@ RunsBy c most steps looks Memory h = IsRun c steps looks h
 RunsBy c most steps looks FlashFault h = ⊥
 
 -- THE ORDER
+
 abbrev pub Follows : Run → Course → List Entry → Type 0
 Follows r (Played made pieces left) h =
     IsWalkOf r.configuration made pieces h × EachPiece r.configuration (HadRoom r.configuration r.most) (after r.configuration (take 1 h)) made pieces
@@ -149,6 +154,7 @@ HasOrder r [] = EndsBefore r.flash r.beside r.end × MadeNothing r.course × Lea
 HasOrder r (e ∷ es) = Follows r r.course (e ∷ es)
 
 -- POWER CUTS
+
 -- a planned power cut: how many operations are made when it comes, at the least, and how many bytes of the last it lets be done
 pub record DueCut : Type 0 where
   pub due : ℕ

@@ -26,6 +26,7 @@ use Rattle.promise_device.specs.Traits.{is_such}
 use Rattle.promise_run.specs.Run.{Run, Course, Played, Ran, End, FlashFault}
 
 -- TURNS
+
 -- a turn makes at most one changing operation, and takes no fault back; its entry tells the operations behind it
 pub record IsTurnMade (before : Moment) (m : Move) : Type 0 where
   pub faults : before.faults ≤ m.behind.faults
@@ -48,6 +49,7 @@ IsStartMade before (m ∷ []) = (before.faults ≤ m.behind.faults) × (m.behind
 IsStartMade before ms = ⊥
 
 -- STEPS
+
 -- the moves of a step: `turn N` makes N turns, `drain` as many as it needs, and the steps that aren't named make none
 abbrev pub AreMovesOf : StepKind → Moment → List Move → Type 0
 AreMovesOf (Turn count) before moves = (length moves ≡ count) × AreTurnsMade before moves
@@ -75,6 +77,7 @@ pub record HasMoves (made : List Step) (pieces : List (List Entry)) (first last 
   pub behind : moment_after first moves ≡ last
 
 -- WITHIN ITS TURNS
+
 -- the power goes off, or a copy is refused or stale
 abbrev pub fails : Option Entry → Bool
 fails (Some e) = not (is_calm_entry e)
@@ -111,6 +114,7 @@ PostsPicked c most s m ms =
     → let turns = most (after_from c s (entry_list m.entry)) j in IsPostedWithin (job_block j) turns (turns_in_all c (after_from c s (entry_list m.entry)) turns) turns m.behind.faults ms
 
 -- CANCELED
+
 -- Where a WriteAll that was canceled is all that is pending, a turn posts id 0 as canceled, or picks it where it wasn't begun.
 abbrev pub EndsCanceled : State → Option Entry → Type 0
 EndsCanceled s e =
@@ -135,6 +139,7 @@ BeginWhatIsDue within c since s (m ∷ ms) =
     × BeginWhatIsDue within c (after_from c s (entry_list m.entry) ∷ (if is_asked m.entry && within then since else [])) (after_from c s (entry_list m.entry)) ms
 
 -- AT REST
+
 -- With nothing pending and nothing open at the device a turn has nothing to do: it adds no entry, and nothing changes.
 abbrev pub StaysAtRest : Configuration → Moment → State → List Move → Type 0
 StaysAtRest c before s [] = Unit {0}
@@ -157,6 +162,7 @@ FindWorkAtDrains c before s (x ∷ xs) (ms ∷ mss) = (x.kind ≡ Drain → Find
 FindWorkAtDrains c before s xs mss = Unit {0}
 
 -- PAID SINCE THE PICK
+
 -- A Post is paid by the faults since so many were counted, or the device was worn out.
 abbrev pub IsPaidSince : Configuration → Worn → ℕ → State → Move → Type 0
 IsPaidSince c worn since s m =
@@ -170,6 +176,7 @@ ArePaidSince c worn since before s (m ∷ ms) =
     × ArePaidSince c worn (if is_picked m.entry then before.faults else since) m.behind (after_from c s (entry_list m.entry)) ms
 
 -- COUNTED IN ITS MOVE
+
 -- a move takes no operation back, and counts a fault where one of its own failed
 pub record CountsOwn (failed : ℕ → Type 0) (before : Moment) (m : Move) : Type 0 where
   pub later : before.ops ≤ m.behind.ops
@@ -180,6 +187,7 @@ CountFailed failed before [] = Unit {0}
 CountFailed failed before (m ∷ ms) = CountsOwn failed before m × CountFailed failed m.behind ms
 
 -- PLANNED CUTS
+
 -- a power cut that a step planned: with which operation it comes, and the faults that were counted when it was planned
 pub record Planned : Type 0 where
   pub due : ℕ
@@ -216,6 +224,7 @@ all_moves [] = []
 all_moves (ms ∷ mss) = ms ++ all_moves mss
 
 -- URGENT WRITES
+
 -- a job of this block is posted, or one of another block
 abbrev pub posts : ℕ → Option Entry → Bool
 posts id (Some (Post block r given refused ops)) = block == id
@@ -280,6 +289,7 @@ abbrev pub MayGoOn : Making → FlashRun → (since operations pages : ℕ) → 
 MayGoOn making f since operations pages = HadFree making f operations pages ⊎ (IsAtSeal making f since operations × (pages ≤ making.reserve))
 
 -- KEPT PAGES
+
 -- the job in hand is an immediate one
 abbrev pub HasImmediate : Configuration → State → Type 0
 HasImmediate c s = (j : Job) × (s.hand ≡ Some j) × ((rank_of c j).immediate ≡ true)
@@ -291,6 +301,7 @@ TakeKept c kept before s (m ∷ ms) =
     ((k : ℕ) → before.ops ≤ k → k < m.behind.ops → kept k → HasImmediate c s) × TakeKept c kept m.behind (after_from c s (entry_list m.entry)) ms
 
 -- THE ENDS OF A RUN
+
 -- the state behind the first start-up
 abbrev pub state_begun : Run → State
 state_begun r = after r.configuration (take 1 r.history)
@@ -306,6 +317,7 @@ EndsBy last f FlashFault = WereCounted (last.faults + 1) f.entry.faults f.exit.f
 EndsBy last f end = Unit {0}
 
 -- HOW MOVES ARE MADE
+
 -- in `play`: each step that was made has its moves; where nothing fails nothing is open behind each `drain`, and no planned cut is missed
 pub record MakesSteps (r : Run) (made : List Step) (pieces : List (List Entry)) (first last : Moment) (moves : List Move) : Type 0 where
   pub steps : HasMoves made pieces first last
@@ -342,6 +354,7 @@ abbrev pub turns_beside : (within : Bool) → ℕ
 turns_beside within = if within then 5 else 4
 
 -- A RUN
+
 -- A run has moves, from a moment behind its first start-up on. They make all operations of the flash, and the flash counted the faults that
 -- they tell, and one more where a start-up failed behind them; each move keeps these.
 pub record KeepsTurns (most : State → Job → ℕ) (r : Run) (course : Course) : Type 0 where

@@ -38,6 +38,7 @@ pub record IsServing (p q : Seen) (old now : StackTold) : Type 0 where
   pub way : AreUnderWay p q made (no_stores old.configuration) old now
 
 -- ONE REQUEST
+
 -- more of them are made, which added these entries
 pub record ServesMore (p q : Seen) (piece : List Entry) (old mid new : StackTold) : Type 0 where
   pub serving : IsServing p q old new
@@ -70,6 +71,7 @@ EndsRequest c request p q (Err NoRoom) old mid new =
 EndsRequest c request p q (Err Memory) old mid new = ServesNoMore p q old mid new
 
 -- ALL OF THEM
+
 -- these were answered, each with its piece, and none is pending
 pub record AreServedSoFar (p q : Seen) (requests : List (List ℕ)) (numbers : List ℕ) (old now : StackTold) : Type 0 where
   pub serving : IsServing p q old now
