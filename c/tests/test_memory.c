@@ -1,6 +1,6 @@
-/* What a unit takes of memory beside its flash, by its own size: each byte is counted that the C library's heap is asked for. A unit may take what
-   docs/COST.md has: the flash once more, a bank, its blocks' contents, once more those of permanent RAM, two of the longest content, a page, so much
-   for each block and each stored instance, and 8 KB; a start-up once more what it finds, and an opening the flash once more. */
+/* What a unit takes of memory beside its flash, which is used where it lies: each byte is counted that the C library's heap is asked for. A unit
+   may take what docs/COST.md has: a bank, its blocks' contents, once more those of permanent RAM, two of the longest content, a page, so much for
+   each block and each stored instance, and 8 KB; a start-up once more what it finds. */
 #include "heap.h"
 #include "nvm_c.h"
 #include <stdio.h>
@@ -46,7 +46,7 @@ static size_t found(const unit *it) {
 
 static size_t allowed(const unit *it) {
     size_t contents = (size_t)(it->count - 1) * it->length + it->longest, flash = (size_t)it->sector * it->sectors;
-    return flash + flash / BANKS + contents * (it->is_permanent ? 2u : 1u) + 2u * it->longest + it->page + (size_t)A_BLOCK * it->count + found(it)
+    return flash / BANKS + contents * (it->is_permanent ? 2u : 1u) + 2u * it->longest + it->page + (size_t)A_BLOCK * it->count + found(it)
            + FIXED;
 }
 
@@ -87,7 +87,7 @@ static int measure(const unit *it) {
     well = use(&handle, it);
     behind = heap_most - begun;
     well = well && nvm_restart(&handle) == 0;
-    well = well && behind <= allowed(it) && opened <= allowed(it) + flash && heap_most - begun <= allowed(it) + found(it);
+    well = well && behind <= allowed(it) && opened <= allowed(it) + found(it) && heap_most - begun <= allowed(it) + found(it);
     printf("%-45s %8zu %8zu %8zu %8zu %8zu%s\n", it->name, flash, allowed(it), behind, opened, heap_most - begun, well ? "" : "  more");
     nvm_close(&handle, &back);
     well = well && heap_standing == begun && back.at == lent.at;

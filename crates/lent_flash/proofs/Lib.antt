@@ -1,2 +1,3 @@
 pub mod Bytes
-pub mod FlashLaws
+mod Holding
+mod Pieces

@@ -1,95 +1,60 @@
 // A flash whose bytes stand in memory that C lends.
-ghost use Rattle.std.specs.Prelude.{◌≡◌, ◌+◌, ◌≤◌, Some, IfOk, IfErr, IsSome, IsSomeAnd, IfSome, length};
-ghost use Rattle.std.specs.Mem.Slots.{slots_items, slots_len, IsFull};
+ghost use Rattle.std.specs.Prelude.{◌≡◌, ◌+◌, ◌≤◌, Some, IsSome, IfSome, length};
+ghost use Rattle.nv_base.specs.Count.{next_count};
 ghost use Rattle.nv_base.specs.Geometry.{IsLegal};
 ghost use Rattle.fls_model.specs.Told.{bytes_now, armed, powered, HasRange, HasPage, HasSector};
 ghost use Rattle.fls_model.specs.Attach.{IsAttach};
-ghost use Rattle.fls_model.specs.Memory.{in_memory};
 ghost use Rattle.fls_model.specs.Read.{IsRead};
 ghost use Rattle.fls_model.specs.Step.{IsStep, programs, erases};
-ghost use Rattle.lent_flash.specs.Flash.{flash_over, IsCopied};
+ghost use Rattle.lent_flash.specs.Flash.{flash_over};
 
 use crate::lent::Lent;
 use crate::noted::Noted;
-use core::slots::Slots;
-use fls_model::{AttachFault, Call, Flash, FlashAnswer, MemFlash, mem_flash, program_call};
+use crate::places::{below_256, copy_out, erase_in, program_in};
+use fls_model::{AttachFault, Call, Flash, FlashAnswer, program_call};
 use nv_base::{Geometry, Trace};
-use std::alloc::{AllocError, Global};
+use std::alloc::Global;
 use std::marker::Model;
 
-/// A flash in memory, each of whose bytes stands in the memory that C lent too. It never fails, is never off, and tells all its
-/// changes, which takes no memory: contracts alone see the list.
+/// A flash that lies in the memory that C lent, and takes no other. It never fails, is never off, and tells all its changes, which
+/// takes no memory: contracts alone see the list.
 #[derive(Drop)]
 pub struct LentFlash {
-    memory: MemFlash,
+    geometry: Geometry,
     // some between two calls
     lent: Option<Lent>,
     changes: Trace<Noted>,
-    // the bytes of a sector, behind an attach
-    sector: u32,
+    ops: u64,
 }
 
 impl Model for LentFlash {
     ghost use Rattle.fls_model.specs.Told.{Told};
-    ghost use Rattle.lent_flash.specs.Flash.{shown, IsShown};
+    ghost use Rattle.lent_flash.specs.Flash.{told_of, lent_bytes, IsLent};
 
     ghost Value = { Told };
 
-    ghost view = { λ f. shown f.changes.items f.memory.told };
+    ghost view = { λ f. told_of f.geometry (lent_bytes f.lent) f.changes.items f.ops };
 
-    ghost invariant = { λ f. IsShown f.memory.told f.lent f.sector };
-}
-
-// The bytes of full places.
-fn bytes_in(alloc: Global, places: &Slots<u8>) -> Result<Vec<u8>, AllocError>
-    requires { IsFull places.now }
-    ensures { IfOk result (λ v. v.items ≡ slots_items places.now) }
-{
-    let mut bytes = Vec::with_capacity(alloc, places.len())?;
-    for i in 0..places.len() {
-        bytes.push_reserved(*places.get(i));
-    }
-    Ok(bytes)
-}
-
-// Copies a piece of the bytes into memory that is lent.
-fn show(lent: Lent, bytes: &[u8], at: usize, count: usize) -> Lent
-    requires lent { IsSomeAnd lent.bytes (λ old. length bytes.now ≡ length old) }
-    requires within { at + count ≤ length bytes.now }
-    ensures { IfSome lent.bytes (λ old. IsSomeAnd result.bytes (IsCopied at count bytes.now old)) }
-{
-    let mut places = lent.into_slots();
-    places.copy_in(at, &bytes[at..at + count]);
-    Lent::of_slots(places)
-}
-
-// A flash in memory of the bytes of full places.
-fn memory_of(alloc: Global, places: &Slots<u8>) -> Result<MemFlash, AllocError>
-    requires { IsFull places.now }
-    ensures { IfOk result (λ m. m ≡ in_memory (slots_items places.now) 0) }
-{
-    let bytes = bytes_in(alloc, places)?;
-    mem_flash(alloc, &bytes, 0)
+    ghost invariant = { λ f. IsLent f.geometry f.lent };
 }
 
 impl LentFlash {
-    /// The flash over bytes that C lends, or the bytes again for want of memory.
-    pub fn over(alloc: Global, lent: Lent) -> Result<LentFlash, Lent>
+    /// The flash over bytes that C lends.
+    pub fn over(lent: Lent) -> LentFlash
         requires { IsSome lent.bytes }
-        ensures over { IfOk result (λ f. IfSome lent.bytes (λ bytes. f ≡ flash_over bytes)) }
-        ensures back { IfErr result (λ l. l.bytes ≡ lent.bytes) }
+        ensures { IfSome lent.bytes (λ bytes. result ≡ flash_over bytes) }
     {
         let places = lent.into_slots();
-        let memory = memory_of(alloc, &places);
-        let lent = Lent::of_slots(places);
-        match memory {
-            Ok(memory) => Ok(LentFlash {
-                memory,
-                lent: Some(lent),
-                changes: Trace::new(),
+        below_256(&places);
+        LentFlash {
+            geometry: Geometry {
+                page: 0,
                 sector: 0,
-            }),
-            Err(_) => Err(lent),
+                sectors: 0,
+            },
+            lent: Some(Lent::of_slots(places)),
+            changes: Trace::new(),
+            ops: 0,
         }
     }
 
@@ -108,55 +73,68 @@ impl Flash for LentFlash {
     ghost told = { λ f. f };
 
     fn attach(&mut self, alloc: Global, geometry: Geometry) -> Result<(), AttachFault> {
-        if self.memory.bytes().is_empty() {
+        let Some(lent) = self.lent.take() else {
+            unreachable!()
+        };
+        let places = lent.into_slots();
+        let found = places.len();
+        self.lent = Some(Lent::of_slots(places));
+        let size = geometry.size() as usize;
+        if found == 0 {
             return Err(AttachFault::Memory);
         }
-        match self.memory.attach(alloc, geometry) {
-            Ok(()) => {
-                self.changes = Trace::new();
-                self.sector = geometry.sector;
-                Ok(())
-            }
-            Err(fault) => Err(fault),
+        if found != size {
+            return Err(AttachFault::WrongSize {
+                found: found as u64,
+            });
         }
+        self.geometry = geometry;
+        self.changes = Trace::new();
+        Ok(())
     }
 
     fn power_on(&mut self) {
-        self.memory.power_on();
+        let _ops = self.ops;
     }
 
     fn arm(&mut self, nth: u32, keep: u32) {
-        self.memory.arm(nth, keep);
+        let _ops = self.ops;
     }
 
     fn read(&mut self, address: u32, into: &mut [u8]) -> FlashAnswer {
-        self.memory.read(address, into)
+        let Some(lent) = self.lent.take() else {
+            unreachable!()
+        };
+        let places = lent.into_slots();
+        copy_out(&places, address as usize, into);
+        self.lent = Some(Lent::of_slots(places));
+        FlashAnswer::Done
     }
 
     fn program(&mut self, address: u32, page: &[u8]) -> FlashAnswer {
         let Some(lent) = self.lent.take() else {
             unreachable!()
         };
-        let before = Trace::new().with(&self.memory);
-        let noted = Noted::make(before, program_call(address, page));
-        let answer = self.memory.program(address, page);
+        let before = Trace::new().with(&lent);
+        let noted = Noted::make(before, self.geometry, program_call(address, page));
+        let places = program_in(lent.into_slots(), address as usize, page);
+        self.lent = Some(Lent::of_slots(places));
         self.changes = self.changes.with(&noted);
-        let shown = show(lent, self.memory.bytes(), address as usize, page.len());
-        self.lent = Some(shown);
-        answer
+        self.ops = self.ops.saturating_add(1);
+        FlashAnswer::Done
     }
 
     fn erase(&mut self, sector: u32) -> FlashAnswer {
         let Some(lent) = self.lent.take() else {
             unreachable!()
         };
-        let before = Trace::new().with(&self.memory);
-        let noted = Noted::make(before, Call::Sector { sector });
-        let answer = self.memory.erase(sector);
+        let before = Trace::new().with(&lent);
+        let noted = Noted::make(before, self.geometry, Call::Sector { sector });
+        let length = self.geometry.sector as usize;
+        let places = erase_in(lent.into_slots(), sector as usize * length, length);
+        self.lent = Some(Lent::of_slots(places));
         self.changes = self.changes.with(&noted);
-        let length = self.sector as usize;
-        let shown = show(lent, self.memory.bytes(), sector as usize * length, length);
-        self.lent = Some(shown);
-        answer
+        self.ops = self.ops.saturating_add(1);
+        FlashAnswer::Done
     }
 }

@@ -1,13 +1,14 @@
-//! A flash whose bytes stand in memory that C lends.
+//! A flash that lies in memory that C lends.
 //!
-//! It promises that the memory holds the flash's bytes at each moment, and comes back with them, and that the flash tells all its
-//! changes, however many, in no memory. What a flash is stands in `fls_model`; who lends the memory, and what for, is left to the
-//! crates above.
+//! It promises that the memory holds the flash's bytes at each moment, and comes back with them, that the flash takes no memory
+//! beside it, and that it tells all its changes, however many. What a flash is stands in `fls_model`; who lends the memory, and what
+//! for, is left to the crates above.
 #![tactic(auto)]
 
 mod flash;
 mod lent;
 mod noted;
+mod places;
 
 pub use flash::LentFlash;
 pub use lent::Lent;

@@ -1,15 +1,17 @@
-// A changing operation of a flash in memory, as contracts see it.
+// A changing operation of a flash in memory that is lent, as contracts see it.
 ghost use Rattle.std.specs.Prelude.{◌≡◌};
 ghost use Rattle.lent_flash.specs.Flash.{change_of};
 
-use fls_model::{Call, MemFlash};
-use nv_base::Trace;
+use crate::lent::Lent;
+use fls_model::Call;
+use nv_base::{Geometry, Trace};
 use std::marker::Model;
 
-/// What was asked of a flash, with what it was before. It takes the memory of a call.
+/// What was asked of a flash, with what its bytes were before. It takes the memory of a call.
 #[derive(Drop)]
 pub struct Noted {
-    before: Trace<MemFlash>,
+    before: Trace<Lent>,
+    geometry: Geometry,
     call: Call,
 }
 
@@ -19,13 +21,17 @@ impl Model for Noted {
 
     ghost Value = { Change };
 
-    ghost view = { λ n. change_of n.before.items n.call };
+    ghost view = { λ n. change_of n.before.items n.geometry n.call };
 }
 
 impl Noted {
-    pub fn make(before: Trace<MemFlash>, call: Call) -> Noted
-        ensures { result ≡ change_of before.items call }
+    pub fn make(before: Trace<Lent>, geometry: Geometry, call: Call) -> Noted
+        ensures { result ≡ change_of before.items geometry call }
     {
-        Noted { before, call }
+        Noted {
+            before,
+            geometry,
+            call,
+        }
     }
 }

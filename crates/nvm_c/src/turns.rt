@@ -30,13 +30,7 @@ pub extern "C" fn nvm_open(
     ensures stopped { result ≢ 0 → IfSome flash.bytes (λ bytes. IsStopped text.now bytes result back.new.bytes) }
 {
     match read(alloc, text) {
-        Ok(config) => match LentFlash::over(alloc, flash) {
-            Ok(flash) => open_over(alloc, handle, config, flash, cuts, back),
-            Err(lent) => {
-                *back = lent;
-                4
-            }
-        },
+        Ok(config) => open_over(alloc, handle, config, LentFlash::over(flash), cuts, back),
         Err(ConfigFault::Broken { .. }) => {
             *back = flash;
             1

@@ -5,13 +5,13 @@ use Rattle.nvm.specs.block_config.declared.fault.ConfigFault.TheVariants.{Memory
 use Rattle.nvm_c.proofs.CallLaws.{no_memory, opened, refused, stopped}
 use Rattle.nvm_c.proofs.turns.nvm_open.Goals as goal
 
-pub returns-in-Ok-over-clause-opened : goal.returns-in-Ok-over-clause-opened
-returns-in-Ok-over-clause-opened c =
-    opened c.args.flash.bytes c.args.text.now c.in-Ok.config c.in-Ok-over.flash c.args.cuts c.open_over.result c.open_over.new.handle.kept c.in-Ok.ensures.ok c.in-Ok-over.ensures.over c.open_over.ensures.opened
+pub returns-in-Ok-clause-opened : goal.returns-in-Ok-clause-opened
+returns-in-Ok-clause-opened c =
+    opened c.args.flash.bytes c.args.text.now c.in-Ok.config c.over.result c.args.cuts c.open_over.result c.open_over.new.handle.kept c.in-Ok.ensures.ok c.over.ensures c.open_over.ensures.opened
 
-pub returns-in-Ok-over-clause-stopped : goal.returns-in-Ok-over-clause-stopped
-returns-in-Ok-over-clause-stopped c =
-    stopped c.args.flash.bytes c.open_over.new.back.bytes c.args.text.now c.in-Ok.config c.in-Ok-over.flash c.open_over.result c.in-Ok.ensures.ok c.in-Ok-over.ensures.over c.open_over.ensures.stopped
+pub returns-in-Ok-clause-stopped : goal.returns-in-Ok-clause-stopped
+returns-in-Ok-clause-stopped c =
+    stopped c.args.flash.bytes c.open_over.new.back.bytes c.args.text.now c.in-Ok.config c.over.result c.open_over.result c.in-Ok.ensures.ok c.over.ensures c.open_over.ensures.stopped
 
 pub returns-in-Err-clause-stopped : goal.returns-in-Err-clause-stopped
 returns-in-Err-clause-stopped c more = no_memory c.args.flash.bytes _ c.args.text.now c.in-Err.ensures.back
