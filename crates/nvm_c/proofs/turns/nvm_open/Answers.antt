@@ -13,9 +13,6 @@ pub returns-in-Ok-clause-stopped : goal.returns-in-Ok-clause-stopped
 returns-in-Ok-clause-stopped c =
     stopped c.args.flash.bytes c.open_over.new.back.bytes c.args.text.now c.in-Ok.config c.over.result c.open_over.result c.in-Ok.ensures.ok c.over.ensures c.open_over.ensures.stopped
 
-pub returns-in-Err-clause-stopped : goal.returns-in-Err-clause-stopped
-returns-in-Err-clause-stopped c more = no_memory c.args.flash.bytes _ c.args.text.now c.in-Err.ensures.back
-
 pub returns-in-Err-Broken-clause-stopped : goal.returns-in-Err-Broken-clause-stopped
 returns-in-Err-Broken-clause-stopped c more =
     refused c.args.flash.bytes c.args.text.now c.in-Err-Broken.field-0-0 c.in-Err-Broken.field-0-1
