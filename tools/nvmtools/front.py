@@ -43,7 +43,7 @@ TOOLS = [("lint", "what is wrong with a unit or a script, in words"),
          ("judge", "whether a history that was printed elsewhere is one that may be"),
          ("build", "the program and the judge of sweeps: proved, or without proofs"),
          ("take", "a repository of one's own, with what a program over the stack needs"),
-         ("release", "a tarball and a Debian package of what the gate proved")]
+         ("release", "a tarball, a Debian package and a wheel of what the gate proved")]
 WIDE = 100
 IN_REPOSITORY = os.path.isdir(f"{calls.TOP}/crates")
 
