@@ -45,7 +45,7 @@ class _Told(Enum):
     words: str
 
     # (words are left out where a member is looked up by its number)
-    def __new__(cls, number: int, words: str = ""):
+    def __new__(cls, number: int, words: str = "") -> "_Told":
         it = object.__new__(cls)
         it._value_, it.words = number, words
         return it

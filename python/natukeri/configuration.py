@@ -85,7 +85,7 @@ class Configuration:
         self.length(block)
         number = self.id(block)
         is_dataset = self.blocks[number].get("kind") == "dataset"
-        return self.described.instances(number) + len(self.blocks[number].get("rom", [])) if is_dataset else 1
+        return int(self.described.instances(number)) + len(self.blocks[number].get("rom", [])) if is_dataset else 1
 
     def content(self, block: Block, value: Value) -> bytes:
         """A value as the block's bytes; OverflowError where a number takes more than it has. Others may have any length: the stack refuses a

@@ -339,7 +339,7 @@ def key_algorithm(text: str) -> KeyOf:
     module, _, name = text.partition(":")
     try:
         sys.path.insert(0, os.getcwd())
-        found = getattr(importlib.import_module(module), name)
+        found: KeyOf = getattr(importlib.import_module(module), name)
     except (AttributeError, ImportError, ValueError) as error:
         raise argparse.ArgumentTypeError(f"{text[:60]}: {error}") from None
     if not callable(found):

@@ -49,7 +49,7 @@ class ImageFile:
             raise ImageFault(f"{path}: {error.strerror}") from None
 
     def _locked(self, path: str, flags: int) -> int:
-        file = self._asked(path, os.open, path, os.O_RDWR | os.O_CLOEXEC | flags, 0o666)
+        file: int = self._asked(path, os.open, path, os.O_RDWR | os.O_CLOEXEC | flags, 0o666)
         try:
             self._asked(path, fcntl.flock, file, fcntl.LOCK_EX | fcntl.LOCK_NB)
             held = self._asked(path, os.fstat, file)

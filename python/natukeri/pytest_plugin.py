@@ -9,7 +9,7 @@
 from __future__ import annotations
 
 import functools
-from collections.abc import Iterator
+from collections.abc import Generator, Iterator
 from pathlib import Path
 from typing import Any, NamedTuple, Optional
 
@@ -55,7 +55,7 @@ def _power_cuts(node: Any) -> Optional[PowerCuts]:
 
 
 @pytest.hookimpl(hookwrapper=True)
-def pytest_runtest_makereport(item: Any) -> Iterator[None]:
+def pytest_runtest_makereport(item: Any) -> Generator[None, Any, None]:
     """Shows the history of the unit below a case that failed."""
     outcome = yield
     report, it = outcome.get_result(), getattr(item, "funcargs", {}).get("unit")

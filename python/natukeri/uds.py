@@ -259,7 +259,8 @@ class Server:
 
     def _chosen(self, identifier: int) -> int:
         """The block of an identifier, whose dataset is chosen."""
-        block, index = self.places[identifier]
+        block: int = self.places[identifier].block
+        index: int = self.places[identifier].index
         if self.unit.chosen(block) != index:
             self.unit.set_index(block, index)
         return block
