@@ -5,11 +5,16 @@ ghost use Rattle.uds_gateway.specs.Services.{number_of};
 /// Why a service refuses a request (the negative response codes of ISO 14229-1).
 #[derive(Clone, Copy, PartialEq, Eq)]
 pub enum NegativeCode {
-    ServiceNotSupported, // 11, serviceNotSupported: it is neither of the two services.
-    IncorrectLength, // 13, incorrectMessageLengthOrInvalidFormat: too few bytes or too many.
-    ConditionsNotCorrect, // 22, conditionsNotCorrect: the NVRAM Manager refused it, or a read gave no content.
-    OutOfRange, // 31, requestOutOfRange: the identifier names no block.
-    ProgrammingFailure, // 72, generalProgrammingFailure: not all copies were written.
+    /// 11, serviceNotSupported: it is neither of the two services.
+    ServiceNotSupported,
+    /// 13, incorrectMessageLengthOrInvalidFormat: too few bytes or too many.
+    IncorrectLength,
+    /// 22, conditionsNotCorrect: the NVRAM Manager refused it, or a read gave no content.
+    ConditionsNotCorrect,
+    /// 31, requestOutOfRange: the identifier names no block.
+    OutOfRange,
+    /// 72, generalProgrammingFailure: not all copies were written.
+    ProgrammingFailure,
 }
 
 impl NegativeCode {
