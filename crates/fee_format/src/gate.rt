@@ -3,7 +3,7 @@ ghost use Rattle.std.specs.Prelude.{◌≡◌, ◌↔◌, length, IsTrue};
 ghost use Rattle.fee_format.specs.Gate.{IsGate};
 ghost use Rattle.fee_format.specs.Pages.{gate_page};
 
-use nv_base::all_are;
+use crate::alike::is_alike;
 
 /// Writes an open gate, which fills the page.
 pub fn write_gate(page: &mut [u8])
@@ -16,5 +16,5 @@ pub fn write_gate(page: &mut [u8])
 pub fn gate_stands(page: &[u8]) -> bool
     ensures { IsTrue result ↔ IsGate (length page.now) page.now }
 {
-    all_are(page, 0)
+    is_alike(page, 16, 0)
 }

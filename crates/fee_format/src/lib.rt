@@ -5,6 +5,7 @@
 //! banks of an image mean together is left to `fee_image`.
 #![tactic(auto)]
 
+mod alike;
 mod bank_head;
 mod formats;
 mod gate;

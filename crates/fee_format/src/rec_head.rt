@@ -4,9 +4,10 @@ ghost use Rattle.fee_format.specs.declared.rec_head.RecHead.{RecHead};
 ghost use Rattle.fee_format.specs.Formats.{IsFormat, IsCountIn, count_bytes};
 ghost use Rattle.fee_format.specs.RecHead.{IsLegalRecHead, IsLengthOfKind, kind_byte, kind_in, rec_head_bytes, rec_head_page, IsRecHead, IsNoRecHead, count_in};
 
+use crate::alike::is_alike;
 use crate::formats::NEW_FORMAT;
 use byteorder::{BigEndian, ByteOrder};
-use nv_base::{DeviceNumber, all_are};
+use nv_base::DeviceNumber;
 
 /// What a record says of its instance: a content, that it is invalidated, or that it is erased.
 #[derive(Clone, Copy, PartialEq, Eq)]
@@ -132,7 +133,7 @@ fn begins_with(page: &[u8], bytes: [u8; 10]) -> bool
     requires { 10 ≤ length page.now }
     ensures { IsTrue result ↔ (page.now ≡ bytes ++ replicate (length page.now - 10) 255) }
 {
-    &page[..10] == bytes.as_slice() && all_are(&page[10..], 255)
+    &page[..10] == bytes.as_slice() && is_alike(&page[10..], 6, 255)
 }
 
 fn has_head(page: &[u8], format: u8, head: RecHead) -> bool
