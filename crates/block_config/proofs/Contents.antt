@@ -1,10 +1,10 @@
 -- The lengths of contents.
-use Rattle.std.proofs.Common.{◌≡◌, ℕ, false, None, ◌*◌, ◌/◌, ◌%◌, ◌&&◌, ◌==◌, Bool, true, List, length, take, drop, replicate, Option, Some, option_map, refl, ap, sym, arith, slice_index}
+use Rattle.std.proofs.Common.{◌≡◌, ◌≤◌, ℕ, false, None, nat_le, Ok, ◌*◌, ◌/◌, ◌%◌, ◌&&◌, ◌==◌, Bool, true, List, length, take, drop, replicate, Option, Some, option_map, refl, ap, sym, arith, slice_index}
 use Rattle.std.proofs.lemmas.List.{length-replicate}
-use Rattle.std.proofs.lemmas.List.Sums.{AllPass-from_list_all}
+use Rattle.std.proofs.lemmas.List.Sums.{AllPass-from_list_all, list_all-from_AllPass}
 use Rattle.std.proofs.lemmas.Bool.Decides.{nat_tests}
 use Rattle.std.specs.List.{list_all}
-use Rattle.hex.specs.Hex.{is_hex_digit}
+use Rattle.hex.specs.Hex.{is_hex_digit, decode_of}
 use Rattle.hex.proofs.HexLemmas.{decode_of-digits, decode_of-ok}
 use Rattle.block_config.specs.Content.{is_plain, plain_of, count_of, is_parted, content_of}
 
@@ -25,6 +25,23 @@ plain_of-is_plain text is =
     let decoded = decode_of-digits text even (AllPass-from_list_all is_hex_digit text digits) in
     let ok = decode_of-ok text decoded.0 decoded.1 in
     (decoded.0, rw (is, decoded.1) refl, ok.2)
+
+four_hold : (a b c d : Bool) → a ≡ true → b ≡ true → c ≡ true → d ≡ true → (a && b && c && d) ≡ true
+four_hold true true true true ea eb ec ed = refl
+four_hold false b c d ea eb ec ed = cc
+four_hold true false c d ea eb ec ed = cc
+four_hold true true false d ea eb ec ed = cc
+four_hold true true true false ea eb ec ed = cc
+
+-- what is decoded is a plain content, where it has as many digits as one may have
+pub plain_of-decoded : (text bytes : List ℕ) → 2 ≤ length text → length text ≤ 8192 → decode_of text ≡ Ok bytes → plain_of text ≡ Some bytes
+plain_of-decoded text bytes some few is =
+    let ok = decode_of-ok text bytes is in
+    let low : nat_le 2 (length text) ≡ true = grind (arith, nat_tests) in
+    let high : nat_le (length text) 8192 ≡ true = grind (arith, nat_tests) in
+    let even : (length text % 2 == 0) ≡ true = grind (arith, nat_tests) in
+    let plain : is_plain text ≡ true = four_hold _ _ _ _ low high even (list_all-from_AllPass is_hex_digit text ok.1) in
+    rw (plain, is) refl
 
 of_count : (o : Option ℕ) (b : ℕ) → o ≡ option_map (λ bytes. length bytes) (option_map (λ n. replicate n b) o)
 of_count None b = refl

@@ -5,7 +5,7 @@ ghost use Rattle.hex.specs.Hex.{is_hex_digit};
 ghost use Rattle.block_config.specs.Content.{is_plain, plain_of, count_of, run_of, is_parted, content_of};
 
 use hex::FromHexError;
-use nv_base::{Bytes, bytes_of, decimal_number};
+use nv_base::{Bytes, decimal_number};
 use std::alloc::{AllocError, Global};
 
 /// The content that a text is: an even number of hexadecimal digits in either case, at least two; or two digits, `*`
@@ -65,11 +65,11 @@ fn is_hex_digit(digit: u8) -> bool
 fn read_plain(alloc: Global, text: &[u8]) -> Result<Option<Bytes>, AllocError>
     ensures { IfOk result (λ r. r ≡ plain_of text.now) }
 {
-    if !is_plain(text) {
+    if text.len() < 2 || text.len() > 8192 {
         return Ok(None);
     }
     match hex::decode(alloc, text) {
-        Ok(bytes) => Ok(Some(bytes_of(alloc, &bytes)?)),
+        Ok(bytes) => Ok(Some(Bytes::from_vec(bytes))),
         Err(FromHexError::OutOfMemory) => Err(AllocError),
         Err(_) => Ok(None),
     }
@@ -87,7 +87,7 @@ fn read_run(alloc: Global, pair: &[u8], count: &[u8]) -> Result<Option<Bytes>, A
     };
     let byte = bytes.as_slice().first().copied().unwrap_or(0);
     let run = vec![in alloc; byte; count]?;
-    Ok(Some(bytes_of(alloc, &run)?))
+    Ok(Some(Bytes::from_vec(run)))
 }
 
 /// A count of 1 to 4,096.
