@@ -17,5 +17,6 @@ mod synchronized;
 mod unread;
 
 pub use front::Front;
+pub use nv_desk;
 pub use staging::Staging;
 pub use unread::Unread;

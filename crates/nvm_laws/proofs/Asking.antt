@@ -11,7 +11,7 @@ use Rattle.block_machine.specs.Steps.{step, after}
 use Rattle.block_machine.specs.Legal.{IsAllowed}
 use Rattle.job_programs.specs.Laws.{Fit, last_content}
 use Rattle.nvm_device_laws.specs.Tries.{TriesArePaid, is_hand_urgent}
-use Rattle.nv_desk.specs.Desk.{DeskState, state_of}
+use Rattle.nv_desk_copies.specs.nv_desk.Desk.{DeskState, state_of}
 use Rattle.job_progress.specs.Hand.{HandState}
 use Rattle.job_progress.specs.JobInHand.{FitsMarks, HandFits}
 use Rattle.block_laws.proofs.HistoryLaws.{histories_step, asks_are_local}

@@ -10,8 +10,8 @@ use Rattle.block_machine.specs.Blocks.{asked_block, block_at, is_pending, job_bl
 use Rattle.block_machine.specs.Next.{first_of_two, next_in}
 use Rattle.block_machine.specs.Reply.{reply_of}
 use Rattle.block_machine.specs.Steps.{step, changed, accepted_by, asked, job_at}
-use Rattle.nv_desk.specs.Desk.{DeskState, state_of}
-use Rattle.nv_desk.specs.Sound.{IsPendingJob}
+use Rattle.nv_desk_copies.specs.nv_desk.Desk.{DeskState, state_of}
+use Rattle.nv_desk_copies.specs.nv_desk.Sound.{IsPendingJob}
 use Rattle.job_progress.specs.Hand.{HandState}
 use Rattle.block_laws.proofs.HistoryLaws.{histories_step, entries_are_counted}
 use Rattle.job_progress.proofs.Asking.{pending_stay}

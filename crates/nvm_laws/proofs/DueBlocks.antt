@@ -10,7 +10,7 @@ use Rattle.block_machine.specs.Sweeps.{is_done}
 use Rattle.block_machine.specs.Steps.{flagged, ended, picked, posted, with_status}
 use Rattle.block_laws.proofs.BlockFields.{field_kept}
 use Rattle.nvm_figures.specs.Urgent.{pages_of}
-use Rattle.nv_desk.specs.Desk.{DeskState}
+use Rattle.nv_desk_copies.specs.nv_desk.Desk.{DeskState}
 
 -- with an entry more
 abbrev pub added : Entry → DeskState → DeskState

@@ -17,8 +17,8 @@ use Rattle.job_programs.specs.Program.{Program}
 use Rattle.nvm_device_laws.specs.Outcomes.{outcome_by}
 use Rattle.nvm_device_laws.specs.Turn.{settled_by, wrote_by}
 use Rattle.nvm_figures.specs.Job.{program_next}
-use Rattle.nv_desk.specs.Desk.{DeskState, state_of}
-use Rattle.nv_desk.specs.Picks.{IsInterruption}
+use Rattle.nv_desk_copies.specs.nv_desk.Desk.{DeskState, state_of}
+use Rattle.nv_desk_copies.specs.nv_desk.Picks.{IsInterruption}
 use Rattle.nv_desk_copies.specs.Picks.{IsPicked}
 use Rattle.job_progress.specs.Hand.{HandState, ended}
 use Rattle.job_progress.specs.JobInHand.{IsAt, IsInHand, IsPaired}

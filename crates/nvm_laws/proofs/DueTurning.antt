@@ -15,7 +15,7 @@ use Rattle.block_machine.specs.Steps.{step, picked_job}
 use Rattle.ram_blocks.specs.Told.{Told}
 use Rattle.job_programs.specs.Program.{Program, works}
 use Rattle.nvm_figures.specs.Urgent.{IsOnTime, pages_of}
-use Rattle.nv_desk.specs.Desk.{DeskState, state_of}
+use Rattle.nv_desk_copies.specs.nv_desk.Desk.{DeskState, state_of}
 use Rattle.nv_desk_copies.specs.Posts.{IsPostedNext}
 use Rattle.job_progress.specs.Hand.{HandState, is_finished, with_start}
 use Rattle.job_progress.specs.JobInHand.{IsAt, IsInHand, IsPaired, program_for}

@@ -21,7 +21,7 @@ use Rattle.promise_blocks.specs.OverDevice.{KeepsOver, KeepsEarly}
 use Rattle.promise_blocks.specs.Counts.{count_due}
 use Rattle.nvm_device_laws.specs.Pairing.{Allows, Pairs}
 use Rattle.nvm_device_laws.specs.Turn.{TellsSlots}
-use Rattle.nv_desk.specs.Desk.{DeskState}
+use Rattle.nv_desk_copies.specs.nv_desk.Desk.{DeskState}
 use Rattle.job_progress.specs.Hand.{HandState}
 use Rattle.nvm_laws.specs.Halves.{Adds}
 use Rattle.nvm_laws.specs.Keeps.{StackKeeps, KeepsAsTold, StackKeepsAsTold, StaysKept}

@@ -24,7 +24,7 @@ use Rattle.block_machine.specs.History.{is_driver_until, up_to}
 use Rattle.promise_blocks.specs.OverDevice.{TellsAtMost, is_of}
 use Rattle.promise_blocks.specs.Operations.{AreOfJobs, AreStartsTold, founds, is_on, start_ups_in}
 use Rattle.nvm_device_laws.specs.Turn.{Keeps}
-use Rattle.nv_desk.specs.Desk.{DeskState, state_of}
+use Rattle.nv_desk_copies.specs.nv_desk.Desk.{DeskState, state_of}
 use Rattle.job_progress.specs.Hand.{HandState}
 use Rattle.job_progress.specs.JobInHand.{IsAt, IsInHand, IsPaired, job_for}
 use Rattle.job_programs.specs.Program.{Program}

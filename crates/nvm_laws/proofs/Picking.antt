@@ -14,7 +14,7 @@ use Rattle.promise_blocks.specs.Payment.{IsPaid}
 use Rattle.nvm_device_laws.specs.Turn.{Keeps}
 use Rattle.nvm_device_laws.specs.Tries.{TriesArePaid, is_hand_urgent}
 use Rattle.job_programs.specs.Program.{step_of}
-use Rattle.nv_desk.specs.Desk.{DeskState, state_of}
+use Rattle.nv_desk_copies.specs.nv_desk.Desk.{DeskState, state_of}
 use Rattle.job_progress.specs.Hand.{HandState}
 use Rattle.job_progress.specs.JobInHand.{FitsMarks, HandFits, program_for}
 use Rattle.job_progress.specs.Begins.{hand_by, hand_for}

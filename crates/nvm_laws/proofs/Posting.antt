@@ -18,7 +18,7 @@ use Rattle.nvm_device_laws.specs.Tries.{TriesArePaid}
 use Rattle.job_programs.specs.Program.{Program, works, next_in, step_by, step_of}
 use Rattle.job_programs.specs.Laws.{failed_of}
 use Rattle.ram_blocks.specs.Told.{Told}
-use Rattle.nv_desk.specs.Desk.{DeskState, state_of}
+use Rattle.nv_desk_copies.specs.nv_desk.Desk.{DeskState, state_of}
 use Rattle.nv_desk_copies.specs.Posts.{IsPosted, IsPostedNext, answer_of, goes_over}
 use Rattle.job_progress.specs.Hand.{HandState}
 use Rattle.job_progress.specs.JobInHand.{HandFits, IsFruitless, IsInHand}

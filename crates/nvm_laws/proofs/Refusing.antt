@@ -9,8 +9,8 @@ use Rattle.block_machine.specs.block_config.Lengths.{lengths_of}
 use Rattle.block_machine.specs.Words.{Mark, Content, Invalid, Erased, JobKind, WriteJob}
 use Rattle.block_machine.specs.Blocks.{desc_of, job_block, kind_of, mark_by, mark_of}
 use Rattle.block_machine.specs.State.{Job}
-use Rattle.nv_desk.specs.Desk.{state_of}
-use Rattle.nv_desk.specs.Sound.{IsPendingJob}
+use Rattle.nv_desk_copies.specs.nv_desk.Desk.{state_of}
+use Rattle.nv_desk_copies.specs.nv_desk.Sound.{IsPendingJob}
 use Rattle.nvm_laws.specs.Turns.{given_length, wish_for}
 use Rattle.nvm_laws.specs.Calls.{RefusalsDontCome}
 use Rattle.nvm_laws.proofs.Numbers.{length_is}

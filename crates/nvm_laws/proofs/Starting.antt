@@ -22,7 +22,7 @@ use Rattle.job_programs.specs.Failures.{served_of}
 use Rattle.nvm_device_laws.specs.Pairing.{Allows, HasDoubt, Pairs, IsStaged}
 use Rattle.promise_blocks.specs.Counts.{count_due}
 use Rattle.nvm_device_laws.specs.Tries.{is_hand_urgent}
-use Rattle.nv_desk.specs.Desk.{DeskState, state_of}
+use Rattle.nv_desk_copies.specs.nv_desk.Desk.{DeskState, state_of}
 use Rattle.job_progress.specs.Hand.{HandState, with_start}
 use Rattle.job_progress.specs.JobInHand.{HandFits, IsInHand, job_for, program_for}
 use Rattle.job_progress.specs.Goes.{Names}

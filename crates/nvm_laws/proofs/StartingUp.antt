@@ -4,7 +4,7 @@ use Rattle.memif.specs.Told.{DeviceTold}
 use Rattle.memif.specs.Clock.{Clock}
 use Rattle.block_machine.specs.Words.{Found}
 use Rattle.promise_blocks.specs.OverDevice.{HasStarted}
-use Rattle.nv_desk.specs.Desk.{DeskState}
+use Rattle.nv_desk_copies.specs.nv_desk.Desk.{DeskState}
 use Rattle.nvm_device_laws.proofs.DownCalls.{comes_down}
 use Rattle.nvm_device_laws.proofs.Pushed.{started_push}
 use Rattle.nvm_laws.proofs.Keeping.{early_begins}

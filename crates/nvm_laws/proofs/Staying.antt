@@ -8,7 +8,7 @@ use Rattle.block_machine.specs.Words.{Entry, Configuration}
 use Rattle.block_machine.specs.State.{State}
 use Rattle.nvm_device_laws.specs.Turn.{Keeps}
 use Rattle.nvm_device_laws.specs.Tries.{TriesArePaid, TriesStay, is_hand_urgent}
-use Rattle.nv_desk.specs.Desk.{state_of}
+use Rattle.nv_desk_copies.specs.nv_desk.Desk.{state_of}
 use Rattle.job_progress.specs.Hand.{HandState}
 use Rattle.job_progress.specs.JobInHand.{FitsMarks, HandFits}
 use Rattle.nvm_device_laws.proofs.DeviceCalls.{arm_stays, goes_armed}

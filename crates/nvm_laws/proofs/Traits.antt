@@ -14,7 +14,7 @@ use Rattle.block_machine.specs.Blocks.{rank_of}
 use Rattle.block_machine.specs.Legal.{MayPick}
 use Rattle.block_machine.specs.Next.{next_in, next_of}
 use Rattle.nvm_device_laws.specs.Tries.{is_hand_urgent}
-use Rattle.nv_desk.specs.Desk.{state_of}
+use Rattle.nv_desk_copies.specs.nv_desk.Desk.{state_of}
 use Rattle.job_progress.specs.Hand.{HandState}
 use Rattle.job_progress.specs.JobInHand.{IsAt, IsPaired}
 use Rattle.nvm_laws.specs.declared.turned.Turned.TheVariants as turned

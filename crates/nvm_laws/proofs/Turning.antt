@@ -19,7 +19,7 @@ use Rattle.promise_blocks.specs.Operations.{AreOfJobs, AreStartsTold, start_ups_
 use Rattle.nvm_device_laws.specs.Outcomes.{outcome_by, OutcomesFit}
 use Rattle.nvm_device_laws.specs.Turn.{StaysBy, TurnsKeep, TellsSlots, settled_by, wrote_by}
 use Rattle.nvm_device_laws.specs.Tries.{TriesArePaid, TriesStay, TriesGoOn, is_hand_urgent, is_post}
-use Rattle.nv_desk.specs.Desk.{DeskState, state_of}
+use Rattle.nv_desk_copies.specs.nv_desk.Desk.{DeskState, state_of}
 use Rattle.job_progress.specs.Hand.{HandState, ended}
 use Rattle.job_progress.specs.JobInHand.{HandFits, IsInHand, IsPaired}
 use Rattle.job_progress.specs.Goes.{state_by}

@@ -9,7 +9,7 @@ use Rattle.block_machine.specs.block_config.Rules.{IsLegalConfig, IsLegalBlock, 
 use Rattle.block_machine.specs.Words.{Entry, BlockDesc, Configuration}
 use Rattle.block_machine.specs.Blocks.{desc_of, job_block, kind_of, block_at}
 use Rattle.job_programs.specs.Program.{Program}
-use Rattle.nv_desk.specs.Desk.{DeskState}
+use Rattle.nv_desk_copies.specs.nv_desk.Desk.{DeskState}
 use Rattle.job_progress.specs.JobInHand.{program_for}
 use Rattle.nvm_figures.proofs.DrainWork.{programs_are_small, entries_lower}
 use Rattle.nvm_laws.specs.Work.{program_in_hand, HandsAreSmall, EntriesLowerWork}

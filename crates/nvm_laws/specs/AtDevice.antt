@@ -3,7 +3,7 @@ use Rattle.std.specs.Prelude.{◌≡◌, ◌⊎◌, ℕ, true, false, Option, So
 use Rattle.memif.specs.Told.{DeviceTold, is_open, IfElse}
 use Rattle.memif.specs.Calls.{Wish, AcceptsAs, IsCanceled}
 use Rattle.nvm_figures.specs.Job.{IsOperation}
-use Rattle.nv_desk.specs.Desk.{DeskState}
+use Rattle.nv_desk_copies.specs.nv_desk.Desk.{DeskState}
 use Rattle.job_progress.specs.Hand.{HandState, is_finished, with_start}
 use Rattle.nvm_laws.specs.Turns.{hand_in}
 use Rattle.nvm_laws.specs.declared.turned.Turned.TheVariants as turned

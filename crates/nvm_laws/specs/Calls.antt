@@ -10,8 +10,8 @@ use Rattle.memif.specs.declared.answer.DeviceTurn.{DeviceTurn}
 use Rattle.block_machine.specs.block_config.Lengths.{lengths_of}
 use Rattle.block_machine.specs.block_config.Rules.{IsLegalConfig}
 use Rattle.block_machine.specs.Blocks.{job_block}
-use Rattle.nv_desk.specs.Desk.{DeskState, state_of}
-use Rattle.nv_desk.specs.Sound.{IsPendingJob}
+use Rattle.nv_desk_copies.specs.nv_desk.Desk.{DeskState, state_of}
+use Rattle.nv_desk_copies.specs.nv_desk.Sound.{IsPendingJob}
 use Rattle.job_progress.specs.Hand.{HandState, with_start}
 use Rattle.job_progress.specs.JobInHand.{IsInHand, IsPaired, job_for}
 use Rattle.job_progress.specs.Goes.{Names}

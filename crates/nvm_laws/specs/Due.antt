@@ -7,7 +7,7 @@ use Rattle.block_machine.specs.Blocks.{indices_of, job_block, kind_of, rank_of}
 use Rattle.block_machine.specs.Next.{next_in}
 use Rattle.nvm_figures.specs.Run.{IsUrgentWrite}
 use Rattle.nvm_figures.specs.Urgent.{pages_ahead, pages_of}
-use Rattle.nv_desk.specs.Desk.{DeskState, state_of}
+use Rattle.nv_desk_copies.specs.nv_desk.Desk.{DeskState, state_of}
 use Rattle.job_progress.specs.Hand.{HandState, is_finished}
 use Rattle.nvm_laws.specs.Halves.{Adds}
 

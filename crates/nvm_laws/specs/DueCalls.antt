@@ -1,7 +1,7 @@
 -- A run of calls, at whose end what was due is posted.
 use Rattle.std.specs.Prelude.{◌≡◌, ◌⊎◌, ◌≤◌, ◌+◌, ℕ, false, List, [], ◌∷◌}
 use Rattle.block_machine.specs.nv_base.Count.{Rose}
-use Rattle.nv_desk.specs.Desk.{state_of}
+use Rattle.nv_desk_copies.specs.nv_desk.Desk.{state_of}
 use Rattle.nvm_laws.specs.Due.{StackNow, IsDue, IsNearer, PostsDue}
 
 -- a call of a stack, with what the stack is behind it: a turn, or another one that isn't a start-up

@@ -6,7 +6,7 @@ use Rattle.block_machine.specs.nv_base.declared.job.JobStep.TheVariants.{Ended}
 use Rattle.block_machine.specs.Words.{Entry, NotOk, Found, FromNowhere, Configuration}
 use Rattle.block_machine.specs.Cases.{cap, ok, pick_write, bytes_1, bytes_2, write}
 use Rattle.nvm_figures.specs.Cases.{at_rest}
-use Rattle.nv_desk.specs.Desk.{DeskState}
+use Rattle.nv_desk_copies.specs.nv_desk.Desk.{DeskState}
 use Rattle.job_progress.specs.Hand.{HandState}
 use Rattle.nvm_laws.specs.Turns.{hand_in}
 use Rattle.nvm_laws.specs.Due.{StackNow}

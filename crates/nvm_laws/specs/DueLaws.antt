@@ -14,9 +14,9 @@ use Rattle.block_machine.specs.Reply.{reply_of}
 use Rattle.block_machine.specs.Steps.{step}
 use Rattle.ram_blocks.specs.Told.{Told}
 use Rattle.nvm_device_laws.specs.Turn.{settled_by}
-use Rattle.nv_desk.specs.Desk.{DeskState, state_of}
-use Rattle.nv_desk.specs.Sound.{IsPendingJob}
-use Rattle.nv_desk.specs.Picks.{IsInterruption}
+use Rattle.nv_desk_copies.specs.nv_desk.Desk.{DeskState, state_of}
+use Rattle.nv_desk_copies.specs.nv_desk.Sound.{IsPendingJob}
+use Rattle.nv_desk_copies.specs.nv_desk.Picks.{IsInterruption}
 use Rattle.job_progress.specs.Hand.{HandState}
 use Rattle.nvm_laws.specs.Ties.{IsTied}
 use Rattle.nvm_laws.specs.Halves.{Adds, IsHalf}

@@ -9,7 +9,7 @@ use Rattle.block_machine.specs.Blocks.{job_block, names_ram}
 use Rattle.block_machine.specs.Next.{next_of}
 use Rattle.block_machine.specs.Legal.{IsAllowed}
 use Rattle.ram_blocks.specs.Told.{Told}
-use Rattle.nv_desk.specs.Desk.{DeskState, state_of}
+use Rattle.nv_desk_copies.specs.nv_desk.Desk.{DeskState, state_of}
 use Rattle.nv_desk_copies.specs.Posts.{IsPosted, IsPostedNext, answer_of}
 use Rattle.job_progress.specs.Hand.{HandState}
 use Rattle.job_progress.specs.JobInHand.{HandFits, IsInHand}

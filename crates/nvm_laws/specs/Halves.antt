@@ -8,7 +8,7 @@ use Rattle.block_machine.specs.Results.{Answer}
 use Rattle.block_machine.specs.Next.{next_of}
 use Rattle.block_machine.specs.Next.{Nothing as NoNext}
 use Rattle.ram_blocks.specs.Told.{Told}
-use Rattle.nv_desk.specs.Desk.{DeskState, state_of}
+use Rattle.nv_desk_copies.specs.nv_desk.Desk.{DeskState, state_of}
 use Rattle.nv_desk_copies.specs.Picks.{IsPicked}
 use Rattle.nv_desk_copies.specs.Posts.{IsPosted, IsPostedNext}
 use Rattle.nvm_laws.specs.declared.turned.Turned.TheVariants as turned

@@ -7,7 +7,7 @@ use Rattle.promise_blocks.specs.OverDevice.{HasStarted, KeepsEarly}
 use Rattle.promise_blocks.specs.Operations.{AreOfJobs, AreStartsTold}
 use Rattle.nvm_device_laws.specs.Turn.{Keeps, TellsSlots, down}
 use Rattle.nvm_device_laws.specs.Tries.{TriesArePaid, is_hand_urgent}
-use Rattle.nv_desk.specs.Desk.{DeskState, state_of}
+use Rattle.nv_desk_copies.specs.nv_desk.Desk.{DeskState, state_of}
 use Rattle.job_progress.specs.Hand.{HandState}
 use Rattle.job_progress.specs.JobInHand.{HandFits}
 

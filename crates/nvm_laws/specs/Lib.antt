@@ -20,7 +20,7 @@ pub use Rattle.block_machine.specs as block_machine
 pub use Rattle.block_laws.specs as block_laws
 pub use Rattle.ram_blocks.specs as ram_blocks
 pub use Rattle.job_programs.specs as job_programs
-pub use Rattle.nv_desk.specs as nv_desk
+pub use Rattle.nv_desk_copies.specs.nv_desk as nv_desk
 pub use Rattle.nv_desk_copies.specs as nv_desk_copies
 pub use Rattle.promise_blocks.specs as promise_blocks
 pub use Rattle.nvm_device_laws.specs as nvm_device_laws

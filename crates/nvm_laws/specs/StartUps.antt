@@ -6,7 +6,7 @@ use Rattle.memif.specs.Calls.{InOrder}
 use Rattle.block_machine.specs.Words.{Instance, Mark, Found, Configuration}
 use Rattle.promise_blocks.specs.Operations.{AreOfJobs, AreStartsTold}
 use Rattle.nvm_device_laws.specs.Turn.{Keeps, down}
-use Rattle.nv_desk.specs.Desk.{DeskState}
+use Rattle.nv_desk_copies.specs.nv_desk.Desk.{DeskState}
 use Rattle.job_progress.specs.Hand.{HandState}
 use Rattle.nvm_laws.specs.Halves.{Adds}
 use Rattle.nvm_laws.specs.Keeps.{StackKeeps, KeepsWhileDown, KeepsAsTold, StackKeepsAsTold, DownKeepsAsTold}

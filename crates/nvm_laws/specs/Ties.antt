@@ -2,7 +2,7 @@
 use Rattle.std.specs.Prelude.{◌≡◌, ◌≤◌, true, IsTrue, Option}
 use Rattle.memif.specs.Told.{DeviceTold, ops_of, is_off}
 use Rattle.block_machine.specs.block_config.Lengths.{lengths_of}
-use Rattle.nv_desk.specs.Desk.{DeskState, state_of}
+use Rattle.nv_desk_copies.specs.nv_desk.Desk.{DeskState, state_of}
 use Rattle.job_progress.specs.Hand.{HandState}
 use Rattle.job_progress.specs.JobInHand.{IsPaired}
 

@@ -7,7 +7,7 @@ use Rattle.memif.specs.Calls.{IsSealing, Turns}
 use Rattle.memif.specs.declared.answer.DeviceTurn.{DeviceTurn}
 use Rattle.ram_blocks.specs.Told.{Told}
 use Rattle.nvm_device_laws.specs.Tries.{is_hand_urgent}
-use Rattle.nv_desk.specs.Desk.{DeskState, state_of}
+use Rattle.nv_desk_copies.specs.nv_desk.Desk.{DeskState, state_of}
 use Rattle.job_progress.specs.Hand.{HandState}
 use Rattle.job_progress.specs.JobInHand.{IsPaired}
 use Rattle.nvm_laws.specs.Halves.{IsHalf}

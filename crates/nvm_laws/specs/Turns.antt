@@ -10,7 +10,7 @@ use Rattle.block_machine.specs.Blocks.{desc_of, job_block}
 use Rattle.block_machine.specs.Legal.{IsAllowed}
 use Rattle.nvm_device_laws.specs.Outcomes.{outcome_by}
 use Rattle.nvm_device_laws.specs.Turn.{settled_by}
-use Rattle.nv_desk.specs.Desk.{DeskState, state_of}
+use Rattle.nv_desk_copies.specs.nv_desk.Desk.{DeskState, state_of}
 use Rattle.job_progress.specs.Hand.{HandState, ended}
 use Rattle.job_progress.specs.JobInHand.{job_for}
 use Rattle.job_progress.specs.Begins.{hand_for}

@@ -8,7 +8,7 @@ use Rattle.block_machine.specs.Words.{Entry, Configuration}
 use Rattle.block_machine.specs.State.{State}
 use Rattle.job_programs.specs.Program.{Program}
 use Rattle.nvm_figures.specs.Drain.{IsSmall, drain_work}
-use Rattle.nv_desk.specs.Desk.{DeskState}
+use Rattle.nv_desk_copies.specs.nv_desk.Desk.{DeskState}
 use Rattle.job_progress.specs.Hand.{HandState}
 use Rattle.job_progress.specs.JobInHand.{IsPaired}
 

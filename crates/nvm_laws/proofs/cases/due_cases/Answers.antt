@@ -6,7 +6,7 @@ use Rattle.block_machine.specs.Words.{TookContent}
 use Rattle.block_machine.specs.Cases.{bytes_1, bytes_2, mixed_config, urgent_config, write}
 use Rattle.block_machine.specs.Steps.{job_at, picked_job}
 use Rattle.nvm_figures.specs.Cases.{figures, fixed}
-use Rattle.nv_desk.specs.Desk.{state_of}
+use Rattle.nv_desk_copies.specs.nv_desk.Desk.{state_of}
 use Rattle.job_progress.specs.Begins.{hand_for}
 use Rattle.nvm_laws.specs.DueCases.{desk_with, in_hand}
 use Rattle.nvm_laws.proofs.cases.due_cases.Goals as goal
