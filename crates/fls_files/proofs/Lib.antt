@@ -2,3 +2,4 @@ mod Enlargements
 mod FileOperations
 mod FileSteps
 mod Mixtures
+mod SeenFiles

@@ -1,3 +1,4 @@
 pub mod ByteFile
 pub mod FileFlash
 pub mod FileFlashInside
+pub mod SeenFile

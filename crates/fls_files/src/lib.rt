@@ -10,10 +10,12 @@ mod byte_file;
 mod file_flash;
 mod image_file;
 mod memory_file;
+mod seen_file;
 mod system_file;
 
 pub use byte_file::{ByteFile, OpenFault};
 pub use file_flash::FileFlash;
 pub use image_file::{ImageFault, ImageFile};
 pub use memory_file::{MemFile, mem_file};
+pub use seen_file::SeenFile;
 pub use system_file::SystemFile;

@@ -39,8 +39,8 @@ fn below_256(bytes: &Vec<u8>)
     ensures { AreBytes bytes.now.items }
 {}
 
-// Puts bytes in place of those at an address, and behind the end.
-fn put(bytes: &mut Vec<u8>, at: usize, new: &[u8]) -> Result<(), AllocError>
+/// Puts bytes in place of those at an address, and behind the end.
+pub(crate) fn put(bytes: &mut Vec<u8>, at: usize, new: &[u8]) -> Result<(), AllocError>
     requires { at ≤ length bytes.old.items }
     ensures done { OnOk result (bytes.new.items ≡ spliced bytes.old.items at new.now) }
     ensures err { OnErr result (bytes.new.items ≡ bytes.old.items) }

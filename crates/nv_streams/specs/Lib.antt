@@ -1,3 +1,4 @@
+pub mod HeldSink
 pub mod MemorySink
 pub mod MemorySource
 pub mod Sink

@@ -2,8 +2,9 @@
 ghost use Rattle.std.specs.Prelude.{◌≡◌, ℕ, None};
 ghost use Rattle.nv_streams.specs.Sink.{Written};
 
+use crate::write_out::write_out;
 use crate::{Sink, SinkAnswer};
-use std::io::{ErrorKind, Write};
+use std::io::Write;
 
 /// A sink over a writer. It tells the bytes that its writer tells, so none of a file or a terminal, and no pieces. Each error
 /// of the writer is a fault, but an interrupted call is made again; a write that takes none of a nonempty piece is a fault
@@ -30,16 +31,8 @@ impl<W: Write> Sink for StdSink<W> {
     ghost faults = { λ s. s.faults };
 
     fn put(&mut self, piece: &[u8]) -> SinkAnswer {
-        let mut at = 0;
-        for _ in 0..u64::MAX {
-            if at == piece.len() {
-                return SinkAnswer::Done;
-            }
-            match self.writer.write(&piece[at..]) {
-                Ok(count) if count > 0 => at += count,
-                Err(error) if error.kind() == ErrorKind::Interrupted => {}
-                _ => break,
-            }
+        if write_out(&mut self.writer, piece) == piece.len() {
+            return SinkAnswer::Done;
         }
         self.faults = self.faults.saturating_add(1);
         SinkAnswer::Failed

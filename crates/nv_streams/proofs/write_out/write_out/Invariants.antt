@@ -1,0 +1,8 @@
+use Rattle.std.proofs.Common.{◌≤◌, length, take}
+use Rattle.std.specs.Io.KnownBytes.{Appends}
+use Rattle.nv_streams.proofs.write_out.write_out.Given as goal
+
+-- the first `at` bytes were written
+abbrev pub invariant-loop : goal.invariant-loop
+invariant-loop g l =
+    (l.at ≤ length l.bytes) × Appends (g.W.Write.contents l.initial.writer) (g.W.Write.contents l.writer) (take l.at l.bytes)
