@@ -1,6 +1,7 @@
 -- Parts that are added one behind the other.
-use Rattle.std.proofs.Common.{◌≡◌, ◌<◌, ◌+◌, ◌/◌, ◌%◌, ℕ, true, List, [], ◌∷◌, ◌++◌, Some, length, slice_get, slice_index, take, append_assoc, refl, sym, ap, ◌∙◌, map-id, arith}
+use Rattle.std.proofs.Common.{◌≡◌, ◌<◌, ◌+◌, ◌/◌, ◌%◌, ℕ, true, List, [], ◌∷◌, ◌++◌, Some, length, slice_get, slice_index, take, drop, subst, take-append-drop, append_assoc, refl, sym, ap, ◌∙◌, map-id, arith}
 use Rattle.std.proofs.lemmas.List.{append-nil, take_more}
+use Rattle.std.proofs.Math.Seq.{take-add}
 use Rattle.std.proofs.lemmas.List.Concat.{flat_map-append}
 use Rattle.std.proofs.lemmas.List.FromFn.{map-range_with_len_more}
 use Rattle.std.proofs.lemmas.Option.{slice_get_within, get_or_from_slice_get}
@@ -49,6 +50,17 @@ adds_no_digits {x} = adds_nothing
 pub adds_digits : {x y z : Text} (bytes : List ℕ) (i : ℕ) → i < length bytes → Adds (encode_lower (take i bytes)) x y → Adds (encode_lower (slice_index bytes i ∷ [])) y z → Adds (encode_lower (take (i + 1) bytes)) x z
 adds_digits {x} {y} {z} bytes i within first second =
     rw (take_more bytes i 0 within, encode_with-append lower_digits (take i bytes) (slice_index bytes i ∷ [])) (adds_then first second)
+
+-- those of some bytes more
+pub adds_more : {x y z : Text} (bytes : List ℕ) (i n : ℕ) → Adds (encode_lower (take i bytes)) x y → Adds (encode_lower (take n (drop i bytes))) y z → Adds (encode_lower (take (i + n) bytes)) x z
+adds_more {x} {y} {z} bytes i n first second =
+    rw (take-add i n bytes, encode_with-append lower_digits (take i bytes) (take n (drop i bytes))) (adds_then first second)
+
+-- and of the rest
+pub adds_rest : {x y z : Text} (bytes : List ℕ) (i : ℕ) → Adds (encode_lower (take i bytes)) x y → Adds (encode_lower (drop i bytes)) y z → Adds (encode_lower bytes) x z
+adds_rest {x} {y} {z} bytes i first second =
+    subst (λ (all : List ℕ). Adds (encode_lower all) x z) (take-append-drop i bytes)
+    (rw (encode_with-append lower_digits (take i bytes) (drop i bytes)) (adds_then first second))
 
 -- adding parts
 pub ruleset parts = (adds_then, adds_nothing)

@@ -1,13 +1,19 @@
 // Text that is written part by part.
-ghost use Rattle.std.specs.Prelude.{◌≡◌, true, [], ◌∷◌, IfOk};
+ghost use Rattle.std.specs.Prelude.{◌≡◌, true, [], ◌∷◌, IfOk, length};
 ghost use Rattle.std.specs.Fmt.{decimal};
 ghost use Rattle.hex.specs.Hex.{encode_lower};
 ghost use Rattle.nvm_script.specs.Text.{Adds};
 
+use hex::encode_to_slice;
 use itoa::Buffer;
 use std::alloc::AllocError;
 
 const DIGITS: &[u8; 16] = b"0123456789abcdef";
+
+// The bytes whose digits are added at once, and these digits.
+const PIECE: usize = 64;
+
+const PIECE_DIGITS: usize = 128;
 
 /// A text that grows at its end. It is whole as long as there was memory for each part.
 #[derive(Drop)]
@@ -63,6 +69,28 @@ impl Text {
 
     /// Two digits a byte, in lower case.
     pub fn digits(&mut self, bytes: &[u8])
+        ensures { Adds (encode_lower bytes.now) self.old self.new }
+    {
+        let mut at = 0;
+        while bytes.len() - at >= PIECE {
+            self.piece(&bytes[at..at + PIECE]);
+            at += PIECE;
+        }
+        self.pairs(&bytes[at..]);
+    }
+
+    // Those of a piece, added at once.
+    fn piece(&mut self, bytes: &[u8])
+        requires { length bytes.now ≡ PIECE }
+        ensures { Adds (encode_lower bytes.now) self.old self.new }
+    {
+        let mut digits = [0; PIECE_DIGITS];
+        let _written = encode_to_slice(bytes, &mut digits);
+        self.bytes(&digits);
+    }
+
+    // Those of a few bytes, added byte by byte.
+    fn pairs(&mut self, bytes: &[u8])
         ensures { Adds (encode_lower bytes.now) self.old self.new }
     {
         for i in 0..bytes.len() {
