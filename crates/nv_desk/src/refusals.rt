@@ -3,12 +3,14 @@ ghost use Rattle.std.specs.Prelude.{◌≡◌, ◌≤◌, ◌<◌, ◌^◌, ◌+
 ghost use Rattle.std.specs.Option.{option_map_or};
 ghost use Rattle.block_machine.specs.Blocks.{asked_block, block_at, desc_of, status_of, is_pending, names_rom, is_immediate};
 ghost use Rattle.block_machine.specs.Reply.{holds, tested, needed, fits, answer_to, reply_of, can_cancel};
+ghost use Rattle.block_states.specs.States.{facts_of};
 ghost use Rattle.nv_desk.specs.Desk.{state_of};
 ghost use Rattle.nv_recorder.specs.Request.{request_lent};
 
 use crate::Desk;
 use crate::tested::tested;
 use block_machine::nv_base::{Refusal, Reply, ReqResult};
+use block_states::BlockFacts;
 use nv_desk_state::{
     datasets, has_no_defaults, has_no_ram, is_dataset, is_once, is_permanent, length, priority,
     records, stored,
@@ -16,17 +18,18 @@ use nv_desk_state::{
 use nv_recorder::{LentRequest, RequestKind};
 
 impl Desk {
-    fn is_unknown(&self, request: LentRequest<'_>) -> bool
+    fn is_unknown(&self, request: LentRequest<'_>, id: u16) -> bool
+        requires { id ≡ asked_block (request_lent request) }
         ensures { result ≡ holds self.now.config self.now.cap (state_of self.now) Refusal.UnknownBlock (request_lent request.entry) }
     {
-        let id = asked_block(request);
         match request.kind {
             RequestKind::Status { block } => self.config.blocks() < block,
             _ => id == 0 || self.config.blocks() < id,
         }
     }
 
-    fn is_wrong_type(&self, request: LentRequest<'_>) -> bool
+    fn is_wrong_type(&self, request: LentRequest<'_>, id: u16) -> bool
+        requires { id ≡ asked_block (request_lent request) }
         ensures { result ≡ holds self.now.config self.now.cap (state_of self.now) Refusal.WrongType (request_lent request.entry) }
     {
         match request.kind {
@@ -34,7 +37,7 @@ impl Desk {
                 !is_dataset(&self.config, block)
             }
             RequestKind::Restore { block, .. } => is_dataset(&self.config, block),
-            _ => asked_block(request) == 1,
+            _ => id == 1,
         }
     }
 
@@ -60,25 +63,34 @@ impl Desk {
         }
     }
 
-    fn lacks_ram(&self, request: LentRequest<'_>) -> bool
+    fn lacks_ram(&self, request: LentRequest<'_>, id: u16) -> bool
+        requires { id ≡ asked_block (request_lent request) }
         ensures { result ≡ holds self.now.config self.now.cap (state_of self.now) Refusal.NoRam (request_lent request.entry) }
     {
         match request.kind {
             RequestKind::PutRam { block } => !is_permanent(&self.config, block),
-            _ => has_no_ram(&self.config, asked_block(request)),
+            _ => has_no_ram(&self.config, id),
         }
     }
 
-    fn is_pending(&self, id: u16) -> bool
-        ensures { result ≡ is_pending (status_of (state_of self.now) id) }
+    // What is kept of a block beside its RAM.
+    fn facts(&self, id: u16) -> BlockFacts
+        ensures { result ≡ facts_of (block_at (state_of self.now) id) }
     {
-        matches!(self.status(id), ReqResult::Pending)
+        self.kept.blocks.facts(id)
     }
 
-    fn names_rom(&self, id: u16) -> bool
+    fn is_sweep_pending(&self) -> bool
+        ensures { result ≡ is_pending (status_of (state_of self.now) 0) }
+    {
+        matches!(self.status(0), ReqResult::Pending)
+    }
+
+    fn names_rom(&self, id: u16, facts: BlockFacts) -> bool
+        requires { facts ≡ facts_of (block_at (state_of self.now) id) }
         ensures { result ≡ names_rom (desc_of self.now.config id) (block_at (state_of self.now) id) }
     {
-        is_dataset(&self.config, id) && stored(&self.config, id) <= self.kept.blocks.facts(id).index
+        is_dataset(&self.config, id) && stored(&self.config, id) <= facts.index
     }
 
     /// Whether the job of a request is immediate: a write of a block of priority 0.
@@ -135,39 +147,48 @@ impl Desk {
         u64::from(self.history.len()) + self.kept.reserved() + more <= u64::from(self.history.cap())
     }
 
-    /// Whether a refusal holds of a request.
-    fn refuses(&self, refusal: Refusal, request: LentRequest<'_>) -> bool
+    /// Whether a refusal holds of a request, of whose block this is kept.
+    fn refuses(
+        &self,
+        refusal: Refusal,
+        request: LentRequest<'_>,
+        id: u16,
+        facts: BlockFacts,
+    ) -> bool
+        requires block { id ≡ asked_block (request_lent request) }
+        requires facts { facts ≡ facts_of (block_at (state_of self.now) id) }
         ensures { result ≡ holds self.now.config self.now.cap (state_of self.now) refusal (request_lent request.entry) }
     {
-        let id = asked_block(request);
         match refusal {
-            Refusal::UnknownBlock => self.is_unknown(request),
+            Refusal::UnknownBlock => self.is_unknown(request, id),
             Refusal::NotStarted => self.kept.off,
-            Refusal::WrongType => self.is_wrong_type(request),
+            Refusal::WrongType => self.is_wrong_type(request, id),
             Refusal::BadIndex => self.is_bad_index(request),
             Refusal::BadLength => self.is_bad_length(request),
-            Refusal::NoRam => self.lacks_ram(request),
+            Refusal::NoRam => self.lacks_ram(request, id),
             Refusal::NoDefaults => has_no_defaults(&self.config, id),
             Refusal::NotImmediate => priority(&self.config, id) != 0,
             Refusal::WriteOnce => is_once(&self.config, id),
-            Refusal::MultiPending => self.is_pending(0),
-            Refusal::Pending => self.is_pending(id),
-            Refusal::Locked => self.kept.blocks.facts(id).locked,
-            Refusal::Protected => self.kept.blocks.facts(id).protected,
-            Refusal::RomIndex => self.names_rom(id),
+            Refusal::MultiPending => self.is_sweep_pending(),
+            Refusal::Pending => matches!(facts.status, ReqResult::Pending),
+            Refusal::Locked => facts.locked,
+            Refusal::Protected => facts.protected,
+            Refusal::RomIndex => self.names_rom(id, facts),
             Refusal::NothingToCancel => self.nothing_to_cancel(),
             Refusal::QueueFull => self.is_queue_full(request),
             Refusal::HistoryFull => !self.fits(1 + u64::from(self.needed(request))),
         }
     }
 
-    /// The first of its refusals that holds of a request.
+    /// The first of its refusals that holds of a request. Its block is looked up once.
     fn first_refusal(&self, request: LentRequest<'_>) -> Option<Refusal>
         ensures { result ≡ find (λ x. holds self.now.config self.now.cap (state_of self.now) x (request_lent request.entry)) (tested (request_lent request.entry)) }
     {
         let refusals = tested(request);
+        let id = asked_block(request);
+        let facts = self.facts(id);
         for refusal in refusals {
-            if self.refuses(*refusal, request) {
+            if self.refuses(*refusal, request, id, facts) {
                 return Some(*refusal);
             }
         }
