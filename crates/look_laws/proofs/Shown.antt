@@ -53,7 +53,7 @@ fewer_can_be_made c caller done more h made = record {
       omega (arith, few, l);
   waits = λ n block x at kind.
       let in_it : n < length done = slice_get_within done n x at in
-      subst (λ (xs : List Step). WaitedFor c caller block (length (requests_of c xs)) h) (take_front n done more (omega (arith, in_it)))
+      subst (λ (xs : List Step). WaitedFor caller block (length (requests_of c xs)) h) (take_front n done more (omega (arith, in_it)))
       (made.waits n block x (get_front n done more x at) kind);
 }
 

@@ -4,7 +4,6 @@ use Rattle.std.proofs.Common.{◌≡◌, ℕ, List, [], ◌∷◌, sym, ap, subs
 use Rattle.driver_moves.specs.memif.Told.{DeviceTold}
 use Rattle.driver_moves.specs.memif.Clock.{Clock}
 use Rattle.driver_moves.specs.block_machine.Words.{Entry, Ask, Found, Instance, Mark}
-use Rattle.driver_moves.specs.block_machine.Legal.{IsLegal}
 use Rattle.driver_moves.specs.ram_blocks.declared.plain_block.PlainBlock.{PlainBlock}
 use Rattle.ram_mirrors_sync.specs.Blocks.{AreClosed, AreMade, EndList, EndsGoOn, HasCameWith, HasLooked, IsOver, IsStore, Pairs, SideList, SyncValue, told_by}
 use Rattle.driver_moves.specs.nv_desk.Desk.{DeskState}
@@ -12,6 +11,7 @@ use Rattle.driver_moves.specs.nv_desk_copies.Front.{AreSynchronized}
 use Rattle.turn_gate.specs.declared.pass.View.{View}
 use Rattle.turn_gate.specs.Pass.{knows}
 use Rattle.script_walks.specs.Words.{Step}
+use Rattle.script_walks.specs.Looks.{CopiesAreShown}
 use Rattle.script_walks.specs.Runs.{has_ended}
 use Rattle.script_callers.specs.declared.program.Program.{Program}
 use Rattle.driver_moves.specs.nvm_shared.declared.terms.Terms.{Terms}
@@ -26,7 +26,6 @@ use Rattle.nvm_callers.specs.Dealt.{AllDealt, AllGathered}
 use Rattle.nvm_callers.specs.KeptSteps.{IsClosedBy}
 use Rattle.nvm_callers.specs.Shares.{BeginsUnasked}
 use Rattle.nvm_callers.specs.Stores.{Along, SidesValue, bytes_at, stores_at}
-use Rattle.nvm_callers.specs.TakenCopies.{StoresAreTaken}
 use Rattle.nvm_callers.specs.Callers.{HaveRun, MayRun}
 use Rattle.nvm_callers.specs.declared.ending.Ending.{Ending}
 use Rattle.ram_mirrors_sync.proofs.Copies.{looks_go_on}
@@ -106,19 +105,19 @@ module _ {D : Type 0} (told : D → DeviceTold) (clock : D → Clock) (t : Terms
       let closed_own = subst (λ (l : List Entry). IsClosedBy v l) entries closed in
       keeps_order_of told clock (λ (s : S). map told_by s.ends) (λ (s : S). IsStore s.ends) (λ (x y : S). HasLooked x.ends y.ends) (λ (x y : S). IsOver x y) stands_in t
       (λ (s : SidesValue). bytes_at s.sides) (λ (s : SidesValue). stores_at s.sides) (λ (s : SidesValue). s.mirrors) shown_in_order steps are.run marks ops h old new own firsts nows e v desk ran_own closed_own ended
-      (λ looks legal.
+      (λ looks.
       let were = were_stored t steps are.run mirrors ends sides left all made firsts nows e v h dealt_own ran_own closed_own (unasked marks ops looks.more h looks.grows) new.copies.ends on back (still_bytes t (programs_of t.config steps) mirrors ends sides left made firsts nows e v dealt_own ran_own) shut in
-      taken_of marks ops h old new looks legal were) is_desk
+      taken_of marks ops h old new looks were) is_desk
     where
       unasked : (marks : List (Instance × Mark)) (ops : ℕ) (more h : List Entry) → h ≡ Found marks ops ∷ more → BeginsUnasked h
       unasked marks ops more h is caller r reply = subst (λ (l : List Entry). ¬ IsEntry l 0 (Ask caller r reply)) (sym is) (λ is_ask. cc is_ask)
 
       taken_of : (marks : List (Instance × Mark)) (ops : ℕ) (h : List Entry) (old new : DriverState D S)
           → (looks : LooksAre told clock (λ (s : S). map told_by s.ends) (λ (s : S). IsStore s.ends) (λ (x y : S). HasLooked x.ends y.ends) (λ (x y : S). IsOver x y) stands_in t (Found marks ops ∷ []) h old new)
-          → IsLegal t.config t.cap h → WereStored t.config t.cap h steps new.copies.ends → StoresAreTaken t.config steps looks.looks h
-      taken_of marks ops h old new looks legal were =
+          → WereStored t.config t.cap h steps new.copies.ends → CopiesAreShown t.config steps looks.looks [] h
+      taken_of marks ops h old new looks were =
           let grown : h ≡ Found marks ops ∷ looks.more = looks.grows in
-          subst (λ (l : List Entry). StoresAreTaken t.config steps looks.looks l) (sym grown)
-          (stores_are_taken told clock t steps are.run are.few marks ops looks.more (subst (λ (l : List Entry). IsLegal t.config t.cap l) grown legal) old.copies new.copies
+          subst (λ (l : List Entry). CopiesAreShown t.config steps looks.looks [] l) (sym grown)
+          (stores_are_taken told clock t steps are.run are.few marks ops looks.more old.copies new.copies
           (subst (λ (l : List Entry). WereStored t.config t.cap l steps new.copies.ends) grown were) looks.looks
           (λ l within. subst (λ (k : List Entry). IsLookOf told clock (λ (s : S). map told_by s.ends) (λ (s : S). IsStore s.ends) (λ (x y : S). HasLooked x.ends y.ends) (λ (x y : S). IsOver x y) stands_in t k old.copies new.copies l) grown (looks.are l within)) looks.took)

@@ -5,7 +5,6 @@ use mathlib.Core.Option.{some, some-ne-none, some-injective}
 use lib.ListN.{get_elem?}
 use Rattle.atomic_table.proofs.Lists.{at_last, at_longer}
 use Rattle.driver_moves.specs.block_machine.Words.{Request, Reply, Entry, Ask, Configuration}
-use Rattle.driver_moves.specs.block_machine.Legal.{IsLegal}
 use Rattle.driver_moves.specs.block_laws.Consistent.{Each, Ascend}
 use Rattle.turn_gate.specs.Entries.{Note, StartsWith, AllAgree}
 use Rattle.turn_gate.specs.Pass.{Has}
@@ -222,8 +221,8 @@ deeds_last c cap own seen seen_new notes more caller deeds done starts =
 
 -- AT THE END
 module _ (c : Configuration) (cap : ℕ) (own : List ℕ) (seen : List Entry) (notes : List Note) (caller : ℕ) (rs : List Request) (h : List Entry)
-    (legal : IsLegal c cap h) (starts : StartsWith h seen) (agree : AllAgree gives h notes) (ascend : Ascend own) (at : AreAt h caller own rs) (all : AreAll h caller own) where
-  was_over : (block k : ℕ) → k ≤ length rs → HasWaited c cap own seen notes block k → WaitedFor c caller block k h
+    (starts : StartsWith h seen) (agree : AllAgree gives h notes) (ascend : Ascend own) (at : AreAt h caller own rs) (all : AreAll h caller own) where
+  was_over : (block k : ℕ) → k ≤ length rs → HasWaited c cap own seen notes block k → WaitedFor caller block k h
   was_over block k few has =
       let asks : asks_of caller (take has.end h) ≡ take k rs = asks_by_number (take has.end h) caller (take k own) (take k rs) (record {
         ascend = ascend_take k own ascend;
@@ -235,18 +234,18 @@ module _ (c : Configuration) (cap : ℕ) (own : List ℕ) (seen : List Entry) (n
         some = has.waited.some;
         within = has.waited.within h starts agree;
         asked = ap length asks ∙ omega (arith, length-take k rs, few);
-        over = has.waited.over h legal starts agree;
+        over = has.waited.over h starts agree;
       }
 
-  pub were_over : (k : ℕ) (ds : List Deed) → k + length (requests_in ds) ≤ length rs → HasWaitedAll c cap own seen notes k ds → WereOver c caller h k ds
+  pub were_over : (k : ℕ) (ds : List Deed) → k + length (requests_in ds) ≤ length rs → HasWaitedAll c cap own seen notes k ds → WereOver caller h k ds
   were_over k [] few has = tt
   were_over k (AskDeed line r ∷ ds) few has = were_over (k + 1) ds (omega (arith, few)) has
   were_over k (StoreDeed line block number content ∷ ds) few has = were_over k ds few has
   were_over k (Await line block ∷ ds) few has = (was_over block k (omega (arith, few)) has.0, were_over k ds few has.1)
 
 pub deeds_hold : DeedsHold
-deeds_hold c cap own seen notes caller deeds h done legal starts agree all =
+deeds_hold c cap own seen notes caller deeds h done starts agree all =
     let at = are_longer caller h seen own (requests_in deeds) starts done.at in record {
       asks = asks_by_number h caller own (requests_in deeds) (record { ascend = done.ascend; at = at; all = all });
-      waits = were_over c cap own seen notes caller (requests_in deeds) h legal starts agree done.ascend at all 0 deeds (omega arith) done.waits;
+      waits = were_over c cap own seen notes caller (requests_in deeds) h starts agree done.ascend at all 0 deeds (omega arith) done.waits;
     }

@@ -5,7 +5,6 @@ use Rattle.std.proofs.Common.{◌≡◌, ℕ, zero, suc, not, List, [], ◌∷�
 use Rattle.driver_moves.specs.memif.Told.{DeviceTold}
 use Rattle.driver_moves.specs.memif.Clock.{Clock}
 use Rattle.driver_moves.specs.block_machine.Words.{Entry, Ask, Found, Instance, Mark}
-use Rattle.driver_moves.specs.block_machine.Legal.{IsLegal}
 use Rattle.driver_moves.specs.ram_blocks.Told.{Told}
 use Rattle.driver_moves.specs.ram_blocks.declared.plain_block.PlainBlock.{PlainBlock}
 use Rattle.ram_mirrors_sync.specs.Blocks.{EndList, Pairs, told_by}
@@ -14,6 +13,7 @@ use Rattle.driver_moves.specs.nv_desk_copies.Front.{AreSynchronized}
 use Rattle.turn_gate.specs.declared.pass.View.{View}
 use Rattle.script_walks.specs.Words.{Step}
 use Rattle.script_walks.specs.Callers.{IsInOrder, program_of}
+use Rattle.script_walks.specs.Looks.{CopiesAreShown}
 use Rattle.script_walks.specs.Runs.{IsRun, has_ended, is_found}
 use Rattle.script_callers.specs.Programs.{programs_of}
 use Rattle.script_callers.specs.RunScripts.{AreRun}
@@ -35,8 +35,7 @@ use Rattle.nvm_callers.proofs.Keeping.{driving_keeps}
 use Rattle.nvm_callers.proofs.Adding.{driving_adds}
 use Rattle.nvm_callers.proofs.Moved.{driving_moves}
 use Rattle.nvm_callers.proofs.Looking.{driving_looks}
-use Rattle.nvm_callers.proofs.KeptSteps.{callers_ask, callers_keep_steps}
-use Rattle.nvm_callers.specs.TakenCopies.{StoresAreTaken}
+use Rattle.nvm_callers.proofs.KeptSteps.{callers_keep_steps}
 use Rattle.nvm_callers.specs.Ran.{KeepsOrder, WasRun, end_of}
 
 -- mirrors refuse no copy
@@ -79,13 +78,12 @@ module _ {D C : Type 0} (told : D → DeviceTold) (clock : D → Clock) (copies 
     unasked : BeginsUnasked h
     unasked caller r reply = subst (λ (l : List Entry). ¬ IsEntry l 0 (Ask caller r reply)) (sym grown) (λ is. cc is)
 
-    is_run : ((caller : ℕ) → IsInOrder t.config caller (program_of caller steps) h) → StoresAreTaken t.config steps looks.looks h → IsRun t.config steps looks.looks h
-    is_run order taken = record {
+    is_run : ((caller : ℕ) → IsInOrder t.config caller (program_of caller steps) h) → CopiesAreShown t.config steps looks.looks [] h → IsRun t.config steps looks.looks h
+    is_run order shown = record {
       one_start = subst (λ (l : List Entry). IsTrue (list_all (λ e. not (is_found e)) (drop 1 l))) (sym grown) no_start;
       order = order;
-      stores = taken.stores;
       in_order = looks.in_order;
-      shown = taken.shown;
+      shown = shown;
     }
 
     runs_by : (e : Ending) → IsRun t.config steps looks.looks h → EndSo t.config t.cap steps h e → IsTrue (has_ended t.config h) → RunsBy t.config t.cap steps looks.looks (end_of e) h
@@ -95,18 +93,10 @@ module _ {D C : Type 0} (told : D → DeviceTold) (clock : D → Clock) (copies 
 
     module _ {S : Type 0} (bytes : S → ℕ → Option ℕ) (stored : S → ℕ → List Stored) (mirrors : S → Pairs) where
       pub keeps_order : (firsts nows : List S) (e : Ending) (v : View Entry Terms) (desk : DeskState) → HaveRun bytes stored mirrors t (programs_of t.config steps) firsts nows e v → IsClosedBy v h
-          → IsTrue (has_ended t.config h) → (IsLegal t.config t.cap h → StoresAreTaken t.config steps looks.looks h) → desk ≡ desk_with t h → KeepsOrder steps e desk
-      keeps_order firsts nows e v desk ran closed ended taken is_desk =
-          let asked = callers_ask bytes stored mirrors t steps firsts nows e v h run ran closed unasked in
-          let keeps : KeepsOrder steps e (desk_with t h) = record {
-            asks = asked.asks;
-            all = asked.all;
-            looks = looks.looks;
-            in_order = looks.in_order;
-            order = λ legal.
-                let kept = callers_keep_steps bytes stored mirrors t steps firsts nows e v h run ran closed legal in
-                runs_by e (is_run kept.order (taken legal)) kept.ends ended;
-          } in
+          → IsTrue (has_ended t.config h) → CopiesAreShown t.config steps looks.looks [] h → desk ≡ desk_with t h → KeepsOrder steps e desk
+      keeps_order firsts nows e v desk ran closed ended shown is_desk =
+          let kept = callers_keep_steps bytes stored mirrors t steps firsts nows e v h run ran closed unasked in
+          let keeps : KeepsOrder steps e (desk_with t h) = record { looks = looks.looks; order = runs_by e (is_run kept.order shown) kept.ends ended } in
           subst (λ (y : DeskState). KeepsOrder steps e y) (sym is_desk) keeps
 
   -- behind one start-up
@@ -114,7 +104,7 @@ module _ {D C : Type 0} (told : D → DeviceTold) (clock : D → Clock) (copies 
     pub keeps_order_of : LooksAreOrdered looked over → (steps : List Step) → AreRun t.config steps → (marks : List (Instance × Mark)) (ops : ℕ) (h : List Entry) (old new : DriverState D C)
         → HasDriven told clock copies is_store looked over stands t (Found marks ops ∷ []) h old new → (firsts nows : List S) (e : Ending) (v : View Entry Terms) (desk : DeskState)
         → HaveRun bytes stored mirrors t (programs_of t.config steps) firsts nows e v → IsClosedBy v h → IsTrue (has_ended t.config h)
-        → ((looks : HasLooked told clock copies is_store looked over stands t (Found marks ops ∷ []) h old new) → IsLegal t.config t.cap h → StoresAreTaken t.config steps looks.looks h)
+        → ((looks : HasLooked told clock copies is_store looked over stands t (Found marks ops ∷ []) h old new) → CopiesAreShown t.config steps looks.looks [] h)
         → desk ≡ desk_with t h → KeepsOrder steps e desk
     keeps_order_of ordered steps run marks ops h old new driven firsts nows e v desk ran closed ended taken is_desk =
         let first = Found marks ops ∷ [] in

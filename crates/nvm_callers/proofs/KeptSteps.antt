@@ -5,9 +5,8 @@ use Rattle.std.proofs.lemmas.List.{take-append-drop}
 use Rattle.std.proofs.lemmas.List.Elements.{All-contains, All-take}
 use Rattle.turn_gate.specs.declared.pass.View.{View}
 use Rattle.driver_moves.specs.block_machine.Words.{Entry, Configuration}
-use Rattle.driver_moves.specs.block_machine.Legal.{IsLegal}
 use Rattle.script_walks.specs.Words.{Step}
-use Rattle.script_walks.specs.Callers.{IsInOrder, asks_of, program_of, requests_of}
+use Rattle.script_walks.specs.Callers.{IsInOrder, asks_of, program_of}
 use Rattle.script_walks.specs.Runs.{AskedAll, HadNoRoom}
 use Rattle.driver_moves.specs.nvm_shared.declared.terms.Terms.{Terms}
 use Rattle.script_callers.specs.declared.deed.Deed.{Deed}
@@ -23,14 +22,14 @@ use Rattle.nvm_callers.specs.Shares.{BeginsUnasked, IsOfShares, Share}
 use Rattle.nvm_callers.specs.Deeds.{HasDone, Shows}
 use Rattle.nvm_callers.proofs.Waiting.{starts_again}
 use Rattle.nvm_callers.proofs.JoinedPasses.{collected_are_all}
-use Rattle.nvm_callers.proofs.Ordering.{beginnings_ask, beginnings_keep_order, no_room_is_had}
-use Rattle.nvm_callers.proofs.Sharing.{legal_begin_unasked, nobody_else_asks, shares_ask, shares_have_all, shares_hold}
+use Rattle.nvm_callers.proofs.Ordering.{beginnings_keep_order, no_room_is_had}
+use Rattle.nvm_callers.proofs.Sharing.{nobody_else_asks, shares_ask, shares_have_all, shares_hold}
 use Rattle.nvm_callers.specs.Stored.{Stored}
 use Rattle.nvm_callers.specs.Calls.{MayStore}
 use Rattle.nvm_callers.specs.Shown.{HasStoredIn}
 use Rattle.ram_mirrors_sync.specs.Blocks.{Pairs}
 use Rattle.nvm_callers.specs.Callers.{AllMade, EndsAt, HasMade, HaveRun, worse, worst}
-use Rattle.nvm_callers.specs.KeptSteps.{CallersAsk, CallersKeepSteps, EndSo, IsClosedBy}
+use Rattle.nvm_callers.specs.KeptSteps.{CallersKeepSteps, EndSo, IsClosedBy}
 use Rattle.nvm_callers.specs.declared.ending.Ending.{Ending}
 use Rattle.nvm_callers.specs.declared.ending.Ending.TheVariants.{All as EndsAll, NoRoom, Memory}
 
@@ -258,17 +257,6 @@ module _ {S : Type 0} (bytes : S → ℕ → Option ℕ) (stored : S → ℕ →
   asks_by : (caller : ℕ) (s : Share) → Contains ran.shares s → s.caller ≡ caller → asks_of caller h ≡ requests_in s.deeds
   asks_by caller s within is = subst (λ (n : ℕ). asks_of n h ≡ requests_in s.deeds) is (shares_ask c t.cap h ran.shares of_shares s within)
 
-  asked : (caller : ℕ) → asks_of caller h ≡ take (length (asks_of caller h)) (requests_of c (program_of caller steps))
-  asked caller = elim (program_of_caller programs caller) [
-    | inl (i, p, at, is) ↦ (
-        let (s, e, f, n, is_s, is_e, made) = share_for bytes stored mirrors t programs ran.shares ran.endings firsts nows i p ran.made at in
-        beginnings_ask c caller (program_of caller steps) s.deeds (drop made.made p.deeds) h (beginning caller i p s e f n at is made)
-        (asks_by caller s (contained ran.shares i s is_s) (made.caller ∙ is)))
-    | inr none ↦ (
-        let no = nothing caller none in
-        beginnings_ask c caller (program_of caller steps) [] [] h no.0 no.1)
-  ]
-
   -- a caller that did all of its program
   all_of : (caller i : ℕ) (p : Program) (s : Share) (e : Ending) (f n : S) → slice_get programs i ≡ Some p → p.caller ≡ caller → Makes p s e f n → e ≡ EndsAll → Contains ran.shares s
       → AskedAll c steps h caller
@@ -314,76 +302,67 @@ module _ {S : Type 0} (bytes : S → ℕ → Option ℕ) (stored : S → ℕ →
         },
       )
 
-  -- LEGAL
-  module _ (legal : IsLegal t.config t.cap h) where
-    shows_by : (caller : ℕ) (s : Share) → Contains ran.shares s → s.caller ≡ caller → Shows c caller s.deeds h
-    shows_by caller s within is = subst (λ (n : ℕ). Shows c n s.deeds h) is (shares_hold c t.cap h ran.shares of_shares legal s within)
+  -- THEIR WAITS
+  shows_by : (caller : ℕ) (s : Share) → Contains ran.shares s → s.caller ≡ caller → Shows caller s.deeds h
+  shows_by caller s within is = subst (λ (n : ℕ). Shows n s.deeds h) is (shares_hold c t.cap h ran.shares of_shares s within)
 
-    in_order : (caller : ℕ) → IsInOrder c caller (program_of caller steps) h
-    in_order caller = elim (program_of_caller programs caller) [
-      | inl (i, p, at, is) ↦ (
-          let (s, e, f, n, is_s, is_e, made) = share_for bytes stored mirrors t programs ran.shares ran.endings firsts nows i p ran.made at in
-          beginnings_keep_order c caller (program_of caller steps) s.deeds (drop made.made p.deeds) h (beginning caller i p s e f n at is made)
-          (shows_by caller s (contained ran.shares i s is_s) (made.caller ∙ is)))
-      | inr none ↦ (
-          let no = nothing caller none in
-          beginnings_keep_order c caller (program_of caller steps) [] [] h no.0 (record { asks = no.1; waits = tt }))
-    ]
+  in_order : (caller : ℕ) → IsInOrder c caller (program_of caller steps) h
+  in_order caller = elim (program_of_caller programs caller) [
+    | inl (i, p, at, is) ↦ (
+        let (s, e, f, n, is_s, is_e, made) = share_for bytes stored mirrors t programs ran.shares ran.endings firsts nows i p ran.made at in
+        beginnings_keep_order c caller (program_of caller steps) s.deeds (drop made.made p.deeds) h (beginning caller i p s e f n at is made)
+        (shows_by caller s (contained ran.shares i s is_s) (made.caller ∙ is)))
+    | inr none ↦ (
+        let no = nothing caller none in
+        beginnings_keep_order c caller (program_of caller steps) [] [] h no.0 (record { asks = no.1; waits = tt }))
+  ]
 
-    -- a caller whose next request had no room
-    full_of : (caller i : ℕ) (p : Program) (s : Share) (e : Ending) (f n : S) → slice_get programs i ≡ Some p → p.caller ≡ caller → Makes p s e f n → e ≡ NoRoom → Contains ran.shares s
-        → HadNoRoom t.cap c steps h caller
-    full_of caller i p s e f n at is made full within =
-        let is_full : EndsAt t p.deeds made.made s NoRoom = subst (EndsAt t p.deeds made.made s) full made.ends in
-        let had = is_full.0 in
-        let (line, r, next) = is_full.1 in
-        let share = of_shares.are s within in
-        let program : deeds_of c (program_of s.caller steps) ≡ s.deeds ++ Ask line r ∷ drop (suc made.made) p.deeds =
-        begins s.caller i p s e f n at (sym made.caller) made ∙ split_at p.deeds made.made (Ask line r) next
-        ∙ ap (λ (ds : List Deed). ds ++ Ask line r ∷ drop (suc made.made) p.deeds) (sym made.deeds) in
-        subst (λ (n : ℕ). HadNoRoom t.cap c steps h n) (made.caller ∙ is)
-        (no_room_is_had c t.cap s.own had.seen s.notes steps s.caller s.deeds (drop (suc made.made) p.deeds) line r h program had.found legal
-        (starts_again h s.seen had.seen share.starts had.starts) (shares_have_all c t.cap h ran.shares of_shares s within))
+  -- a caller whose next request had no room
+  full_of : (caller i : ℕ) (p : Program) (s : Share) (e : Ending) (f n : S) → slice_get programs i ≡ Some p → p.caller ≡ caller → Makes p s e f n → e ≡ NoRoom → Contains ran.shares s
+      → HadNoRoom t.cap c steps h caller
+  full_of caller i p s e f n at is made full within =
+      let is_full : EndsAt t p.deeds made.made s NoRoom = subst (EndsAt t p.deeds made.made s) full made.ends in
+      let had = is_full.0 in
+      let (line, r, next) = is_full.1 in
+      let share = of_shares.are s within in
+      let program : deeds_of c (program_of s.caller steps) ≡ s.deeds ++ Ask line r ∷ drop (suc made.made) p.deeds =
+      begins s.caller i p s e f n at (sym made.caller) made ∙ split_at p.deeds made.made (Ask line r) next
+      ∙ ap (λ (ds : List Deed). ds ++ Ask line r ∷ drop (suc made.made) p.deeds) (sym made.deeds) in
+      subst (λ (n : ℕ). HadNoRoom t.cap c steps h n) (made.caller ∙ is)
+      (no_room_is_had c t.cap s.own had.seen s.notes steps s.caller s.deeds (drop (suc made.made) p.deeds) line r h program had.found
+      (starts_again h s.seen had.seen share.starts had.starts) (shares_have_all c t.cap h ran.shares of_shares s within))
 
-    either_of : ending ≡ NoRoom → (caller i : ℕ) (p : Program) (s : Share) (e e_is : Ending) (f n : S) → e ≡ e_is → slice_get programs i ≡ Some p → p.caller ≡ caller → Makes p s e f n
-        → slice_get ran.endings i ≡ Some e → Contains ran.shares s → AskedAll c steps h caller ⊎ HadNoRoom t.cap c steps h caller
-    either_of room caller i p s e EndsAll f n so at is made is_e within = inl (all_of caller i p s e f n at is made so within)
-    either_of room caller i p s e NoRoom f n so at is made is_e within = inr (full_of caller i p s e f n at is made so within)
-    either_of room caller i p s e Memory f n so at is made is_e within =
-        absurd (never (memory_ended ran.endings i (is_e ∙ ap Some so)))
-      where
-        never : worst ran.endings ≡ Memory → ⊥
-        never is_memory = let both : NoRoom ≡ Memory = sym room ∙ ran.ends ∙ is_memory in cc both
+  either_of : ending ≡ NoRoom → (caller i : ℕ) (p : Program) (s : Share) (e e_is : Ending) (f n : S) → e ≡ e_is → slice_get programs i ≡ Some p → p.caller ≡ caller → Makes p s e f n
+      → slice_get ran.endings i ≡ Some e → Contains ran.shares s → AskedAll c steps h caller ⊎ HadNoRoom t.cap c steps h caller
+  either_of room caller i p s e EndsAll f n so at is made is_e within = inl (all_of caller i p s e f n at is made so within)
+  either_of room caller i p s e NoRoom f n so at is made is_e within = inr (full_of caller i p s e f n at is made so within)
+  either_of room caller i p s e Memory f n so at is made is_e within =
+      absurd (never (memory_ended ran.endings i (is_e ∙ ap Some so)))
+    where
+      never : worst ran.endings ≡ Memory → ⊥
+      never is_memory = let both : NoRoom ≡ Memory = sym room ∙ ran.ends ∙ is_memory in cc both
 
-    either : ending ≡ NoRoom → (caller : ℕ) → AskedAll c steps h caller ⊎ HadNoRoom t.cap c steps h caller
-    either room caller = elim (program_of_caller programs caller) [
-      | inl (i, p, at, is) ↦ (
-          let (s, e, f, n, is_s, is_e, made) = share_for bytes stored mirrors t programs ran.shares ran.endings firsts nows i p ran.made at in
-          either_of room caller i p s e e f n refl at is made is_e (contained ran.shares i s is_s))
-      | inr none ↦ inl (none_of caller none)
-    ]
+  either : ending ≡ NoRoom → (caller : ℕ) → AskedAll c steps h caller ⊎ HadNoRoom t.cap c steps h caller
+  either room caller = elim (program_of_caller programs caller) [
+    | inl (i, p, at, is) ↦ (
+        let (s, e, f, n, is_s, is_e, made) = share_for bytes stored mirrors t programs ran.shares ran.endings firsts nows i p ran.made at in
+        either_of room caller i p s e e f n refl at is made is_e (contained ran.shares i s is_s))
+    | inr none ↦ inl (none_of caller none)
+  ]
 
-    one_full : ending ≡ NoRoom → (caller : ℕ) × HadNoRoom t.cap c steps h caller
-    one_full room =
-        let (i, is_e) = room_ended ran.endings (sym ran.ends ∙ room) in
-        let (p, s, f, n, at, is_s, made) = ended_for bytes stored mirrors t programs ran.shares ran.endings firsts nows i NoRoom ran.made is_e in
-        (p.caller, full_of p.caller i p s NoRoom f n at refl made refl (contained ran.shares i s is_s))
+  one_full : ending ≡ NoRoom → (caller : ℕ) × HadNoRoom t.cap c steps h caller
+  one_full room =
+      let (i, is_e) = room_ended ran.endings (sym ran.ends ∙ room) in
+      let (p, s, f, n, at, is_s, made) = ended_for bytes stored mirrors t programs ran.shares ran.endings firsts nows i NoRoom ran.made is_e in
+      (p.caller, full_of p.caller i p s NoRoom f n at refl made refl (contained ran.shares i s is_s))
 
-    ends : (e : Ending) → ending ≡ e → EndSo c t.cap steps h e
-    ends EndsAll is = all is
-    ends NoRoom is = let one = one_full is in (one.0, one.1, either is)
-    ends Memory is = tt
-
-pub callers_ask : {S : Type 0} (bytes : S → ℕ → Option ℕ) (stored : S → ℕ → List Stored) (mirrors : S → Pairs) → CallersAsk bytes stored mirrors
-callers_ask bytes stored mirrors t steps firsts nows ending v h run ran closed first = record {
-  asks = asked bytes stored mirrors t steps firsts nows ending v h run ran closed first;
-  all = all bytes stored mirrors t steps firsts nows ending v h run ran closed first;
-}
+  ends : (e : Ending) → ending ≡ e → EndSo c t.cap steps h e
+  ends EndsAll is = all is
+  ends NoRoom is = let one = one_full is in (one.0, one.1, either is)
+  ends Memory is = tt
 
 pub callers_keep_steps : {S : Type 0} (bytes : S → ℕ → Option ℕ) (stored : S → ℕ → List Stored) (mirrors : S → Pairs) → CallersKeepSteps bytes stored mirrors
-callers_keep_steps bytes stored mirrors t steps firsts nows ending v h run ran closed legal =
-    let first = legal_begin_unasked t.config t.cap h legal in
-    record {
-      order = in_order bytes stored mirrors t steps firsts nows ending v h run ran closed first legal;
-      ends = ends bytes stored mirrors t steps firsts nows ending v h run ran closed first legal ending refl;
-    }
+callers_keep_steps bytes stored mirrors t steps firsts nows ending v h run ran closed first = record {
+  order = in_order bytes stored mirrors t steps firsts nows ending v h run ran closed first;
+  ends = ends bytes stored mirrors t steps firsts nows ending v h run ran closed first ending refl;
+}

@@ -8,6 +8,7 @@ pub mod Looking
 pub mod TakenCopies
 pub mod Showing
 pub mod Waiting
+pub mod Overs
 pub mod Doing
 pub mod Ordering
 pub mod Sharing

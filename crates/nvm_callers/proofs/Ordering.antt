@@ -7,13 +7,12 @@ use mathlib.Core.Option.{some}
 use lib.ListN.{get_elem?}
 use Rattle.atomic_table.proofs.Lists.{at_longer}
 use Rattle.driver_moves.specs.block_machine.Words.{Request, Entry, Ask, Configuration}
-use Rattle.driver_moves.specs.block_machine.Legal.{IsLegal}
 use Rattle.driver_moves.specs.block_machine.Reply.{fits}
 use Rattle.driver_moves.specs.block_machine.Steps.{after}
 use Rattle.turn_gate.specs.Entries.{Note, StartsWith, AllAgree}
 use Rattle.script_walks.specs.Words.{Step, StepKind, AskStep, Store, Turn, Drain, Restart, Cut, Refuse, Await as AwaitStep}
 use Rattle.script_walks.specs.Walk.{request_after}
-use Rattle.script_walks.specs.Callers.{KeepsAwait, KeepsAwaitBy, WaitedFor, asks_of, program_of, request_of_step, requests_from, requests_of}
+use Rattle.script_walks.specs.Callers.{WaitedFor, asks_of, program_of, request_of_step, requests_from, requests_of}
 use Rattle.script_walks.specs.Looks.{CanBeMade}
 use Rattle.script_walks.specs.Runs.{HadNoRoom, IsNextAsk}
 use Rattle.driver_moves.specs.nvm_shared.StatusWords.{gives}
@@ -23,7 +22,6 @@ use Rattle.script_callers.specs.declared.deed.Deed.TheVariants.{Ask as AskDeed, 
 use Rattle.script_callers.specs.Deeds.{requests_in, deeds_by, deeds_from, deeds_of}
 use Rattle.nvm_callers.specs.Deeds.{Shows, WereOver}
 use Rattle.nvm_callers.specs.Order.{BeginningsAsk, BeginningsKeepOrder, DeedsCanBeMade, AllIsAsked, FoundNoRoom, NoRoomIsHad}
-use Rattle.nvm_callers.proofs.Waiting.{beginning}
 use Rattle.nvm_callers.proofs.Doing.{deeds_hold}
 
 -- THE REQUESTS
@@ -60,26 +58,26 @@ module _ (c : Configuration) where
     -- what is left to show of the steps behind the first
     abbrev Follows : List Step → List Step → ℕ → Type 0
     Follows before xs n =
-        (k block : ℕ) (done rest : List Deed) (x : Step) → deeds_from c before xs ≡ done ++ rest → WereOver c caller h k done → slice_get xs n ≡ Some x → x.kind ≡ AwaitStep block
-        → Reaches (length (requests_from c before (take n xs))) done rest → WaitedFor c caller block (k + length (requests_from c before (take n xs))) h
+        (k block : ℕ) (done rest : List Deed) (x : Step) → deeds_from c before xs ≡ done ++ rest → WereOver caller h k done → slice_get xs n ≡ Some x → x.kind ≡ AwaitStep block
+        → Reaches (length (requests_from c before (take n xs))) done rest → WaitedFor caller block (k + length (requests_from c before (take n xs))) h
 
-    on : (block k n : ℕ) → k ≡ n → WaitedFor c caller block k h → WaitedFor c caller block n h
-    on block k n same waited = subst (λ (m : ℕ). WaitedFor c caller block m h) same waited
+    on : (block k n : ℕ) → k ≡ n → WaitedFor caller block k h → WaitedFor caller block n h
+    on block k n same waited = subst (λ (m : ℕ). WaitedFor caller block m h) same waited
 
-    first_by : (k block line : ℕ) (ds done rest : List Deed) → Await line block ∷ ds ≡ done ++ rest → WereOver c caller h k done → Reaches 0 done rest → WaitedFor c caller block k h
+    first_by : (k block line : ℕ) (ds done rest : List Deed) → Await line block ∷ ds ≡ done ++ rest → WereOver caller h k done → Reaches 0 done rest → WaitedFor caller block k h
     first_by k block line ds [] rest is over (inl more) = absurd (omega (arith, more))
     first_by k block line ds [] rest is over (inr none) = absurd (cc (is, none))
     first_by k block line ds (d ∷ done) rest is over reaches =
         let same : d ≡ Await line block = cc in
-        (subst (λ (e : Deed). WereOver c caller h k (e ∷ done)) same over).0
+        (subst (λ (e : Deed). WereOver caller h k (e ∷ done)) same over).0
 
     first : (before : List Step) (line who k block : ℕ) (kind : StepKind) (ds done rest : List Deed) → kind ≡ AwaitStep block → deeds_by c before line who kind ++ ds ≡ done ++ rest
-        → WereOver c caller h k done → Reaches 0 done rest → WaitedFor c caller block k h
+        → WereOver caller h k done → Reaches 0 done rest → WaitedFor caller block k h
     first before line who k block (AwaitStep b) ds done rest is same over reaches =
         let at : b ≡ block = cc in on_block b at (first_by k b line ds done rest same over reaches)
       where
-        on_block : (b : ℕ) → b ≡ block → WaitedFor c caller b k h → WaitedFor c caller block k h
-        on_block b at waited = subst (λ (m : ℕ). WaitedFor c caller m k h) at waited
+        on_block : (b : ℕ) → b ≡ block → WaitedFor caller b k h → WaitedFor caller block k h
+        on_block b at waited = subst (λ (m : ℕ). WaitedFor caller m k h) at waited
     first before line who k block (AskStep r) ds done rest is same over reaches = cc is
     first before line who k block (Store b content) ds done rest is same over reaches = cc is
     first before line who k block (Turn count) ds done rest is same over reaches = cc is
@@ -89,8 +87,8 @@ module _ (c : Configuration) where
     first before line who k block (Refuse b count) ds done rest is same over reaches = cc is
 
     -- behind a request
-    ask_by : (k line : ℕ) (r : Request) (ds done rest : List Deed) (count : ℕ) → AskDeed line r ∷ ds ≡ done ++ rest → WereOver c caller h k done → Reaches (suc count) done rest
-        → (done_new : List Deed) × (ds ≡ done_new ++ rest) × WereOver c caller h (k + 1) done_new × Reaches count done_new rest
+    ask_by : (k line : ℕ) (r : Request) (ds done rest : List Deed) (count : ℕ) → AskDeed line r ∷ ds ≡ done ++ rest → WereOver caller h k done → Reaches (suc count) done rest
+        → (done_new : List Deed) × (ds ≡ done_new ++ rest) × WereOver caller h (k + 1) done_new × Reaches count done_new rest
     ask_by k line r ds [] rest count is over (inl more) = absurd (omega (arith, more))
     ask_by k line r ds [] rest count is over (inr none) = absurd (cc (is, none))
     ask_by k line r ds (d ∷ done) rest count is over reaches =
@@ -98,7 +96,7 @@ module _ (c : Configuration) where
         let behind : ds ≡ done ++ rest = cc in (
           done,
           behind,
-          subst (λ (e : Deed). WereOver c caller h k (e ∷ done)) same over,
+          subst (λ (e : Deed). WereOver caller h k (e ∷ done)) same over,
           by (subst (λ (e : Deed). Reaches (suc count) (e ∷ done) rest) same reaches),
         )
       where
@@ -107,7 +105,7 @@ module _ (c : Configuration) where
         by (inr none) = inr none
 
     -- behind another deed
-    past : (k : ℕ) (d : Deed) (ds : List Deed) → requests_in (d ∷ []) ≡ [] → WereOver c caller h k (d ∷ ds) → WereOver c caller h k ds
+    past : (k : ℕ) (d : Deed) (ds : List Deed) → requests_in (d ∷ []) ≡ [] → WereOver caller h k (d ∷ ds) → WereOver caller h k ds
     past k (AskDeed line r) ds none over = cc none
     past k (StoreDeed line block number content) ds none over = over
     past k (Await line block) ds none over = over.1
@@ -115,8 +113,8 @@ module _ (c : Configuration) where
     as_many : (d : Deed) (ds : List Deed) → requests_in (d ∷ []) ≡ [] → requests_in (d ∷ ds) ≡ requests_in ds
     as_many d ds none = in_both (d ∷ []) ds ∙ ap (λ (l : List Request). l ++ requests_in ds) none
 
-    other_by : (k : ℕ) (d : Deed) (ds done rest : List Deed) (count : ℕ) → requests_in (d ∷ []) ≡ [] → d ∷ ds ≡ done ++ rest → WereOver c caller h k done → Reaches count done rest
-        → (done_new : List Deed) × (ds ≡ done_new ++ rest) × WereOver c caller h k done_new × Reaches count done_new rest
+    other_by : (k : ℕ) (d : Deed) (ds done rest : List Deed) (count : ℕ) → requests_in (d ∷ []) ≡ [] → d ∷ ds ≡ done ++ rest → WereOver caller h k done → Reaches count done rest
+        → (done_new : List Deed) × (ds ≡ done_new ++ rest) × WereOver caller h k done_new × Reaches count done_new rest
     other_by k d ds [] rest count no_ask is over (inl more) = absurd (omega (arith, more))
     other_by k d ds [] rest count no_ask is over (inr none) = absurd (cc (is, none))
     other_by k d ds (e ∷ done) rest count no_ask is over reaches =
@@ -124,7 +122,7 @@ module _ (c : Configuration) where
         let behind : ds ≡ done ++ rest = cc in (
           done,
           behind,
-          past k d done no_ask (subst (λ (x : Deed). WereOver c caller h k (x ∷ done)) same over),
+          past k d done no_ask (subst (λ (x : Deed). WereOver caller h k (x ∷ done)) same over),
           by (subst (λ (x : Deed). Reaches count (x ∷ done) rest) same reaches),
         )
       where
@@ -133,9 +131,9 @@ module _ (c : Configuration) where
         by (inr none) = inr none
 
     later : (before mid : List Step) (line who k block n : ℕ) (kind : StepKind) (xs : List Step) (done rest : List Deed) (y : Step) → Follows mid xs n
-        → deeds_by c before line who kind ++ deeds_from c mid xs ≡ done ++ rest → WereOver c caller h k done → slice_get xs n ≡ Some y → y.kind ≡ AwaitStep block
+        → deeds_by c before line who kind ++ deeds_from c mid xs ≡ done ++ rest → WereOver caller h k done → slice_get xs n ≡ Some y → y.kind ≡ AwaitStep block
         → Reaches (length (request_of_step c before who kind ++ requests_from c mid (take n xs))) done rest
-        → WaitedFor c caller block (k + length (request_of_step c before who kind ++ requests_from c mid (take n xs))) h
+        → WaitedFor caller block (k + length (request_of_step c before who kind ++ requests_from c mid (take n xs))) h
     later before mid line who k block n (AskStep r) xs done rest y follows is over at await reaches =
         let behind = ask_by k line (request_after c before who r) (deeds_from c mid xs) done rest (length (requests_from c mid (take n xs))) is over reaches in
         on block (k + 1 + length (requests_from c mid (take n xs))) (k + length (request_after c before who r ∷ requests_from c mid (take n xs))) (omega arith)
@@ -174,26 +172,10 @@ module _ (c : Configuration) (caller : ℕ) (program : List Step) (done rest : L
   asked = sym (in_steps c [] program) ∙ ap requests_in is ∙ in_both done rest
 
   -- a wait within what was done
-  waited : (n block : ℕ) (x : Step) → WereOver c caller h 0 done → slice_get program n ≡ Some x → x.kind ≡ AwaitStep block
-      → Reaches c (length (requests_of c (take n program))) done rest → WaitedFor c caller block (length (requests_of c (take n program))) h
+  waited : (n block : ℕ) (x : Step) → WereOver caller h 0 done → slice_get program n ≡ Some x → x.kind ≡ AwaitStep block
+      → Reaches c (length (requests_of c (take n program))) done rest → WaitedFor caller block (length (requests_of c (take n program))) h
   waited n block x over at await reaches =
-      subst (λ (k : ℕ). WaitedFor c caller block k h) (omega arith) (follow c caller h program [] n 0 block done rest x is over at await reaches)
-
-  keeps_by : (n : ℕ) (x : Step) (kind : StepKind) → x.kind ≡ kind → length (asks_of caller h) ≡ length (requests_in done) → WereOver c caller h 0 done → slice_get program n ≡ Some x
-      → KeepsAwaitBy c caller (length (requests_of c (take n program))) h kind
-  keeps_by n x (AwaitStep block) await many over at = λ more. waited n block x over at await (inl (omega (arith, more, many)))
-  keeps_by n x (AskStep r) await many over at = tt
-  keeps_by n x (Store block content) await many over at = tt
-  keeps_by n x (Turn count) await many over at = tt
-  keeps_by n x Drain await many over at = tt
-  keeps_by n x Restart await many over at = tt
-  keeps_by n x (Cut nth keep) await many over at = tt
-  keeps_by n x (Refuse block count) await many over at = tt
-
-  keeps : (n : ℕ) (o : Option Step) → slice_get program n ≡ o → length (asks_of caller h) ≡ length (requests_in done) → WereOver c caller h 0 done
-      → KeepsAwait c caller (length (requests_of c (take n program))) h o
-  keeps n None at many over = tt
-  keeps n (Some x) at many over = keeps_by n x x.kind refl many over at
+      subst (λ (k : ℕ). WaitedFor caller block k h) (omega arith) (follow c caller h program [] n 0 block done rest x is over at await reaches)
 
 pub beginnings_ask : BeginningsAsk
 beginnings_ask c caller program done rest h is asks =
@@ -201,10 +183,11 @@ beginnings_ask c caller program done rest h is asks =
     ∙ ap (λ (l : List Request). take (length l) (requests_of c program)) (sym asks)
 
 pub beginnings_keep_order : BeginningsKeepOrder
-beginnings_keep_order c caller program done rest h is shows = record {
-  requests = beginnings_ask c caller program done rest h is shows.asks;
-  awaits = λ n. keeps c caller program done rest h is n (slice_get program n) refl (ap length shows.asks) shows.waits;
-}
+beginnings_keep_order c caller program done rest h is shows =
+    let many = ap length shows.asks in record {
+      requests = beginnings_ask c caller program done rest h is shows.asks;
+      awaits = λ n block x at await more. waited c caller program done rest h is n block x shows.waits at await (inl (omega (arith, more, many)));
+    }
 
 pub deeds_can_be_made : DeedsCanBeMade
 deeds_can_be_made c caller program h shows =
@@ -215,7 +198,7 @@ deeds_can_be_made c caller program h shows =
 
 -- so it can have done it behind what tells that it did, whatever it asked for later
 pub deeds_made_by : (c : Configuration) (caller : ℕ) (program : List Step) (h : List Entry) → length (requests_in (deeds_of c program)) ≤ length (asks_of caller h)
-    → WereOver c caller h 0 (deeds_of c program) → CanBeMade c caller program h
+    → WereOver caller h 0 (deeds_of c program) → CanBeMade c caller program h
 deeds_made_by c caller program h enough over =
     let many = ap length (in_steps c [] program) in record {
       requests = omega (arith, many, enough);
@@ -226,18 +209,18 @@ pub all_is_asked : AllIsAsked
 all_is_asked c steps caller h shows = shows.asks ∙ in_steps c [] (program_of caller steps)
 
 -- a request more, behind those that were done
-done_more : (c : Configuration) (caller k line : ℕ) (h : List Entry) (r : Request) (ds : List Deed) → WereOver c caller h k ds → WereOver c caller h k (ds ++ AskDeed line r ∷ [])
-done_more c caller k line h r [] over = tt
-done_more c caller k line h r (AskDeed l q ∷ ds) over = done_more c caller (k + 1) line h r ds over
-done_more c caller k line h r (StoreDeed l block number content ∷ ds) over = done_more c caller k line h r ds over
-done_more c caller k line h r (Await l block ∷ ds) over = (over.0, done_more c caller k line h r ds over.1)
+done_more : (caller k line : ℕ) (h : List Entry) (r : Request) (ds : List Deed) → WereOver caller h k ds → WereOver caller h k (ds ++ AskDeed line r ∷ [])
+done_more caller k line h r [] over = tt
+done_more caller k line h r (AskDeed l q ∷ ds) over = done_more caller (k + 1) line h r ds over
+done_more caller k line h r (StoreDeed l block number content ∷ ds) over = done_more caller k line h r ds over
+done_more caller k line h r (Await l block ∷ ds) over = (over.0, done_more caller k line h r ds over.1)
 
 at_length : {A : Type 0} (l : List A) (a : A) (more : List A) → slice_get (l ++ a ∷ more) (length l) ≡ Some a
 at_length [] a more = refl
 at_length (x ∷ l) a more = at_length l a more
 
 module _ (c : Configuration) (cap : ℕ) (own : List ℕ) (seen : List Entry) (notes : List Note) (steps : List Step) (caller : ℕ) (done rest : List Deed) (line : ℕ) (r : Request) (h : List Entry)
-    (is : deeds_of c (program_of caller steps) ≡ done ++ AskDeed line r ∷ rest) (found : FoundNoRoom c cap own seen notes caller done) (legal : IsLegal c cap h) (starts : StartsWith h seen)
+    (is : deeds_of c (program_of caller steps) ≡ done ++ AskDeed line r ∷ rest) (found : FoundNoRoom c cap own seen notes caller done) (starts : StartsWith h seen)
     (all : AreAll h caller own) where
   taken : take (length seen) h ≡ seen
   taken = ap (take (length seen)) starts.1 ∙ take-append_seam seen starts.0
@@ -245,19 +228,16 @@ module _ (c : Configuration) (cap : ℕ) (own : List ℕ) (seen : List Entry) (n
   all_seen : AreAll seen caller own
   all_seen k q reply at = all k q reply (subst (λ (l : List Entry). IsEntry l k (Ask caller q reply)) (sym starts.1) (at_longer seen starts.0 k (Ask caller q reply) at))
 
-  legal_seen : IsLegal c cap seen
-  legal_seen = subst (IsLegal c cap) taken (beginning c cap (length seen) h legal)
-
-  shown : Shows c caller done seen
-  shown = deeds_hold c cap own seen notes caller done seen found.done legal_seen ([], sym (append-nil seen)) found.agree all_seen
+  shown : Shows caller done seen
+  shown = deeds_hold c cap own seen notes caller done seen found.done ([], sym (append-nil seen)) found.agree all_seen
 
   agree_on : AllAgree gives h notes
   agree_on i n at =
       let gave = found.agree i n at in
       (gave.0, subst (λ (l : List Entry). get_elem? l n.1 ≡ some gave.0) (sym starts.1) (at_longer seen starts.0 n.1 gave.0 gave.1), gave.2)
 
-  shown_last : Shows c caller done h
-  shown_last = deeds_hold c cap own seen notes caller done h found.done legal starts agree_on all
+  shown_last : Shows caller done h
+  shown_last = deeds_hold c cap own seen notes caller done h found.done starts agree_on all
 
   -- the request that found no room comes next
   many : length (asks_of caller seen) ≡ length (requests_in done)
@@ -271,11 +251,11 @@ module _ (c : Configuration) (cap : ℕ) (own : List ℕ) (seen : List Entry) (n
   more_done = is ∙ sym (append_assoc done (AskDeed line r ∷ []) rest)
 
   nothing_waits : (n block : ℕ) (x : Step) → slice_get (program_of caller steps) n ≡ Some x → x.kind ≡ AwaitStep block
-      → length (requests_of c (take n (program_of caller steps))) ≡ length (asks_of caller seen) → WaitedFor c caller block (length (asks_of caller seen)) seen
+      → length (requests_of c (take n (program_of caller steps))) ≡ length (asks_of caller seen) → WaitedFor caller block (length (asks_of caller seen)) seen
   nothing_waits n block x at await same =
       let one : length (requests_in (done ++ AskDeed line r ∷ [])) ≡ length (requests_in done) + 1 = ap length (in_both done (AskDeed line r ∷ [])) ∙ length-append (requests_in done) (r ∷ []) in
-      subst (λ (k : ℕ). WaitedFor c caller block k seen) same
-      (waited c caller (program_of caller steps) (done ++ AskDeed line r ∷ []) rest seen more_done n block x (done_more c caller 0 line seen r done shown.waits) at await (inl (omega (arith, same, many, one))))
+      subst (λ (k : ℕ). WaitedFor caller block k seen) same
+      (waited c caller (program_of caller steps) (done ++ AskDeed line r ∷ []) rest seen more_done n block x (done_more caller 0 line seen r done shown.waits) at await (inl (omega (arith, same, many, one))))
 
   full_there : (b : Bool) → b ≡ false → IsTrue (not b)
   full_there true none = cc none
@@ -291,4 +271,4 @@ module _ (c : Configuration) (cap : ℕ) (own : List ℕ) (seen : List Entry) (n
   }
 
 pub no_room_is_had : NoRoomIsHad
-no_room_is_had c cap own seen notes steps caller done rest line r h is found legal starts all = no_room c cap own seen notes steps caller done rest line r h is found legal starts all
+no_room_is_had c cap own seen notes steps caller done rest line r h is found starts all = no_room c cap own seen notes steps caller done rest line r h is found starts all

@@ -3,14 +3,12 @@ use Rattle.std.proofs.Common.{◌≡◌, inl, inr, ℕ, zero, suc, ◌∙◌, tr
 use mathlib.Core.Option.{some-ne-none, some-injective}
 use Rattle.atomic_table.proofs.Lists.{at_longer}
 use Rattle.driver_moves.specs.block_machine.Words.{Request, Reply, Entry, Ask, Configuration}
-use Rattle.driver_moves.specs.block_machine.StartUp.{at_first}
-use Rattle.driver_moves.specs.block_machine.Legal.{IsAllowed}
 use Rattle.turn_gate.specs.Pass.{Has}
 use Rattle.driver_moves.specs.nvm_shared.StatusWords.{is_ask}
 use Rattle.driver_moves.specs.nvm_shared.Numbers.{IsEntry, AreAt, AreAll}
 use Rattle.driver_moves.proofs.nvm_shared.Numbering.{asks_by_number}
 use Rattle.script_callers.specs.Deeds.{requests_in}
-use Rattle.nvm_callers.specs.Shares.{Share, IsOfShares, LegalBeginUnasked, SharesAsk, SharesHaveAll, SharesHold, NobodyElseAsks}
+use Rattle.nvm_callers.specs.Shares.{Share, IsOfShares, SharesAsk, SharesHaveAll, SharesHold, NobodyElseAsks}
 use Rattle.nvm_callers.proofs.Waiting.{inside_length}
 use Rattle.nvm_callers.proofs.Doing.{are_longer, deeds_hold}
 
@@ -20,14 +18,6 @@ who e = 0
 
 never : false ≡ true → ⊥
 never is = cc
-
--- a history begins with no request
-pub legal_begin_unasked : LegalBeginUnasked
-legal_begin_unasked c cap [] legal caller r reply at = some-ne-none (Ask caller r reply) (sym at)
-legal_begin_unasked c cap (e ∷ es) legal caller r reply at =
-    let same : e ≡ Ask caller r reply = some-injective e (Ask caller r reply) at in
-    let allowed = subst (IsAllowed c cap at_first) same legal.0 in
-    never allowed.started
 
 at_of : (seen : List Entry) (caller : ℕ) (ks : List ℕ) (rs : List Request) (k : ℕ) → AreAt seen caller ks rs → Has ks k → (r : Request) × (reply : Reply) × IsEntry seen k (Ask caller r reply)
 at_of seen caller [] rs k are (i, at) = absurd (some-ne-none k (sym at))
@@ -65,9 +55,9 @@ shares_ask c cap h shares is s within =
     asks_by_number h s.caller s.own (requests_in s.deeds) (record { ascend = share.done.ascend; at = are_longer s.caller h s.seen s.own (requests_in s.deeds) share.starts share.done.at; all = are_all c cap h shares is s within })
 
 pub shares_hold : SharesHold
-shares_hold c cap h shares is legal s within =
+shares_hold c cap h shares is s within =
     let share = is.are s within in
-    deeds_hold c cap s.own s.seen s.notes s.caller s.deeds h share.done legal share.starts share.agree (are_all c cap h shares is s within)
+    deeds_hold c cap s.own s.seen s.notes s.caller s.deeds h share.done share.starts share.agree (are_all c cap h shares is s within)
 
 pub nobody_else_asks : NobodyElseAsks
 nobody_else_asks c cap h shares is caller none =

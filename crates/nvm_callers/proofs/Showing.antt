@@ -1,24 +1,24 @@
 -- Each copy was shown.
 use Rattle.std.specs.Prelude.{take, Contains}
-use Rattle.std.proofs.Common.{◌≡◌, ℕ, Bool, true, false, List, [], ◌∷◌, ◌++◌, refl, sym, ap, ◌∙◌, subst, append_assoc}
+use Rattle.std.proofs.Common.{◌≡◌, ℕ, Bool, true, false, List, [], ◌∷◌, ◌++◌, Some, refl, sym, ap, ◌∙◌, subst, append_assoc}
 use Rattle.std.proofs.Math.Seq.{take-append_seam}
 use Rattle.driver_moves.specs.block_machine.Words.{TookNothing, TookContent, TookRefused, TookStale, Entry, Ask, Pick, Wrote, Post, Off, Found, Configuration}
 use Rattle.driver_moves.specs.block_machine.Next.{next_of}
 use Rattle.driver_moves.specs.block_machine.Steps.{after}
 use Rattle.script_walks.specs.Words.{Step}
 use Rattle.script_walks.specs.Looks.{Look, CanBeStored, CopyIsShown, CopiesAreShown}
-use Rattle.script_walks.specs.Walk.{copies_next}
+use Rattle.script_walks.specs.Walk.{copies_next, store_content}
 use Rattle.nvm_callers.specs.Looked.{TookShown, AllTookShown, look_behind}
 use Rattle.nvm_callers.specs.TakenCopies.{CopiesHaveLooks}
 
-module _ (c : Configuration) (steps : List Step) (looks : List Look) (IsStore : (block number : ℕ) → List ℕ → Type 0) where
+module _ (c : Configuration) (steps : List Step) (looks : List Look) (IsStore : (block number : ℕ) → List ℕ → Type 0) (stores : (block number : ℕ) (x : List ℕ) → IsStore block number x → store_content c steps block number ≡ Some x) where
   -- a look in the Pick behind these entries showed what can have been stored by then
   abbrev Made : List Entry → Type 0
   Made before = (block shown : ℕ) → Contains looks (look_behind before block shown) → CanBeStored c steps block shown before
 
   one : (before : List Entry) (e : Entry) (copies : Bool) → Made before → TookShown looks IsStore before e copies → CopyIsShown c steps looks before e copies
   one before (Pick block kind (TookStale asked got count) ops) copies made took = absurd took
-  one before (Pick block kind (TookContent bytes number) ops) true made took = record { seen = took.0; made = made block number took.0 }
+  one before (Pick block kind (TookContent bytes number) ops) true made took = (record { seen = took.0; made = made block number took.0 }, stores block number bytes took.1)
   one before (Pick block kind (TookContent bytes number) ops) false made took = tt
   one before (Pick block kind (TookRefused count) ops) copies made took = tt
   one before (Pick block kind TookNothing ops) copies made took = tt
@@ -38,4 +38,4 @@ module _ (c : Configuration) (steps : List Step) (looks : List Look) (IsStore : 
   )
 
 pub copies_have_looks : CopiesHaveLooks
-copies_have_looks c steps looks IsStore marks ops more made took = (tt, all c steps looks IsStore (Found marks ops ∷ more) (Found marks ops ∷ []) more refl made took)
+copies_have_looks c steps looks IsStore marks ops more stores made took = (tt, all c steps looks IsStore stores (Found marks ops ∷ more) (Found marks ops ∷ []) more refl made took)

@@ -69,7 +69,7 @@ waits_within c cap own seen notes m k (Await line block ∷ ds) all = (
 )
 
 pub notes_tell_made : NotesTellMade
-notes_tell_made c cap all own seen notes caller deeds program note done starts every tells h legal (rest, is) (seen_in, agree) =
+notes_tell_made c cap all own seen notes caller deeds program note done starts every tells h (rest, is) (seen_in, agree) =
     let rs = requests_in deeds in
     let before = deeds_of c program in
     let at_all = are_longer caller all seen own rs starts done.at in
@@ -89,7 +89,7 @@ notes_tell_made c cap all own seen notes caller deeds program note done starts e
     let asks : asks_of caller h ≡ take m rs = asks_by_number h caller (take m own) (take m rs) (record { ascend = ascend; at = at_h; all = all_h }) in
     let count : length (asks_of caller h) ≡ m = ap (λ (l : List Request). length l) asks ∙ omega (arith, length-take m rs, few, same_many) in
     deeds_made_by c caller program h (omega (arith, many, count))
-    (were_over c cap (take m own) note.seen note.notes caller (take m rs) h legal seen_in agree ascend at_h all_h 0 before (omega (arith, length-take m rs, few, same_many, many))
+    (were_over c cap (take m own) note.seen note.notes caller (take m rs) h seen_in agree ascend at_h all_h 0 before (omega (arith, length-take m rs, few, same_many, many))
     (waits_within c cap own note.seen note.notes m 0 before tells.waits))
 
 -- DEEDS AND STEPS

@@ -9,7 +9,6 @@ use lib.ListN.{get_elem?}
 use Rattle.nvm_script.specs.Owners.{owner_of, ram_block_of}
 use Rattle.nvm_script.specs.Rules.{sync_length_of}
 use Rattle.driver_moves.specs.block_machine.Words.{Entry, Configuration}
-use Rattle.driver_moves.specs.block_machine.Legal.{IsLegal}
 use Rattle.turn_gate.specs.declared.pass.View.{View}
 use Rattle.turn_gate.specs.Entries.{StartsWith}
 use Rattle.turn_gate.specs.Pass.{IsWithin}
@@ -159,16 +158,16 @@ module _ (c : Configuration) (cap : ℕ) (all : List Entry) (steps : List Step) 
       ∙ sym (length_map (stores_of block (program_of caller first_steps))) ∙ ap (λ (l : List (List ℕ)). length l) (sym (of_program block c [] (program_of caller first_steps)))
       ∙ ap (λ (ds : List Deed). length (stores_in block ds)) step_of.earlier ∙ sym this.place
 
-  pub can_be : (number : ℕ) (h : List Entry) → number ≤ store_number (k + 1) → IsLegal c cap h → StartsWith all h → StandsIn h x.note → CanBeStored c steps block number h
-  can_be number h few legal begins stands =
+  pub can_be : (number : ℕ) (h : List Entry) → number ≤ store_number (k + 1) → StartsWith all h → StandsIn h x.note → CanBeStored c steps block number h
+  can_be number h few begins stands =
       let within : IsWithin gives h this.note = subst (λ (o : Option (View Entry Terms)). StandsIn h o) this.along stands in
-      shown_can_be_stored Terms gives (λ l. IsLegal c cap l × StartsWith all l) c steps block step_of.place number step_of.step this.note h (one_owner c steps block run)
+      shown_can_be_stored Terms gives (λ l. StartsWith all l) c steps block step_of.place number step_of.step this.note h (one_owner c steps block run)
       (record { at = step_of.at; stores = store_is block step_of.step.caller step_of.step.kind x.content step_of.kind })
       (omega (arith, few, count))
       (λ l lawful is_in. subst (λ (who : ℕ). CanBeMade c who (program_of who first_steps) l) (sym step_of.of)
       (notes_tell_made c cap all has.own has.seen has.notes caller has.deeds (program_of caller first_steps) this.note has.done has.starts has.every
-      (subst (λ (ds : List Deed). TellsDone c cap has.own has.seen has.notes caller ds this.note) (sym step_of.earlier) this.done) l lawful.0 lawful.1 is_in))
-      (legal, begins) within
+      (subst (λ (ds : List Deed). TellsDone c cap has.own has.seen has.notes caller ds this.note) (sym step_of.earlier) this.done) l lawful is_in))
+      begins within
 
   -- and it is the script's with that number
   stores_are : (rest : List Step) → steps ≡ first_steps ++ step_of.step ∷ rest → stores_of block steps ≡ stores_of block first_steps ++ (step_of.step.caller, x.content) ∷ stores_of block rest
@@ -189,10 +188,10 @@ module _ (c : Configuration) (cap : ℕ) (all : List Entry) (steps : List Step) 
       subst (λ (n : ℕ). store_content c steps block n ≡ Some x.content) (sym next) (ap (option_map (λ (p : ℕ × List ℕ). p.1)) here)
 
 pub shown_are_stored : ShownAreStored
-shown_are_stored c cap all steps caller block number made e h run has stored legal begins (inl none) = λ place x at some numbered. absurd (omega (arith, none, numbered))
-shown_are_stored c cap all steps caller block number made e h run has stored legal begins (inr (i, m, x, at, few, stands)) =
+shown_are_stored c cap all steps caller block number made e h run has stored begins (inl none) = λ place x at some numbered. absurd (omega (arith, none, numbered))
+shown_are_stored c cap all steps caller block number made e h run has stored begins (inr (i, m, x, at, few, stands)) =
     let (k, is, here) = stored i (m, x) at in
-    can_be c cap all steps caller block k made x run has here number h (omega (arith, few, is)) legal begins stands
+    can_be c cap all steps caller block k made x run has here number h (omega (arith, few, is)) begins stands
 
 pub taken_are_stored : TakenAreStored
 taken_are_stored c cap all steps caller block number made e x run few has stored first (inl (none, same)) =

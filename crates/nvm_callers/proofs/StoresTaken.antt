@@ -9,14 +9,13 @@ use Rattle.driver_moves.specs.memif.Clock.{Clock}
 use Rattle.driver_moves.specs.block_machine.Words.{TookNothing, TookContent, TookRefused, TookStale, Entry, Ask, Pick, Wrote, Post, Off, Found, Instance, Mark, Configuration}
 use Rattle.driver_moves.specs.block_machine.Next.{next_of}
 use Rattle.driver_moves.specs.block_machine.Steps.{after}
-use Rattle.driver_moves.specs.block_machine.Legal.{IsLegal}
 use Rattle.turn_gate.specs.Entries.{StartsWith}
 use Rattle.ram_mirrors.specs.Stores.{AllStored}
 use Rattle.ram_mirrors_sync.specs.Ends.{EndValue, GoesOn, IsTaken}
 use Rattle.ram_mirrors_sync.specs.Blocks.{CameWith, EndGoesOn, EndList, HasCameWith, HasLooked, IsOver, IsStore, SyncValue, WasShown, end_at, told_by}
 use Rattle.script_walks.specs.Words.{Step}
 use Rattle.script_walks.specs.Walk.{store_content, copies_next}
-use Rattle.script_walks.specs.Looks.{CanBeStored, Look}
+use Rattle.script_walks.specs.Looks.{CanBeStored, CopiesAreShown, Look}
 use Rattle.script_callers.specs.RunScripts.{AreRun}
 use Rattle.driver_moves.specs.nvm_shared.declared.terms.Terms.{Terms}
 use Rattle.driver_moves.specs.nvm_shared.Noted.{StandsIn}
@@ -24,9 +23,6 @@ use Rattle.nvm_callers.specs.Stored.{Stored}
 use Rattle.nvm_callers.specs.Stores.{Along}
 use Rattle.nvm_callers.specs.Shown.{HasStoredIn}
 use Rattle.nvm_callers.specs.Looked.{AllTookShown, IsLookOf, TookShown, look_behind}
-use Rattle.nvm_callers.specs.TakenCopies.{StoresAreTaken}
-use Rattle.nvm_callers.proofs.Waiting.{beginning}
-use Rattle.nvm_callers.proofs.TakenCopies.{copies_are_stores}
 use Rattle.nvm_callers.proofs.Showing.{copies_have_looks}
 use Rattle.nvm_callers.proofs.StoresShown.{shown_are_stored, taken_are_stored}
 
@@ -98,9 +94,9 @@ module _ (c : Configuration) (cap : ℕ) (h : List Entry) (steps : List Step) (r
   came_later holds old new n on (inl none) = inl none
   came_later holds old new n on (inr (i, m, x, at, few, is)) = inr (i, m, x, on.took i (m, x) at, few, is)
 
-  of_shown : (block number : ℕ) (e : EndValue Along) (entry : ℕ) → IsLegal c cap h → WasStored c cap h steps block e → CameWith (StandsIn (take entry h)) e number
+  of_shown : (block number : ℕ) (e : EndValue Along) (entry : ℕ) → WasStored c cap h steps block e → CameWith (StandsIn (take entry h)) e number
       → CanBeStored c steps block number (take entry h)
-  of_shown block number e entry legal was came = by was.by came
+  of_shown block number e entry was came = by was.by came
     where
       begins : StartsWith h (take entry h)
       begins = (drop entry h, sym (take-append-drop entry h))
@@ -108,33 +104,30 @@ module _ (c : Configuration) (cap : ℕ) (h : List Entry) (steps : List Step) (r
       by : (was.stores ≡ []) ⊎ ((caller : ℕ) × (made : ℕ → List Stored) × HasStoredIn c cap h steps caller made × (made block ≡ was.stores)) → CameWith (StandsIn (take entry h)) e number
           → CanBeStored c steps block number (take entry h)
       by (inr (caller, made, has, same)) it =
-          shown_are_stored c cap h steps caller block number made e (take entry h) run has (subst (λ (l : List Stored). AllStored l e.up.got) (sym same) was.got) (beginning c cap entry h legal) begins it
+          shown_are_stored c cap h steps caller block number made e (take entry h) run has (subst (λ (l : List Stored). AllStored l e.up.got) (sym same) was.got) begins it
       by (inl none) (inl zeroth) = λ place x at some numbered. absurd (omega (arith, zeroth, numbered))
       by (inl none) (inr (i, m, x, at, few, is)) = let (k, one, here) = was.got i (m, x) at in none_got was.stores k x (CanBeStored c steps block number (take entry h)) none here
 
-  of_look : (old by_then new : EndList Along) (block number entry : ℕ) → IsLegal c cap h → WereStored c cap h steps new → HasLooked old new block number
+  of_look : (old by_then new : EndList Along) (block number entry : ℕ) → WereStored c cap h steps new → HasLooked old new block number
       → EndGoesOn (end_at by_then block) (end_at new block) → HasCameWith (StandsIn (take entry h)) by_then block number → CanBeStored c steps block number (take entry h)
-  of_look old by_then new block number entry legal were between on came = by (end_at old block) (end_at by_then block) (end_at new block) between on came (were block)
+  of_look old by_then new block number entry were between on came = by (end_at old block) (end_at by_then block) (end_at new block) between on came (were block)
     where
       by : (a b e : Option (EndValue Along)) → WasShown a e number → EndGoesOn b e → IfSome b (λ y. CameWith (StandsIn (take entry h)) y number)
           → IfSome e (WasStored c cap h steps block) → CanBeStored c steps block number (take entry h)
-      by (Some a) (Some b) (Some e) shown goes with was = of_shown block number e entry legal was (came_later (StandsIn (take entry h)) b e number goes with)
+      by (Some a) (Some b) (Some e) shown goes with was = of_shown block number e entry was (came_later (StandsIn (take entry h)) b e number goes with)
       by (Some a) None (Some e) shown goes with was = absurd goes
       by (Some a) b None shown goes with was = absurd shown
       by None b e shown goes with was = absurd shown
 
 -- ALL OF THEM
 module _ {D : Type 0} (told : D → DeviceTold) (clock : D → Clock) (t : Terms) (steps : List Step) (run : AreRun t.config steps) (few : length steps < 2 ^ 60) (marks : List (Instance × Mark)) (ops : ℕ) (more : List Entry)
-    (legal : IsLegal t.config t.cap (Found marks ops ∷ more)) (old new : SyncValue Along) (were : WereStored t.config t.cap (Found marks ops ∷ more) steps new.ends) where
+    (old new : SyncValue Along) (were : WereStored t.config t.cap (Found marks ops ∷ more) steps new.ends) where
   pub stores_are_taken : (looks : List Look)
       → ((l : Look) → Contains looks l → IsLookOf told clock (λ (s : SyncValue Along). map told_by s.ends) (λ (s : SyncValue Along). IsStore s.ends) (λ (x y : SyncValue Along). HasLooked x.ends y.ends) (λ (x y : SyncValue Along). IsOver x y) (λ (s : SyncValue Along) (block number : ℕ) (entries : List Entry). HasCameWith (StandsIn entries) s.ends block number) t (Found marks ops ∷ more) old new l)
-      → AllTookShown looks (IsStore new.ends) t.config (Found marks ops ∷ []) more → StoresAreTaken t.config steps looks (Found marks ops ∷ more)
-  stores_are_taken looks are took = record {
-    stores = copies_are_stores t.config t.cap steps looks (IsStoreThere new.ends) marks ops more (of_ends t.config t.cap (Found marks ops ∷ more) steps run new.ends few were) legal
-        (all_there looks new.ends (λ l within. was_there (end_at old.ends l.block) (end_at new.ends l.block) l.shown (are l within).between) t.config (Found marks ops ∷ []) more took);
-    shown = copies_have_looks t.config steps looks (IsStore new.ends) marks ops more
-        (λ l within.
-        let is = are l within in
-        of_look t.config t.cap (Found marks ops ∷ more) steps run old.ends is.by_then.ends new.ends l.block l.shown l.entry legal were is.between (is.since.ends l.block) is.stands_in)
-        took;
-  }
+      → AllTookShown looks (IsStore new.ends) t.config (Found marks ops ∷ []) more → CopiesAreShown t.config steps looks [] (Found marks ops ∷ more)
+  stores_are_taken looks are took =
+      copies_have_looks t.config steps looks (IsStoreThere new.ends) marks ops more (of_ends t.config t.cap (Found marks ops ∷ more) steps run new.ends few were)
+      (λ l within.
+      let is = are l within in
+      of_look t.config t.cap (Found marks ops ∷ more) steps run old.ends is.by_then.ends new.ends l.block l.shown l.entry were is.between (is.since.ends l.block) is.stands_in)
+      (all_there looks new.ends (λ l within. was_there (end_at old.ends l.block) (end_at new.ends l.block) l.shown (are l within).between) t.config (Found marks ops ∷ []) more took)

@@ -15,7 +15,7 @@ use Rattle.driver_moves.specs.block_laws.Consistent.{Each}
 use Rattle.script_walks.specs.Words.{Step}
 use Rattle.script_walks.specs.Walk.{store_content, copies_by, TakesStore, TakesStores, copies_next}
 use Rattle.script_walks.specs.Stores.{CopiesOf, IsStored}
-use Rattle.script_walks.specs.Looks.{Look}
+use Rattle.script_walks.specs.Looks.{Look, CopyIsShown, CopiesAreShown}
 use Rattle.driver_moves.proofs.nvm_moves.HistoryLaws.{histories_step}
 use Rattle.driver_moves.proofs.nvm_moves.NextLaws.{next_is_waiting}
 use Rattle.script_walks.proofs.Jobs.{each_append, each_right, each_kept, hand_stored, waiting_stored}
@@ -231,8 +231,25 @@ module _ (c : Configuration) (steps : List Step) where
         let (takes, behind) = entry cap before s e legal.0 all (subst (λ (x : State). TookShown looks IsStore before e (copies_next c (next_of c x))) at took.0) in
         (takes, all_entries cap (before ++ e ∷ []) es (step c s e) (histories_step c before e ∙ ap (λ (x : State). step c x e) at) legal.1 behind took.1)
 
+-- a copy that is shown took a store
+shown_took : (c : Configuration) (steps : List Step) (looks : List Look) (before : List Entry) (e : Entry) (copies : Bool) → CopyIsShown c steps looks before e copies
+    → TookShown looks (λ block number x. store_content c steps block number ≡ Some x) before e copies
+shown_took c steps looks before (Pick block kind (TookStale asked got count) ops) copies is = is
+shown_took c steps looks before (Pick block kind (TookContent bytes number) ops) true is = (is.0.seen, is.1)
+shown_took c steps looks before (Pick block kind (TookContent bytes number) ops) false is = tt
+shown_took c steps looks before (Pick block kind (TookRefused count) ops) copies is = tt
+shown_took c steps looks before (Pick block kind TookNothing ops) copies is = tt
+shown_took c steps looks before (Ask caller r reply) copies is = tt
+shown_took c steps looks before (Wrote i mark ops) copies is = tt
+shown_took c steps looks before (Post block r given refused ops) copies is = tt
+shown_took c steps looks before (Off ops) copies is = tt
+shown_took c steps looks before (Found marks ops) copies is = tt
+
+all_took : (c : Configuration) (steps : List Step) (looks : List Look) (before more : List Entry) → CopiesAreShown c steps looks before more
+    → AllTookShown looks (λ block number x. store_content c steps block number ≡ Some x) c before more
+all_took c steps looks before [] all = tt
+all_took c steps looks before (e ∷ es) all = (shown_took c steps looks before e (copies_next c (next_of c (after c before))) all.0, all_took c steps looks (before ++ e ∷ []) es all.1)
+
 pub copies_are_stores : CopiesAreStores
-copies_are_stores c cap steps looks IsStore marks ops more stores legal took = (
-  tt,
-  all_entries c steps looks IsStore stores cap (Found marks ops ∷ []) more (step c at_first (Found marks ops)) refl legal.1 tt took,
-)
+copies_are_stores c cap steps looks h legal shown =
+    all_entries c steps looks (λ block number x. store_content c steps block number ≡ Some x) (λ block number x is. is) cap [] h at_first refl legal tt (all_took c steps looks [] h shown)

@@ -1,19 +1,18 @@
 -- What a poll tells of a wait.
-use Rattle.std.proofs.Common.{◌≡◌, ◌≢◌, ◌⊎◌, inl, inr, ℕ, zero, suc, ◌<◌, ◌≤◌, ◌+◌, ◌∙◌, max, not, ◌||◌, Bool, true, false, IsTrue, List, [], ◌∷◌, ◌++◌, length, take, drop, refl, sym, ap, subst, arith, length-append, append_assoc}
-use Rattle.std.proofs.lemmas.List.{take-append-drop}
-use mathlib.Core.Option.{some, some-ne-none}
+use Rattle.std.specs.Prelude.{nat_lt, unwrap_or, if◌then◌else◌, ◌==◌}
+use Rattle.std.specs.Option.{option_and_then, option_map_or}
+use Rattle.std.proofs.Common.{Option, Some, None, ltb-true, eqb-true, ◌≡◌, ◌≢◌, ◌⊎◌, inl, inr, ℕ, zero, suc, ◌<◌, ◌≤◌, ◌+◌, ◌∙◌, max, not, ◌||◌, Bool, true, false, IsTrue, List, [], ◌∷◌, ◌++◌, length, take, refl, sym, ap, subst, arith, length-append, append_assoc}
+use Rattle.std.proofs.lemmas.Bool.{cases_Bool, lt-ltb, ne_eqb}
+use mathlib.Core.Option.{some, some-ne-none, some-injective}
 use lib.ListN.{get_elem?}
 use Rattle.atomic_table.proofs.Lists.{at_last, at_longer}
 use Rattle.driver_moves.specs.nv_base.Result.{code_of}
-use Rattle.driver_moves.specs.block_machine.Words.{ReqResult, Fine, NotOk, Pending, IntegrityFailed, BlockSkipped, Invalidated, Canceled, RedundancyFailed, Restored, Entry, Configuration}
-use Rattle.driver_moves.specs.block_machine.Blocks.{status_of, is_pending}
-use Rattle.driver_moves.specs.block_machine.Legal.{IsLegal}
-use Rattle.driver_moves.specs.block_machine.Steps.{after}
-use Rattle.driver_moves.proofs.nvm_moves.HistoryLaws.{beginnings_are_legal}
+use Rattle.driver_moves.specs.block_machine.Words.{ReqResult, Fine, NotOk, Pending, IntegrityFailed, BlockSkipped, Invalidated, Canceled, RedundancyFailed, Restored, Accepted, Refused, StatusIs, IndexIs, Entry, Ask, Pick, Wrote, Post, Off, Found, Configuration}
+use Rattle.driver_moves.specs.block_machine.Blocks.{is_pending}
 use Rattle.turn_gate.specs.Entries.{Note, note, StartsWith, AllAgree, Gave, NotBelow}
-use Rattle.driver_moves.specs.nvm_shared.StatusWords.{gives, off_word}
+use Rattle.script_walks.specs.Callers.{pending_block, tells_status, tells_off, told_last}
+use Rattle.driver_moves.specs.nvm_shared.StatusWords.{gives, gives_by, off_word, told_at}
 use Rattle.driver_moves.specs.nvm_shared.Statuses.{IsLast}
-use Rattle.driver_moves.proofs.nvm_shared.Words.{the_off_word_tells, words_tell_statuses}
 use Rattle.nvm_callers.specs.Waits.{Waited, OffEndsWaits, PollsEndWaits, WaitsLast}
 
 -- PLACES
@@ -75,9 +74,109 @@ over_off false true is = refl
 over_off false false is = cc
 
 -- A WORD
-pub beginning : (c : Configuration) (cap m : ℕ) (h : List Entry) → IsLegal c cap h → IsLegal c cap (take m h)
-beginning c cap m h legal = beginnings_are_legal c cap (take m h) (drop m h) (subst (IsLegal c cap) (sym (take-append-drop m h)) legal)
+-- what entries tell of a thing goes by the numbers that they give its word
+module _ {A : Type 0} (tells : Entry → Option A) (code : A → ℕ) (word : ℕ) (none : (e : Entry) → gives e word ≡ None → tells e ≡ None)
+    (some : (e : Entry) (x : ℕ) → gives e word ≡ Some x → (a : A) × (tells e ≡ Some a) × (code a ≡ x)) where
+  given_or : (o : Option ℕ) → (o ≡ None) ⊎ ((x : ℕ) × (o ≡ Some x))
+  given_or None = inl refl
+  given_or (Some x) = inr (x, refl)
 
+  stays : (es : List Entry) (last : A) → ((j y : ℕ) → Gave gives es word j y → ⊥) → told_last tells last es ≡ last
+  stays [] last quiet = refl
+  stays (e ∷ es) last quiet = elim (given_or (gives e word)) [
+    | inl nothing ↦ ap (λ (o : Option A). told_last tells (unwrap_or o last) es) (none e nothing) ∙ stays es last (λ j y gave. quiet (suc j) y gave)
+    | inr one ↦ absurd (quiet 0 one.0 (e, refl, one.1))
+  ]
+
+  -- the last one that gave it a number tells what was told last
+  pub tells_last : (h : List Entry) (entry x : ℕ) (last : A) → Gave gives h word entry x → IsLast h word entry → code (told_last tells last h) ≡ x
+  tells_last [] entry x last gave is_last = absurd (some-ne-none gave.0 (sym gave.1))
+  tells_last (e ∷ es) zero x last gave is_last =
+      let same : e ≡ gave.0 = some-injective e gave.0 gave.1 in
+      let told = some e x (ap (λ (y : Entry). gives y word) same ∙ gave.2) in
+      ap code (ap (λ (o : Option A). told_last tells (unwrap_or o last) es) told.1 ∙ stays es told.0 (λ j y later. let low = is_last (suc j) y later in omega (arith, low))) ∙ told.2
+  tells_last (e ∷ es) (suc entry) x last gave is_last =
+      tells_last es entry x (unwrap_or (tells e) last) gave (λ j y later. let low = is_last (suc j) y later in omega (arith, low))
+
+-- so it is of a block and its status
+module _ (block : ℕ) (low : block < off_word) where
+  given_by : (status id : ℕ) → gives_by (told_at status id) block ≡ (if id == block then Some status else None)
+  given_by status id = elim (cases_Bool (id == block)) [
+    | inl own ↦ (let at : id ≡ block = eqb-true id block own in let under : nat_lt id off_word ≡ true = lt-ltb id off_word (omega (arith, at, low)) in rw (under, own) refl)
+    | inr other ↦ elim (cases_Bool (nat_lt id off_word)) [ inl under ↦ rw (under, other) refl | inr over ↦ rw (over, other) refl ]
+  ]
+
+  by_request : (o : Option ℕ) → gives_by (option_and_then (told_at (code_of Pending)) o) block ≡ (if option_map_or (λ id. id == block) o false then Some (code_of Pending) else None)
+  by_request None = refl
+  by_request (Some id) = given_by (code_of Pending) id
+
+  -- an entry that tells a status gives its number
+  abbrev Alike : Option ReqResult → Option ℕ → Type 0
+  Alike told given = (given ≡ None → told ≡ None) × ((x : ℕ) → given ≡ Some x → (r : ReqResult) × (told ≡ Some r) × (code_of r ≡ x))
+
+  if_told : (b : Bool) (r : ReqResult) → Alike (if b then Some r else None) (if b then Some (code_of r) else None)
+  if_told true r = (λ is. absurd (cc is), λ x is. (r, refl, let same : code_of r ≡ x = cc in same))
+  if_told false r = (λ is. refl, λ x is. absurd (cc is))
+
+  alike : (e : Entry) → Alike (tells_status block e) (gives e block)
+  alike (Ask caller r Accepted) = subst (Alike (tells_status block (Ask caller r Accepted))) (sym (by_request (pending_block r))) (if_told (option_map_or (λ id. id == block) (pending_block r) false) Pending)
+  alike (Ask caller r (Refused why)) = (λ is. refl, λ x is. absurd (cc is))
+  alike (Ask caller r (StatusIs status)) = (λ is. refl, λ x is. absurd (cc is))
+  alike (Ask caller r (IndexIs index)) = (λ is. refl, λ x is. absurd (cc is))
+  alike (Pick id kind t ops) = subst (Alike (tells_status block (Pick id kind t ops))) (sym (given_by (code_of Pending) id)) (if_told (id == block) Pending)
+  alike (Post id r given refused ops) = subst (Alike (tells_status block (Post id r given refused ops))) (sym (given_by (code_of r) id)) (if_told (id == block) r)
+  alike (Wrote i mark ops) = (λ is. refl, λ x is. absurd (cc is))
+  alike (Off ops) =
+      let other : (off_word == block) ≡ false = ne_eqb off_word block (λ is. omega (arith, is, low)) in
+      subst (Alike None) (sym (ap (λ (b : Bool). if b then Some 1 else None) other)) (λ is. refl, λ x is. absurd (cc is))
+  alike (Found marks ops) = (λ is. absurd (cc is), λ x is. (Fine, refl, let same : 0 ≡ x = cc in same))
+
+  pub status_told : (h : List Entry) (entry x : ℕ) → Gave gives h block entry x → IsLast h block entry → code_of (told_last (tells_status block) Fine h) ≡ x
+  status_told h entry x = tells_last (tells_status block) code_of block (λ e. (alike e).0) (λ e. (alike e).1) h entry x Fine
+
+-- and of the power
+abbrev off_code : Bool → ℕ
+off_code b = if b then 1 else 0
+
+abbrev AlikeOff : Option Bool → Option ℕ → Type 0
+AlikeOff told given = (given ≡ None → told ≡ None) × ((x : ℕ) → given ≡ Some x → (b : Bool) × (told ≡ Some b) × (off_code b ≡ x))
+
+below_off : (status id : ℕ) → gives_by (told_at status id) off_word ≡ None
+below_off status id = elim (cases_Bool (nat_lt id off_word)) [
+  | inl under ↦ (let less : id < off_word = ltb-true id off_word under in let other : (id == off_word) ≡ false = ne_eqb id off_word (λ is. omega (arith, is, less)) in rw (under, other) refl)
+  | inr over ↦ rw over refl
+]
+
+request_off : (o : Option ℕ) → gives_by (option_and_then (told_at (code_of Pending)) o) off_word ≡ None
+request_off None = refl
+request_off (Some id) = below_off (code_of Pending) id
+
+quiet_off : (given : Option ℕ) → given ≡ None → AlikeOff None given
+quiet_off given none = (λ is. refl, λ x is. absurd (let no_ : None ≡ Some x = sym none ∙ is in cc no_))
+
+alike_off : (e : Entry) → AlikeOff (tells_off e) (gives e off_word)
+alike_off (Ask caller r Accepted) = quiet_off _ (request_off (pending_block r))
+alike_off (Ask caller r (Refused why)) = quiet_off _ refl
+alike_off (Ask caller r (StatusIs status)) = quiet_off _ refl
+alike_off (Ask caller r (IndexIs index)) = quiet_off _ refl
+alike_off (Pick id kind t ops) = quiet_off _ (below_off (code_of Pending) id)
+alike_off (Post id r given refused ops) = quiet_off _ (below_off (code_of r) id)
+alike_off (Wrote i mark ops) = quiet_off _ refl
+alike_off (Off ops) = (λ is. absurd (cc is), λ x is. (true, refl, let same : 1 ≡ x = cc in same))
+alike_off (Found marks ops) = (λ is. absurd (cc is), λ x is. (false, refl, let same : 0 ≡ x = cc in same))
+
+off_of : (b : Bool) → off_code b ≡ 1 → b ≡ true
+off_of true is = refl
+off_of false is = cc is
+
+-- the power is told to be off where 1 was given last
+pub off_number_told : (h : List Entry) (entry x : ℕ) → Gave gives h off_word entry x → IsLast h off_word entry → told_last tells_off false h ≡ true → x ≡ 1
+off_number_told h entry x gave is_last on = sym (tells_last tells_off off_code off_word (λ e. (alike_off e).0) (λ e. (alike_off e).1) h entry x false gave is_last) ∙ ap off_code on
+
+off_told : (h : List Entry) (entry : ℕ) → Gave gives h off_word entry 1 → IsLast h off_word entry → told_last tells_off false h ≡ true
+off_told h entry gave is_last = off_of (told_last tells_off false h) (tells_last tells_off off_code off_word (λ e. (alike_off e).0) (λ e. (alike_off e).1) h entry 1 false gave is_last)
+
+-- A POLL
 module _ (word : ℕ) (seen : List Entry) (notes : List Note) (entry status : ℕ) (fresh : NotBelow gives seen notes word entry) where
   abbrev told : List Note
   told = notes ++ note word entry status ∷ []
@@ -109,10 +208,10 @@ polls_end_waits c cap block seen notes entry status few low not_pending fresh =
       record {
         some = omega arith;
         within = ends_within block seen notes entry status fresh;
-        over = λ h legal starts agree.
-            let is : code_of (status_of (after c (take last h)) block) ≡ status = words_tell_statuses c cap (take last h) block entry status (beginning c cap last h legal) few low
-            (given_in block seen notes entry status fresh h agree) (last_in block seen notes entry status fresh h starts) in
-            over_by (status_of (after c (take last h)) block) (after c (take last h)).off (λ pending. not_pending (sym is ∙ pending));
+        over = λ h starts agree.
+            let is : code_of (told_last (tells_status block) Fine (take last h)) ≡ status =
+            status_told block low (take last h) entry status (given_in block seen notes entry status fresh h agree) (last_in block seen notes entry status fresh h starts) in
+            over_by (told_last (tells_status block) Fine (take last h)) (told_last tells_off false (take last h)) (λ pending. not_pending (sym is ∙ pending));
       },
     )
 
@@ -124,9 +223,9 @@ off_ends_waits c cap block seen notes entry fresh =
       record {
         some = omega arith;
         within = ends_within off_word seen notes entry 1 fresh;
-        over = λ h legal starts agree.
-            over_off (not (is_pending (status_of (after c (take last h)) block))) (after c (take last h)).off
-            (the_off_word_tells c cap (take last h) entry (beginning c cap last h legal) (given_in off_word seen notes entry 1 fresh h agree) (last_in off_word seen notes entry 1 fresh h starts));
+        over = λ h starts agree.
+            over_off (not (is_pending (told_last (tells_status block) Fine (take last h)))) (told_last tells_off false (take last h))
+            (off_told (take last h) entry (given_in off_word seen notes entry 1 fresh h agree) (last_in off_word seen notes entry 1 fresh h starts));
       },
     )
 
@@ -135,7 +234,7 @@ pub waited_on : (c : Configuration) (cap block place : ℕ) (seen seen_new : Lis
 waited_on c cap block place seen seen_new notes notes_new waited onwards agrees = record {
   some = waited.some;
   within = λ h starts agree. waited.within h (starts_again h seen_new seen starts onwards) (agrees h agree);
-  over = λ h legal starts agree. waited.over h legal (starts_again h seen_new seen starts onwards) (agrees h agree);
+  over = λ h starts agree. waited.over h (starts_again h seen_new seen starts onwards) (agrees h agree);
 }
 
 pub waits_last : WaitsLast

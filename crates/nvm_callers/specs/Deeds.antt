@@ -1,7 +1,6 @@
 -- What a caller knows of what it did.
 use Rattle.std.specs.Prelude.{◌≡◌, ◌≤◌, ◌<◌, ℕ, ◌+◌, List, [], ◌∷◌, ◌++◌, length, take, drop}
 use Rattle.driver_moves.specs.block_machine.Words.{Request, Reply, Entry, Ask, Configuration}
-use Rattle.driver_moves.specs.block_machine.Legal.{IsLegal}
 use Rattle.driver_moves.specs.block_laws.Consistent.{Each, Ascend}
 use Rattle.turn_gate.specs.Entries.{Note, StartsWith, AllAgree}
 use Rattle.script_walks.specs.Callers.{WaitedFor, asks_of}
@@ -64,21 +63,21 @@ DeedsLast =
     → HasDone c cap own seen notes caller deeds → StartsWith seen_new seen → HasDone c cap own seen_new (notes ++ more) caller deeds
 
 -- in a history each wait of these, before which the caller made k requests, was over in time
-abbrev pub WereOver : Configuration → (caller : ℕ) → List Entry → ℕ → List Deed → Type 0
-WereOver c caller h k [] = Unit {0}
-WereOver c caller h k (AskDeed line r ∷ ds) = WereOver c caller h (k + 1) ds
-WereOver c caller h k (StoreDeed line block number content ∷ ds) = WereOver c caller h k ds
-WereOver c caller h k (Await line block ∷ ds) = WaitedFor c caller block k h × WereOver c caller h k ds
+abbrev pub WereOver : (caller : ℕ) → List Entry → ℕ → List Deed → Type 0
+WereOver caller h k [] = Unit {0}
+WereOver caller h k (AskDeed line r ∷ ds) = WereOver caller h (k + 1) ds
+WereOver caller h k (StoreDeed line block number content ∷ ds) = WereOver caller h k ds
+WereOver caller h k (Await line block ∷ ds) = WaitedFor caller block k h × WereOver caller h k ds
 
 -- a history tells what a caller did
-pub record Shows (c : Configuration) (caller : ℕ) (deeds : List Deed) (h : List Entry) : Type 0 where
+pub record Shows (caller : ℕ) (deeds : List Deed) (h : List Entry) : Type 0 where
   pub asks : asks_of caller h ≡ requests_in deeds
-  pub waits : WereOver c caller h 0 deeds
+  pub waits : WereOver caller h 0 deeds
 
--- Each legal history tells it that begins with all that the caller saw, agrees with all that it was told, and has no other request
+-- Each history tells it that begins with all that the caller saw, agrees with all that it was told, and has no other request
 -- of it.
 abbrev pub DeedsHold : Type 0
 DeedsHold =
     (c : Configuration) (cap : ℕ) (own : List ℕ) (seen : List Entry) (notes : List Note) (caller : ℕ) (deeds : List Deed) (h : List Entry)
-    → HasDone c cap own seen notes caller deeds → IsLegal c cap h → StartsWith h seen → AllAgree gives h notes → AreAll h caller own
-    → Shows c caller deeds h
+    → HasDone c cap own seen notes caller deeds → StartsWith h seen → AllAgree gives h notes → AreAll h caller own
+    → Shows caller deeds h

@@ -1,12 +1,11 @@
 -- What a history tells of callers that ran.
-use Rattle.std.specs.Prelude.{◌≡◌, ◌⊎◌, ℕ, List, length, take, Option}
+use Rattle.std.specs.Prelude.{◌⊎◌, ℕ, List, Option}
 use Rattle.turn_gate.specs.declared.pass.View.{View}
 use Rattle.turn_gate.specs.Entries.{AllAgree, AllHeard}
 use Rattle.turn_gate.specs.Pass.{OwnsAll}
 use Rattle.driver_moves.specs.block_machine.Words.{Entry, Configuration}
-use Rattle.driver_moves.specs.block_machine.Legal.{IsLegal}
 use Rattle.script_walks.specs.Words.{Step}
-use Rattle.script_walks.specs.Callers.{IsInOrder, asks_of, program_of, requests_of}
+use Rattle.script_walks.specs.Callers.{IsInOrder, program_of}
 use Rattle.script_walks.specs.Runs.{AskedAll, HadNoRoom}
 use Rattle.driver_moves.specs.nvm_shared.declared.terms.Terms.{Terms}
 use Rattle.driver_moves.specs.nvm_shared.StatusWords.{gives}
@@ -25,18 +24,6 @@ pub record IsClosedBy (v : View Entry Terms) (h : List Entry) : Type 0 where
   pub agree : AllAgree gives h v.notes
   pub heard : AllHeard h v.heard
 
--- Each caller asked for the first requests of its steps, in order, and nobody else asked; where all ended well, for each.
-pub record HaveAsked (c : Configuration) (steps : List Step) (ending : Ending) (h : List Entry) : Type 0 where
-  pub asks : (caller : ℕ) → asks_of caller h ≡ take (length (asks_of caller h)) (requests_of c (program_of caller steps))
-  pub all : ending ≡ EndsAll → (caller : ℕ) → AskedAll c steps h caller
-
--- so it is over any device, legal or not
-abbrev pub CallersAsk : {S : Type 0} → (bytes : S → ℕ → Option ℕ) → (stored : S → ℕ → List Stored) → (mirrors : S → Pairs) → Type 0
-CallersAsk {S} bytes stored mirrors =
-    (t : Terms) (steps : List Step) (firsts nows : List S) (ending : Ending) (v : View Entry Terms) (h : List Entry) → AreRun t.config steps
-    → HaveRun bytes stored mirrors t (programs_of t.config steps) firsts nows ending v
-    → IsClosedBy v h → BeginsUnasked h → HaveAsked t.config steps ending h
-
 -- how callers ended who asked so: each for all of its requests; or one met a full history, and each other one too or it asked for all
 abbrev pub EndSo : Configuration → (cap : ℕ) → List Step → List Entry → Ending → Type 0
 EndSo c cap steps h EndsAll = (caller : ℕ) → AskedAll c steps h caller
@@ -48,9 +35,9 @@ pub record KeepSteps (c : Configuration) (cap : ℕ) (steps : List Step) (ending
   pub order : (caller : ℕ) → IsInOrder c caller (program_of caller steps) h
   pub ends : EndSo c cap steps h ending
 
--- so it is where the history is legal
+-- so it is over any device
 abbrev pub CallersKeepSteps : {S : Type 0} → (bytes : S → ℕ → Option ℕ) → (stored : S → ℕ → List Stored) → (mirrors : S → Pairs) → Type 0
 CallersKeepSteps {S} bytes stored mirrors =
     (t : Terms) (steps : List Step) (firsts nows : List S) (ending : Ending) (v : View Entry Terms) (h : List Entry) → AreRun t.config steps
     → HaveRun bytes stored mirrors t (programs_of t.config steps) firsts nows ending v
-    → IsClosedBy v h → IsLegal t.config t.cap h → KeepSteps t.config t.cap steps ending h
+    → IsClosedBy v h → BeginsUnasked h → KeepSteps t.config t.cap steps ending h

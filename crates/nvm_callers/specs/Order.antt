@@ -1,7 +1,6 @@
 -- What a caller did, against its program.
 use Rattle.std.specs.Prelude.{◌≡◌, ℕ, false, List, ◌∷◌, ◌++◌, length, take}
 use Rattle.driver_moves.specs.block_machine.Words.{Request, Entry, Configuration}
-use Rattle.driver_moves.specs.block_machine.Legal.{IsLegal}
 use Rattle.driver_moves.specs.block_machine.Reply.{fits}
 use Rattle.driver_moves.specs.block_machine.Steps.{after}
 use Rattle.turn_gate.specs.Entries.{Note, StartsWith, AllAgree}
@@ -19,7 +18,7 @@ use Rattle.nvm_callers.specs.Deeds.{HasDone, Shows}
 -- a caller that did the first deeds of its program keeps to it
 abbrev pub BeginningsKeepOrder : Type 0
 BeginningsKeepOrder =
-    (c : Configuration) (caller : ℕ) (program : List Step) (done rest : List Deed) (h : List Entry) → deeds_of c program ≡ done ++ rest → Shows c caller done h
+    (c : Configuration) (caller : ℕ) (program : List Step) (done rest : List Deed) (h : List Entry) → deeds_of c program ≡ done ++ rest → Shows caller done h
     → IsInOrder c caller program h
 
 -- and asked for the first requests of its program, in order
@@ -30,11 +29,11 @@ BeginningsAsk =
 
 -- what it did it can have done
 abbrev pub DeedsCanBeMade : Type 0
-DeedsCanBeMade = (c : Configuration) (caller : ℕ) (program : List Step) (h : List Entry) → Shows c caller (deeds_of c program) h → CanBeMade c caller program h
+DeedsCanBeMade = (c : Configuration) (caller : ℕ) (program : List Step) (h : List Entry) → Shows caller (deeds_of c program) h → CanBeMade c caller program h
 
 -- one that did all asked for all
 abbrev pub AllIsAsked : Type 0
-AllIsAsked = (c : Configuration) (steps : List Step) (caller : ℕ) (h : List Entry) → Shows c caller (deeds_of c (program_of caller steps)) h → AskedAll c steps h caller
+AllIsAsked = (c : Configuration) (steps : List Step) (caller : ℕ) (h : List Entry) → Shows caller (deeds_of c (program_of caller steps)) h → AskedAll c steps h caller
 
 -- Behind these deeds a request found no room, behind all that was seen, which agrees with all that was told.
 pub record FoundNoRoom (c : Configuration) (cap : ℕ) (own : List ℕ) (seen : List Entry) (notes : List Note) (caller : ℕ) (deeds : List Deed) : Type 0 where
@@ -42,9 +41,9 @@ pub record FoundNoRoom (c : Configuration) (cap : ℕ) (own : List ℕ) (seen : 
   pub agree : AllAgree gives seen notes
   pub full : fits c cap (after c seen) 1 ≡ false
 
--- then its caller had no room in a legal history that goes on from there and has no other request of it
+-- then its caller had no room in a history that goes on from there and has no other request of it
 abbrev pub NoRoomIsHad : Type 0
 NoRoomIsHad =
     (c : Configuration) (cap : ℕ) (own : List ℕ) (seen : List Entry) (notes : List Note) (steps : List Step) (caller : ℕ) (done rest : List Deed) (line : ℕ) (r : Request) (h : List Entry)
-    → deeds_of c (program_of caller steps) ≡ done ++ AskDeed line r ∷ rest → FoundNoRoom c cap own seen notes caller done → IsLegal c cap h → StartsWith h seen
+    → deeds_of c (program_of caller steps) ≡ done ++ AskDeed line r ∷ rest → FoundNoRoom c cap own seen notes caller done → StartsWith h seen
     → AreAll h caller own → HadNoRoom cap c steps h caller

@@ -1,20 +1,18 @@
 -- What a run of callers comes to.
-use Rattle.std.specs.Prelude.{◌≡◌, ◌≢◌, ℕ, true, not, IsTrue, List, ◌++◌, length, take, Option}
+use Rattle.std.specs.Prelude.{◌≡◌, ◌≢◌, not, IsTrue, List, ◌++◌, Option}
 use Rattle.std.specs.List.{list_all}
 use Rattle.driver_moves.specs.nv_base.Count.{WereCounted}
 use Rattle.driver_moves.specs.memif.Told.{DeviceTold}
 use Rattle.driver_moves.specs.memif.Clock.{Clock}
 use Rattle.driver_moves.specs.block_machine.Words.{Entry}
-use Rattle.driver_moves.specs.block_machine.Legal.{IsLegal}
 use Rattle.driver_moves.specs.ram_blocks.declared.plain_block.PlainBlock.{PlainBlock}
 use Rattle.driver_moves.specs.nv_desk.Desk.{DeskState}
 use Rattle.driver_moves.specs.job_progress.Hand.{HandState}
 use Rattle.driver_moves.specs.nvm_laws.Keeps.{StaysKept}
 use Rattle.driver_moves.specs.nvm_core.Stack.{StackState}
 use Rattle.script_walks.specs.Words.{Step}
-use Rattle.script_walks.specs.Callers.{program_of, requests_of, asks_of}
-use Rattle.script_walks.specs.Looks.{AreInOrder, Look}
-use Rattle.script_walks.specs.Runs.{AskedAll, has_ended, is_found}
+use Rattle.script_walks.specs.Looks.{Look}
+use Rattle.script_walks.specs.Runs.{has_ended, is_found}
 use Rattle.driver_moves.specs.promise_run.Run.{End, Whole, HistoryFull, Memory, RunsBy}
 use Rattle.driver_moves.specs.promise_run.RunHalves.{offs_in, tells_no_refusal}
 use Rattle.nvm_callers.specs.Added.{IsUncut}
@@ -48,16 +46,7 @@ pub record WasRun {D : Type 0} (told : D → DeviceTold) (clock : D → Clock) (
   pub moved : HasMoved true (seen_at s.desk s.hand (told s.device) (clock s.device)) (seen_at desk hand (told device) (clock device))
   pub ends : e ≢ ending.Memory → IsTrue (has_ended desk.config desk.entries)
 
--- Each caller asked for what its steps ask for, in that order; and nobody else asked.
-abbrev pub AskInOrder : List Step → DeskState → Type 0
-AskInOrder steps desk =
-    (caller : ℕ) → asks_of caller desk.entries ≡ take (length (asks_of caller desk.entries)) (requests_of desk.config (program_of caller steps))
-
--- The callers kept to the steps of a script, whatever the device tells in the order of their requests; and in all where the history is
--- legal, with these looks of the driver, which are in order.
+-- The callers kept to the steps of a script, with these looks of the driver, whatever the device tells.
 pub record KeepsOrder (steps : List Step) (e : Ending) (desk : DeskState) : Type 0 where
-  pub asks : AskInOrder steps desk
-  pub all : e ≡ ending.All → (caller : ℕ) → AskedAll desk.config steps desk.entries caller
   pub looks : List Look
-  pub in_order : AreInOrder looks
-  pub order : IsLegal desk.config desk.cap desk.entries → RunsBy desk.config desk.cap steps looks (end_of e) desk.entries
+  pub order : RunsBy desk.config desk.cap steps looks (end_of e) desk.entries

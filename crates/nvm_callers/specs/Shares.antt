@@ -1,7 +1,6 @@
 -- What the callers of a run did, once their passes are joined.
 use Rattle.std.specs.Prelude.{◌≡◌, ◌≢◌, ◌⊎◌, ◌<◌, ℕ, List, [], length, Contains}
 use Rattle.driver_moves.specs.block_machine.Words.{Request, Reply, Entry, Ask, Configuration}
-use Rattle.driver_moves.specs.block_machine.Legal.{IsLegal}
 use Rattle.turn_gate.specs.Entries.{Note, StartsWith, AllAgree}
 use Rattle.turn_gate.specs.Pass.{Has}
 use Rattle.script_walks.specs.Callers.{asks_of}
@@ -34,10 +33,6 @@ AreWrittenBy h shares = (k : ℕ) → 0 < k → k < length h → IsDriven h k �
 abbrev pub BeginsUnasked : List Entry → Type 0
 BeginsUnasked h = (caller : ℕ) (r : Request) (reply : Reply) → ¬ IsEntry h 0 (Ask caller r reply)
 
--- so it is of a legal history, which begins with a start-up
-abbrev pub LegalBeginUnasked : Type 0
-LegalBeginUnasked = (c : Configuration) (cap : ℕ) (h : List Entry) → IsLegal c cap h → BeginsUnasked h
-
 -- It was, and no two of them have one number.
 pub record IsOfShares (c : Configuration) (cap : ℕ) (h : List Entry) (shares : List Share) : Type 0 where
   pub first : BeginsUnasked h
@@ -55,11 +50,11 @@ SharesAsk =
     (c : Configuration) (cap : ℕ) (h : List Entry) (shares : List Share) → IsOfShares c cap h shares → (s : Share) → Contains shares s
     → asks_of s.caller h ≡ requests_in s.deeds
 
--- and a legal one tells what each did
+-- and what each did
 abbrev pub SharesHold : Type 0
 SharesHold =
-    (c : Configuration) (cap : ℕ) (h : List Entry) (shares : List Share) → IsOfShares c cap h shares → IsLegal c cap h → (s : Share) → Contains shares s
-    → Shows c s.caller s.deeds h
+    (c : Configuration) (cap : ℕ) (h : List Entry) (shares : List Share) → IsOfShares c cap h shares → (s : Share) → Contains shares s
+    → Shows s.caller s.deeds h
 
 -- and nobody else asked
 abbrev pub NobodyElseAsks : Type 0

@@ -1,7 +1,6 @@
 -- What the driver may conclude from what came along with a store.
 use Rattle.std.specs.Prelude.{◌≡◌, ◌<◌, ◌^◌, ℕ, List, ◌∷◌, ◌++◌, length, take, slice_get, Some}
 use Rattle.driver_moves.specs.block_machine.Words.{Entry, Configuration}
-use Rattle.driver_moves.specs.block_machine.Legal.{IsLegal}
 use Rattle.driver_moves.specs.nvm_shared.declared.terms.Terms.{Terms}
 use Rattle.driver_moves.specs.nvm_shared.StatusWords.{gives}
 use Rattle.driver_moves.specs.nvm_shared.Noted.{StandsIn}
@@ -29,7 +28,7 @@ abbrev pub NotesTellMade : Type 0
 NotesTellMade =
     (c : Configuration) (cap : ℕ) (all : List Entry) (own : List ℕ) (seen : List Entry) (notes : List Note) (caller : ℕ) (deeds : List Deed) (program : List Step) (note : View Entry Terms)
     → HasDone c cap own seen notes caller deeds → StartsWith all seen → AreAll all caller own → TellsDone c cap own seen notes caller (deeds_of c program) note
-    → (h : List Entry) → IsLegal c cap h → StartsWith all h → IsWithin gives h note → CanBeMade c caller program h
+    → (h : List Entry) → StartsWith all h → IsWithin gives h note → CanBeMade c caller program h
 
 -- the step of a script that has a caller store this, behind these deeds of its own
 pub record IsStoreStep (c : Configuration) (steps : List Step) (caller : ℕ) (before : List Deed) (block : ℕ) (content : List ℕ) : Type 0 where
@@ -64,7 +63,7 @@ pub record HasStoredIn (c : Configuration) (cap : ℕ) (all : List Entry) (steps
 abbrev pub ShownAreStored : Type 0
 ShownAreStored =
     (c : Configuration) (cap : ℕ) (all : List Entry) (steps : List Step) (caller block number : ℕ) (made : ℕ → List Stored) (e : EndValue (View Entry Terms)) (h : List Entry)
-    → AreRun c steps → HasStoredIn c cap all steps caller made → AllStored (made block) e.up.got → IsLegal c cap h → StartsWith all h → CameWith (StandsIn h) e number
+    → AreRun c steps → HasStoredIn c cap all steps caller made → AllStored (made block) e.up.got → StartsWith all h → CameWith (StandsIn h) e number
     → CanBeStored c steps block number h
 
 -- And a content that it took is that of the script's store with its number.

@@ -3,7 +3,8 @@ use Rattle.std.specs.Prelude.{◌≡◌, ◌<◌, ℕ, ◌==◌, nat_lt, Bool, t
 use Rattle.std.specs.Option.{option_and_then}
 use Rattle.nvm_core.specs.nv_base.Result.{code_of}
 use Rattle.turn_gate.specs.Entries.{OnlyGives, GivesNone}
-use Rattle.nvm_core.specs.block_machine.Words.{Pending, Request, Read, Write, Restore, Erase, Invalidate, ReadAll, WriteAll, Accepted, Entry, Ask, Pick, Post, Off, Found}
+use Rattle.nvm_core.specs.block_machine.Words.{Pending, Accepted, Entry, Ask, Pick, Post, Off, Found}
+pub use Rattle.script_walks.specs.Callers.{pending_block}
 
 -- behind the words of the ids 0 to 512 comes that of the power: 1 from an Off on
 abbrev pub off_word : ℕ
@@ -11,17 +12,6 @@ off_word = 513
 
 abbrev pub word_count : ℕ
 word_count = 514
-
--- the block that is PENDING once this request is accepted; 0 stands for all
-abbrev pub pending_block : Request → Option ℕ
-pending_block (Read block ram) = Some block
-pending_block (Write block content store) = Some block
-pending_block (Restore block ram) = Some block
-pending_block (Erase block) = Some block
-pending_block (Invalidate block) = Some block
-pending_block ReadAll = Some 0
-pending_block WriteAll = Some 0
-pending_block r = None
 
 -- an id beyond those of blocks has no word
 abbrev pub told_at : (status block : ℕ) → Option (ℕ × ℕ)

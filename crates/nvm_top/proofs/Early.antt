@@ -3,7 +3,6 @@ use Rattle.std.specs.Prelude.{slice_get}
 use Rattle.std.specs.List.{Contains}
 use Rattle.std.proofs.Common.{◌≡◌, ◌≢◌, ◌≤◌, ◌⊎◌, ℕ, zero, suc, false, List, [], ◌∷◌, Option, Some, None, refl, sym, subst, ap, inl, inr, arith}
 use Rattle.nvm_lines.specs.nv_streams.Sink.{Written}
-use Rattle.nvm_flash.specs.nv_base.Geometry.{size_of}
 use Rattle.nvm_flash.specs.block_config.Config.{Configuration}
 use Rattle.nvm_flash.specs.fls_model.Told.{Told, Change}
 use Rattle.nvm_flash.specs.promise_device.FlashRun.{FlashRun}
@@ -29,7 +28,7 @@ use Rattle.nvm_lines.specs.declared.stop.Stop.{Stop}
 use Rattle.nvm_lines.specs.declared.stop.Stop.TheVariants as stop
 use Rattle.nvm_top.specs.Stack.{StopsAtStart, run_of}
 use Rattle.nvm_lines.specs.Output.{Writes}
-use Rattle.nvm_top.specs.Promised.{call_by, FollowsScript, HasNoRun, HasRun, WritesText, EndsIn, entries_in, lines_in}
+use Rattle.nvm_top.specs.Promised.{call_by, HasNoRun, HasRun, WritesText, EndsIn, entries_in, lines_in}
 use Rattle.nvm_lines.specs.Stop.{status_of, line_of, IsStop}
 use Rattle.nvm_top.proofs.Complete.{early_complete}
 use Rattle.nvm_top.proofs.RunLines.{Writes-as, by_stop}
@@ -93,11 +92,7 @@ one_fault f Memory ends = tt
 one_fault f Whole ends = tt
 one_fault f HistoryFull ends = tt
 
--- as it follows its script, ends, and has its turns
-early_order : (m : Mode) (c : Configuration) (steps : List Step) (entry exit : Told) (end : End) → HasOrder (run_of c [] entry exit [] [] (nothing m steps) end) [] → FollowsScript (run_of c [] entry exit [] [] (nothing m steps) end) (nothing m steps) []
-early_order mode.Play c steps entry exit end order = order
-early_order mode.Run c steps entry exit end order = order
-
+-- as it ends, and has its turns
 early_ends : (m : Mode) (c : Configuration) (steps : List Step) (entry exit : Told) (end : End) → HasOrder (run_of c [] entry exit [] [] (nothing m steps) end) [] → Completeness (run_of c [] entry exit [] [] (nothing m steps) end) (nothing m steps)
 early_ends mode.Play c steps entry exit end order = early_complete c steps entry exit end order
 early_ends mode.Run c steps entry exit end order = callers_are_served (run_of c [] entry exit [] [] (Ran steps []) end) steps [] refl refl order
@@ -145,7 +140,7 @@ early_has m c steps Tells entry exit stop end stops one ends tells = record {
   ends = tells;
   keeps =
       let promise = early_promise m c steps entry exit stop end stops ends in
-      record { order = early_order m c steps entry exit end promise.order; size = λ started. absurd started; refusals = promise.refusals; off = promise.off; counted = inl (let same = stops.flash.ops in omega (arith, same)); complete = early_ends m c steps entry exit end promise.order; exit = λ started. absurd started; turns = early_moves m c steps entry exit end stops.faults ends; values = tt; early = λ told. record { found = λ marks has. absurd (omega (arith, has.1)); legal = tt }; promise = λ told sound. promise; erases = λ told k unused has. absurd has };
+      record { order = promise.order; size = λ started. absurd started; refusals = promise.refusals; off = promise.off; counted = inl (let same = stops.flash.ops in omega (arith, same)); complete = early_ends m c steps entry exit end promise.order; exit = λ started. absurd started; turns = early_moves m c steps entry exit end stops.faults ends; values = tt; early = λ told. record { found = λ marks has. absurd (omega (arith, has.1)); legal = tt }; promise = λ told sound. promise; erases = λ told k unused has. absurd has };
 }
 
 -- AND ITS CALL

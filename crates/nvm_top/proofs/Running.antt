@@ -1,7 +1,7 @@
 -- A run of callers keeps the promise, by what they came to on its stack.
 use Rattle.std.specs.Prelude.{not, ◌||◌, IsTrue, slice_get}
 use Rattle.std.specs.List.{list_all}
-use Rattle.std.proofs.Common.{◌≡◌, ◌≢◌, ◌≤◌, ◌+◌, ◌*◌, ℕ, Bool, true, false, List, [], ◌∷◌, ◌++◌, length, take, drop, Option, Some, None, Result, refl, sym, ap, ◌∙◌, subst, inl, arith}
+use Rattle.std.proofs.Common.{◌≡◌, ◌≢◌, ◌≤◌, ◌+◌, ◌*◌, ℕ, Bool, true, false, List, [], ◌∷◌, ◌++◌, length, Option, Some, None, Result, refl, sym, ap, ◌∙◌, subst, inl, arith}
 use Rattle.nvm_lines.specs.nv_streams.Sink.{Written}
 use Rattle.nvm_lines.proofs.nv_streams.Puts.{Puts-nil}
 use Rattle.nvm_flash.specs.nv_base.Count.{WereCounted}
@@ -10,7 +10,6 @@ use Rattle.nvm_flash.specs.nv_base.declared.plan.Plan.{Plan}
 use Rattle.nvm_flash.specs.block_config.Config.{Configuration}
 use Rattle.nvm_flash.specs.block_config.Rules.{IsLegalConfig}
 use Rattle.nvm_flash.specs.block_machine.Words.{Entry, Found, Instance, Mark}
-use Rattle.nvm_flash.specs.block_machine.Legal.{IsLegal}
 use Rattle.nvm_flash.specs.block_machine.Next.{next_of}
 use Rattle.nvm_flash.specs.block_machine.StartUp.{at_first}
 use Rattle.nvm_flash.specs.block_machine.Steps.{after}
@@ -31,9 +30,8 @@ use Rattle.nvm_flash.specs.nvm_core.Stack.{StackState}
 use Rattle.nvm_flash.specs.promise_blocks.Operations.{founds}
 use Rattle.nvm_flash.specs.promise_run.BankTurns.{BeginsUnused}
 use Rattle.nvm_flash.specs.promise_run.Halves.{beyond_end}
-use Rattle.nvm_flash.specs.promise_run.JobTurns.{job_turns}
 use Rattle.nvm_flash.specs.promise_run.Promise.{making_of}
-use Rattle.nvm_flash.specs.promise_run.Run.{Run, Ran, End, Whole, FlashFault, HistoryFull, Memory, RunsBy, cap}
+use Rattle.nvm_flash.specs.promise_run.Run.{Run, Course, Ran, Follows, HasOrder, End, Whole, FlashFault, HistoryFull, Memory, RunsBy, cap}
 use Rattle.nvm_flash.specs.promise_run.RunHalves.{KeepsCallers, offs_in, tells_no_refusal}
 use Rattle.nvm_flash.specs.Made.{IsBack, one_part}
 use Rattle.nvm_flash.proofs.promise_device.Readings.{sound_starts_compute}
@@ -48,14 +46,14 @@ use Rattle.nvm_callers.specs.declared.ending.Ending.TheVariants as ending
 use Rattle.script_player.proofs.InHand.{power_on}
 use Rattle.script_player.specs.PlainTold.{plan_from, told_by}
 use Rattle.script_player.specs.PlainPaying.{seen_by}
-use Rattle.script_player.specs.script_walks.Callers.{KeepsAwait, KeepsAwaitBy, asks_of, program_of, requests_of}
+use Rattle.script_player.specs.script_walks.Callers.{program_of}
 use Rattle.script_player.specs.script_walks.Looks.{CopyIsShown, Look}
-use Rattle.script_player.specs.script_walks.Runs.{AskedAll, IsRun, has_ended, is_found}
+use Rattle.script_player.specs.script_walks.Runs.{IsRun, has_ended, is_found}
 use Rattle.script_player.specs.script_walks.Texts.{AreValues}
-use Rattle.script_player.specs.script_walks.Walk.{TakesStore, copies_by, is_at_rest, copies_next}
+use Rattle.script_player.specs.script_walks.Walk.{is_at_rest, copies_next}
 use Rattle.script_player.specs.script_walks.Words.{Step, StepKind, Await}
 use Rattle.nvm_top.specs.Play.{IsBeforeAttach, IsRightSize}
-use Rattle.nvm_top.specs.Promised.{EndsIn, FollowsCallers, FollowsScript, HasRun, KeepsRun, WritesText, call_by, lines_in}
+use Rattle.nvm_top.specs.Promised.{EndsIn, HasRun, KeepsRun, WritesText, call_by, lines_in}
 use Rattle.nvm_top.specs.Running.{stop_of_ending}
 use Rattle.nvm_top.specs.Runs.{status_of_run, lines_written}
 use Rattle.nvm_top.specs.Stack.{IsStarted, run_of, KeepsPlayed}
@@ -82,15 +80,12 @@ use Rattle.nvm_top.proofs.WholeCalls.{written_late}
 pub record CameTo (before : Part → PartTold) (c : Configuration) (most : ℕ) (steps : List Step) (end : End) (h : List Entry) (now : DeviceTold) (clock : Clock) : Type 0 where
   pub legal : IsLegalConfig c
   pub started : HasStarted h
-  pub one_start : IsTrue (list_all (λ e. not (is_found e)) (drop 1 h))
   pub no_refusal : IsTrue (list_all tells_no_refusal h)
   pub over : TellsSlots now → KeepsOver c most h before now clock
   pub early : now.tells ≡ true → KeepsEarly c most h clock
   pub came : now.first.planning.came ≡ []
   pub offs : WereCounted (offs_in h) (before First).planning.unplanned now.first.planning.unplanned
   pub power : now.first.off ≡ true → (after c h).off ≡ true
-  pub asks : (caller : ℕ) → asks_of caller h ≡ take (length (asks_of caller h)) (requests_of c (program_of caller steps))
-  pub all : end ≡ Whole → (caller : ℕ) → AskedAll c steps h caller
   pub ends : end ≢ Memory → IsTrue (has_ended c h)
   pub no_fault : end ≢ FlashFault
   pub first : Moment
@@ -98,7 +93,7 @@ pub record CameTo (before : Part → PartTold) (c : Configuration) (most : ℕ) 
   pub moved : HasMovesTo true c h first moves now clock
   pub starts : now.starts ≤ founds h + 1
   pub looks : List Look
-  pub order : IsLegal c most h → RunsBy c most steps looks end h
+  pub order : RunsBy c most steps looks end h
 
 -- at any end it is a run
 any_run : (c : Configuration) (most : ℕ) (steps : List Step) (looks : List Look) (h : List Entry) (end : End) → RunsBy c most steps looks end h → IsRun c steps looks h
@@ -112,15 +107,12 @@ wanting : (before : Part → PartTold) (c : Configuration) (most : ℕ) (steps :
 wanting before c most steps end h now clock w = record {
   legal = w.legal;
   started = w.started;
-  one_start = w.one_start;
   no_refusal = w.no_refusal;
   over = w.over;
   early = w.early;
   came = w.came;
   offs = w.offs;
   power = w.power;
-  asks = w.asks;
-  all = λ whole. absurd (cc whole);
   ends = λ other. absurd (other refl);
   no_fault = λ fault. cc fault;
   first = w.first;
@@ -128,7 +120,7 @@ wanting before c most steps end h now clock w = record {
   moved = w.moved;
   starts = w.starts;
   looks = w.looks;
-  order = λ legal. any_run c most steps w.looks h end (w.order legal);
+  order = any_run c most steps w.looks h end w.order;
 }
 
 -- FROM THE START ON
@@ -199,18 +191,12 @@ never_fault ending.All is = cc is
 never_fault ending.NoRoom is = cc is
 never_fault ending.Memory is = cc is
 
-all_made : (e : Ending) → end_of e ≡ Whole → e ≡ ending.All
-all_made ending.All is = refl
-all_made ending.NoRoom is = absurd (cc is)
-all_made ending.Memory is = absurd (cc is)
-
 came_to : (before : Part → PartTold) (c : Configuration) (steps : List Step) (s : StackState Device (List PlainBlock)) (e : Ending) (desk : DeskState) (d : Device) → IsStarted c 0 (before First) (told_by told_of s)
     → BeginsSo s → KeepsPlayed s.ready before s.desk s.hand (told_of s.device) (told_clock s.device) → WasRun told_of told_clock s e desk d → KeepsOrder steps e desk
     → CameTo before desk.config desk.cap steps (end_of e) desk.entries (told_of d) (told_clock d)
 came_to before c steps s e desk d started begins kept was keeps = record {
   legal = subst IsLegalConfig (sym (was.config ∙ started.configuration)) started.legal;
   started = subst HasStarted (sym grown) tt;
-  one_start = subst (λ (h : List Entry). IsTrue (list_all (λ x. not (is_found x)) (drop 1 h))) (sym grown) was.no_start;
   no_refusal = subst (λ (h : List Entry). IsTrue (list_all tells_no_refusal h)) (sym grown) was.no_refusal;
   over = λ slots. (behind.all slots).keeps.over;
   early = λ tells. behind.early tells;
@@ -219,8 +205,6 @@ came_to before c steps s e desk d started begins kept was keeps = record {
       subst (λ (h : List Entry). WereCounted (offs_in h) (before First).planning.unplanned (told_of d).first.planning.unplanned) (sym grown)
       (counted_from (offs_in was.more) (before First).planning.unplanned (told_of s.device).first.planning.unplanned (told_of d).first.planning.unplanned (less_unplanned c (before First) s started) cuts.1);
   power = cuts.0.power;
-  asks = keeps.asks;
-  all = λ whole. keeps.all (all_made e whole);
   ends = λ other. was.ends (λ is. other (ap end_of is));
   no_fault = never_fault e;
   first = moment_by None (told_of s.device);
@@ -256,19 +240,6 @@ callers_came before c steps s e desk d started begins kept was keeps =
 
 -- WITHOUT MEMORY TO BEGIN WITH
 
-none_awaited : (c : Configuration) (caller k : ℕ) (h : List Entry) (kind : StepKind) → asks_of caller h ≡ [] → KeepsAwaitBy c caller k h kind
-none_awaited c caller k h (Await block) none = λ more. absurd (let few = ap (λ rs. length rs) none in omega (arith, more, few))
-none_awaited c caller k h kind none = tt
-
-none_kept : (c : Configuration) (caller k : ℕ) (h : List Entry) (x : Option Step) → asks_of caller h ≡ [] → KeepsAwait c caller k h x
-none_kept c caller k h None none = tt
-none_kept c caller k h (Some x) none = none_awaited c caller k h x.kind none
-
-takes_none : (c : Configuration) (steps : List Step) (copies : Bool) (e : Entry) → is_found e ≡ true → TakesStore c steps copies e
-takes_none c steps true (Found marks ops) is = tt
-takes_none c steps false (Found marks ops) is = tt
-takes_none c steps copies e is = absurd (cc is)
-
 shows_none : (c : Configuration) (steps : List Step) (copies : Bool) (e : Entry) → is_found e ≡ true → CopyIsShown c steps [] [] e copies
 shows_none c steps true (Found marks ops) is = tt
 shows_none c steps false (Found marks ops) is = tt
@@ -279,9 +250,8 @@ begun_run c steps marks ops = record {
   one_start = refl;
   order = λ caller. record {
     requests = refl;
-    awaits = λ n. none_kept c caller _ (Found marks ops ∷ []) (slice_get (program_of caller steps) n) refl;
+    awaits = λ n block x at await more. absurd (omega (arith, more));
   };
-  stores = (takes_none c steps (copies_by c (next_of c at_first)) (Found marks ops) refl, tt);
   in_order = λ i j a b before one two. absurd (cc one);
   shown = (shows_none c steps (copies_next c (next_of c (after c []))) (Found marks ops) refl, tt);
 }
@@ -291,15 +261,12 @@ begun : (before : Part → PartTold) (c : Configuration) (steps : List Step) (s 
 begun before c steps s started kept = record {
   legal = subst IsLegalConfig (sym started.configuration) started.legal;
   started = subst HasStarted (sym one) tt;
-  one_start = subst (λ (h : List Entry). IsTrue (list_all (λ x. not (is_found x)) (drop 1 h))) (sym one) refl;
   no_refusal = subst (λ (h : List Entry). IsTrue (list_all tells_no_refusal h)) (sym one) refl;
   over = λ slots. (first.all slots).keeps.over;
   early = λ tells. first.early tells;
   came = started.came;
   offs = subst (λ (h : List Entry). WereCounted (offs_in h) (before First).planning.unplanned (told_of s.device).first.planning.unplanned) (sym one) (inl (let less = less_unplanned c (before First) s started in omega (arith, less)));
   power = λ off. absurd (both_on (told_of s.device).first.off (told_of s.device).second.off started.on off);
-  asks = λ caller. subst (λ (h : List Entry). asks_of caller h ≡ take (length (asks_of caller h)) (requests_of s.desk.config (program_of caller steps))) (sym one) refl;
-  all = λ whole. absurd (cc whole);
   ends = λ other. absurd (other refl);
   no_fault = λ fault. cc fault;
   first = moment_by None (told_of s.device);
@@ -308,7 +275,7 @@ begun before c steps s started kept = record {
   starts =
       let made : (told_of s.device).starts ≡ founds s.desk.entries = as_ready s.ready _ _ started.fresh.ready kept.1 in omega (arith, made);
   looks = [];
-  order = λ legal. subst (λ (h : List Entry). IsRun s.desk.config steps [] h) (sym one) (begun_run s.desk.config steps started.fresh.marks started.fresh.ops);
+  order = subst (λ (h : List Entry). IsRun s.desk.config steps [] h) (sym one) (begun_run s.desk.config steps started.fresh.marks started.fresh.ops);
 }
   where
     one : s.desk.entries ≡ Found started.fresh.marks started.fresh.ops ∷ []
@@ -327,9 +294,9 @@ none_came before c steps s d same started kept =
 
 -- THE RUN
 
-behind_start : (r : Run) (steps : List Step) (looks : List Look) (h : List Entry) → HasStarted h → FollowsCallers r steps → FollowsScript r (Ran steps looks) h
-behind_start r steps looks [] started follows = absurd started
-behind_start r steps looks (e ∷ es) started follows = follows
+has_order : (r : Run) (steps : List Step) (looks : List Look) (h : List Entry) → r.course ≡ Ran steps looks → HasStarted h → RunsBy r.configuration r.most steps looks r.end h → HasOrder r h
+has_order r steps looks [] is started follows = absurd started
+has_order r steps looks (e ∷ es) is started follows = subst (λ (x : Course). Follows r x (e ∷ es)) (sym is) follows
 
 rests_by : (a b : Bool) → (a || b) ≡ true → b ≡ false → a ≡ true
 rests_by true b is on = refl
@@ -339,7 +306,7 @@ rests_by false false is on = absurd (cc is)
 keeps_run : (c : Configuration) (steps : List Step) (end : End) (h : List Entry) (inner exit entry : Told) (d : Device) (back : IsBack c inner exit (part_at entry) (told_of d) (clock_of d)) (w : CameTo (one_part (part_at entry)) c cap steps end h (told_of d) (told_clock d))
     → AreValues h → IsRightSize (size_of c.geometry) inner.bytes → KeepsRun (run_of c h inner exit back.operations [] (Ran steps w.looks) end)
 keeps_run c steps end h inner exit entry d back w values size = record {
-  order = behind_start r steps w.looks h w.started (record { one_start = w.one_start; asks = w.asks; all = w.all; ends = w.ends; no_fault = w.no_fault });
+  order = has_order r steps w.looks h refl w.started w.order;
   size = λ _. size;
   refusals = λ id. as_asked c id at_first h w.no_refusal;
   off = (offs_in h, unplanned 0 h, back.bridges.cuts (offs_in h) w.offs);
@@ -373,7 +340,7 @@ keeps_run c steps end h inner exit entry d back w values size = record {
           alone = refl;
           uncut = refl;
           started = w.started;
-          order = w.order over.legal;
+          order = w.order;
           over = over;
           no_refusal = w.no_refusal;
           offs = w.offs;

@@ -3,8 +3,8 @@ use Rattle.std.specs.Prelude.{ℕ, Bool, true, if◌then◌else◌, List, [], �
 use Rattle.nvm_flash.specs.nv_base.Plan.{no_planning}
 use Rattle.nvm_flash.specs.block_machine.Words.{Status as StatusOf}
 use Rattle.nvm_flash.specs.fls_model.Told.{Told, ToldBytes}
-use Rattle.nvm_flash.specs.promise_run.Cases.{blank, quiet, tells}
-use Rattle.nvm_flash.specs.promise_run.Run.{Run}
+use Rattle.nvm_flash.specs.promise_run.Cases.{blank, quiet, tells, two_callers}
+use Rattle.nvm_flash.specs.promise_run.Run.{Run, RunsBy, Whole, cap}
 use Rattle.nvm_lines.specs.nv_streams.Sink.{Written}
 use Rattle.script_player.specs.script_walks.Words.{Step, AskStep}
 use Rattle.nvm_lines.specs.declared.status.Status.{Status}
@@ -51,6 +51,10 @@ refused_with left exit x = ended x (Some (1 ∷ [])) left 0 0 nothing nothing 0 
 -- a caller's request for the status of block 2
 abbrev pub asks_status : ℕ → Step
 asks_status caller = record { line = 0; caller = caller; kind = AskStep (StatusOf 2) }
+
+-- the history of two callers, as one of these steps that came to its end
+abbrev pub FollowsTwo : List Step → Type 0
+FollowsTwo steps = RunsBy two_callers.configuration cap steps [] Whole two_callers.history
 
 -- no request was served before the power went off, and no cut was counted
 abbrev pub IsServedOff : Type 0

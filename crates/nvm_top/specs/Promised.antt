@@ -1,6 +1,5 @@
 -- The promise of a whole run, as a command keeps it.
-use Rattle.std.specs.Prelude.{◌≡◌, ◌≢◌, ◌⊎◌, ◌<◌, ◌++◌, ℕ, not, true, false, IsTrue, List, [], length, take, drop, Option, None, IfSome, ◌∷◌}
-use Rattle.std.specs.List.{list_all}
+use Rattle.std.specs.Prelude.{◌≡◌, ◌≢◌, ◌⊎◌, ◌<◌, ◌++◌, ℕ, true, false, List, [], take, Option, None, IfSome, ◌∷◌}
 use Rattle.nvm_lines.specs.nv_streams.Sink.{Written, Puts, PutsPart}
 use Rattle.nvm_flash.specs.nv_base.Geometry.{size_of}
 use Rattle.nvm_flash.specs.block_config.Config.{Configuration}
@@ -11,12 +10,10 @@ use Rattle.nvm_script.specs.Cut.{cut_lines}
 use Rattle.nvm_script.specs.Printed.{history_lines}
 use Rattle.nvm_script.specs.Summary.{summary}
 use Rattle.script_player.specs.script_walks.Words.{Step}
-use Rattle.script_player.specs.script_walks.Callers.{asks_of, program_of, requests_of}
-use Rattle.script_player.specs.script_walks.Runs.{AskedAll, has_ended, is_found}
 use Rattle.script_player.specs.script_walks.Texts.{AreValues}
 use Rattle.nvm_flash.specs.block_machine.Words.{Entry}
 use Rattle.nvm_flash.specs.promise_blocks.OverDevice.{HasStarted}
-use Rattle.nvm_flash.specs.promise_run.Run.{Run, Course, Played, Ran, End, Whole, FlashFault, Memory, cap, HasOrder, LeavesAlone, CutsExplain}
+use Rattle.nvm_flash.specs.promise_run.Run.{Run, End, Whole, Memory, cap, HasOrder, LeavesAlone, CutsExplain}
 use Rattle.nvm_flash.specs.Made.{IsOnlyFaulty}
 use Rattle.nvm_flash.specs.promise_run.Refusals.{RefusesAsAsked}
 use Rattle.nvm_flash.specs.block_machine.Steps.{after}
@@ -57,26 +54,11 @@ pub record EndsAt (r : Run) : Type 0 where
   pub off : r.flash.exit.off ≡ true → (after r.configuration r.history).off ≡ true
   pub plan : r.flash.exit.off ≡ false → r.flash.exit.planning.plan ≡ None
 
--- Behind one start-up each caller asked for what its program says, from its first request on, and at the end of the script for all
--- of it. Then nothing is pending or the power is off, unless memory was wanting; and no start-up failed.
-pub record FollowsCallers (r : Run) (steps : List Step) : Type 0 where
-  pub one_start : IsTrue (list_all (λ e. not (is_found e)) (drop 1 r.history))
-  pub asks : (caller : ℕ) → asks_of caller r.history ≡ take (length (asks_of caller r.history)) (requests_of r.configuration (program_of caller steps))
-  pub all : r.end ≡ Whole → (caller : ℕ) → AskedAll r.configuration steps r.history caller
-  pub ends : r.end ≢ Memory → IsTrue (has_ended r.configuration r.history)
-  pub no_fault : r.end ≢ FlashFault
-
--- over any flash a history of `play` is a walk of its steps; what the waits and stores of callers came to the promise says
-abbrev pub FollowsScript : Run → Course → List Entry → Type 0
-FollowsScript r (Played made pieces left) h = HasOrder r h
-FollowsScript r (Ran steps looks) [] = HasOrder r []
-FollowsScript r (Ran steps looks) (e ∷ es) = FollowsCallers r steps
-
 -- What a run keeps over any flash: it follows its script, which explains its refused copies and power cuts; the flash counted its operations,
 -- had a size that it may have, and ends as it should; and its turns keep what is said of turns. Over a flash that tells its bytes it begins
 -- well, whatever its image; from a sound image on it keeps the promise, and from one without a bank the banks take turns in their erases.
 pub record KeepsRun (r : Run) : Type 0 where
-  pub order : FollowsScript r r.course r.history
+  pub order : HasOrder r r.history
   pub size : HasStarted r.history → IsRightSize (size_of r.configuration.geometry) r.flash.entry.bytes
   pub refusals : (id : ℕ) → RefusesAsAsked r.configuration r.course r.history id
   pub off : CutsExplain r.course r.history r.cuts r.flash.entry.cuts r.flash.exit.cuts

@@ -1,7 +1,7 @@
 // Ends of commands and of the program, and what is none.
 ghost use Rattle.std.specs.Prelude.{◌≡◌, [], ◌∷◌, Some, None, Ok, Err, codes};
 ghost use Rattle.nvm_flash.specs.fls_model.Memory.{in_memory};
-ghost use Rattle.nvm_flash.specs.promise_run.Cases.{blank, quiet, two_callers};
+ghost use Rattle.nvm_flash.specs.promise_run.Cases.{blank, quiet};
 ghost use Rattle.nvm_lines.specs.declared.status.Status.TheVariants as status;
 ghost use Rattle.nvm_lines.specs.declared.stop.Stop.TheVariants as stop;
 ghost use Rattle.nvm_top.specs.Causes.{HasCauses};
@@ -9,8 +9,8 @@ ghost use Rattle.nvm_top.specs.Commands.{IsRefused};
 ghost use Rattle.nvm_top.specs.Dump.{KeepsFlash};
 ghost use Rattle.nvm_top.specs.Play.{IsBeforeAttach, IsBeforeStart, IsRightSize};
 ghost use Rattle.nvm_top.specs.Program.{flash_of};
-ghost use Rattle.nvm_top.specs.Promised.{EndsAt, FollowsCallers};
-ghost use Rattle.nvm_top.specs.EndCases.{ComesBackAs, IsServedOff, Stopped, asks_status, bytes, cut_planned, holding, off, on_image, opened, other_shape, quiet_to, refused_with};
+ghost use Rattle.nvm_top.specs.Promised.{EndsAt};
+ghost use Rattle.nvm_top.specs.EndCases.{ComesBackAs, FollowsTwo, IsServedOff, Stopped, asks_status, bytes, cut_planned, holding, off, on_image, opened, other_shape, quiet_to, refused_with};
 
 /// At the exit of a run the flash has the configuration's shape, isn't off with the power on, and has no cut planned while it is on. At
 /// its entry it had no bytes or as many as asked.
@@ -55,8 +55,8 @@ pub fn causes_of_statuses()
 /// power cut that wasn't counted.
 #[tactic(auto, using(crate::proofs::EndCases::left_out, crate::proofs::EndCases::asks_another, crate::proofs::EndCases::not_cut))]
 pub fn runs_that_end_early()
-    ensures left_out { FollowsCallers two_callers (asks_status 2 ∷ asks_status 2 ∷ []) → ⊥ }
-    ensures asks_another { FollowsCallers two_callers (asks_status 1 ∷ asks_status 2 ∷ []) → ⊥ }
+    ensures left_out { FollowsTwo (asks_status 2 ∷ asks_status 2 ∷ []) → ⊥ }
+    ensures asks_another { FollowsTwo (asks_status 1 ∷ asks_status 2 ∷ []) → ⊥ }
     ensures not_cut { IsServedOff → ⊥ }
 {}
 

@@ -35,7 +35,7 @@ pub no_unseen_stale : HasOrder unseen_stale unseen_stale.history → ⊥
 no_unseen_stale order = order.order.shown.1.1.0
 
 -- the write is pending where it takes the store
-still_waits : (n : ℕ) → n ≤ 2 → length (asks_of 1 (take n (take 2 later_store.history))) ≡ 1 → IsTrue (is_over later_store.configuration 2 (take n (take 2 later_store.history))) → ⊥
+still_waits : (n : ℕ) → n ≤ 2 → length (asks_of 1 (take n (take 2 later_store.history))) ≡ 1 → IsTrue (is_over 2 (take n (take 2 later_store.history))) → ⊥
 still_waits zero within asked over = omega arith
 still_waits (suc zero) within asked over = omega arith
 still_waits (suc (suc zero)) within asked over = false≢true over
@@ -43,7 +43,7 @@ still_waits (suc (suc (suc n))) within asked over = omega (arith, within)
 
 pub no_later_store : HasOrder later_store later_store.history → ⊥
 no_later_store order =
-    let w = (order.order.shown.1.1.0.made 2 _ refl refl refl).waits 1 2 _ refl refl in
+    let w = (order.order.shown.1.1.0.0.made 2 _ refl refl refl).waits 1 2 _ refl refl in
     still_waits w.entries w.within w.asked w.over
 
 has_room : (entries : ℕ) → IsTrue (not (fits full_for_nothing.configuration cap (after full_for_nothing.configuration (take entries full_for_nothing.history)) 1)) → ⊥

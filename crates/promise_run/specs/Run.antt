@@ -125,8 +125,7 @@ LeavesFor r s end left = ⊥
 
 -- `RUN`
 
--- at its end all requests were made and served, or a full history ended callers one by one; else some of each caller's were made,
--- from its first on
+-- at its end all requests were made and served, or a full history ended callers one by one; else the first of each caller's were made
 abbrev pub RunsBy : Configuration → ℕ → List Step → List Look → End → List Entry → Type 0
 RunsBy c most steps looks Whole h = IsWholeRun c steps looks h
 RunsBy c most steps looks HistoryFull h = IsFullRun most c steps looks h

@@ -6,18 +6,13 @@ use Rattle.block_machine.specs.Words.{Status, TookContent, TookStale, Entry}
 use Rattle.block_machine.specs.Cases.{bytes_1, sync_plain}
 use Rattle.script_walks.specs.Words.{Step, AskStep, Await}
 use Rattle.script_walks.specs.Walk.{store_by}
-use Rattle.script_walks.specs.Callers.{program_of, requests_of, asks_of, is_over, WaitedFor, KeepsAwait, IsInOrder}
+use Rattle.script_walks.specs.Callers.{program_of, requests_of, asks_of, is_over, WaitedFor, IsInOrder}
 use Rattle.script_walks.specs.Looks.{Look, AreInOrder, CanBeMade, CanBeStored}
 use Rattle.script_walks.specs.Runs.{IsRun}
 use Rattle.script_walks.specs.Cases.{by, saw, stores_and_writes, takes, writes_and_stores, takes_later_store, writes_twice, takes_twice}
+use Rattle.script_walks.proofs.Runs.{KeepsAwaits, awaited, no_awaits, none_is, some_is}
 
 -- ORDER
-
-none_is : {X : Type 0} (x : X) → None ≡ Some x → ⊥
-none_is x is = cc
-
-some_is : {X : Type 0} (x y : X) → Some x ≡ Some y → x ≡ y
-some_is x y is = cc
 
 no_less : (i : ℕ) → i < 0 → ⊥
 no_less i less = omega arith
@@ -42,7 +37,7 @@ not_1 n = ne_eqb 1 (suc (suc n)) (λ e. omega arith)
 
 -- who has no program, and asks nothing, keeps to it
 no_order : (caller : ℕ) (steps : List Step) (h : List Entry) → program_of caller steps ≡ [] → asks_of caller h ≡ [] → IsInOrder sync_plain caller (program_of caller steps) h
-no_order caller steps h none nothing = rw none (record { requests = rw nothing refl; awaits = λ n. tt })
+no_order caller steps h none nothing = rw none (record { requests = rw nothing refl; awaits = no_awaits sync_plain _ _ })
 
 -- A COPY AND ITS LOOK
 
@@ -57,17 +52,17 @@ nothing_seen : (l : Look) → Contains [] l → ⊥
 nothing_seen l (k, few, is) = omega (arith, few)
 
 pub no_content_look : IsRun sync_plain stores_and_writes [] (takes (TookContent bytes_1 1)) → ⊥
-no_content_look run = nothing_seen _ run.shown.1.1.0.seen
+no_content_look run = nothing_seen _ run.shown.1.1.0.0.seen
 
 one_seen : (l m : Look) → Contains (l ∷ []) m → l ≡ m
 one_seen l m (zero, few, is) = is
 one_seen l m (suc k, few, is) = absurd (omega (arith, few))
 
 pub no_other_entry : IsRun sync_plain stores_and_writes (saw 1 1) (takes (TookContent bytes_1 1)) → ⊥
-no_other_entry run = let same : 1 ≡ 2 = ap (λ (l : Look). l.entry) (one_seen _ _ run.shown.1.1.0.seen) in omega (arith, same)
+no_other_entry run = let same : 1 ≡ 2 = ap (λ (l : Look). l.entry) (one_seen _ _ run.shown.1.1.0.0.seen) in omega (arith, same)
 
 pub no_other_store : IsRun sync_plain stores_and_writes (saw 2 0) (takes (TookContent bytes_1 1)) → ⊥
-no_other_store run = let same : 0 ≡ 1 = ap (λ (l : Look). l.shown) (one_seen _ _ run.shown.1.1.0.seen) in omega (arith, same)
+no_other_store run = let same : 0 ≡ 1 = ap (λ (l : Look). l.shown) (one_seen _ _ run.shown.1.1.0.0.seen) in omega (arith, same)
 
 -- STORES IN TIME
 
@@ -80,13 +75,13 @@ none_some None none is = cc
 none_some (Some x) none is = cc
 
 late_order : (caller : ℕ) → IsInOrder sync_plain caller (program_of caller (writes_and_stores [])) takes_later_store
-late_order zero = record { requests = refl; awaits = λ n. tt }
+late_order zero = record { requests = refl; awaits = no_awaits sync_plain _ _ }
 late_order (suc zero) = record { requests = refl; awaits = awaits }
   where
-    awaits : (n : ℕ) → KeepsAwait sync_plain 1 (length (requests_of sync_plain (take n (program_of 1 (writes_and_stores []))))) takes_later_store (slice_get (program_of 1 (writes_and_stores [])) n)
-    awaits zero = tt
-    awaits (suc zero) = tt
-    awaits (suc (suc n)) = tt
+    awaits : KeepsAwaits sync_plain 1 (program_of 1 (writes_and_stores [])) takes_later_store
+    awaits zero block x at kind more = let same = some_is _ x at in cc
+    awaits (suc zero) block x at kind more = let same = some_is _ x at in cc
+    awaits (suc (suc n)) block x at kind more = absurd (none_is x at)
 late_order (suc (suc n)) = no_order (suc (suc n)) (writes_and_stores []) takes_later_store (simp (not_1 n) refl) (simp (not_1 n) refl)
 
 -- what stands at a place has what the step there has
@@ -98,7 +93,7 @@ late_made zero x at some is = absurd (not_a_store _ x at (none_some _ refl) some
 late_made (suc zero) x at some is = at_place (writes_and_stores []) _ 1 _ x at (record { requests = omega arith; waits = waits })
   where
     waits : (n block : ℕ) (y : Step) → slice_get (program_of 1 (take 1 (writes_and_stores []))) n ≡ Some y → y.kind ≡ Await block
-        → WaitedFor sync_plain 1 block (length (requests_of sync_plain (take n (program_of 1 (take 1 (writes_and_stores [])))))) (take 2 takes_later_store)
+        → WaitedFor 1 block (length (requests_of sync_plain (take n (program_of 1 (take 1 (writes_and_stores [])))))) (take 2 takes_later_store)
     waits zero block y there kind = let same = some_is _ y there in cc
     waits (suc n) block y there kind = absurd (none_is y there)
 late_made (suc (suc place)) x at some is = absurd (none_is x at)
@@ -107,29 +102,28 @@ pub late_run : IsRun sync_plain (writes_and_stores []) (saw 2 1) takes_later_sto
 late_run = record {
   one_start = refl;
   order = late_order;
-  stores = (tt, (tt, (refl, tt)));
   in_order = one_look _;
-  shown = (tt, (tt, (record { seen = (0, omega arith, refl); made = late_made }, tt)));
+  shown = (tt, (tt, ((record { seen = (0, omega arith, refl); made = late_made }, refl), tt)));
 }
 
 -- the write is pending where it takes the store
-still_waits : WaitedFor sync_plain 1 2 1 (take 2 takes_later_store) → ⊥
+still_waits : WaitedFor 1 2 1 (take 2 takes_later_store) → ⊥
 still_waits w = by w.entries w.within w.asked w.over
   where
-    by : (n : ℕ) → n ≤ 2 → length (asks_of 1 (take n (take 2 takes_later_store))) ≡ 1 → IsTrue (is_over sync_plain 2 (take n (take 2 takes_later_store))) → ⊥
+    by : (n : ℕ) → n ≤ 2 → length (asks_of 1 (take n (take 2 takes_later_store))) ≡ 1 → IsTrue (is_over 2 (take n (take 2 takes_later_store))) → ⊥
     by zero within asked over = omega arith
     by (suc zero) within asked over = omega arith
     by (suc (suc zero)) within asked over = false≢true over
     by (suc (suc (suc n))) within asked over = omega (arith, within)
 
 pub no_store_behind_its_wait : IsRun sync_plain (writes_and_stores (by 1 (Await 2) ∷ [])) (saw 2 1) takes_later_store → ⊥
-no_store_behind_its_wait run = still_waits ((run.shown.1.1.0.made 2 _ refl refl refl).waits 1 2 _ refl refl)
+no_store_behind_its_wait run = still_waits ((run.shown.1.1.0.0.made 2 _ refl refl refl).waits 1 2 _ refl refl)
 
 pub no_store_behind_a_request : IsRun sync_plain (writes_and_stores (by 1 (AskStep (Status 2)) ∷ [])) (saw 2 1) takes_later_store → ⊥
-no_store_behind_a_request run = let few : 2 ≤ 1 = (run.shown.1.1.0.made 2 _ refl refl refl).requests in omega (arith, few)
+no_store_behind_a_request run = let few : 2 ≤ 1 = (run.shown.1.1.0.0.made 2 _ refl refl refl).requests in omega (arith, few)
 
 -- the first write is over behind its Post
-first_over : (h : List Entry) → take 5 h ≡ take 5 takes_twice → 5 ≤ length h → WaitedFor sync_plain 1 2 1 h
+first_over : (h : List Entry) → take 5 h ≡ take 5 takes_twice → 5 ≤ length h → WaitedFor 1 2 1 h
 first_over h begins long = record {
   entries = 5;
   some = omega arith;
@@ -139,19 +133,16 @@ first_over h begins long = record {
 }
 
 twice_order : (caller : ℕ) → IsInOrder sync_plain caller (program_of caller writes_twice) takes_twice
-twice_order zero = record { requests = refl; awaits = λ n. tt }
+twice_order zero = record { requests = refl; awaits = no_awaits sync_plain _ _ }
 twice_order (suc zero) = record { requests = refl; awaits = awaits }
   where
-    awaits : (n : ℕ) → KeepsAwait sync_plain 1 (length (requests_of sync_plain (take n (program_of 1 writes_twice)))) takes_twice (slice_get (program_of 1 writes_twice) n)
-    awaits zero = tt
-    awaits (suc zero) = λ more. first_over takes_twice refl (omega arith)
-    awaits (suc (suc zero)) = tt
-    awaits (suc (suc (suc zero))) = tt
-    awaits (suc (suc (suc (suc n)))) = tt
+    awaits : KeepsAwaits sync_plain 1 (program_of 1 writes_twice) takes_twice
+    awaits zero block x at kind more = let same = some_is _ x at in cc
+    awaits (suc zero) block x at kind more = subst (λ (b : ℕ). WaitedFor 1 b 1 takes_twice) (awaited x block at kind) (first_over takes_twice refl (omega arith))
+    awaits (suc (suc zero)) block x at kind more = let same = some_is _ x at in cc
+    awaits (suc (suc (suc zero))) block x at kind more = let same = some_is _ x at in cc
+    awaits (suc (suc (suc (suc n)))) block x at kind more = absurd (none_is x at)
 twice_order (suc (suc n)) = no_order (suc (suc n)) writes_twice takes_twice (simp (not_1 n) refl) (simp (not_1 n) refl)
-
-awaited : (x : Step) (block : ℕ) → Some (by 1 (Await 2)) ≡ Some x → x.kind ≡ Await block → 2 ≡ block
-awaited x block at kind = let same = some_is _ x at in cc
 
 twice_made : CanBeStored sync_plain writes_twice 2 1 (take 6 takes_twice)
 twice_made zero x at some is = absurd (not_a_store _ x at (none_some _ refl) some)
@@ -159,9 +150,9 @@ twice_made (suc zero) x at some is = absurd (not_a_store _ x at (none_some _ ref
 twice_made (suc (suc zero)) x at some is = at_place writes_twice _ 2 _ x at (record { requests = omega arith; waits = waits })
   where
     waits : (n block : ℕ) (y : Step) → slice_get (program_of 1 (take 2 writes_twice)) n ≡ Some y → y.kind ≡ Await block
-        → WaitedFor sync_plain 1 block (length (requests_of sync_plain (take n (program_of 1 (take 2 writes_twice))))) (take 6 takes_twice)
+        → WaitedFor 1 block (length (requests_of sync_plain (take n (program_of 1 (take 2 writes_twice))))) (take 6 takes_twice)
     waits zero block y there kind = let same = some_is _ y there in cc
-    waits (suc zero) block y there kind = subst (λ (b : ℕ). WaitedFor sync_plain 1 b 1 (take 6 takes_twice)) (awaited y block there kind) (first_over (take 6 takes_twice) refl (omega arith))
+    waits (suc zero) block y there kind = subst (λ (b : ℕ). WaitedFor 1 b 1 (take 6 takes_twice)) (awaited y block there kind) (first_over (take 6 takes_twice) refl (omega arith))
     waits (suc (suc n)) block y there kind = absurd (none_is y there)
 twice_made (suc (suc (suc zero))) x at some is = absurd (not_a_store _ x at (none_some _ refl) some)
 twice_made (suc (suc (suc (suc place)))) x at some is = absurd (none_is x at)
@@ -170,7 +161,6 @@ pub twice_run : IsRun sync_plain writes_twice (saw 2 0 ++ saw 6 1) takes_twice
 twice_run = record {
   one_start = refl;
   order = twice_order;
-  stores = (tt, (tt, (refl, (tt, (tt, (tt, (refl, tt)))))));
   in_order = two_looks _ _ (omega arith) (omega arith);
-  shown = (tt, (tt, (record { seen = (0, omega arith, refl); made = no_store writes_twice _ }, (tt, (tt, (tt, (record { seen = (1, omega arith, refl); made = twice_made }, tt)))))));
+  shown = (tt, (tt, ((record { seen = (0, omega arith, refl); made = no_store writes_twice _ }, refl), (tt, (tt, (tt, ((record { seen = (1, omega arith, refl); made = twice_made }, refl), tt)))))));
 }

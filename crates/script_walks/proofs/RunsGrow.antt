@@ -1,7 +1,7 @@
 -- How the runs of callers grow.
 use Rattle.std.specs.Prelude.{slice_get, take}
 use Rattle.std.specs.List.{list_all}
-use Rattle.std.proofs.Common.{◌≡◌, ◌==◌, ◌<◌, ◌≤◌, ◌+◌, ◌⊎◌, ℕ, zero, suc, not, Bool, true, false, List, [], ◌∷◌, ◌++◌, length, refl, sym, ap, ◌∙◌, subst, inl, inr, arith, Option, Some, None, length-append, append-nil}
+use Rattle.std.proofs.Common.{◌≡◌, ◌==◌, ◌<◌, ◌≤◌, ◌+◌, ◌⊎◌, ℕ, zero, suc, not, Bool, true, false, List, [], ◌∷◌, ◌++◌, length, refl, sym, ap, ◌∙◌, subst, inl, inr, arith, Some, length-append, append-nil}
 use Rattle.std.proofs.lemmas.Bool.{cases_Bool}
 use Rattle.std.proofs.lemmas.Bool.Decides.{nat_tests}
 use Rattle.std.proofs.lemmas.List.{append_assoc}
@@ -9,14 +9,11 @@ use Rattle.std.proofs.lemmas.List.Elements.{Contains-append_left}
 use Rattle.std.proofs.lemmas.Option.{get_or_from_slice_get, slice_get_within}
 use Rattle.std.proofs.Math.Seq.{take-suc}
 use Rattle.nvm_script.specs.declared.step.Step.{Step}
-use Rattle.nvm_script.specs.declared.step.StepKind.{StepKind}
-use Rattle.nvm_script.specs.declared.step.StepKind.TheVariants.{Await}
 use Rattle.block_machine.specs.Words.{Request, Reply, TookNothing, TookContent, TookRefused, TookStale, Entry, Ask, Pick, Wrote, Post, Off, Found, Configuration}
 use Rattle.block_machine.specs.Next.{next_of}
-use Rattle.block_machine.specs.StartUp.{at_first}
 use Rattle.block_machine.specs.Steps.{step, after}
-use Rattle.script_walks.specs.Walk.{TakesStore, copies_by, copies_next, StoresGrow}
-use Rattle.script_walks.specs.Callers.{program_of, requests_of, asks_of, WaitedFor, KeepsAwait, KeepsAwaitBy, IsInOrder}
+use Rattle.script_walks.specs.Walk.{copies_next, StoresGrow}
+use Rattle.script_walks.specs.Callers.{program_of, requests_of, asks_of, WaitedFor, IsInOrder}
 use Rattle.script_walks.specs.Looks.{Look, AreInOrder, StepsStayMade, IsShown, CopyIsShown, CopiesAreShown}
 use Rattle.script_walks.specs.Runs.{is_found, IsRun, IsNextAsk, RunsGrow}
 
@@ -25,10 +22,6 @@ use Rattle.script_walks.specs.Runs.{is_found, IsRun, IsNextAsk, RunsGrow}
 pub stores_grow : StoresGrow
 stores_grow c steps s [] e all one = (one, tt)
 stores_grow c steps s (x ∷ es) e all one = (all.0, stores_grow c steps (step c s x) es e all.1 one)
-
-ask_takes : (c : Configuration) (steps : List Step) (copies : Bool) (caller : ℕ) (r : Request) (reply : Reply) → TakesStore c steps copies (Ask caller r reply)
-ask_takes c steps true caller r reply = tt
-ask_takes c steps false caller r reply = tt
 
 -- LISTS
 
@@ -72,8 +65,8 @@ less_or_same (suc k) (suc n) less = elim (less_or_same k n (omega arith)) [ inl 
 
 -- WAITS
 
-longer_by : (c : Configuration) (caller block k : ℕ) (h more : List Entry) → WaitedFor c caller block k h → WaitedFor c caller block k (h ++ more)
-longer_by c caller block k h more w = let l : length (h ++ more) ≡ length h + length more = length-append h more in let m = w.within in record {
+longer_by : (caller block k : ℕ) (h more : List Entry) → WaitedFor caller block k h → WaitedFor caller block k (h ++ more)
+longer_by caller block k h more w = let l : length (h ++ more) ≡ length h + length more = length-append h more in let m = w.within in record {
   entries = w.entries;
   some = w.some;
   within = omega (arith, l, m);
@@ -81,8 +74,8 @@ longer_by c caller block k h more w = let l : length (h ++ more) ≡ length h + 
   over = rw (take_front w.entries h more w.within) w.over;
 }
 
-longer : (c : Configuration) (caller block k : ℕ) (h : List Entry) (e : Entry) → WaitedFor c caller block k h → WaitedFor c caller block k (h ++ e ∷ [])
-longer c caller block k h e w = longer_by c caller block k h (e ∷ []) w
+longer : (caller block k : ℕ) (h : List Entry) (e : Entry) → WaitedFor caller block k h → WaitedFor caller block k (h ++ e ∷ [])
+longer caller block k h e w = longer_by caller block k h (e ∷ []) w
 
 pub steps_stay_made : StepsStayMade
 steps_stay_made c caller done h more made = record {
@@ -90,32 +83,19 @@ steps_stay_made c caller done h more made = record {
       let few = made.requests in
       let l : length (asks_of caller (h ++ more)) ≡ length (asks_of caller h) + length (asks_of caller more) = ap (λ (rs : List Request). length rs) (asks_more caller h more) ∙ length-append (asks_of caller h) (asks_of caller more) in
       omega (arith, few, l);
-  waits = λ n block x at kind. longer_by c caller block (length (requests_of c (take n done))) h more (made.waits n block x at kind);
+  waits = λ n block x at kind. longer_by caller block (length (requests_of c (take n done))) h more (made.waits n block x at kind);
 }
 
-keeps_by : (c : Configuration) (caller k : ℕ) (h : List Entry) (e : Entry) (kind : StepKind) → asks_of caller (h ++ e ∷ []) ≡ asks_of caller h → KeepsAwaitBy c caller k h kind → KeepsAwaitBy c caller k (h ++ e ∷ []) kind
-keeps_by c caller k h e (Await block) same keeps = λ more. longer c caller block k h e (keeps (subst (λ (rs : List Request). k < length rs) same more))
-keeps_by c caller k h e kind same keeps = tt
-
-keeps : (c : Configuration) (caller k : ℕ) (h : List Entry) (e : Entry) (o : Option Step) → asks_of caller (h ++ e ∷ []) ≡ asks_of caller h → KeepsAwait c caller k h o → KeepsAwait c caller k (h ++ e ∷ []) o
-keeps c caller k h e None same was = tt
-keeps c caller k h e (Some x) same was = keeps_by c caller k h e x.kind same was
-
-waits_by : (c : Configuration) (caller k : ℕ) (x : Entry) (h : List Entry) (e : Entry) (r : Request) (kind : StepKind) → asks_of caller (x ∷ h ++ e ∷ []) ≡ asks_of caller (x ∷ h) ++ r ∷ []
-    → ((block : ℕ) → kind ≡ Await block → k ≡ length (asks_of caller (x ∷ h)) → WaitedFor c caller block k (x ∷ h)) → KeepsAwaitBy c caller k (x ∷ h) kind → KeepsAwaitBy c caller k (x ∷ h ++ e ∷ []) kind
-waits_by c caller k x h e r (Await block) same over was =
-    λ more. let l : length (asks_of caller (x ∷ h) ++ r ∷ []) ≡ length (asks_of caller (x ∷ h)) + 1 = length-append (asks_of caller (x ∷ h)) (r ∷ []) in
-    let less : k < length (asks_of caller (x ∷ h) ++ r ∷ []) = subst (λ (rs : List Request). k < length rs) same more in
-    elim (less_or_same k (length (asks_of caller (x ∷ h))) (omega (arith, l, less))) [
-      | inl before ↦ longer c caller block k (x ∷ h) e (was before)
-      | inr now ↦ longer c caller block k (x ∷ h) e (over block refl now)
+-- a wait with k requests before it stays kept, if it is over where a further request comes behind k
+waits : (caller block k : ℕ) (h : List Entry) (e : Entry) (r : Request) → asks_of caller (h ++ e ∷ []) ≡ asks_of caller h ++ r ∷ [] → (k ≡ length (asks_of caller h) → WaitedFor caller block k h)
+    → (k < length (asks_of caller h) → WaitedFor caller block k h) → k < length (asks_of caller (h ++ e ∷ [])) → WaitedFor caller block k (h ++ e ∷ [])
+waits caller block k h e r same over was more =
+    let l : length (asks_of caller h ++ r ∷ []) ≡ length (asks_of caller h) + 1 = length-append (asks_of caller h) (r ∷ []) in
+    let less : k < length (asks_of caller h ++ r ∷ []) = subst (λ (rs : List Request). k < length rs) same more in
+    elim (less_or_same k (length (asks_of caller h)) (omega (arith, l, less))) [
+      | inl before ↦ longer caller block k h e (was before)
+      | inr now ↦ longer caller block k h e (over now)
     ]
-waits_by c caller k x h e r kind same over was = tt
-
-waits : (c : Configuration) (caller k : ℕ) (x : Entry) (h : List Entry) (e : Entry) (r : Request) (o : Option Step) → asks_of caller (x ∷ h ++ e ∷ []) ≡ asks_of caller (x ∷ h) ++ r ∷ []
-    → ((block : ℕ) (y : Step) → o ≡ Some y → y.kind ≡ Await block → k ≡ length (asks_of caller (x ∷ h)) → WaitedFor c caller block k (x ∷ h)) → KeepsAwait c caller k (x ∷ h) o → KeepsAwait c caller k (x ∷ h ++ e ∷ []) o
-waits c caller k x h e r None same over was = tt
-waits c caller k x h e r (Some y) same over was = waits_by c caller k x h e r y.kind same (λ block kind now. over block y refl kind now) was
 
 -- THE ORDER
 
@@ -124,7 +104,9 @@ same_order c steps caller h e none order =
     let same : asks_of caller (h ++ e ∷ []) ≡ asks_of caller h = asks_more caller h (e ∷ []) ∙ ap (λ rs. asks_of caller h ++ rs) none ∙ append-nil (asks_of caller h) in
     record {
       requests = subst (λ (rs : List Request). rs ≡ take (length rs) (requests_of c (program_of caller steps))) (sym same) order.requests;
-      awaits = λ n. keeps c caller (length (requests_of c (take n (program_of caller steps)))) h e (slice_get (program_of caller steps) n) same (order.awaits n);
+      awaits = λ n block x at kind more.
+          let k = length (requests_of c (take n (program_of caller steps))) in
+          longer caller block k h e (order.awaits n block x at kind (subst (λ (rs : List Request). k < length rs) same more));
     }
 
 next_order : (c : Configuration) (steps : List Step) (caller : ℕ) (x : Entry) (h : List Entry) (r : Request) (reply : Reply) (e : Entry) → asks_of caller (e ∷ []) ≡ r ∷ [] → IsNextAsk c steps (x ∷ h) caller r
@@ -137,7 +119,9 @@ next_order c steps caller x h r reply e one ask order =
     let all : asks ++ r ∷ [] ≡ take (length (asks ++ r ∷ [])) reqs = ap (λ rs. rs ++ r ∷ []) order.requests ∙ sym (take_more (length asks) reqs r ask.next) ∙ ap (λ n. take n reqs) (sym l) in
     record {
       requests = subst (λ (rs : List Request). rs ≡ take (length rs) reqs) (sym same) all;
-      awaits = λ n. waits c caller (length (requests_of c (take n (program_of caller steps)))) x h e r (slice_get (program_of caller steps) n) same (λ block y at kind now. subst (λ (m : ℕ). WaitedFor c caller block m (x ∷ h)) (sym now) (ask.waited n block y at kind now)) (order.awaits n);
+      awaits = λ n block y at kind.
+          let k = length (requests_of c (take n (program_of caller steps))) in
+          waits caller block k (x ∷ h) e r same (λ now. subst (λ (m : ℕ). WaitedFor caller block m (x ∷ h)) (sym now) (ask.waited n block y at kind now)) (order.awaits n block y at kind);
     }
 
 ask_order : (c : Configuration) (steps : List Step) (x : Entry) (h : List Entry) (who : ℕ) (r : Request) (reply : Reply) → IsNextAsk c steps (x ∷ h) who r → ((caller : ℕ) → IsInOrder c caller (program_of caller steps) (x ∷ h))
@@ -156,7 +140,7 @@ more_shown c steps looks more before block number is = record { seen = Contains-
 
 more_looks : (c : Configuration) (steps : List Step) (looks more : List Look) (before : List Entry) (e : Entry) (copies : Bool) → CopyIsShown c steps looks before e copies → CopyIsShown c steps (looks ++ more) before e copies
 more_looks c steps looks more before (Pick block kind (TookStale asked got count) ops) copies is = absurd is
-more_looks c steps looks more before (Pick block kind (TookContent bytes number) ops) true is = more_shown c steps looks more before block number is
+more_looks c steps looks more before (Pick block kind (TookContent bytes number) ops) true is = (more_shown c steps looks more before block number is.0, is.1)
 more_looks c steps looks more before (Pick block kind (TookContent bytes number) ops) false is = tt
 more_looks c steps looks more before (Pick block kind TookNothing ops) copies is = tt
 more_looks c steps looks more before (Pick block kind (TookRefused count) ops) copies is = tt
@@ -178,24 +162,19 @@ copies_grow c steps looks more before (x ∷ es) whole e is all one =
 ask_shows : (c : Configuration) (steps : List Step) (looks : List Look) (before : List Entry) (caller : ℕ) (r : Request) (reply : Reply) → Shows c steps looks before (Ask caller r reply)
 ask_shows c steps looks before caller r reply = tt
 
-abbrev Driven : Configuration → List Step → List Look → List Entry → Entry → Type 0
-Driven c steps looks h e = TakesStore c steps (copies_by c (next_of c (after c h))) e × Shows c steps looks h e
-
-driven : (c : Configuration) (steps : List Step) (looks more : List Look) (x : Entry) (h : List Entry) (e : Entry) → is_found e ≡ false → ((caller : ℕ) → asks_of caller (e ∷ []) ≡ []) → AreInOrder (looks ++ more) → Driven c steps (looks ++ more) (x ∷ h) e
+driven : (c : Configuration) (steps : List Step) (looks more : List Look) (x : Entry) (h : List Entry) (e : Entry) → is_found e ≡ false → ((caller : ℕ) → asks_of caller (e ∷ []) ≡ []) → AreInOrder (looks ++ more) → Shows c steps (looks ++ more) (x ∷ h) e
     → IsRun c steps looks (x ∷ h) → IsRun c steps (looks ++ more) (x ∷ h ++ e ∷ [])
-driven c steps looks more x h e driver none in_order takes run = record {
+driven c steps looks more x h e driver none in_order shows run = record {
   one_start = all_push (λ e. not (is_found e)) h e run.one_start (ap not driver);
   order = λ caller. same_order c steps caller (x ∷ h) e (none caller) (run.order caller);
-  stores = stores_grow c steps at_first (x ∷ h) e run.stores takes.0;
   in_order = in_order;
-  shown = copies_grow c steps looks more [] (x ∷ h) (x ∷ h) e refl run.shown takes.1;
+  shown = copies_grow c steps looks more [] (x ∷ h) (x ∷ h) e refl run.shown shows;
 }
 
 pub runs_grow : RunsGrow
 runs_grow c steps looks more x h (Ask who r reply) run in_order follow = record {
   one_start = all_push (λ e. not (is_found e)) h (Ask who r reply) run.one_start refl;
   order = ask_order c steps x h who r reply follow run.order;
-  stores = stores_grow c steps at_first (x ∷ h) (Ask who r reply) run.stores (ask_takes c steps (copies_by c (next_of c (after c (x ∷ h)))) who r reply);
   in_order = in_order;
   shown = copies_grow c steps looks more [] (x ∷ h) (x ∷ h) (Ask who r reply) refl run.shown (ask_shows c steps (looks ++ more) (x ∷ h) who r reply);
 }

@@ -1,9 +1,9 @@
 -- The order of each caller's requests in `run`.
-use Rattle.std.specs.Prelude.{◌≡◌, ◌<◌, ◌≤◌, ℕ, ◌==◌, ◌||◌, not, Bool, IsTrue, List, [], ◌∷◌, ◌++◌, length, take, filter, slice_get, if◌then◌else◌, Option, Some, None}
+use Rattle.std.specs.Prelude.{◌≡◌, ◌<◌, ◌≤◌, ℕ, ◌==◌, ◌||◌, not, Bool, true, false, IsTrue, List, [], ◌∷◌, ◌++◌, length, take, filter, slice_get, unwrap_or, option_map, if◌then◌else◌, Option, Some, None}
+use Rattle.std.specs.Option.{option_map_or}
 use Rattle.script_walks.specs.Words.{Step, StepKind, AskStep, Await}
-use Rattle.block_machine.specs.Words.{Request, Entry, Ask, Configuration}
-use Rattle.block_machine.specs.Blocks.{status_of, is_pending}
-use Rattle.block_machine.specs.Steps.{after}
+use Rattle.block_machine.specs.Words.{ReqResult, Fine, Pending, Request, ReadAll, WriteAll, Accepted, Entry, Ask, Pick, Post, Off, Found, Configuration}
+use Rattle.block_machine.specs.Blocks.{asked_block, job_kind, is_pending}
 use Rattle.script_walks.specs.Walk.{request_after}
 
 -- the program of a caller: its steps of a script
@@ -28,28 +28,49 @@ asks_of caller [] = []
 asks_of caller (Ask who r reply ∷ es) = if who == caller then r ∷ asks_of caller es else asks_of caller es
 asks_of caller (e ∷ es) = asks_of caller es
 
--- after a history the block isn't pending any more, or the power is off
-abbrev pub is_over : Configuration → ℕ → List Entry → Bool
-is_over c block h = not (is_pending (status_of (after c h) block)) || (after c h).off
+-- STATUSES
+
+-- the block that is PENDING once this request is accepted; 0 stands for all
+abbrev pub pending_block : Request → Option ℕ
+pending_block ReadAll = Some 0
+pending_block WriteAll = Some 0
+pending_block r = option_map (λ kind. asked_block r) (job_kind r)
+
+-- the status that an entry tells of a block, if it tells one
+abbrev pub tells_status : ℕ → Entry → Option ReqResult
+tells_status id (Ask caller r Accepted) = if option_map_or (λ block. block == id) (pending_block r) false then Some Pending else None
+tells_status id (Pick block kind t ops) = if block == id then Some Pending else None
+tells_status id (Post block r given refused ops) = if block == id then Some r else None
+tells_status id (Found marks ops) = Some Fine
+tells_status id e = None
+
+-- whether the power is off, if it tells that
+abbrev pub tells_off : Entry → Option Bool
+tells_off (Off ops) = Some true
+tells_off (Found marks ops) = Some false
+tells_off e = None
+
+-- what entries told last
+abbrev pub told_last : {A : Type 0} → (Entry → Option A) → A → List Entry → A
+told_last tells last [] = last
+told_last tells last (e ∷ es) = told_last tells (unwrap_or (tells e) last) es
+
+-- WAITS
+
+-- by what these entries tell the block isn't pending any more, or the power is off
+abbrev pub is_over : ℕ → List Entry → Bool
+is_over block h = not (is_pending (told_last (tells_status block) Fine h)) || told_last tells_off false h
 
 -- this caller's first k requests stand in a beginning of the history, and no later one; and there the wait was over
-pub record WaitedFor (c : Configuration) (caller block k : ℕ) (h : List Entry) : Type 0 where
+pub record WaitedFor (caller block k : ℕ) (h : List Entry) : Type 0 where
   pub entries : ℕ
   pub some : 0 < entries
   pub within : entries ≤ length h
   pub asked : length (asks_of caller (take entries h)) ≡ k
-  pub over : IsTrue (is_over c block (take entries h))
+  pub over : IsTrue (is_over block (take entries h))
 
--- behind an `await` with k requests before it, a further request comes only once the wait was over
-abbrev pub KeepsAwaitBy : Configuration → ℕ → ℕ → List Entry → StepKind → Type 0
-KeepsAwaitBy c caller k h (Await block) = k < length (asks_of caller h) → WaitedFor c caller block k h
-KeepsAwaitBy c caller k h kind = Unit {0}
-
-abbrev pub KeepsAwait : Configuration → ℕ → ℕ → List Entry → Option Step → Type 0
-KeepsAwait c caller k h None = Unit {0}
-KeepsAwait c caller k h (Some x) = KeepsAwaitBy c caller k h x.kind
-
--- a caller asks for what its program says, in that order, as far as it came
+-- a caller asks for what its program says, in that order, as far as it came; behind an `await` only once the wait was over
 pub record IsInOrder (c : Configuration) (caller : ℕ) (program : List Step) (h : List Entry) : Type 0 where
   pub requests : asks_of caller h ≡ take (length (asks_of caller h)) (requests_of c program)
-  pub awaits : (n : ℕ) → KeepsAwait c caller (length (requests_of c (take n program))) h (slice_get program n)
+  pub awaits : (n block : ℕ) (x : Step) → slice_get program n ≡ Some x → x.kind ≡ Await block → length (requests_of c (take n program)) < length (asks_of caller h)
+      → WaitedFor caller block (length (requests_of c (take n program))) h

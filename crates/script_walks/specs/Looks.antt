@@ -4,7 +4,7 @@ use Rattle.script_walks.specs.Words.{Step, Await}
 use Rattle.block_machine.specs.Words.{TookContent, TookStale, Entry, Pick, Configuration}
 use Rattle.block_machine.specs.Next.{next_of}
 use Rattle.block_machine.specs.Steps.{after}
-use Rattle.script_walks.specs.Walk.{store_by, stores_of, copies_next}
+use Rattle.script_walks.specs.Walk.{store_by, store_content, stores_of, copies_next}
 use Rattle.script_walks.specs.Callers.{program_of, requests_of, asks_of, WaitedFor}
 
 -- A look of the driver at a block in the Pick that is this entry: the number of the newest store that it showed.
@@ -23,7 +23,7 @@ AreInOrder looks =
 -- them were over in it.
 pub record CanBeMade (c : Configuration) (caller : ℕ) (done : List Step) (h : List Entry) : Type 0 where
   pub requests : length (requests_of c done) ≤ length (asks_of caller h)
-  pub waits : (n block : ℕ) (x : Step) → slice_get done n ≡ Some x → x.kind ≡ Await block → WaitedFor c caller block (length (requests_of c (take n done))) h
+  pub waits : (n block : ℕ) (x : Step) → slice_get done n ≡ Some x → x.kind ≡ Await block → WaitedFor caller block (length (requests_of c (take n done))) h
 
 -- it still can with more entries behind them
 abbrev pub StepsStayMade : Type 0
@@ -40,10 +40,10 @@ pub record IsShown (c : Configuration) (steps : List Step) (looks : List Look) (
   pub seen : Contains looks (record { entry = length before; block = block; shown = number })
   pub made : CanBeStored c steps block number before
 
--- A Pick that copies takes the store that a look in that very Pick showed; so none is stale.
+-- A Pick that copies takes the store that a look in that very Pick showed, with its content; so none is stale.
 abbrev pub CopyIsShown : Configuration → List Step → List Look → (before : List Entry) → Entry → (copies : Bool) → Type 0
 CopyIsShown c steps looks before (Pick block kind (TookStale asked got count) ops) copies = ⊥
-CopyIsShown c steps looks before (Pick block kind (TookContent bytes number) ops) true = IsShown c steps looks before block number
+CopyIsShown c steps looks before (Pick block kind (TookContent bytes number) ops) true = IsShown c steps looks before block number × (store_content c steps block number ≡ Some bytes)
 CopyIsShown c steps looks before e copies = Unit {0}
 
 -- behind these entries each copy is shown

@@ -5,9 +5,8 @@ use Rattle.script_walks.specs.Words.{Step, Await}
 use Rattle.block_machine.specs.Words.{Request, Entry, Ask, Found, Configuration}
 use Rattle.block_machine.specs.Next.{next_of}
 use Rattle.block_machine.specs.Reply.{fits}
-use Rattle.block_machine.specs.StartUp.{at_first}
 use Rattle.block_machine.specs.Steps.{after}
-use Rattle.script_walks.specs.Walk.{TakesStore, TakesStores, copies_by, copies_next, is_at_rest}
+use Rattle.script_walks.specs.Walk.{copies_next, is_at_rest}
 use Rattle.script_walks.specs.Callers.{program_of, requests_of, asks_of, WaitedFor, IsInOrder}
 use Rattle.script_walks.specs.Looks.{Look, AreInOrder, CopyIsShown, CopiesAreShown}
 
@@ -15,12 +14,11 @@ abbrev pub is_found : Entry → Bool
 is_found (Found marks ops) = true
 is_found e = false
 
--- One start-up, every caller keeps to its program, nobody else asks, and what is taken of synchronized RAM was stored by then, as
+-- One start-up, every caller keeps to its program, nobody else asks, and what is copied of synchronized RAM was stored by then, as
 -- the driver's looks showed it.
 pub record IsRun (c : Configuration) (steps : List Step) (looks : List Look) (h : List Entry) : Type 0 where
   pub one_start : IsTrue (list_all (λ e. not (is_found e)) (drop 1 h))
   pub order : (caller : ℕ) → IsInOrder c caller (program_of caller steps) h
-  pub stores : TakesStores c steps at_first h
   pub in_order : AreInOrder looks
   pub shown : CopiesAreShown c steps looks [] h
 
@@ -42,7 +40,7 @@ pub record IsWholeRun (c : Configuration) (steps : List Step) (looks : List Look
 pub record IsNextAsk (c : Configuration) (steps : List Step) (h : List Entry) (caller : ℕ) (r : Request) : Type 0 where
   pub next : slice_get (requests_of c (program_of caller steps)) (length (asks_of caller h)) ≡ Some r
   pub waited : (n block : ℕ) (x : Step) → slice_get (program_of caller steps) n ≡ Some x → x.kind ≡ Await block
-      → length (requests_of c (take n (program_of caller steps))) ≡ length (asks_of caller h) → WaitedFor c caller block (length (asks_of caller h)) h
+      → length (requests_of c (take n (program_of caller steps))) ≡ length (asks_of caller h) → WaitedFor caller block (length (asks_of caller h)) h
 
 -- Behind so many entries the caller's next request had no room in a history of at most `cap` entries, and it made no more.
 pub record HadNoRoom (cap : ℕ) (c : Configuration) (steps : List Step) (h : List Entry) (caller : ℕ) : Type 0 where
@@ -67,7 +65,7 @@ pub record IsFullRun (cap : ℕ) (c : Configuration) (steps : List Step) (looks 
 abbrev pub MayFollow : Configuration → List Step → List Look → List Entry → Entry → Type 0
 MayFollow c steps looks h (Ask caller r reply) = IsNextAsk c steps h caller r
 MayFollow c steps looks h (Found marks ops) = ⊥
-MayFollow c steps looks h e = TakesStore c steps (copies_by c (next_of c (after c h))) e × CopyIsShown c steps looks h e (copies_next c (next_of c (after c h)))
+MayFollow c steps looks h e = CopyIsShown c steps looks h e (copies_next c (next_of c (after c h)))
 
 -- a run with it behind it, and with the looks that were made for it, is a run
 abbrev pub RunsGrow : Type 0
