@@ -1,5 +1,5 @@
 -- What a run of callers comes to.
-use Rattle.std.specs.Prelude.{◌≡◌, ◌≢◌, not, IsTrue, List, ◌++◌, Option}
+use Rattle.std.specs.Prelude.{◌≡◌, ◌≢◌, true, not, IsTrue, List, ◌++◌, Option}
 use Rattle.std.specs.List.{list_all}
 use Rattle.driver_moves.specs.nv_base.Count.{WereCounted}
 use Rattle.driver_moves.specs.memif.Told.{DeviceTold}
