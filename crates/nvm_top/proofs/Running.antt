@@ -1,7 +1,7 @@
 -- A run of callers keeps the promise, by what they came to on its stack.
-use Rattle.std.specs.Prelude.{not, ◌||◌, IsTrue, slice_get}
+use Rattle.std.specs.Prelude.{not, ◌||◌, IsTrue}
 use Rattle.std.specs.List.{list_all}
-use Rattle.std.proofs.Common.{◌≡◌, ◌≢◌, ◌≤◌, ◌+◌, ◌*◌, ℕ, Bool, true, false, List, [], ◌∷◌, ◌++◌, length, Option, Some, None, Result, refl, sym, ap, ◌∙◌, subst, inl, arith}
+use Rattle.std.proofs.Common.{◌≡◌, ◌≢◌, ◌≤◌, ◌+◌, ◌*◌, ℕ, Bool, true, false, List, [], ◌∷◌, ◌++◌, Option, Some, None, Result, refl, sym, ap, ◌∙◌, subst, inl, arith}
 use Rattle.nvm_lines.specs.nv_streams.Sink.{Written}
 use Rattle.nvm_lines.proofs.nv_streams.Puts.{Puts-nil}
 use Rattle.nvm_flash.specs.nv_base.Count.{WereCounted}
@@ -46,12 +46,11 @@ use Rattle.nvm_callers.specs.declared.ending.Ending.TheVariants as ending
 use Rattle.script_player.proofs.InHand.{power_on}
 use Rattle.script_player.specs.PlainTold.{plan_from, told_by}
 use Rattle.script_player.specs.PlainPaying.{seen_by}
-use Rattle.script_player.specs.script_walks.Callers.{program_of}
 use Rattle.script_player.specs.script_walks.Looks.{CopyIsShown, Look}
 use Rattle.script_player.specs.script_walks.Runs.{IsRun, has_ended, is_found}
 use Rattle.script_player.specs.script_walks.Texts.{AreValues}
 use Rattle.script_player.specs.script_walks.Walk.{is_at_rest, copies_next}
-use Rattle.script_player.specs.script_walks.Words.{Step, StepKind, Await}
+use Rattle.script_player.specs.script_walks.Words.{Step}
 use Rattle.nvm_top.specs.Play.{IsBeforeAttach, IsRightSize}
 use Rattle.nvm_top.specs.Promised.{EndsIn, HasRun, KeepsRun, WritesText, call_by, lines_in}
 use Rattle.nvm_top.specs.Running.{stop_of_ending}

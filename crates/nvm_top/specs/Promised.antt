@@ -13,7 +13,7 @@ use Rattle.script_player.specs.script_walks.Words.{Step}
 use Rattle.script_player.specs.script_walks.Texts.{AreValues}
 use Rattle.nvm_flash.specs.block_machine.Words.{Entry}
 use Rattle.nvm_flash.specs.promise_blocks.OverDevice.{HasStarted}
-use Rattle.nvm_flash.specs.promise_run.Run.{Run, End, Whole, Memory, cap, HasOrder, LeavesAlone, CutsExplain}
+use Rattle.nvm_flash.specs.promise_run.Run.{Run, End, Whole, cap, HasOrder, LeavesAlone, CutsExplain}
 use Rattle.nvm_flash.specs.Made.{IsOnlyFaulty}
 use Rattle.nvm_flash.specs.promise_run.Refusals.{RefusesAsAsked}
 use Rattle.nvm_flash.specs.block_machine.Steps.{after}
