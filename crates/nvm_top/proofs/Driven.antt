@@ -137,10 +137,6 @@ started c inner cuts making entry m s legal origin made starts = record {
   legal = legal;
   one_device = made.one_device;
   most = ap (λ x. x.desk.cap) starts.only ∙ ap (λ x. x.desk.cap) made.only;
-  turns =
-      ap (λ (f : Fixed). λ (x : State) (j : Job). most_turns f (program_for s.desk.config x j)) (starts.finds.up.restarted.fixed ∙ made.fixed)
-      ∙ ap (λ (y : Configuration). λ (x : State) (j : Job). most_turns (fixed_by c) (program_for y x j)) config
-      ∙ (λ i x j. job_turns_are_figures c legal made.one_device x j i);
   fresh = fresh.0;
   ops = fresh.1;
   takes = let is = ap (λ p. p.planning.takes) starts.finds.up.restarted.first.only ∙ ap (λ p. p.planning.takes) part in omega (arith, is);

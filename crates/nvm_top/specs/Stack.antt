@@ -22,7 +22,6 @@ use Rattle.script_player.specs.PlainKept.{IsKept, AreStartsFound}
 use Rattle.script_player.specs.Told.{StackTold, moment_of}
 use Rattle.nvm_callers.specs.nvm_moves.Seen.{Seen, moment_seen}
 use Rattle.script_player.specs.Made.{IsFresh}
-use Rattle.nvm_flash.specs.promise_run.JobTurns.{job_turns}
 use Rattle.nvm_flash.specs.promise_run.Halves.{beyond_end}
 use Rattle.nvm_flash.specs.declared.device.MakeFault.{MakeFault}
 use Rattle.nvm_flash.specs.declared.device.MakeFault.TheVariants as fault
@@ -42,7 +41,6 @@ pub record IsStarted (c : Configuration) (cuts : ℕ) (before : PartTold) (t : S
   pub legal : IsLegalConfig c
   pub one_device : c.eeprom ≡ None
   pub most : t.cap ≡ cap
-  pub turns : t.most ≡ job_turns c
   pub fresh : IsFresh t
   pub ops : fresh.ops ≡ t.ops
   pub takes : cuts ≤ t.causes.takes

@@ -68,13 +68,11 @@ ask_cuts caller asked r reply old new adds one plan pending = (
 -- a turn
 off_behind : (c : Configuration) (s : State) (stores : List (ℕ × List ℕ)) (es : List Entry) → IsTurn c s stores es → s.off ≡ true → (after_from c s es).off ≡ true
 off_behind c s stores [] turn off = off
-off_behind c s stores (Ask caller r reply ∷ []) turn off = absurd turn.entry
 off_behind c s stores (Pick block kind t ops ∷ []) turn off = stays_off c s (Pick block kind t ops) refl off
 off_behind c s stores (Wrote i mark ops ∷ []) turn off = stays_off c s (Wrote i mark ops) refl off
 off_behind c s stores (Post block r given refused ops ∷ []) turn off = stays_off c s (Post block r given refused ops) refl off
 off_behind c s stores (Off ops ∷ []) turn off = stays_off c s (Off ops) refl off
-off_behind c s stores (Found marks ops ∷ []) turn off = absurd turn.entry
-off_behind c s stores (e ∷ f ∷ es) turn off = absurd turn.entry
+off_behind c s stores es turn off = absurd turn.entry
 
 pub turn_coming : (old new : StackTold) → MakesTurn old new → old.one ≡ true → (p : Planned) → IsComing p old → IsComing p new
 turn_coming old new turn one p (inl stands) = turn.cuts one p stands
@@ -113,15 +111,13 @@ pub planned_more : (plan : Option Planned) (now : Moment) (xs : List Step) (x : 
     → planned_behind plan now (xs ++ x ∷ []) (mss ++ ms ∷ []) ≡ planned_by x.kind (moment_after now mss) (planned_behind plan now xs mss)
 planned_more plan now [] x [] ms are = refl
 planned_more plan now (y ∷ ys) x (ns ∷ nss) ms are = planned_more (planned_by y.kind now plan) (moment_behind now ns) ys x nss ms are.1
-planned_more plan now [] x (ns ∷ nss) ms are = absurd are
-planned_more plan now (y ∷ ys) x [] ms are = absurd are
+planned_more plan now xs x mss ms are = absurd are
 
 come_by : (c : Configuration) (plan : Option Planned) (now : Moment) (s : State) (xs : List Step) (x : Step) (mss : List (List Move)) (ms : List Move) → AreMoves now xs mss → CutsCome c plan now s xs mss
     → AreInTime c (planned_by x.kind (moment_after now mss) (planned_behind plan now xs mss)) (states c s mss) ms → CutsCome c plan now s (xs ++ x ∷ []) (mss ++ ms ∷ [])
 come_by c plan now s [] x [] ms are all own = (own, tt)
 come_by c plan now s (y ∷ ys) x (ns ∷ nss) ms are all own = (all.0, come_by c (planned_by y.kind now plan) (moment_behind now ns) (after_from c s (entries_of ns)) ys x nss ms are.1 all.1 own)
-come_by c plan now s [] x (ns ∷ nss) ms are all own = absurd are
-come_by c plan now s (y ∷ ys) x [] ms are all own = absurd are
+come_by c plan now s xs x mss ms are all own = absurd are
 
 -- one more step
 pub come_more : (c : Configuration) (plan : Option Planned) (now : Moment) (s : State) (xs : List Step) (x : Step) (mss : List (List Move)) (ms : List Move) → AreMoves now xs mss → CutsCome c plan now s xs mss

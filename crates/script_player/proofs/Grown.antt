@@ -16,8 +16,8 @@ state_grown old new es is = ap state_of is ∙ state_more old.configuration old.
 
 pub grown_more : (old mid new : StackTold) (es more : List Entry) → IsGrown es old mid → IsGrown more mid new → IsGrown (es ++ more) old new
 grown_more old mid new es more one two =
-    subst (λ (m : StackTold). new ≡ record m { entries = m.entries ++ more; faults = new.faults; ops = new.ops; work = new.work; left = new.left; busy = new.busy; causes = new.causes }) one two
-    ∙ ap (λ (h : List Entry). record old { entries = h; faults = new.faults; ops = new.ops; work = new.work; left = new.left; busy = new.busy; causes = new.causes }) (append_assoc old.entries es more)
+    subst (λ (m : StackTold). new ≡ record m { entries = m.entries ++ more; faults = new.faults; ops = new.ops; work = new.work; busy = new.busy; causes = new.causes }) one two
+    ∙ ap (λ (h : List Entry). record old { entries = h; faults = new.faults; ops = new.ops; work = new.work; busy = new.busy; causes = new.causes }) (append_assoc old.entries es more)
 
 -- it is as ready
 pub ready_grown : (old new : StackTold) (es : List Entry) → IsGrown es old new → old.ready ≡ true → new.ready ≡ true

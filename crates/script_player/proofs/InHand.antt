@@ -13,8 +13,6 @@ use Rattle.uds_gateway.specs.promise_run.Turns.{is_found}
 
 picked_on : (c : Configuration) (s : State) (t : Taken) (next : Next) → s.off ≡ false → (picked c s t next).off ≡ false
 picked_on c s t (PickJob j) on = on
-picked_on c s t (BeginSweep sw) on = on
-picked_on c s t (PickMember sw id) on = on
 picked_on c s t next on = on
 
 wrote_on : (s : State) (i : Instance) (mark : Mark) (hand : Option Job) → s.off ≡ false → (wrote s i mark hand).off ≡ false
@@ -24,7 +22,6 @@ wrote_on s i mark (Some j) on = on
 -- a Post without a job in hand leaves the power and the hand
 next_leaves : (c : Configuration) (s : State) (r : ReqResult) (given : Option (List ℕ)) (next : Next) → Leaves s (posted_next c s r given next)
 next_leaves c s r given (PostMember sw id) = (refl, refl, refl)
-next_leaves c s r given (EndSweep sw) = (refl, refl, refl)
 next_leaves c s r given next = (refl, refl, refl)
 
 posted_on : (c : Configuration) (s : State) (r : ReqResult) (given : Option (List ℕ)) (hand : Option Job) → s.off ≡ false → (posted c s r given hand).off ≡ false
@@ -46,8 +43,6 @@ stays_on c s (e ∷ es) on calm = let two = and_parts (is_calm_entry e) (list_al
 -- once it is off it stays so until a start-up
 picked_off : (c : Configuration) (s : State) (t : Taken) (next : Next) → (picked c s t next).off ≡ s.off
 picked_off c s t (PickJob j) = refl
-picked_off c s t (BeginSweep sw) = refl
-picked_off c s t (PickMember sw id) = refl
 picked_off c s t next = refl
 
 wrote_off : (s : State) (i : Instance) (mark : Mark) (hand : Option Job) → (wrote s i mark hand).off ≡ s.off

@@ -23,8 +23,6 @@ pub mod PlainRefused
 pub mod PlainTurning
 pub mod PlainHalves
 pub mod PlainBehind
-pub mod PlainMostTurns
-pub mod PlainServing
 pub mod PlainStarts
 pub mod PlainPaying
 pub mod PlannedCuts

@@ -67,7 +67,6 @@ nothing_made p q before line caller kind old new none room no_drain rests is sam
       piece = [];
       configuration = ap (λ t. t.configuration) same;
       cap = ap (λ t. t.cap) same;
-      most = ap (λ t. t.most) same;
       entries = ap (λ t. t.entries) same ∙ sym (append-nil old.entries);
       counted = let n : new.faults ≡ old.faults = ap (λ t. t.faults) same in omega (arith, n);
       is = (is, tt, tt);
@@ -127,7 +126,6 @@ ask_made p q before line caller r table old new can asked moves has kept =
       piece = e ∷ [];
       configuration = ap (λ t. t.configuration) adds.adds;
       cap = ap (λ t. t.cap) adds.adds;
-      most = ap (λ t. t.most) adds.adds;
       entries = ap (λ t. t.entries) adds.adds;
       counted = let n : new.faults ≡ old.faults = ap (λ t. t.faults) adds.adds in omega (arith, n);
       room = not_both (fits old.configuration old.cap (state_of old) 1) adds.room;
@@ -165,7 +163,6 @@ restart_made p q before line caller old new starts_again moves kept =
       piece = e ∷ [];
       configuration = ap (λ t. t.configuration) same;
       cap = ap (λ t. t.cap) same;
-      most = ap (λ t. t.most) same;
       entries = ap (λ t. t.entries) same;
       counted = starts_again.counted;
       room = starts_again.room;
@@ -198,7 +195,6 @@ turned_made p q before line caller kind old new es ms own moved none room plans 
       piece = es;
       configuration = ap (λ t. t.configuration) turned.grows;
       cap = ap (λ t. t.cap) turned.grows;
-      most = ap (λ t. t.most) turned.grows;
       entries = ap (λ t. t.entries) turned.grows;
       counted = turned.counted;
       room = room;
@@ -244,7 +240,6 @@ store_made p q before line caller block number content old new sync within small
       piece = [];
       configuration = refl;
       cap = refl;
-      most = refl;
       entries = sym (append-nil old.entries);
       counted = omega arith;
       room = λ no. no;

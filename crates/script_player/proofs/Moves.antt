@@ -62,9 +62,8 @@ abbrev pub move_to : List Entry → StackTold → Move
 move_to es new = record { entry = first_of es; behind = moment_of new }
 
 is_one : (c : Configuration) (s : State) (stores : List (ℕ × List ℕ)) (es : List Entry) (t : StackTold) → IsTurn c s stores es → es ≡ entries_of (move_to es t ∷ [])
-is_one c s stores [] t turn = refl
-is_one c s stores (e ∷ []) t turn = refl
 is_one c s stores (e ∷ f ∷ es) t turn = absurd turn.entry
+is_one c s stores es t turn = refl
 
 first_tells : (ops : ℕ) (es : List Entry) → AllTell ops es → IfSome (first_of es) (λ e. ops_of e ≡ Some ops)
 first_tells ops [] all = tt
@@ -72,9 +71,8 @@ first_tells ops (e ∷ es) all = all.0
 
 -- its entries, in the form of a move
 all_first : (c : Configuration) (s : State) (stores : List (ℕ × List ℕ)) (es : List Entry) → IsTurn c s stores es → es ≡ entry_list (first_of es)
-all_first c s stores [] turn = refl
-all_first c s stores (e ∷ []) turn = refl
 all_first c s stores (e ∷ f ∷ es) turn = absurd turn.entry
+all_first c s stores es turn = refl
 
 entry_same : (o e : Option Entry) → entry_list e ≡ entry_list o → e ≡ o
 entry_same None e is = entry_none e is
@@ -102,16 +100,14 @@ turn_moved p q old new turn (e, adds, moved) = record {
 pub steps_more : (m : Moment) (xs : List Step) (x : Step) (mss : List (List Move)) (ms : List Move) → AreMoves m xs mss → AreMovesOf x.kind (moment_after m mss) ms → AreMoves m (xs ++ x ∷ []) (mss ++ ms ∷ [])
 steps_more m [] x [] ms all own = (own, tt)
 steps_more m (y ∷ ys) x (ns ∷ nss) ms all own = (all.0, steps_more (moment_behind m ns) ys x nss ms all.1 own)
-steps_more m [] x (ns ∷ nss) ms all own = absurd all
-steps_more m (y ∷ ys) x [] ms all own = absurd all
+steps_more m xs x mss ms all own = absurd all
 
 -- a drain more that leaves nothing open
 pub closes_more : (m : Moment) (xs : List Step) (x : Step) (mss : List (List Move)) (ms : List Move) → AreMoves m xs mss → ClosesAtDrains m xs mss → (x.kind ≡ Drain → (moment_behind (moment_after m mss) ms).busy ≡ false)
     → ClosesAtDrains m (xs ++ x ∷ []) (mss ++ ms ∷ [])
 closes_more m [] x [] ms are all own = (own, tt)
 closes_more m (y ∷ ys) x (ns ∷ nss) ms are all own = (all.0, closes_more (moment_behind m ns) ys x nss ms are.1 all.1 own)
-closes_more m [] x (ns ∷ nss) ms are all own = absurd are
-closes_more m (y ∷ ys) x [] ms are all own = absurd are
+closes_more m xs x mss ms are all own = absurd are
 
 -- a drain more of which each turn but the last one finds work
 pub finds_more : (c : Configuration) (m : Moment) (s : State) (xs : List Step) (x : Step) (mss : List (List Move)) (ms : List Move) → AreMoves m xs mss → FindWorkAtDrains c m s xs mss

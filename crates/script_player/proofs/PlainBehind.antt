@@ -29,14 +29,11 @@ use Rattle.uds_gateway.specs.promise_run.Refusals.{copy_told}
 use Rattle.uds_gateway.specs.script_walks.Walk.{is_due, is_at_rest}
 use Rattle.script_player.specs.Told.{AreCut}
 use Rattle.script_player.specs.Calls.{Turns, IsAnswer, Lowers}
-use Rattle.uds_gateway.specs.promise_run.Turns.{is_picked}
 use Rattle.uds_gateway.specs.script_walks.Turn.{IsOfTurn}
 use Rattle.script_player.specs.PlainTold.{told_by, to_refuse_in, plan_in, came_in}
-use Rattle.uds_gateway.proofs.Resting.{rests_next, some_none}
+use Rattle.uds_gateway.proofs.Resting.{at_rest, due_hand, due_rest, rests_next, some_none}
 use Rattle.script_player.proofs.PlainDevices.{Goes, goes_from, came_same, turn_goes, turn_fixed, worked_came, off_cut, cut_from}
-use Rattle.script_player.proofs.PlainPicks.{due_hand, due_rest, at_rest}
 use Rattle.script_player.proofs.PlainRefused.{silent_asked}
-use Rattle.script_player.proofs.PlainServing.{IsServing, off_serves, work_serves}
 use Rattle.script_player.proofs.PlainTurning.{same_stores, grown, none_more, one_more, explained, makes_one, misses_none, no_off, one_off, begins_late}
 use Rattle.script_player.proofs.PlainHalves.{are_told, is_now, is_looked, IsBehind}
 
@@ -52,13 +49,7 @@ wrote_is number (Some mark) ops = inr (instance_of (record { 0 = number }), mark
 
 settled_is : (old new : Stand) (ops : ℕ) → IsSettled (settled_by old new ops) ops
 settled_is (Open j) (At JobOk given) ops = wrote_is j.number j.mark ops
-settled_is (Open j) (At JobFailed given) ops = inl refl
-settled_is (Open j) (At JobPending given) ops = inl refl
-settled_is (Open j) (At JobCanceled given) ops = inl refl
-settled_is (Open j) (At BlockInconsistent given) ops = inl refl
-settled_is (Open j) (At BlockInvalid given) ops = inl refl
-settled_is (Open j) (Open k) ops = inl refl
-settled_is (At result given) new ops = inl refl
+settled_is old new ops = inl refl
 
 false_true : {t : Bool} → t ≡ false → t ≡ true → ⊥
 false_true {t} off on = never (sym off ∙ on)
@@ -130,9 +121,9 @@ module _ {D : Type 0} (device : D → DeviceTold) (clock : D → Clock) (old bet
     told = ap (map told_of) second.copies ∙ half.half.0.1
 
     -- it adds nothing
-    idle : new.desk ≡ between.desk → came_in (device new.device) ≡ came_in (device old.device) → IsAnswer answer [] (told_by device old) (told_by device new) → Lowers answer (told_by device old) (told_by device new) → IsServing device old new []
+    idle : new.desk ≡ between.desk → came_in (device new.device) ≡ came_in (device old.device) → IsAnswer answer [] (told_by device old) (told_by device new) → Lowers answer (told_by device old) (told_by device new)
         → Turns answer (told_by device old) (told_by device new)
-    idle same came answers lowers serves =
+    idle same came answers lowers =
         let desk = same ∙ same_desk in record {
           made = record {
             entries = [];
@@ -143,8 +134,6 @@ module _ {D : Type 0} (device : D → DeviceTold) (clock : D → Clock) (old bet
             explained = explained device old new [] goes
                 (λ id. ap (λ (ts : List Told). to_refuse_in ts id) told)
                 (no_off device old new [] goes came (refl, refl) refl behind.power);
-            picks = λ picked. absurd (cc picked);
-            serves = serves;
             rests = λ rest free. absurd (still_open behind.tied.paired rest free);
             cuts = misses_none device old new goes behind.power;
           };
@@ -156,13 +145,13 @@ module _ {D : Type 0} (device : D → DeviceTold) (clock : D → Clock) (old bet
     adds e is = subst (λ (x : DeskState). new.desk ≡ record x { entries = x.entries ++ e ∷ [] }) same_desk is
 
     -- a Wrote, or an Off
-    adds_one : (e : Entry) → ops_told e ≡ Some (ops_of (device new.device)) → (IsTrue (list_any (λ e. is_picked (Some e)) (e ∷ [])) → ⊥) → new.desk ≡ record between.desk { entries = between.desk.entries ++ e ∷ [] }
+    adds_one : (e : Entry) → ops_told e ≡ Some (ops_of (device new.device)) → new.desk ≡ record between.desk { entries = between.desk.entries ++ e ∷ [] }
         → ((id : ℕ) → copy_told old.desk.config id (state_of old.desk) e ≡ None)
         → IsOfTurn old.desk.config (state_of old.desk) (map store_of old.copies) e
         → AreCut (plan_in (device old.device)) 0 (Added e ∷ []) (told_by device old) (told_by device new)
-        → IsAnswer answer (e ∷ []) (told_by device old) (told_by device new) → Lowers answer (told_by device old) (told_by device new) → IsServing device old new (e ∷ [])
+        → IsAnswer answer (e ∷ []) (told_by device old) (told_by device new) → Lowers answer (told_by device old) (told_by device new)
         → Turns answer (told_by device old) (told_by device new)
-    adds_one e tells no_pick is silent turn off answers lowers serves =
+    adds_one e tells is silent turn off answers lowers =
         let desk = adds e is in record {
           made = record {
             entries = e ∷ [];
@@ -172,8 +161,6 @@ module _ {D : Type 0} (device : D → DeviceTold) (clock : D → Clock) (old bet
             turn = record { entry = turn; begins = begins_late (state_of old.desk) (e ∷ []) late };
             explained = explained device old new (e ∷ []) goes
                 (λ id. silent_asked old.desk.config (state_of old.desk) id (map told_of old.copies) (map told_of new.copies) e (silent id) told) off;
-            picks = λ picked. absurd (no_pick picked);
-            serves = serves;
             rests = λ rest free. absurd (still_open behind.tied.paired rest free);
             cuts = misses_none device old new goes behind.power;
           };
@@ -189,34 +176,26 @@ module _ {D : Type 0} (device : D → DeviceTold) (clock : D → Clock) (old bet
       came : came_in (device new.device) ≡ came_in (device old.device)
       came = worked_came (device between.device) (device new.device) (clock between.device) (clock new.device) second.turns ∙ came_same (device old.device) (device between.device) one
 
-      serves : (es : List Entry) → new.desk.config ≡ old.desk.config → IsServing device old new es
-      serves es config = work_serves device old new es between.hand (device between.device) behind.tied.paired
-          (subst (λ (x : DeskState). IsPaired x.config (state_of x) between.hand (device between.device)) same_desk half.tied.paired) behind.tied_behind.paired
-          config second.hand (fixed turned.Worked second behind) behind.takes
-
       by : (e : Option Entry) → AddsBy e between.desk new.desk → IsSettled e (ops_of (device new.device)) → Turns turned.Worked (told_by device old) (told_by device new)
       by e adds (inl none) =
           let same = subst (λ (o : Option Entry). AddsBy o between.desk new.desk) none adds in
           idle turned.Worked second behind same came
-          (λ hand. (refl, rests hand, true_else (not (nothing_open (device old.device))) (still_open behind.tied.paired (rests hand)))) behind.lowers (serves [] (ap (λ (x : DeskState). x.config) (same ∙ same_desk)))
+          (λ hand. (refl, rests hand, true_else (not (nothing_open (device old.device))) (still_open behind.tied.paired (rests hand)))) behind.lowers
       by e adds (inr (i, mark, some)) =
           let wrote = subst (λ (o : Option Entry). AddsBy o between.desk new.desk) some adds in
           let may = subst (λ (x : DeskState). MayWrite x.config (state_of x) i mark (state_of x).hand) same_desk wrote.1.1 in
-          adds_one turned.Worked second behind (Wrote i mark (ops_of (device new.device))) refl (λ is. cc is) wrote.0
+          adds_one turned.Worked second behind (Wrote i mark (ops_of (device new.device))) refl wrote.0
           (λ id. refl) tt
           (no_off device old new (Wrote i mark (ops_of (device new.device)) ∷ []) (goes turned.Worked second behind) came (refl, refl) refl behind.power)
           (λ hand. absurd (subst (λ (h : Option Job). MayWrite old.desk.config (state_of old.desk) i mark h) hand may)) behind.lowers
-          (serves (Wrote i mark (ops_of (device new.device)) ∷ []) (ap (λ (x : DeskState). x.config) wrote.0 ∙ ap (λ (x : DeskState). x.config) same_desk))
 
   -- an Off
   went_off : PowersOff old.desk (device old.device) → IsSecondHalf device clock turned.Off between new → IsBehind device turned.Off old new → Turns turned.Off (told_by device old) (told_by device new)
   went_off power second behind =
-      adds_one turned.Off second behind (Off (ops_of (device new.device))) refl (λ is. cc is) second.adds.0 (λ id. refl) tt
+      adds_one turned.Off second behind (Off (ops_of (device new.device))) refl second.adds.0 (λ id. refl) tt
       (one_off device old new (cut_from (device old.device) (device between.device) (device new.device) made one two
       (off_cut (device between.device) (device new.device) (clock between.device) (clock new.device) second.turns (on (is_off (device old.device)) refl))) behind.power)
       refl tt
-      (off_serves device old new (Off (ops_of (device new.device)) ∷ [])
-      (ap (λ (x : State). x.off) (one_more old.desk new.desk (Off (ops_of (device new.device))) (adds turned.Off second behind (Off (ops_of (device new.device))) second.adds.0))))
     where
       on : (t : Bool) → is_off (device old.device) ≡ t → is_off (device between.device) ≡ false
       on true off = absurd (false_true half.half.2 (power off))
@@ -227,5 +206,4 @@ module _ {D : Type 0} (device : D → DeviceTold) (clock : D → Clock) (old bet
   behind_device power turned.Worked second behind = worked second behind
   behind_device power turned.Off second behind = went_off power second behind
   behind_device power turned.Idle second behind = absurd (false_true half.half.1 second.turns.0.0)
-  behind_device power turned.Picked second behind = absurd second.turns
-  behind_device power turned.Posted second behind = absurd second.turns
+  behind_device power _ second behind = absurd second.turns

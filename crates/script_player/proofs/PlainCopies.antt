@@ -16,14 +16,12 @@ use Rattle.uds_gateway.specs.ram_blocks.Plain.{told_of, store_of, stored, refusi
 
 -- a block among others, by what is seen of it
 pub store_here : (bs : List PlainBlock) (k : ℕ) → get_or (map store_of bs) k (0, []) ≡ store_of (get_or bs k no_plain)
-store_here [] k = refl
-store_here (x ∷ xs) zero = refl
 store_here (x ∷ xs) (suc k) = store_here xs k
+store_here bs k = refl
 
 pub told_here : (bs : List PlainBlock) (k : ℕ) → told_at (map told_of bs) k ≡ told_of (get_or bs k no_plain)
-told_here [] k = refl
-told_here (x ∷ xs) zero = refl
 told_here (x ∷ xs) (suc k) = told_here xs k
+told_here bs k = refl
 
 -- A STORE
 

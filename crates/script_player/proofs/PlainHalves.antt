@@ -32,12 +32,10 @@ use Rattle.script_player.specs.Calls.{Turns, IsAnswer, Lowers}
 use Rattle.script_player.specs.PlainTold.{told_by, shown, to_refuse_in}
 use Rattle.uds_gateway.specs.block_machine.Legal.{IsAllowed, MayPick, MayPost, MayPostNext}
 use Rattle.script_player.specs.Told.{moment_of}
-use Rattle.uds_gateway.proofs.Resting.{rests_next, some_none}
+use Rattle.uds_gateway.proofs.Resting.{at_rest, due_off, due_rest, rests_next, some_none}
 use Rattle.script_player.proofs.PlainDevices.{goes_same, came_same}
-use Rattle.script_player.proofs.PlainPicks.{newest, stored_so, due_off, due_rest, at_rest}
+use Rattle.script_player.proofs.PlainPicks.{newest, stored_so}
 use Rattle.script_player.proofs.PlainRefused.{IsOn, IsSpent, pick_spent, post_spent, entry_asked}
-use Rattle.uds_gateway.proofs.Most.{within_of}
-use Rattle.script_player.proofs.PlainServing.{IsServing, off_serves, rest_serves, pick_serves, post_serves}
 use Rattle.script_player.proofs.PlainTurning.{same_stores, grown, none_more, explained, makes_one, misses_none, no_off, begins_by, begins_late}
 
 -- what is told of the application, and the newest store of a block
@@ -94,10 +92,7 @@ posting_next (PostMember sw id) ops old new bs after are none is =
 posting_next (EndSweep sw) ops old new bs after are none is =
     posting_of (Unit {0}) 0 false _ ops old new bs after are (subst (λ (h : Option Job). IsOn 0 h) (sym none) tt) is
     (ap (λ (h : Option Job). option_map_or (λ (j : Job). names_ram j.request) h true && is_synchronized (desc_of old.config 0).ram) (sym none)) (next_allowed old 0 is.result is.given is.refused ops (is.allowed tt))
-posting_next (PickJob j) ops old new bs after are none is = absurd is
-posting_next (BeginSweep sw) ops old new bs after are none is = absurd is
-posting_next (PickMember sw id) ops old new bs after are none is = absurd is
-posting_next Nothing ops old new bs after are none is = absurd is
+posting_next n ops old new bs after are none is = absurd is
 
 posting : (Fits : Type 0) (ops : ℕ) (old new : DeskState) (bs : List PlainBlock) (after : List Told) → AreSynchronized old.config (map told_of bs)
     → AddsPost Fits ops old new (map told_of bs) after → Posting ops old new (map told_of bs) after
@@ -110,11 +105,6 @@ posting Fits ops old new bs after are adds = elim adds [
 
 -- THE TURN
 
--- what is known of a stack behind a turn
-is_on : (off : Bool) → IsTrue (not off) → off ≡ false
-is_on true on = absurd (cc on)
-is_on false on = refl
-
 -- what doesn't hold is false
 pub not_so : (t : Bool) → (IsTrue t → ⊥) → IsTrue (not t)
 not_so true never = absurd (never refl)
@@ -124,7 +114,6 @@ pub record IsBehind {D : Type 0} (device : D → DeviceTold) (answer : Turned) (
   pub power : PowersOff new.desk (device new.device)
   pub counted : faults_of (device old.device) ≤ faults_of (device new.device)
   pub lowers : work.Lowers device answer old new
-  pub takes : work.TakesTurns device answer old new
   pub tied : IsTied old.desk old.hand (device old.device)
   pub tied_behind : IsTied new.desk new.hand (device new.device)
   pub synchronized : AreSynchronized old.desk.config (map told_of old.copies)
@@ -132,9 +121,9 @@ pub record IsBehind {D : Type 0} (device : D → DeviceTold) (answer : Turned) (
 module _ {D : Type 0} (device : D → DeviceTold) (old new : StackState D (List PlainBlock)) where
   -- nothing is added
   quiet : (answer : Turned) → IsFirstHalf device are_told is_now is_looked (Ended answer) old new → IsBehind device answer old new → device new.device ≡ device old.device → new.desk ≡ old.desk → map told_of new.copies ≡ map told_of old.copies → is_due (state_of old.desk) ≡ false
-      → IsAnswer answer [] (told_by device old) (told_by device new) → Lowers answer (told_by device old) (told_by device new) → IsServing device old new []
+      → IsAnswer answer [] (told_by device old) (told_by device new) → Lowers answer (told_by device old) (told_by device new)
       → Turns answer (told_by device old) (told_by device new)
-  quiet answer half behind stays same told due answers lowers serves =
+  quiet answer half behind stays same told due answers lowers =
       let made = ap (λ (d : DeviceTold). d.ops) half.device in
       let one = ap (λ (d : DeviceTold). d.first) half.device in
       let two = ap (λ (d : DeviceTold). d.second) half.device in record {
@@ -147,8 +136,6 @@ module _ {D : Type 0} (device : D → DeviceTold) (old new : StackState D (List 
           explained = explained device old new [] (goes_same (device old.device) (device new.device) made one two)
               (λ id. ap (λ (ts : List Told). to_refuse_in ts id) told)
               (no_off device old new [] (goes_same (device old.device) (device new.device) made one two) (came_same (device old.device) (device new.device) one) (refl, refl) refl behind.power);
-          picks = λ picked. absurd (cc picked);
-          serves = serves;
           rests = λ rest idle. (refl, ap (λ (d : DeviceTold). moment_of (shown old.desk None old.copies old.ready d)) stays);
           cuts = misses_none device old new (goes_same (device old.device) (device new.device) made one two) behind.power;
         };
@@ -185,8 +172,6 @@ module _ {D : Type 0} (device : D → DeviceTold) (old new : StackState D (List 
           explained = explained device old new (Pick block picked.kind picked.taken ops ∷ []) (goes_same (device old.device) (device new.device) made one two)
               (λ id. entry_asked c s id block (map told_of old.copies) (map told_of new.copies) (Pick block picked.kind picked.taken ops) _ refl spent)
               (no_off device old new (Pick block picked.kind picked.taken ops ∷ []) (goes_same (device old.device) (device new.device) made one two) (came_same (device old.device) (device new.device) one) (refl, refl) refl behind.power);
-          picks = λ is. (within_of new.desk.config (state_of new.desk) new.hand (device new.device) behind.tied_behind.paired behind.takes, is_on (state_of old.desk).off picked.allowed.0.on);
-          serves = pick_serves device old new block ops picked.kind picked.taken behind.tied_behind.paired behind.takes;
           rests = λ rest idle. absurd (subst (λ (n : Next). MayPick c s block picked.kind picked.taken n) (rests_next c s rest).1 may);
           cuts = misses_none device old new (goes_same (device old.device) (device new.device) made one two) behind.power;
         };
@@ -213,9 +198,6 @@ module _ {D : Type 0} (device : D → DeviceTold) (old new : StackState D (List 
           explained = explained device old new (Post post.block post.result post.given post.refused ops ∷ []) (goes_same (device old.device) (device new.device) made one two)
               (λ id. entry_asked c s id post.block (map told_of old.copies) (map told_of new.copies) (Post post.block post.result post.given post.refused ops) _ refl post.spent)
               (no_off device old new (Post post.block post.result post.given post.refused ops ∷ []) (goes_same (device old.device) (device new.device) made one two) (came_same (device old.device) (device new.device) one) (refl, refl) refl behind.power);
-          picks = λ picked. absurd (cc picked);
-          serves = post_serves device old new post.block post.refused ops post.result post.given post.on
-              (subst (λ (h : Option HandState). IsPaired new.desk.config (state_of new.desk) h (device new.device)) half.at_device.1 behind.tied_behind.paired).0;
           rests = λ rest idle. let (none, nothing) = rests_next c s rest in absurd (subst (λ (n : Next). MayPostNext c s post.block (post.result, post.given) post.refused n) nothing (post.may none));
           cuts = misses_none device old new (goes_same (device old.device) (device new.device) made one two) behind.power;
         };
@@ -229,9 +211,8 @@ module _ {D : Type 0} (device : D → DeviceTold) (old new : StackState D (List 
   ended turned.Off half behind =
       let same = half.half.0.0 in
       let off = sym (ap (λ (x : DeskState). (state_of x).off) same) ∙ behind.power half.half.1 in
-      quiet turned.Off half behind half.at_device.1 same half.half.0.1 (due_off (state_of old.desk) off) off tt (off_serves device old new [] (behind.power half.half.1))
+      quiet turned.Off half behind half.at_device.1 same half.half.0.1 (due_off (state_of old.desk) off) off tt
   ended turned.Idle half behind =
       let rest = at_rest old.desk.config (state_of old.desk) half.half.1.hand half.half.1.next in
       quiet turned.Idle half behind half.at_device.1 half.half.0.0 half.half.0.1 (due_rest (state_of old.desk) rest) (refl, rest, ap not half.half.1.device) tt
-      (rest_serves device old new [] half.half.1.hand (ap (λ (x : DeskState). (state_of x).hand) half.half.0.0 ∙ half.half.1.hand))
   ended turned.Worked half behind = absurd half.half

@@ -48,7 +48,6 @@ module _ {D : Type 0} (device : D → DeviceTold) (clock : D → Clock) where
   pub is_seen : (s : StackState D (List PlainBlock)) → IsSeen (told_by device s) (seen_by device clock s)
   is_seen s = record {
     between = refl;
-    frame = refl;
     state = refl;
     moment = refl;
     uncut = λ one on. record { one = not_two (device s.device).fixed.two one; power = λ off. absurd (let no_ : false ≡ true = first_on (device s.device).first.off (device s.device).second.off on off in cc no_) };

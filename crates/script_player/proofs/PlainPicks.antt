@@ -1,4 +1,4 @@
--- What a turn picks, and that none goes by that would.
+-- What a turn picks.
 use Rattle.std.specs.Prelude.{◌&&◌, not, is_some, is_none, if◌then◌else◌}
 use Rattle.std.proofs.Common.{◌≡◌, ℕ, Bool, true, false, List, [], ◌∷◌, get_or, Option, Some, None, refl, sym, ap, ◌∙◌, subst}
 use Rattle.uds_gateway.specs.block_machine.Words.{JobKind, WriteJob, Taken, TookNothing, TookContent, TookRefused, TookStale, BlockDesc, Configuration}
@@ -19,9 +19,8 @@ use Rattle.uds_gateway.proofs.NextLaws.{none_waits}
 from_so : (P Q : ℕ → List ℕ → Type 0) (block : ℕ) (old new : List Told) (t : Taken) → ((n : ℕ) (x : List ℕ) → P n x → Q n x)
     → IsFromCopies P block old new t → IsFromCopies Q block old new t
 from_so P Q block old new (TookContent bytes number) so is = so number bytes is
-from_so P Q block old new (TookRefused count) so is = is
 from_so P Q block old new (TookStale wanted got count) so is = (is.0, so got is.0 is.1)
-from_so P Q block old new TookNothing so is = is
+from_so P Q block old new t so is = is
 
 pub stored_so : (P Q : ℕ → List ℕ → Type 0) (c : Configuration) (block : ℕ) (old new : List Told) (copies : Bool) (t : Taken) → ((n : ℕ) (x : List ℕ) → P n x → Q n x)
     → IsCopied P c block old new copies t → IsCopied Q c block old new copies t
@@ -45,11 +44,9 @@ module _ (stores : List (ℕ × List ℕ)) (c : Configuration) (block : ℕ) (ol
   newest_by : (d : BlockDesc) (b : BlockState) (j : Job) (kind : JobKind) (content : Option (List ℕ × ℕ)) (names synchronized : Bool) (t : Taken)
       → IsCopied IsNow c block old new (copies_out_by kind content synchronized) t → TakesBy d b j kind t
       → TakesNewest stores (not (is_some content) && (names && synchronized)) block t
-  newest_by d b j kind (Some x) names synchronized t is takes = tt
-  newest_by d b j kind None false synchronized t is takes = tt
-  newest_by d b j kind None true false t is takes = tt
   newest_by d b j WriteJob None true true t is takes = newest_copy t is.from
   newest_by d b j _ None true true t is takes = newest_nothing t takes
+  newest_by d b j kind content names synchronized t is takes = tt
 
   newest_job : (s : State) (j : Job) (t : Taken) → IsCopied IsNow c block old new (copies_out_for c j) t
       → TakesBy (desc_of c (job_block j)) (block_at s (job_block j)) j (kind_of j) t
@@ -80,60 +77,4 @@ newest stores c s block kind old new t (PickMember sw id) is may =
     subst (λ (names : Bool). TakesNewest stores (names && is_synchronized (desc_of c id).ram) block t) (member_names c sw id)
     (subst (λ (m : ℕ). TakesNewest stores (names_ram j.request && is_synchronized (desc_of c m).ram) block t) (member_block c sw id) (newest_job stores c block old new s j t is may.takes))
 newest stores c s block kind old new t (BeginSweep sw) is may = tt
-newest stores c s block kind old new t (PostMember sw id) is may = absurd may
-newest stores c s block kind old new t (EndSweep sw) is may = absurd may
-newest stores c s block kind old new t Nothing is may = absurd may
-
--- NO TURN GOES BY
-
-pub due_off : (s : State) → s.off ≡ true → is_due s ≡ false
-due_off s off = rw off refl
-
-pub due_hand : (s : State) (j : Job) → s.hand ≡ Some j → is_due s ≡ false
-due_hand s j hand = by s.off refl
-  where
-    by : (t : Bool) → s.off ≡ t → is_due s ≡ false
-    by true off = rw off refl
-    by false off = rw (off, hand) refl
-
-pub due_rest : (s : State) → is_at_rest s ≡ true → is_due s ≡ false
-due_rest s rest = by s.off (is_none s.hand) refl refl
-  where
-    by : (t u : Bool) → s.off ≡ t → is_none s.hand ≡ u → is_due s ≡ false
-    by true u off hand = rw off refl
-    by false true off hand = rw (off, hand, rest) refl
-    by false false off hand = rw (off, hand) refl
-
--- nothing is in hand, and nothing comes next
-some_member : (c : Configuration) (s : State) (sw : Sweep) (ids : List ℕ) → next_member c s sw ids ≡ Nothing → ⊥
-some_member c s sw [] none = cc
-some_member c s sw (id ∷ ids) none = by (is_picked_here) none
-  where
-    is_picked_here : Bool
-    is_picked_here = is_picked (desc_of c id) (block_at s id) sw id
-
-    by : (t : Bool) → (if t then PickMember sw id else PostMember sw id) ≡ Nothing → ⊥
-    by true e = cc
-    by false e = cc
-
-some_sweep : (c : Configuration) (s : State) (sw : Sweep) → next_in_sweep c s sw ≡ Nothing → ⊥
-some_sweep c s sw none = by sw.under_way none
-  where
-    by : (t : Bool) → (if t then next_member c s sw (if sw.canceled then [] else sw.left) else BeginSweep sw) ≡ Nothing → ⊥
-    by true e = some_member c s sw (if sw.canceled then [] else sw.left) e
-    by false e = cc
-
-rest_by : (s : State) → s.hand ≡ None → s.waiting ≡ [] → s.sweep ≡ None → is_at_rest s ≡ true
-rest_by s hand waiting sweep = rw (hand, waiting, sweep) refl
-
-pub at_rest : (c : Configuration) (s : State) → s.hand ≡ None → next_of c s ≡ Nothing → is_at_rest s ≡ true
-at_rest c s hand none = by (next_in c s.waiting) refl s.sweep refl
-  where
-    by : (o : Option Job) → next_in c s.waiting ≡ o → (w : Option Sweep) → s.sweep ≡ w → is_at_rest s ≡ true
-    by (Some j) is w sweep = absurd (no (sym (ap (λ (o : Option Job). next_by c s o s.hand s.sweep) is) ∙ none))
-      where
-        no : PickJob j ≡ Nothing → ⊥
-        no e = cc
-    by None is None sweep = rest_by s hand (none_waits c s.waiting is) sweep
-    by None is (Some sw) sweep =
-        absurd (some_sweep c s sw (sym (ap (λ (o : Option Job). next_by c s o s.hand s.sweep) is ∙ ap (λ (h : Option Job). next_by c s None h s.sweep) hand ∙ ap (λ (x : Option Sweep). next_by c s None None x) sweep) ∙ none))
+newest stores c s block kind old new t n is may = absurd may

@@ -33,9 +33,8 @@ none_earlier plan now none = rw none tt
 
 -- with more operations made of another part it comes no earlier
 pub plan_waits : (off : Bool) (ops more : ℕ) (plan : Option Plan) → ops ≤ more → IsNoEarlier (plan_from off ops plan) (plan_from off more plan)
-plan_waits true ops more plan less = tt
-plan_waits false ops more None less = tt
 plan_waits false ops more (Some x) less = (inl (omega (arith, less)), refl)
+plan_waits off ops more plan less = tt
 
 -- THE OPERATIONS OF THE ENTRIES
 

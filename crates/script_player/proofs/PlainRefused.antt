@@ -89,10 +89,9 @@ module _ (IsStore : ℕ → List ℕ → Type 0) (c : Configuration) (block : �
 
   by_copy : is_synchronized (desc_of c block).ram ≡ true → (t : Taken) (store : ℕ) → IsCopiedOut IsStore c block (map told_of bs) after t → TakesCopy (desc_of c block) store t
       → Spent (copied_out true t)
-  by_copy sync (TookContent bytes number) store is takes = a_copy bs after false ((desc_of c block).repeats + 1) block (desc_of c block).length 0 (are block sync) is.spends refl is.others
   by_copy sync (TookRefused count) store is takes = a_copy bs after true ((desc_of c block).repeats + 1) block (desc_of c block).length count (are block sync) is.spends takes is.others
-  by_copy sync (TookStale wanted got count) store is takes = a_copy bs after false ((desc_of c block).repeats + 1) block (desc_of c block).length 0 (are block sync) is.spends refl is.others
   by_copy sync TookNothing store is takes = absurd takes
+  by_copy sync _ store is takes = a_copy bs after false ((desc_of c block).repeats + 1) block (desc_of c block).length 0 (are block sync) is.spends refl is.others
 
   own : (synchronized : Bool) (bytes : List ℕ) (number : ℕ) → copied_out (synchronized && not true) (TookContent bytes number) ≡ None
   own true bytes number = refl
@@ -129,9 +128,7 @@ module _ (IsStore : ℕ → List ℕ → Type 0) (c : Configuration) (block : �
   pick_spent s kind t (PickMember sw id) is may = on_block s (member_job c sw id) t may.same_block is may.takes
   pick_spent s kind t (BeginSweep sw) is may =
       let copies = is_synchronized (desc_of c block).ram && not (not true) in nothing_copied (copied_out copies t) (ap (copied_out copies) may.takes_nothing) is
-  pick_spent s kind t (PostMember sw id) is may = absurd may
-  pick_spent s kind t (EndSweep sw) is may = absurd may
-  pick_spent s kind t Nothing is may = absurd may
+  pick_spent s kind t n is may = absurd may
 
   -- A POST
   over_spent : (goes : Bool) (ended posted : Answer) (refused : ℕ) → (goes ≡ true → is_synchronized (desc_of c block).ram ≡ true) → OthersStay block (map told_of bs) after

@@ -26,14 +26,10 @@ starts_on false old new d d_new es grows none same are = let all : founds new.en
 
 -- A TURN
 turn_founds : (c : Configuration) (s : State) (stores : List (ℕ × List ℕ)) (es : List Entry) → IsOneOrNone c s stores es → founds es ≡ 0
-turn_founds c s stores [] is = refl
 turn_founds c s stores (Ask caller r reply ∷ []) is = absurd is
-turn_founds c s stores (Pick block kind t ops ∷ []) is = refl
-turn_founds c s stores (Wrote i mark ops ∷ []) is = refl
-turn_founds c s stores (Post block r given refused ops ∷ []) is = refl
-turn_founds c s stores (Off ops ∷ []) is = refl
 turn_founds c s stores (Found marks ops ∷ []) is = absurd is
 turn_founds c s stores (e ∷ f ∷ es) is = absurd is
+turn_founds c s stores es is = refl
 
 module _ {D : Type 0} (device : D → DeviceTold) (clock : D → Clock) (old new : StackState D (List PlainBlock)) where
   turned_starts : {copies : List PlainBlock → List Told} {is_store : List PlainBlock → ℕ → ℕ → List ℕ → Type 0} {looked : List PlainBlock → List PlainBlock → ℕ → ℕ → Type 0} (answer : Turned) → core.Turns device clock copies is_store looked answer old new → (device new.device).starts ≡ (device old.device).starts

@@ -95,15 +95,10 @@ armed_work : (nth keep : ℕ) (desk : DeskState) (hand : Option HandState) (d : 
 armed_work nth keep desk None d = refl
 armed_work nth keep desk (Some h) d = refl
 
-armed_left : (nth keep : ℕ) (hand : Option HandState) (d : DeviceTold) → left_with hand (armed 0 nth keep d) ≡ left_with hand d
-armed_left nth keep None d = refl
-armed_left nth keep (Some h) d = refl
-
 pub arms : (nth keep : ℕ) (desk : DeskState) (hand : Option HandState) (copies : List PlainBlock) (ready : Bool) (d : DeviceTold)
     → (state_of desk).ops ≤ ops_of d → PowersOff desk d → Arms nth keep (shown desk hand copies ready d) (shown desk hand copies ready (armed 0 nth keep d))
 arms nth keep desk hand copies ready d later power = record {
   only = ap (λ (n : ℕ). record (shown desk hand copies ready (armed 0 nth keep d)) { work = n }) (armed_work nth keep desk hand d)
-      ∙ ap (λ (n : ℕ). record (shown desk hand copies ready (armed 0 nth keep d)) { work = stack_work desk hand d; left = n }) (armed_left nth keep hand d)
       ∙ ap (λ (n : ℕ). record (shown desk hand copies ready d) {
         causes = record (causes_in copies d) {
           unplanned = n + (d.second.planning.unplanned + length d.second.planning.came);

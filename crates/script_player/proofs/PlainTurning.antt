@@ -18,7 +18,7 @@ use Rattle.script_player.specs.Told.{IsGrown, IsNoEarlier, AreCut, plan_behind}
 use Rattle.script_player.specs.Coming.{MissesNone}
 use Rattle.script_player.specs.Calls.{AreExplained, AllTell, MakesOne}
 use Rattle.uds_gateway.specs.script_walks.Walk.{is_due, begins_with_pick_or_post}
-use Rattle.script_player.specs.PlainTold.{told_by, most_in, to_refuse_in, plan_in, came_in, ops_in}
+use Rattle.script_player.specs.PlainTold.{told_by, to_refuse_in, plan_in, came_in, ops_in}
 use Rattle.script_player.proofs.PlainPlans.{none_earlier}
 use Rattle.script_player.proofs.PlainDevices.{Goes, DeviceCut}
 
@@ -41,10 +41,10 @@ pub grown : {D : Type 0} (device : D → DeviceTold) (old new : StackState D (Li
     → new.desk ≡ record old.desk { entries = old.desk.entries ++ es } → map store_of new.copies ≡ map store_of old.copies → new.ready ≡ old.ready
     → (device new.device).fixed ≡ (device old.device).fixed → IsGrown es (told_by device old) (told_by device new)
 grown device old new es desk stores ready fixed =
-    ap (λ (x : DeskState). record (told_by device new) { configuration = x.config; cap = x.cap; entries = x.entries; most = most_in (device new.device).fixed x.config }) desk
-    ∙ ap (λ (xs : List (ℕ × List ℕ)). record (told_by device new) { configuration = old.desk.config; cap = old.desk.cap; entries = old.desk.entries ++ es; stores = xs; most = most_in (device new.device).fixed old.desk.config }) stores
-    ∙ ap (λ (r : Bool). record (told_by device new) { configuration = old.desk.config; cap = old.desk.cap; entries = old.desk.entries ++ es; stores = map store_of old.copies; ready = r; most = most_in (device new.device).fixed old.desk.config }) ready
-    ∙ ap (λ (f : Fixed). record (told_by device new) { configuration = old.desk.config; cap = old.desk.cap; entries = old.desk.entries ++ es; stores = map store_of old.copies; ready = old.ready; most = most_in f old.desk.config; one = not f.two }) fixed
+    ap (λ (x : DeskState). record (told_by device new) { configuration = x.config; cap = x.cap; entries = x.entries }) desk
+    ∙ ap (λ (xs : List (ℕ × List ℕ)). record (told_by device new) { configuration = old.desk.config; cap = old.desk.cap; entries = old.desk.entries ++ es; stores = xs }) stores
+    ∙ ap (λ (r : Bool). record (told_by device new) { configuration = old.desk.config; cap = old.desk.cap; entries = old.desk.entries ++ es; stores = map store_of old.copies; ready = r }) ready
+    ∙ ap (λ (f : Fixed). record (told_by device new) { configuration = old.desk.config; cap = old.desk.cap; entries = old.desk.entries ++ es; stores = map store_of old.copies; ready = old.ready; one = not f.two }) fixed
 
 -- nothing
 pub none_more : (old new : DeskState) → new ≡ old → new ≡ record old { entries = old.entries ++ [] }

@@ -80,8 +80,7 @@ turn_nears asked turned.Worked old new one turns goes way = elim turns.lowers [
   | inr rose ↦ absurd (never_at_rest asked (state_of old) one rose.0 (turns.answers rose.0).1)
 ]
 turn_nears asked turned.Picked old new one turns goes way = turns.lowers
-turn_nears asked turned.Posted old new one turns goes way = absurd (cc way)
-turn_nears asked turned.Off old new one turns goes way = absurd (cc way)
+turn_nears asked answer old new one turns goes way = absurd (cc way)
 
 abbrev pub TurnsSome : Seen → Seen → List Step → StackTold → StackTold → Type 0
 TurnsSome p q before old new = (n : ℕ) × (1 ≤ n) × MakesTurns p q n before old new × IsKept before new
@@ -218,8 +217,7 @@ pub went_off : (asked : Request) (answer : Turned) (old new : StackTold) → ans
 went_off asked turned.Off old new other ends goes = goes
 went_off asked turned.Posted old new other ends goes = absurd (other refl)
 went_off asked turned.Idle old new other ends goes = absurd goes
-went_off asked turned.Worked old new other ends goes = absurd (cc ends)
-went_off asked turned.Picked old new other ends goes = absurd (cc ends)
+went_off asked answer old new other ends goes = absurd (cc ends)
 
 -- A REQUEST OF THE GATEWAY
 

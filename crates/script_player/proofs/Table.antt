@@ -21,8 +21,7 @@ use Rattle.script_player.specs.Table.{place_of, store_asked, HasLastStores, Hold
 
 sync_by : (kind : RamKind) (n m : ℕ) → length_where_sync kind n ≡ Some m → is_synchronized kind ≡ true
 sync_by ram.Sync n m is = refl
-sync_by ram.None n m is = cc
-sync_by ram.Permanent n m is = cc
+sync_by kind n m is = cc
 
 sync_in : (o : Option BlockDesc) (n : ℕ) → option_and_then (λ b. length_where_sync b.ram b.length) o ≡ Some n → is_synchronized (unwrap_or o (plain_block 0)).ram ≡ true
 sync_in None n is = cc
@@ -103,9 +102,8 @@ first_table c = record {
 }
   where
     zeros : (n i : ℕ) → get_or {A = ℕ} (replicate {A = ℕ} n 0) i 0 ≡ 0
-    zeros zero i = refl
-    zeros (suc n) zero = refl
     zeros (suc n) (suc i) = zeros n i
+    zeros n i = refl
 
 -- what the table has holds synchronized blocks alone
 pub holds_synchronized : (c : Configuration) (before : List Step) (table : List ℕ) → HasLastStores c before table → HoldsSynchronized c table

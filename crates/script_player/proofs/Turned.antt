@@ -67,9 +67,8 @@ none_turned before t kept = record {
 -- SO MANY TURNS
 
 first_turns : (c : Configuration) (s : State) (stores : List (ℕ × List ℕ)) (es : List Entry) → IsTurn c s stores es → IsTrue (list_all is_played es) → AreTurns s 1 es
-first_turns c s stores [] turn played = record { played = played; few = omega arith; begins = turn.begins }
-first_turns c s stores (e ∷ []) turn played = record { played = played; few = omega arith; begins = turn.begins }
 first_turns c s stores (e ∷ f ∷ es) turn played = absurd turn.entry
+first_turns c s stores es turn played = record { played = played; few = omega arith; begins = turn.begins }
 
 -- a turn behind these entries
 later_turn : (old mid : StackTold) (es more : List Entry) → IsGrown es old mid → IsTurn mid.configuration (state_of mid) mid.stores more → IsTurn old.configuration (after_from old.configuration (state_of old) es) old.stores more
@@ -159,19 +158,15 @@ pub last_closes : (a : Turned) (in_hand risen : Bool) (old new : StackTold) → 
 last_closes turned.Idle in_hand risen old new turn count last none on = turn.answers.2
 last_closes turned.Off in_hand risen old new turn count last none on =
     let off : (state_of new).off ≡ true = ap (λ s. s.off) (state_grown old new turn.made.entries turn.made.grows) ∙ turn.answers in absurd (cc (off, on))
-last_closes turned.Worked true risen old new turn count last none on = absurd (cc last)
 last_closes turned.Worked false risen old new turn count last none on = absurd (none (count last))
-last_closes turned.Picked in_hand risen old new turn count last none on = absurd (cc last)
-last_closes turned.Posted in_hand risen old new turn count last none on = absurd (cc last)
+last_closes a in_hand risen old new turn count last none on = absurd (cc last)
 
 pub others_lower : (a : Turned) (in_hand risen : Bool) (old new : StackTold) → Turns a old new → in_hand ≡ is_some (state_of old).hand → (risen ≡ false → Rose old.faults new.faults → ⊥) → is_last a in_hand risen ≡ false → new.work < old.work
-others_lower turned.Idle in_hand risen old new turn hand count last = absurd (cc last)
-others_lower turned.Off in_hand risen old new turn hand count last = absurd (cc last)
 others_lower turned.Picked in_hand risen old new turn hand count last = turn.lowers
 others_lower turned.Posted in_hand risen old new turn hand count last = turn.lowers
 others_lower turned.Worked true risen old new turn hand count last = elim turn.lowers [ inl less ↦ less | inr rose ↦ absurd (some_hand (state_of old).hand rose.0 hand) ]
-others_lower turned.Worked false true old new turn hand count last = absurd (cc last)
 others_lower turned.Worked false false old new turn hand count last = elim turn.lowers [ inl less ↦ less | inr rose ↦ absurd (count refl rose.1) ]
+others_lower a in_hand risen old new turn hand count last = absurd (cc last)
 
 -- where it isn't the last one something was pending, or open at the device
 pub others_find : (a : Turned) (in_hand risen : Bool) (old new : StackTold) → Turns a old new → in_hand ≡ is_some (state_of old).hand → is_last a in_hand risen ≡ false → IsTrue (has_work (state_of old) (moment_of old))

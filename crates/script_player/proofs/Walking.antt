@@ -57,9 +57,9 @@ behind : (P : Configuration → ℕ → State → Type 0) (old mid : StackTold) 
 behind P old mid same cap is = subst (λ (n : ℕ). P old.configuration n (after old.configuration mid.entries)) cap (subst (λ (c : Configuration). P c mid.cap (after c mid.entries)) same is)
 
 -- one more step
-pub walks_on : (p q r : Seen) (made : List Step) (x : Step) (old mid new : StackTold) → mid.configuration ≡ old.configuration → mid.cap ≡ old.cap → mid.most ≡ old.most → old.faults ≤ mid.faults → IsWalking p q made old mid
+pub walks_on : (p q r : Seen) (made : List Step) (x : Step) (old mid new : StackTold) → mid.configuration ≡ old.configuration → mid.cap ≡ old.cap → old.faults ≤ mid.faults → IsWalking p q made old mid
     → IsMade q r made x mid new → cuts_in x.kind ≤ mid.causes.takes → mid.one ≡ old.one → IsWalking p r (made ++ x ∷ []) old new
-walks_on p q r made x old mid new same cap most counted walking step planned one_part = record {
+walks_on p q r made x old mid new same cap counted walking step planned one_part = record {
   marks = walking.marks;
   ops = walking.ops;
   pieces = walking.pieces ++ piece ∷ [];
@@ -236,7 +236,6 @@ pub begin : (p : Seen) (blocks : ℕ) (table : List ℕ) (t : StackTold) → IsS
 begin p blocks table t seen fresh count is = record {
   configuration = refl;
   cap = refl;
-  most = refl;
   one = refl;
   counted = omega arith;
   kept = fresh_kept t fresh;
@@ -258,14 +257,13 @@ pub walk_on : (p q r : Seen) (made : List Step) (x : Step) (table table' : List 
 walk_on p q r made x table table' old mid new way step has planned = record {
   configuration = step.configuration ∙ way.configuration;
   cap = step.cap ∙ way.cap;
-  most = step.most ∙ way.most;
   one = step.one ∙ way.one;
   counted = let a = way.counted in let b = step.counted in omega (arith, a, b);
   kept = step.kept;
   table_kept = subst (λ (c : Configuration). HasLastStores c (made ++ x ∷ []) table') (sym step.configuration) has;
   ready = way.ready;
   seen = way.seen;
-  walking = walks_on p q r made x old mid new way.configuration way.cap way.most way.counted way.walking step planned way.one;
+  walking = walks_on p q r made x old mid new way.configuration way.cap way.counted way.walking step planned way.one;
 }
 
 -- of those that are to be made

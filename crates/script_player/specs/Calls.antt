@@ -1,6 +1,5 @@
 -- What each call of a stack does.
-use Rattle.std.specs.Prelude.{◌≡◌, ◌⊎◌, ◌<◌, ◌≤◌, ◌+◌, ℕ, not, ◌&&◌, Bool, true, false, IsTrue, List, [], ◌∷◌, ◌++◌, get_or, slice_set, map, is_some, Option, Some, None, Result, Ok, Err}
-use Rattle.std.specs.List.{list_any}
+use Rattle.std.specs.Prelude.{◌≡◌, ◌⊎◌, ◌<◌, ◌≤◌, ◌+◌, ℕ, not, ◌&&◌, Bool, true, false, IsTrue, List, [], ◌∷◌, ◌++◌, get_or, slice_set, map, Option, Some, None, Result, Ok, Err}
 use Rattle.uds_gateway.specs.nv_base.Count.{Rose}
 use Rattle.uds_gateway.specs.nv_base.Entry.{ops_of, ops_behind}
 use Rattle.uds_gateway.specs.nv_desk.declared.ask.AskFault.{AskFault}
@@ -10,8 +9,6 @@ use Rattle.uds_gateway.specs.nvm_laws.declared.turned.Turned.TheVariants as turn
 use Rattle.uds_gateway.specs.nvm_laws.declared.turned.FoundAnswer.{FoundAnswer}
 use Rattle.uds_gateway.specs.nvm_laws.declared.turned.FoundAnswer.TheVariants as found
 use Rattle.uds_gateway.specs.block_machine.Words.{Instance, Mark, Request, Reply, Entry, Ask, Found}
-use Rattle.uds_gateway.specs.block_machine.State.{Job}
-use Rattle.uds_gateway.specs.block_machine.Blocks.{job_block}
 use Rattle.uds_gateway.specs.block_machine.Steps.{after_from}
 use Rattle.uds_gateway.specs.block_machine.Reply.{fits}
 use Rattle.uds_gateway.specs.ram_blocks.Copies.{next_number}
@@ -20,9 +17,7 @@ use Rattle.uds_gateway.specs.script_walks.Walk.{is_at_rest}
 use Rattle.uds_gateway.specs.script_walks.Turn.{IsTurn}
 use Rattle.uds_gateway.specs.promise_run.Run.{DueCut, Added, plan_after}
 use Rattle.uds_gateway.specs.promise_run.Refusals.{AreAsAsked, asked_by}
-use Rattle.uds_gateway.specs.promise_run.Completeness.{ends_job}
-use Rattle.uds_gateway.specs.promise_run.Turns.{is_picked}
-use Rattle.script_player.specs.Told.{StackTold, state_of, moment_of, IsWithin, IsGrown, IsNoEarlier, AreCut}
+use Rattle.script_player.specs.Told.{StackTold, state_of, moment_of, IsGrown, IsNoEarlier, AreCut}
 use Rattle.script_player.specs.Coming.{MissesNone, PlansCuts}
 
 -- CAUSES
@@ -34,28 +29,14 @@ pub record AreExplained (plan : Option DueCut) (es : List Entry) (old new : Stac
   pub off : AreCut plan 0 (map Added es) old new
   pub takes : old.causes.takes ≤ new.causes.takes
 
--- THE JOB IN HAND
-
--- of a job in hand: an entry ends it, or it stays in hand and so many turns fewer are left
-abbrev pub Nears : ℕ → List Entry → StackTold → StackTold → Type 0
-Nears turns es old new =
-    (j : Job) → (state_of old).hand ≡ Some j
-    → IsTrue (list_any (ends_job (job_block j)) es) ⊎ (IsTrue (is_some (state_of new).hand) × (new.left + turns ≤ old.left))
-
--- so many turns serve it
-pub record Serves (turns : ℕ) (es : List Entry) (old new : StackTold) : Type 0 where
-  pub nears : Nears turns es old new
-  pub within : IsWithin old → IsWithin new
-
 -- REQUESTS
 
--- one entry, which has room; a job in hand stays in hand, with the turns that were left of it
+-- one entry, which has room
 pub record AddsAsk (e : Entry) (old new : StackTold) : Type 0 where
   pub room : IsTrue (fits old.configuration old.cap (state_of old) 1)
   pub adds : new ≡ record old { entries = old.entries ++ e ∷ []; work = new.work; causes = new.causes }
   pub plan : new.causes.plan ≡ old.causes.plan
   pub explained : AreExplained old.causes.plan (e ∷ []) old new
-  pub within : IsWithin old → IsWithin new
 
 -- a request is one entry, or nothing changed: it has no room, or memory was wanting
 abbrev pub Asks : ℕ → Request → Result Reply AskFault → StackTold → StackTold → Type 0
@@ -92,8 +73,7 @@ pub record MakesOne (es : List Entry) (old new : StackTold) : Type 0 where
   pub one : new.ops ≤ old.ops + 1
   pub told : AllTell new.ops es
 
--- One turn, whatever it answered: it adds one entry at most, and makes one changing operation at most. It serves the job in
--- hand, where it counted no fault and the power is on behind it.
+-- One turn, whatever it answered: it adds one entry at most, and makes one changing operation at most.
 pub record MakesTurn (old new : StackTold) : Type 0 where
   pub entries : List Entry
   pub grows : IsGrown entries old new
@@ -101,9 +81,6 @@ pub record MakesTurn (old new : StackTold) : Type 0 where
   pub operations : MakesOne entries old new
   pub turn : IsTurn old.configuration (state_of old) old.stores entries
   pub explained : AreExplained old.causes.plan entries old new
-  -- behind a Pick its job has its turns, and the power was on
-  pub picks : IsTrue (list_any (λ e. is_picked (Some e)) entries) → IsWithin new × ((state_of old).off ≡ false)
-  pub serves : ¬ Rose old.faults new.faults → (state_of new).off ≡ false → Serves 1 entries old new
   -- with nothing pending and nothing open it has nothing to do
   pub rests : IsTrue (is_at_rest (state_of old)) → old.busy ≡ false → (entries ≡ []) × (moment_of new ≡ moment_of old)
   -- and no planned cut is missed
@@ -133,7 +110,7 @@ pub record StartsAgain (old new : StackTold) : Type 0 where
 -- one that fails adds no entry and makes no changing operation, and the stack isn't ready
 pub record FailsToStart (old new : StackTold) : Type 0 where
   pub room : ¬ StartsFull old
-  pub only : new ≡ record old { ready = false; faults = new.faults; ops = new.ops; work = new.work; left = new.left; busy = new.busy; causes = new.causes }
+  pub only : new ≡ record old { ready = false; faults = new.faults; ops = new.ops; work = new.work; busy = new.busy; causes = new.causes }
   pub operations : new.ops ≡ old.ops
   pub fault : Rose old.faults new.faults
   pub explained : AreExplained old.causes.plan [] old new

@@ -47,7 +47,6 @@ pub record IsMade (p q : Seen) (before : List Step) (x : Step) (old new : StackT
   pub piece : List Entry
   pub configuration : new.configuration ≡ old.configuration
   pub cap : new.cap ≡ old.cap
-  pub most : new.most ≡ old.most
   pub entries : new.entries ≡ old.entries ++ piece
   pub counted : old.faults ≤ new.faults
   pub is : IsPiece old.configuration before (state_of old) x piece

@@ -9,8 +9,7 @@ use Rattle.uds_gateway.specs.nvm_laws.declared.turned.FoundAnswer.{FoundAnswer}
 use Rattle.uds_gateway.specs.nvm_laws.declared.turned.FoundAnswer.TheVariants as found
 use Rattle.uds_gateway.specs.promise_run.Turns.{Move, entries_of, entry_list}
 use Rattle.uds_gateway.specs.promise_run.DeviceTurns.{HasMovesTo}
-use Rattle.uds_gateway.specs.nvm_moves.Along.{Frame}
-use Rattle.uds_gateway.specs.nvm_moves.Seen.{Seen, frame_of, moment_seen}
+use Rattle.uds_gateway.specs.nvm_moves.Seen.{Seen, moment_seen}
 use Rattle.uds_gateway.specs.nvm_moves.Beginning.{BeginsMoves}
 use Rattle.uds_gateway.specs.nvm_moves.Moved.{MovesBy}
 use Rattle.script_player.specs.Told.{StackTold, state_of, moment_of}
@@ -18,7 +17,6 @@ use Rattle.script_player.specs.Told.{StackTold, state_of, moment_of}
 -- a stack is seen as it is told
 pub record IsSeen (t : StackTold) (s : Seen) : Type 0 where
   pub between : s.begun ≡ None
-  pub frame : frame_of false s ≡ record { config = t.configuration; most = t.most; within = false }
   pub state : state_at s.desk ≡ state_of t
   pub moment : moment_seen s ≡ moment_of t
   pub uncut : t.one ≡ true → t.causes.off ≡ false → s.uncut

@@ -2,18 +2,13 @@
 use Rattle.std.specs.Prelude.{ℕ, ◌+◌, not, Bool, List, length, map, option_map, unwrap_or, if◌then◌else◌, Option, None}
 use Rattle.uds_gateway.specs.nv_base.declared.plan.Plan.{Plan}
 use Rattle.uds_gateway.specs.promise_run.Run.{DueCut}
-use Rattle.uds_gateway.specs.memif.Told.{DeviceTold, Fixed, faults_of, is_off, nothing_open}
-use Rattle.uds_gateway.specs.block_machine.Words.{Configuration}
-use Rattle.uds_gateway.specs.block_machine.State.{State, Job}
+use Rattle.uds_gateway.specs.memif.Told.{DeviceTold, faults_of, is_off, nothing_open}
 use Rattle.uds_gateway.specs.ram_blocks.declared.plain_block.PlainBlock.{PlainBlock}
 use Rattle.uds_gateway.specs.ram_blocks.Told.{Told, to_refuse_of}
 use Rattle.uds_gateway.specs.ram_blocks.Plain.{told_of, store_of}
 use Rattle.uds_gateway.specs.nv_desk.Desk.{DeskState}
 use Rattle.uds_gateway.specs.job_progress.Hand.{HandState}
 use Rattle.uds_gateway.specs.nvm_core.Stack.{StackState}
-use Rattle.uds_gateway.specs.nvm_core.Work.{left_with}
-use Rattle.uds_gateway.specs.job_progress.JobInHand.{program_for}
-use Rattle.uds_gateway.specs.nvm_figures.Left.{most_turns}
 use Rattle.uds_gateway.specs.nvm_laws.Work.{stack_work}
 use Rattle.script_player.specs.Told.{StackTold, Causes}
 
@@ -63,10 +58,6 @@ causes_in copies d = record {
   off = is_off d;
 }
 
--- the most turns of a job, by the device's figures
-abbrev pub most_in : Fixed → Configuration → State → Job → ℕ
-most_in f c s j = most_turns f (program_for c s j)
-
 -- what is told of its parts
 abbrev pub shown : DeskState → Option HandState → List PlainBlock → Bool → DeviceTold → StackTold
 shown desk hand copies ready d = record {
@@ -78,8 +69,6 @@ shown desk hand copies ready d = record {
   faults = faults_of d;
   ops = ops_in d;
   work = stack_work desk hand d;
-  left = left_with hand d;
-  most = most_in d.fixed desk.config;
   busy = not (nothing_open d);
   one = not d.fixed.two;
   causes = causes_in copies d;

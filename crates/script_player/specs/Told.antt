@@ -1,9 +1,9 @@
 -- What is told of a stack to whoever plays steps on it.
-use Rattle.std.specs.Prelude.{◌≡◌, ◌⊎◌, ◌<◌, ◌≤◌, ℕ, Bool, true, List, [], ◌∷◌, ◌++◌, Option, Some, None}
+use Rattle.std.specs.Prelude.{◌≡◌, ◌⊎◌, ◌≤◌, ℕ, Bool, true, List, [], ◌∷◌, ◌++◌, Option, Some, None}
 use Rattle.uds_gateway.specs.nv_base.Count.{last_count, WereCounted}
 use Rattle.uds_gateway.specs.nv_base.Entry.{ops_behind}
 use Rattle.uds_gateway.specs.block_machine.Words.{Entry, Off, Configuration}
-use Rattle.uds_gateway.specs.block_machine.State.{State, Job}
+use Rattle.uds_gateway.specs.block_machine.State.{State}
 use Rattle.uds_gateway.specs.block_machine.Steps.{after}
 use Rattle.uds_gateway.specs.nv_desk.Desk.{DeskState}
 use Rattle.uds_gateway.specs.promise_run.Run.{DueCut, Event, Made, Added, plan_after, CutsAre}
@@ -41,10 +41,6 @@ pub record StackTold : Type 0 where
   pub ops : ℕ
   -- a number that falls with each turn until a drain ends
   pub work : ℕ
-  -- the turns that are left, where no fault comes
-  pub left : ℕ
-  -- the most turns of a job, in a state in which it is in hand; they never change
-  pub most : State → Job → ℕ
   -- a job of the device is open, or work of its own
   pub busy : Bool
   -- its device has one part
@@ -63,14 +59,9 @@ desk_of t = record { config = t.configuration; cap = t.cap; entries = t.entries;
 abbrev pub moment_of : StackTold → Moment
 moment_of t = record { faults = t.faults; ops = t.ops; busy = t.busy }
 
--- a job in hand has a turn left, that of its Post, and no more than its most
-abbrev pub IsWithin : StackTold → Type 0
-IsWithin t = (j : Job) → (state_of t).hand ≡ Some j → (0 < t.left) × (t.left ≤ t.most (state_of t) j)
-
--- these entries more, while faults and operations may be counted, and the work, the turns that are left, what the device is
--- at and the causes change
+-- these entries more, while faults and operations may be counted, and the work, what the device is at and the causes change
 abbrev pub IsGrown : List Entry → StackTold → StackTold → Type 0
-IsGrown es old new = new ≡ record old { entries = old.entries ++ es; faults = new.faults; ops = new.ops; work = new.work; left = new.left; busy = new.busy; causes = new.causes }
+IsGrown es old new = new ≡ record old { entries = old.entries ++ es; faults = new.faults; ops = new.ops; work = new.work; busy = new.busy; causes = new.causes }
 
 -- a cut that is planned at all comes no earlier than another plan says, and lets as much be done; a count at its end tells no moment
 abbrev pub IsNoEarlier : Option DueCut → Option DueCut → Type 0

@@ -51,7 +51,6 @@ pub record IsWalking (p q : Seen) (made : List Step) (old now : StackTold) : Typ
 pub record AreUnderWay (p q : Seen) (made : List Step) (table : List ℕ) (old now : StackTold) : Type 0 where
   pub configuration : now.configuration ≡ old.configuration
   pub cap : now.cap ≡ old.cap
-  pub most : now.most ≡ old.most
   pub one : now.one ≡ old.one
   pub counted : old.faults ≤ now.faults
   pub kept : IsKept made now

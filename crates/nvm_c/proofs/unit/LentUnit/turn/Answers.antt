@@ -38,7 +38,6 @@ returns g c =
       power = new.power (same ∙ ready);
       counted = is.counted;
       lowers = is.lowers;
-      takes = is.left;
       tied = old.tied ready;
       tied_behind = new.tied (same ∙ ready);
       synchronized = old.synchronized;

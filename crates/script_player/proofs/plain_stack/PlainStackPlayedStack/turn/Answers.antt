@@ -32,7 +32,6 @@ returns-clause-turns g c =
       power = c.device-behind.ensures.power (same ∙ ready);
       counted = c.turn-turned.ensures.counted;
       lowers = c.turn-turned.ensures.lowers;
-      takes = c.turn-turned.ensures.left;
       tied = c.device-device.ensures.tied ready;
       tied_behind = c.device-behind.ensures.tied (same ∙ ready);
       synchronized = c.device-device.ensures.synchronized;
