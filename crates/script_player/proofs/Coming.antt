@@ -68,11 +68,13 @@ ask_cuts caller asked r reply old new adds one plan pending = (
 -- a turn
 off_behind : (c : Configuration) (s : State) (stores : List (ℕ × List ℕ)) (es : List Entry) → IsTurn c s stores es → s.off ≡ true → (after_from c s es).off ≡ true
 off_behind c s stores [] turn off = off
+off_behind c s stores (Ask caller r reply ∷ []) turn off = absurd turn.entry
 off_behind c s stores (Pick block kind t ops ∷ []) turn off = stays_off c s (Pick block kind t ops) refl off
 off_behind c s stores (Wrote i mark ops ∷ []) turn off = stays_off c s (Wrote i mark ops) refl off
 off_behind c s stores (Post block r given refused ops ∷ []) turn off = stays_off c s (Post block r given refused ops) refl off
 off_behind c s stores (Off ops ∷ []) turn off = stays_off c s (Off ops) refl off
-off_behind c s stores es turn off = absurd turn.entry
+off_behind c s stores (Found marks ops ∷ []) turn off = absurd turn.entry
+off_behind c s stores (e ∷ f ∷ es) turn off = absurd turn.entry
 
 pub turn_coming : (old new : StackTold) → MakesTurn old new → old.one ≡ true → (p : Planned) → IsComing p old → IsComing p new
 turn_coming old new turn one p (inl stands) = turn.cuts one p stands
