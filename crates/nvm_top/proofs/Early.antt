@@ -78,7 +78,7 @@ early_promise m c steps entry exit stop end stops ends = record {
   wear = λ tells sound. refl;
   refusals = λ id. nothing_refused m c steps id;
   off = (0, nothing_cut m steps, inl (let more = stops.cuts in omega (arith, more)));
-  power = λ alone k small off. absurd (no_operation k off.0 off.1);
+  power = λ k small off. absurd (no_operation k off.0 off.1);
   operations = λ started. absurd started;
   begins = tt;
   counted = λ e ops has is. absurd (not_there e has);

@@ -204,7 +204,7 @@ module _ (Kept : Type 0) (p q : Seen) (c : Configuration) (cuts : ℕ) (all made
       erases = λ told k unused has inside.
           let fresh : BeginsUnused r = record { tells = told; legal = legal.geometry; shared = legal.shared; unused = unused } in
           let (now, tells) = v.restarts keeps made left walked.pieces end in
-          erases_have_causes r fresh before now k (v.promise keeps told (starts_sound r fresh) made left walked.pieces end order refusals off) has tells inside;
+          erases_have_causes r fresh before now k (inl (v.promise keeps told (starts_sound r fresh) made left walked.pieces end order refusals off)) has tells inside;
     };
   }
 

@@ -321,7 +321,7 @@ keeps_run c steps end h inner exit entry d back w values size = record {
   erases = λ told k unused has inside.
       let begins : BeginsUnused r = record { tells = told; legal = w.legal.geometry; shared = w.legal.shared; unused = unused } in
       erases_have_causes r begins (part_at entry) (told_of d) k
-      (callers_keep_promise (told_clock d) r steps w.looks (one_part (part_at entry)) (told_of d) (callers (bridge.slots told (sound_starts_compute (making_of c) r.flash (starts_sound r begins)))) w.came bridge back.wear) has
+      (inl (callers_keep_promise (told_clock d) r steps w.looks (one_part (part_at entry)) (told_of d) (callers (bridge.slots told (sound_starts_compute (making_of c) r.flash (starts_sound r begins)))) w.came bridge back.wear)) has
       (record { none = refl; restarts = back.restarts; starts = w.starts; faults = back.bridges.faults }) inside;
 }
   where

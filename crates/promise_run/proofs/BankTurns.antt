@@ -14,25 +14,30 @@ use Rattle.script_walks.specs.Runs.{is_found}
 use Rattle.promise_device.specs.Image.{attached, IsSoundFlash}
 use Rattle.promise_device.specs.FlashRun.{IsChain, StartsSound}
 use Rattle.promise_device.specs.Making.{Making}
-use Rattle.promise_device.specs.Wear.{is_failed, are_due}
+use Rattle.promise_device.specs.Wear.{OperationsAreDue, is_failed, are_due}
 use Rattle.promise_device.specs.Generations.{bank_of_generation, generation_of}
 use Rattle.promise_device.specs.SwitchErases.{one_if, seals, erases_first, begun_again, RestartsAreFew}
 use Rattle.promise_device.proofs.Generations.{banks_take_turns, first_erases_are_few}
-use Rattle.promise_run.specs.Beside.{Beside}
 use Rattle.promise_run.specs.Run.{Run}
-use Rattle.promise_run.specs.Promise.{Promise, making_of, OperationsAre}
+use Rattle.promise_run.specs.Promise.{making_of}
+use Rattle.promise_run.specs.TwoFlashes.{PromiseOfEither}
 use Rattle.promise_run.specs.BankTurns.{BeginsUnused, RunsTakeTurns, RunsEraseFew, TellsRestarts, HasCausedErases, ErasesHaveCauses}
 
-module _ (r : Run) (begins : BeginsUnused r) (promise : Promise r) (started : HasStarted r.history) where
-  chain_by : (o : Option Beside) → OperationsAre r o → IsChain (attached r.configuration.geometry begins.tells.first) r.flash.operations begins.tells.last
-  chain_by None are = are.chain begins.tells
-  chain_by (Some b) are = are.3.chain begins.tells
-
+module _ (r : Run) (begins : BeginsUnused r) (promise : PromiseOfEither r) (started : HasStarted r.history) where
   chain : IsChain (attached r.configuration.geometry begins.tells.first) r.flash.operations begins.tells.last
-  chain = chain_by r.beside (promise.operations started)
+  chain = elim promise [
+    | inl one ↦ (one.operations started).chain begins.tells
+    | inr (b, both) ↦ (both.operations started).3.chain begins.tells
+  ]
+
+  wear : OperationsAreDue (making_of r.configuration) r.flash
+  wear = elim promise [
+    | inl one ↦ one.wear
+    | inr (b, both) ↦ both.wear
+  ]
 
   due : IsTrue (are_due (making_of r.configuration) [] r.flash.operations)
-  due = promise.wear begins.tells (subst (λ (o : Option (List ℕ)). IfSome o (IsSoundFlash (making_of r.configuration))) (sym begins.tells.entry) begins.unused.sound)
+  due = wear begins.tells (subst (λ (o : Option (List ℕ)). IfSome o (IsSoundFlash (making_of r.configuration))) (sym begins.tells.entry) begins.unused.sound)
 
 pub runs_take_turns : RunsTakeTurns
 runs_take_turns r begins promise started =
@@ -115,7 +120,7 @@ founds_are (e ∷ h) =
 none_erased : (m : Making) (k : ℕ) (operations : List Change) → operations ≡ [] → count_by (λ x. erases_first m k x.op) operations ≡ 0
 none_erased m k operations none = rw none refl
 
-module _ (r : Run) (begins : BeginsUnused r) (before : PartTold) (now : DeviceTold) (k : ℕ) (promise : Promise r) (started : HasStarted r.history) (tells : TellsRestarts r before now) (inside : k < (making_of r.configuration).banks) where
+module _ (r : Run) (begins : BeginsUnused r) (before : PartTold) (now : DeviceTold) (k : ℕ) (promise : PromiseOfEither r) (started : HasStarted r.history) (tells : TellsRestarts r before now) (inside : k < (making_of r.configuration).banks) where
   abbrev m : Making
   m = making_of r.configuration
 

@@ -73,7 +73,7 @@ both_told None P Q R more p q = tt
 
 -- THE MARKS
 lists : (r : Run) (before : Part → PartTold) (now : DeviceTold) (clock : Clock) → BlockHalf (alone r) before now clock → DeviceHalf r (before First) now (beyond_end clock)
-    → TellsBytes r.flash → StartsSound (making_of r.configuration) r.flash → StartUpsFind (alone r) None
+    → TellsBytes r.flash → StartsSound (making_of r.configuration) r.flash → StartUpsFind (alone r)
 lists r before now clock block device tells sound marks ops has small =
     let c = r.configuration in
     let least : min (length r.flash.operations) last_count ≤ length r.flash.operations = omega arith in
@@ -112,7 +112,7 @@ begins_well clock r before now early device tells = record {
 cuts_count : (r : Run) (before : Part → PartTold) (now : DeviceTold) (clock : Clock) → BlockHalf (alone r) before now clock → DeviceHalf r (before First) now (beyond_end clock)
     → TellsBytes r.flash → StartsSound (making_of r.configuration) r.flash
     → ((k : ℕ) (image : List ℕ) → k < last_count → IsCutImage r.flash k image → clock.may_find (CutIn k) (held_in (making_of r.configuration) image))
-    → CutsCount (alone r) None
+    → CutsCount (alone r)
 cuts_count r before now clock block device tells sound cuts k ops image small cut last =
     let c = r.configuration in
     let within : k < length r.flash.operations = one_of k r.flash.operations cut.0 cut.1 in
@@ -141,7 +141,7 @@ of_one clock r before now block device wear = record {
   wear = wear;
   refusals = block.refusals;
   off = (block.off.0, block.off.1, device.cuts block.off.0 block.off.2);
-  power = λ alone k small off. told_within k small (device.went_off k small off);
+  power = λ k small off. told_within k small (device.went_off k small off);
   operations = λ started. subst (AreOperations r.configuration.geometry r.flash (MayBeKept r)) block.came (record {
     told_alike = device.operations.told_alike;
     chain = device.operations.chain;

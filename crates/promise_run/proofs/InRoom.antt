@@ -13,7 +13,7 @@ use Rattle.promise_blocks.specs.OverDevice.{HasStarted, BeginsBefore}
 use Rattle.promise_device.specs.FlashRun.{FlashRun, TellsOperations, HasRoom, IsCutImage}
 use Rattle.promise_run.specs.Beside.{Beside}
 use Rattle.promise_run.specs.InRoom.{RoomSuffices, MadeFewTurns, TurnsMakeFew, turns_of, is_drain}
-use Rattle.promise_run.specs.Promise.{Promise, CutsKeep, CutsCount, OperationsAre}
+use Rattle.promise_run.specs.Promise.{Promise}
 use Rattle.promise_run.specs.Run.{Run, Course, Played, HasOrder, LeavesFlashes}
 use Rattle.promise_run.specs.Turns.{Moment, Move, moment_behind, moment_after, AreTurnsMade, AreMovesOf, AreMoves, BeginsAt, KeepsTurns}
 
@@ -32,7 +32,7 @@ told_by : (r : Run) (h : List Entry) → r.history ≡ h → r.beside ≡ None �
 told_by r [] is alone p room = inl (none_made r (subst (HasOrder r) is p.order) alone)
 told_by r (e ∷ es) is alone p room =
     let started : HasStarted r.history = subst HasStarted (sym is) tt in
-    inr ((subst (OperationsAre r) alone (p.operations started)).told room)
+    inr ((p.operations started).told room)
 
 pub room_suffices : RoomSuffices
 room_suffices r alone p room sound = elim (told_by r r.history refl alone p room) [
@@ -40,7 +40,7 @@ room_suffices r alone p room sound = elim (told_by r r.history refl alone p room
     keep = λ k image small cut. absurd (no_cut r.flash k image none cut);
     count = λ k ops image small cut last. absurd (no_cut r.flash k image none cut);
   }
-  | inr told ↦ record { keep = subst (CutsKeep r) alone (p.power_cut told sound); count = subst (CutsCount r) alone (p.counts told sound) }
+  | inr told ↦ record { keep = p.power_cut told sound; count = p.counts told sound }
 ]
 
 -- TURNS

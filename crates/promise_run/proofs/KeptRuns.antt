@@ -146,7 +146,7 @@ taken_counts : (image : List ℕ) → ((n : ℕ) → counts_by small image n ≡
 taken_counts image none nothing = each (λ x. MayCountIn (instance_at (after small taken) (instance_of x.0)) (count_due taken (counts_by small blank) x.0.0) (counts_by small image x.0.0))
     (inl (none 64 ∙ sym (ap (more_writes 0) (nothing 64)))) (inl (none 65 ∙ sym (ap (more_writes 0) (nothing 65)))) (inl (none 128 ∙ sym (ap (more_writes 0) (nothing 128))))
 
-cuts_count : NoActiveComputes → TornErasesMakeNoBank → TornErasesSetBits → BlankIsSound → BlankHasErased → CutsCount kept_write kept_write.beside
+cuts_count : NoActiveComputes → TornErasesMakeNoBank → TornErasesSetBits → BlankIsSound → BlankHasErased → CutsCount kept_write
 cuts_count computes makes bits sound erased zero ops image small_k (x, at, may) last =
     let same : record { op = Erase 0 160; before = blank; answer = FlashOff } ≡ x = some_change _ x at in
     let grown = bits 0 160 blank image (subst (λ (y : Change). MayLeave y.op y.before image) (sym same) may) in
@@ -173,7 +173,7 @@ founds = every FindsNothing whole
 lists_nothing : BlankHasErased → (marks : List (Instance × Mark)) → marks ≡ [] → Lists small marks (found_by small blank)
 lists_nothing erased marks none x has = ap (λ (ms : List (Instance × Mark)). listed_mark ms (instance_of x.0)) none ∙ sym (blank_found erased x.0.0)
 
-start_ups_find : BlankHasErased → StartUpsFind kept_write kept_write.beside
+start_ups_find : BlankHasErased → StartUpsFind kept_write
 start_ups_find erased marks zero has few = lists_nothing erased marks (founds (Found marks zero) has marks zero refl)
 start_ups_find erased marks (suc ops) has few = lists_nothing erased marks (founds (Found marks (suc ops)) has marks (suc ops) refl)
 
@@ -225,7 +225,7 @@ write_keeps computes makes stays bits sound erased = record {
   wear = λ told from. refl;
   refusals = no_refusals;
   off = (0, inl (_, [], refl, inl (omega arith), refl, (refl, refl)), inl (omega arith));
-  power = λ alone. all_told;
+  power = all_told;
   operations = λ started. record {
     told_alike = tt;
     chain = λ t. chains t.first t.last (some_list [] t.first t.entry) (some_list blank t.last t.exit);

@@ -44,7 +44,7 @@ founds = every FindsNothing whole
 lists : Lists small [] (found_by small (begun 0))
 lists = each (λ x. Erased ≡ found_by small (begun 0) x.0.0) refl refl refl
 
-pub start_ups_find : StartUpsFind lost_write lost_write.beside
+pub start_ups_find : StartUpsFind lost_write
 start_ups_find marks zero has few = subst (λ (ms : List (Instance × Mark)). Lists small ms (found_by small (begun 0))) (sym (founds (Found marks zero) has marks zero refl).0) lists
 start_ups_find marks (suc ops) has few = let none : suc ops ≡ 0 = (founds (Found marks (suc ops)) has marks (suc ops) refl).1 in absurd (omega (arith, none))
 
@@ -127,7 +127,7 @@ begins_well = record {
   legal = let all = is_legal in (all.0, (all.1.0, (all.1.1.0, tt)));
 }
 
-pub is_paid : FailuresArePaid lost_write lost_write.beside
+pub is_paid : FailuresArePaid lost_write
 is_paid = record { faults = 0; counted = inl (omega arith); pay = inl (omega arith, inl (omega arith, inl (omega arith, inl (omega arith, inl (omega arith, tt))))) }
 
 pub no_refusals : (id : ℕ) → RefusesAsAsked small lost_write.course whole id

@@ -13,12 +13,13 @@ use Rattle.promise_device.specs.Image.{attached, held_in}
 use Rattle.promise_device.specs.FlashRun.{IsCutImage, bytes_after}
 use Rattle.promise_run.specs.Refusals.{RefusesAsAsked}
 use Rattle.promise_run.specs.Beside.{Beside, AreCutImages, is_beside, ops_of}
-use Rattle.promise_run.specs.Promise.{KeepBoth, OperationsAre, Promise, held_both, making_of}
-use Rattle.promise_run.specs.Cases.{blank, holds_block_2, one, quiet, quiet_beside, small, two, unchanged}
+use Rattle.promise_run.specs.Promise.{making_of}
+use Rattle.promise_run.specs.TwoFlashes.{KeepBoth, OperationsAreBoth, PromiseOfBoth, held_both}
+use Rattle.promise_run.specs.Cases.{blank, one, quiet, quiet_beside, second_of, small, two}
 use Rattle.promise_run.proofs.KeptRuns.{Stands, at_most, blank_found, each, keeps_erased, some_changes, some_list, tells}
 
 abbrev second : Beside
-second = holds_block_2 (unchanged one one)
+second = second_of one one
 
 abbrev h : List Entry
 h = quiet.history
@@ -61,8 +62,9 @@ exit_keeps sound erased = record {
 none_refused : (id : ℕ) → RefusesAsAsked small quiet.course h id
 none_refused id = (0, refl)
 
-pub both_keep : BlankIsSound → BlankHasErased → Promise (quiet_beside one one)
+pub both_keep : BlankIsSound → BlankHasErased → PromiseOfBoth (quiet_beside one one) (second_of one one)
 both_keep sound erased = record {
+  beside = refl;
   order = ((refl, tt), tt, refl);
   power_cut = λ told from too begins k image other few cut. absurd (none_cut k image other cut);
   counts = λ told from too begins k ops image other few cut last. absurd (none_cut k image other cut);
@@ -73,7 +75,6 @@ both_keep sound erased = record {
   wear = λ told from. refl;
   refusals = none_refused;
   off = (0, (refl, refl), inl (omega arith));
-  power = λ alone. absurd (cc alone);
   operations = λ started. (
     [],
     [],
@@ -98,5 +99,5 @@ both_keep sound erased = record {
 }
 
 -- its bytes changed, and no operation changed them
-pub not_changed : OperationsAre (quiet_beside one two) (quiet_beside one two).beside → ⊥
+pub not_changed : OperationsAreBoth (quiet_beside one two) (second_of one two) → ⊥
 not_changed are = let same : two ≡ one = are.4.chain (record { first = one; entry = refl; last = two; exit = refl }) in cc same

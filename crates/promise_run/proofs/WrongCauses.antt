@@ -144,10 +144,10 @@ unpaid worn ops n is never (inl (p0, inl (p1, inl (p2, inr ((j, hand, some, was)
     never was.moment was.index was.by_then (instance_is j was.index hand was.failed)
     (subst (λ (b : Bool). worn was.moment (number_of (record { block = 2; index = was.index })) b) (sym standard) was.is)
 
-pub no_worn_but_roomy : FailuresArePaid worn_but_roomy worn_but_roomy.beside → ⊥
+pub no_worn_but_roomy : FailuresArePaid worn_but_roomy → ⊥
 no_worn_but_roomy paid = unpaid _ 0 paid.faults (few_counted paid.faults 1 (omega arith) paid.counted) not_worn paid.pay
 
-pub no_worn_long_ago : FailuresArePaid worn_long_ago worn_long_ago.beside → ⊥
+pub no_worn_long_ago : FailuresArePaid worn_long_ago → ⊥
 no_worn_long_ago paid = unpaid _ 2 paid.faults (few_counted paid.faults 1 (omega arith) paid.counted) not_worn_long_ago paid.pay
 
 -- THE PAGES THAT ARE KEPT
@@ -207,11 +207,11 @@ unpaid_at_once worn n is never (inl (p0, inl (p1, inl (p2, inr ((j, hand, some, 
     never was.moment was.index was.by_then (kept_instance j was.index hand was.failed)
     (subst (λ (b : Bool). worn was.moment (number_of (record { block = 2; index = was.index })) b) (sym immediate) was.is)
 
-pub no_worn_but_kept : FailuresArePaid (worn_but_kept 0) (worn_but_kept 0).beside → ⊥
+pub no_worn_but_kept : FailuresArePaid (worn_but_kept 0) → ⊥
 no_worn_but_kept paid = unpaid_at_once _ paid.faults (few_counted paid.faults 1 (omega arith) paid.counted) not_worn_for_it paid.pay
 
 -- a standard write's has none
-pub kept_is_worn : FailuresArePaid (worn_but_kept 1) (worn_but_kept 1).beside
+pub kept_is_worn : FailuresArePaid (worn_but_kept 1)
 kept_is_worn = record {
   faults = 0;
   counted = inl (omega arith);
@@ -241,7 +241,7 @@ kept_is_worn = record {
   );
 }
 
-pub full_is_worn : FailuresArePaid worn_and_full worn_and_full.beside
+pub full_is_worn : FailuresArePaid worn_and_full
 full_is_worn = record {
   faults = 0;
   counted = inl (omega arith);

@@ -19,7 +19,7 @@ use Rattle.promise_run.specs.Cases.{BreaksBy, small, blank, begun, operations, m
 from_blank : (f : FlashRun) (last : List ℕ) → bytes_now f.entry ≡ Some [] → bytes_now f.exit ≡ Some last → TellsBytes f
 from_blank f last entry exit = record { first = []; entry = entry; last = last; exit = exit }
 
-no_made_up_mark : BlankHasErased → StartUpsFind made_up_mark made_up_mark.beside → ⊥
+no_made_up_mark : BlankHasErased → StartUpsFind made_up_mark → ⊥
 no_made_up_mark erased finds =
     let listed = finds _ 0 (0, omega arith, refl) (omega arith) (record { 0 = 128 }, 4) (2, omega arith, refl) in
     let none : found_by small blank 128 ≡ Erased = ap (λ (h : Held). h.mark) (erased (banks_of (making_of small)) 320 128 4) in
@@ -31,7 +31,7 @@ made_up_early erased well =
     let none : found_by small blank 128 ≡ Erased = ap (λ (h : Held). h.mark) (erased (banks_of (making_of small)) 320 128 4) in
     cc (listed ∙ none)
 
-pub made_up_mark_breaks : BlankIsSound → BlankHasErased → BreaksBy made_up_mark (StartUpsFind made_up_mark made_up_mark.beside)
+pub made_up_mark_breaks : BlankIsSound → BlankHasErased → BreaksBy made_up_mark (StartUpsFind made_up_mark)
 made_up_mark_breaks sound erased = (λ p. p.found (from_blank made_up_mark.flash blank refl refl) (sound (banks_of (making_of small)) 320), no_made_up_mark erased)
 
 pub only_zero : (n : ℕ) → Contains (0 ∷ []) n → n ≡ 0
@@ -39,7 +39,7 @@ only_zero n (zero, few, is) = sym is
 only_zero n (suc k, few, is) = omega (arith, few)
 
 -- no Pick took it for dataset 1
-no_other_dataset : ExitKeeps other_dataset other_dataset.beside → ⊥
+no_other_dataset : ExitKeeps other_dataset → ⊥
 no_other_dataset exit =
     let keeps = exit tt (omega arith) in
     elim (keeps.marks.accepted (record { 0 = 129 }, 4) (3, omega arith, refl)).brought [
@@ -49,7 +49,7 @@ no_other_dataset exit =
       | inr (inr (inr none)) ↦ none
     ]
 
-pub other_dataset_breaks : BlankIsSound → BreaksBy other_dataset (ExitKeeps other_dataset other_dataset.beside)
+pub other_dataset_breaks : BlankIsSound → BreaksBy other_dataset (ExitKeeps other_dataset)
 other_dataset_breaks sound = (λ p. p.at_exit (from_blank other_dataset.flash _ refl refl) (sound (banks_of (making_of small)) 320), no_other_dataset)
 
 first_of : (a b : Bool) → IsTrue (a && b) → IsTrue a
@@ -72,7 +72,7 @@ written = begun 4
 abbrev torn : List ℕ
 torn = take 128 written ++ gate_page 16 ++ drop 144 written
 
-no_lost_write : CutsKeep lost_write lost_write.beside → ⊥
+no_lost_write : CutsKeep lost_write → ⊥
 no_lost_write cuts =
     let keeps = cuts 4 torn (omega arith)
     (_, refl, (record { size = refl; front = refl; back = refl }, λ were. bytes_of torn refl)) in
@@ -81,7 +81,7 @@ no_lost_write cuts =
       | inr (k, few, is) ↦ omega (arith, few)
     ]
 
-pub lost_write_breaks : SoundImagesCompute → BreaksBy lost_write (CutsKeep lost_write lost_write.beside)
+pub lost_write_breaks : SoundImagesCompute → BreaksBy lost_write (CutsKeep lost_write)
 lost_write_breaks computes = (
   λ p. p.power_cut (record { bytes = record { first = begun 0; entry = refl; last = begun 4; exit = refl }; changes = operations; told = refl })
       ((computes (banks_of (making_of small)) (begun 0)).0 refl),
@@ -89,7 +89,7 @@ lost_write_breaks computes = (
 )
 
 -- nor is it counted there
-no_lost_count : CutsCount lost_write lost_write.beside → ⊥
+no_lost_count : CutsCount lost_write → ⊥
 no_lost_count counts =
     let keeps : KeepsCounts small (up_to 4 lost_write.history) (counts_by small (begun 0)) (counts_by small torn) = counts 4 0 torn (omega arith)
     (_, refl, (record { size = refl; front = refl; back = refl }, λ were. bytes_of torn refl)) refl in
@@ -98,7 +98,7 @@ no_lost_count counts =
       | inr (is, since) ↦ cc is
     ]
 
-pub lost_count_breaks : SoundImagesCompute → BreaksBy lost_write (CutsCount lost_write lost_write.beside)
+pub lost_count_breaks : SoundImagesCompute → BreaksBy lost_write (CutsCount lost_write)
 lost_count_breaks computes = (
   λ p. p.counts (record { bytes = record { first = begun 0; entry = refl; last = begun 4; exit = refl }; changes = operations; told = refl })
       ((computes (banks_of (making_of small)) (begun 0)).0 refl),

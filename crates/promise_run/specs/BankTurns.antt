@@ -12,7 +12,8 @@ use Rattle.promise_device.specs.Wear.{is_failed}
 use Rattle.promise_device.specs.Generations.{generation_of, TakeTurns, IsUnused}
 use Rattle.promise_device.specs.SwitchErases.{seals, erases_first, begun_again, RestartsAreFew}
 use Rattle.promise_run.specs.Run.{Run}
-use Rattle.promise_run.specs.Promise.{Promise, making_of}
+use Rattle.promise_run.specs.Promise.{making_of}
+use Rattle.promise_run.specs.TwoFlashes.{PromiseOfEither}
 
 -- the flash tells its bytes, and no bank stood in them when it was attached, as in a blank one
 pub record BeginsUnused (r : Run) : Type 0 where
@@ -23,12 +24,12 @@ pub record BeginsUnused (r : Run) : Type 0 where
 
 -- then each bank that stands at the exit has a generation in its turn, and the head of each generation was made once on its bank
 abbrev pub RunsTakeTurns : Type 0
-RunsTakeTurns = (r : Run) (begins : BeginsUnused r) → Promise r → HasStarted r.history → TakeTurns (making_of r.configuration) r.flash.operations begins.tells.last
+RunsTakeTurns = (r : Run) (begins : BeginsUnused r) → PromiseOfEither r → HasStarted r.history → TakeTurns (making_of r.configuration) r.flash.operations begins.tells.last
 
 -- and the first sector of a bank was erased as often as the bank's turn came, but for failures and start-ups
 abbrev pub RunsEraseFew : Type 0
 RunsEraseFew =
-    (r : Run) (begins : BeginsUnused r) (k : ℕ) → Promise r → HasStarted r.history → k < (making_of r.configuration).banks
+    (r : Run) (begins : BeginsUnused r) (k : ℕ) → PromiseOfEither r → HasStarted r.history → k < (making_of r.configuration).banks
     → let m = making_of r.configuration in
     count_by (λ x. erases_first m k x.op) r.flash.operations
     ≤ seals m.banks k (generation_of m begins.tells.last) + 1 + count_by (λ x. is_failed x.answer) r.flash.operations + begun_again m false r.flash.operations
@@ -51,5 +52,5 @@ pub record HasCausedErases (r : Run) (tells : TellsBytes r.flash) (k : ℕ) : Ty
 
 abbrev pub ErasesHaveCauses : Type 0
 ErasesHaveCauses =
-    (r : Run) (begins : BeginsUnused r) (before : PartTold) (now : DeviceTold) (k : ℕ) → Promise r → HasStarted r.history → TellsRestarts r before now
+    (r : Run) (begins : BeginsUnused r) (before : PartTold) (now : DeviceTold) (k : ℕ) → PromiseOfEither r → HasStarted r.history → TellsRestarts r before now
     → k < (making_of r.configuration).banks → HasCausedErases r begins.tells k

@@ -24,6 +24,7 @@ use Rattle.promise_device.specs.FlashRun.{FlashRun, HasFailed}
 use Rattle.promise_run.specs.Beside.{Beside}
 use Rattle.promise_run.specs.Call.{Call}
 use Rattle.promise_run.specs.Promise.{Promise}
+use Rattle.promise_run.specs.TwoFlashes.{PromiseOfBoth}
 use Rattle.promise_run.specs.BankTurns.{HasCausedErases}
 use Rattle.promise_run.specs.Turns.{Moment, Move, EndsCanceled, StaysAtRest, ClosesAtDrains, FindWorkAtDrains, CountFailed, ArePaidSince, BeginWhatIsDue}
 use Rattle.block_machine.specs.Steps.{after}
@@ -103,9 +104,17 @@ holds_block_2 flash = record {
   blocks = λ block. block == 2;
 }
 
--- a start-up on both flashes, the second one with these bytes before and behind the run
+-- with these bytes before and behind the run
+abbrev pub second_of : List ℕ → List ℕ → Beside
+second_of before after = holds_block_2 (unchanged before after)
+
+-- a start-up on both flashes
 abbrev pub quiet_beside : List ℕ → List ℕ → Run
-quiet_beside before after = record quiet { beside = Some (holds_block_2 (unchanged before after)) }
+quiet_beside before after = record quiet { beside = Some (second_of before after) }
+
+-- the promise over both says this of a run, and it doesn't hold
+abbrev pub BothBreakBy : Run → Beside → Type 0 → Type 0
+BothBreakBy r b P = (PromiseOfBoth r b → P) × (P → ⊥)
 
 -- the image is wiped, and memory is wanting before a start-up
 abbrev pub wiped : Run

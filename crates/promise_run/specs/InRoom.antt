@@ -11,8 +11,8 @@ use Rattle.promise_run.specs.Turns.{KeepsTurns}
 
 -- each image that a power cut before or within any operation may leave keeps to the history up to then, with its counts
 pub record CutsLeave (r : Run) : Type 0 where
-  pub keep : CutsKeep r None
-  pub count : CutsCount r None
+  pub keep : CutsKeep r
+  pub count : CutsCount r
 
 -- Such room suffices for it: nothing need be known of what the flash tells at the exit but that it tells its bytes.
 abbrev pub RoomSuffices : Type 0

@@ -3,6 +3,7 @@ pub mod Run
 pub mod Refusals
 pub mod RefusalLaws
 pub mod Promise
+pub mod TwoFlashes
 pub mod Halves
 pub mod Life
 pub mod Call

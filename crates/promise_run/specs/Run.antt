@@ -1,6 +1,5 @@
 -- One run of the program, from the attach of its flash on, and how it follows its script.
 use Rattle.std.specs.Prelude.{◌≡◌, ◌⊎◌, ◌<◌, ◌≤◌, ◌+◌, ℕ, zero, suc, not, Bool, true, false, IsTrue, List, [], ◌∷◌, ◌++◌, map, take, Option, Some, None}
-use Rattle.std.specs.Option.{option_map_or}
 use Rattle.block_machine.specs.nv_base.Count.{last_count, Rose, WereCounted}
 use Rattle.block_machine.specs.nv_base.declared.geometry.Geometry.{Geometry}
 use Rattle.block_machine.specs.nv_base.Entry.{ops_behind}
@@ -52,13 +51,7 @@ pub record Run : Type 0 where
 abbrev pub alone : Run → Run
 alone r = record r { beside = None }
 
--- BOTH FLASHES
-
--- a count of a flash, or its sum over both
-abbrev pub of_flashes : (FlashRun → ℕ) → Run → ℕ
-of_flashes count r = option_map_or (λ b. count r.flash + count b.flash) r.beside (count r.flash)
-
--- a fault of one of them was counted
+-- a fault of one of both flashes was counted
 abbrev pub FaultWasCounted : FlashRun → Option Beside → Type 0
 FaultWasCounted f None = Rose f.entry.faults f.exit.faults
 FaultWasCounted f (Some b) = Rose f.entry.faults f.exit.faults ⊎ Rose b.flash.entry.faults b.flash.exit.faults

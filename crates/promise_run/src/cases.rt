@@ -10,13 +10,14 @@ ghost use Rattle.promise_run.specs.Run.{cap, HasOrder, CutsExplain};
 ghost use Rattle.promise_run.specs.Refusals.{RefusesAsAsked};
 ghost use Rattle.promise_device.specs.Wear.{OperationsAreDue};
 ghost use Rattle.promise_run.specs.Promise.{making_of, BeginsWell, OperationsAre, Promise, StartUpsFind, CutsCount, CutsKeep, ExitKeeps, FailuresArePaid, MayBeKept};
+ghost use Rattle.promise_run.specs.TwoFlashes.{OperationsAreBoth, PromiseOfBoth};
 ghost use Rattle.promise_run.specs.Call.{IsRunOf, text_of};
 ghost use Rattle.promise_run.specs.Completeness.{Completeness};
 ghost use Rattle.script_walks.specs.Words.{AskStep, Restart};
 ghost use Rattle.block_machine.specs.Words.{Status, Fine, Canceled, BlockSkipped, Post};
 ghost use Rattle.promise_run.specs.Run.{FlashFault, HistoryFull};
 ghost use Rattle.promise_run.specs.Turns.{BeginsAt, EndsBy, KeepsTurns};
-ghost use Rattle.promise_run.specs.Cases.{ahead, six_beside, six_turns, lazy, leaps, at_faults, faulty, PassesBy, PaysFailed, CountsFailed, HadRoomAt, LeftAt, LeftOf, DrainsTo, TurnsOn, WorksAt, EndsWith, mended, posts_on_credit, starts_on_credit, untold, BreaksBy, small, one, two, quiet, quiet_beside, wiped, empty_at_11, made_up_mark, off_without_a_cut, cut_within, cut_twice, stale_in_play, invented_store, second_found, other_dataset, worn_but_roomy, worn_but_kept, worn_and_full, kept_write, lost_write, two_callers, written_at, always, turned, not_drained, fails_for_nothing, ends_for_nothing, demo_run, demo_call, untold_write, unseen_stale, later_store, full_for_nothing, not_served, worn_long_ago, cut_comes, cut_missed, last_in_two, erased_with_room, erased_when_full, erased_beside_last, off_untold, programmed_over};
+ghost use Rattle.promise_run.specs.Cases.{ahead, six_beside, six_turns, lazy, leaps, at_faults, faulty, PassesBy, PaysFailed, CountsFailed, HadRoomAt, LeftAt, LeftOf, DrainsTo, TurnsOn, WorksAt, EndsWith, mended, posts_on_credit, starts_on_credit, untold, BothBreakBy, BreaksBy, small, one, two, quiet, quiet_beside, second_of, wiped, empty_at_11, made_up_mark, off_without_a_cut, cut_within, cut_twice, stale_in_play, invented_store, second_found, other_dataset, worn_but_roomy, worn_but_kept, worn_and_full, kept_write, lost_write, two_callers, written_at, always, turned, not_drained, fails_for_nothing, ends_for_nothing, demo_run, demo_call, untold_write, unseen_stale, later_store, full_for_nothing, not_served, worn_long_ago, cut_comes, cut_missed, last_in_two, erased_with_room, erased_when_full, erased_beside_last, off_untold, programmed_over};
 
 /// A start-up alone keeps it, and so do a write that a cut breaks off with a restart behind it, and the requests of two
 /// callers.
@@ -30,8 +31,8 @@ pub fn runs_that_keep_it()
 /// A start-up alone over two flashes keeps it. Where the bytes of the second one change without an operation, they aren't those
 /// of its operations.
 pub fn runs_over_two_flashes()
-    ensures keeps { Promise (quiet_beside one one) }
-    ensures changes { BreaksBy (quiet_beside one two) (OperationsAre (quiet_beside one two) (quiet_beside one two).beside) }
+    ensures keeps { PromiseOfBoth (quiet_beside one one) (second_of one one) }
+    ensures changes { BothBreakBy (quiet_beside one two) (second_of one two) (OperationsAreBoth (quiet_beside one two) (second_of one two)) }
 {}
 
 /// A run that wipes the flash or ends with a full history before a start-up breaks it by its order, and so does one that
@@ -66,9 +67,9 @@ pub fn full_histories_end()
 /// A start-up that lists what was never written breaks it by what start-ups find, and an image that holds a mark in another
 /// dataset than the one that was written by what the exit keeps.
 pub fn wrong_marks_break_it()
-    ensures made_up_mark { BreaksBy made_up_mark (StartUpsFind made_up_mark made_up_mark.beside) }
+    ensures made_up_mark { BreaksBy made_up_mark (StartUpsFind made_up_mark) }
     ensures made_up_early { BeginsWell made_up_mark → ⊥ }
-    ensures other_dataset { BreaksBy other_dataset (ExitKeeps other_dataset other_dataset.beside) }
+    ensures other_dataset { BreaksBy other_dataset (ExitKeeps other_dataset) }
 {}
 
 /// A power cut that nothing brought breaks it by its cuts, and so does one of which fewer bytes were done than the step said, one
@@ -82,11 +83,11 @@ pub fn wrong_causes_break_it()
     ensures let_16_done { CutsExplain (cut_within 1 16).course (cut_within 1 16).history (16 ∷ []) 0 0 }
     ensures cut_too_soon { BreaksBy (cut_within 2 16) (CutsExplain (cut_within 2 16).course (cut_within 2 16).history (16 ∷ []) 0 0) }
     ensures cut_twice { BreaksBy cut_twice (CutsExplain cut_twice.course cut_twice.history (16 ∷ 16 ∷ []) 0 0) }
-    ensures worn_but_roomy { BreaksBy worn_but_roomy (FailuresArePaid worn_but_roomy worn_but_roomy.beside) }
-    ensures worn_long_ago { BreaksBy worn_long_ago (FailuresArePaid worn_long_ago worn_long_ago.beside) }
-    ensures immediate_but_kept { BreaksBy (worn_but_kept 0) (FailuresArePaid (worn_but_kept 0) (worn_but_kept 0).beside) }
-    ensures worn_and_full { FailuresArePaid worn_and_full worn_and_full.beside }
-    ensures standard_but_kept { FailuresArePaid (worn_but_kept 1) (worn_but_kept 1).beside }
+    ensures worn_but_roomy { BreaksBy worn_but_roomy (FailuresArePaid worn_but_roomy) }
+    ensures worn_long_ago { BreaksBy worn_long_ago (FailuresArePaid worn_long_ago) }
+    ensures immediate_but_kept { BreaksBy (worn_but_kept 0) (FailuresArePaid (worn_but_kept 0)) }
+    ensures worn_and_full { FailuresArePaid worn_and_full }
+    ensures standard_but_kept { FailuresArePaid (worn_but_kept 1) }
 {}
 
 /// An erase beside an active bank that has room for the record breaks it by its wear, and so does one beside a bank of the last
@@ -102,14 +103,14 @@ pub fn wrong_operations_break_it()
 
 /// A run that may lose an acknowledged write at a cut breaks it, by its power cut and its counts alone: all other fields hold.
 pub fn a_lost_write_breaks_it()
-    ensures breaks { BreaksBy lost_write (CutsKeep lost_write lost_write.beside) }
-    ensures counts { BreaksBy lost_write (CutsCount lost_write lost_write.beside) }
+    ensures breaks { BreaksBy lost_write (CutsKeep lost_write) }
+    ensures counts { BreaksBy lost_write (CutsCount lost_write) }
     ensures order { HasOrder lost_write lost_write.history }
-    ensures found { StartUpsFind lost_write lost_write.beside }
+    ensures found { StartUpsFind lost_write }
     ensures early { BeginsWell lost_write }
-    ensures at_exit { ExitKeeps lost_write lost_write.beside }
+    ensures at_exit { ExitKeeps lost_write }
     ensures block_machine { IsLegal small cap lost_write.history }
-    ensures faults { FailuresArePaid lost_write lost_write.beside }
+    ensures faults { FailuresArePaid lost_write }
     ensures wear { OperationsAreDue (making_of small) lost_write.flash }
     ensures refusals { (id : ℕ) → RefusesAsAsked small lost_write.course lost_write.history id }
     ensures off { CutsExplain lost_write.course lost_write.history lost_write.cuts 0 0 }
@@ -120,7 +121,7 @@ pub fn a_lost_write_breaks_it()
 
 /// A flash that doesn't tell its operations at the exit, and had room for them at the entry, breaks it by its operations.
 pub fn a_list_that_ends_early_breaks_it()
-    ensures { BreaksBy untold_write (OperationsAre untold_write untold_write.beside) }
+    ensures { BreaksBy untold_write (OperationsAre untold_write) }
 {}
 
 /// A call is told by its run where configuration, steps, cap, flash, status and output are the run's, each line is one put, and

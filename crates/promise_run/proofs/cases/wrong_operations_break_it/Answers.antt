@@ -15,4 +15,4 @@ pub returns-clause-over_a_record : goal.returns-clause-over_a_record
 returns-clause-over_a_record c = (λ p. p.wear, not_over_a_record)
 
 pub returns-clause-without_its_off : goal.returns-clause-without_its_off
-returns-clause-without_its_off c = (λ p. p.power refl, not_untold)
+returns-clause-without_its_off c = (λ p. p.power, not_untold)

@@ -1,0 +1,107 @@
+-- What the stack promises of each run over two flashes: the same as over one, of both together.
+use Rattle.std.specs.Prelude.{◌≡◌, ◌⊎◌, ◌<◌, ◌+◌, ℕ, Bool, true, false, not, if◌then◌else◌, IsTrue, List, length, Contains, Some, IfSome}
+use Rattle.block_machine.specs.nv_base.Count.{last_count}
+use Rattle.block_machine.specs.nv_base.Held.{Held}
+use Rattle.block_machine.specs.nv_base.Marks.{instance_of}
+use Rattle.block_machine.specs.Words.{Instance, Mark, Entry, Found, Configuration}
+use Rattle.block_machine.specs.Legal.{IsLegal}
+use Rattle.block_machine.specs.History.{up_to}
+use Rattle.promise_blocks.specs.Marks.{KeepsMarks, Lists, marks_in}
+use Rattle.promise_blocks.specs.Counts.{KeepsCounts, counts_in, last_found}
+use Rattle.promise_blocks.specs.Payment.{IsPaid}
+use Rattle.promise_blocks.specs.OverDevice.{HasStarted, BeginsBefore, TellsAtMost}
+use Rattle.fls_model.specs.Told.{bytes_now}
+use Rattle.promise_device.specs.Image.{IsSoundFlash, held_in}
+use Rattle.promise_device.specs.FlashRun.{FlashRun, TellsBytes, TellsOperations, StartsSound, bytes_after, AreOperations}
+use Rattle.promise_device.specs.Reading.{BeginsSound}
+use Rattle.promise_device.specs.Bridge.{IsWornOut, IsWornBy}
+use Rattle.promise_device.specs.Wear.{OperationsAreDue}
+use Rattle.promise_run.specs.Beside.{Beside, AreCutImages, IsMerged, is_beside, ops_of}
+use Rattle.promise_run.specs.Run.{Run, HasOrder, CutsExplain}
+use Rattle.promise_run.specs.Refusals.{RefusesAsAsked}
+use Rattle.promise_run.specs.Promise.{MayBeKept, Promise, making_of}
+
+-- a count of both flashes together
+abbrev pub of_both : (FlashRun → ℕ) → Run → Beside → ℕ
+of_both count r b = count r.flash + count b.flash
+
+-- what is found in both images: of each block in that of its own device
+abbrev pub held_both : Configuration → Beside → List ℕ → List ℕ → ℕ → Held
+held_both c b image other n = if b.blocks (instance_of (record { 0 = n })).block then b.reading.held other n else held_in (making_of c) image n
+
+-- both images keep to a history
+pub record KeepBoth (c : Configuration) (b : Beside) (h : List Entry) (image other : List ℕ) : Type 0 where
+  pub marks : KeepsMarks c h (marks_in (held_both c b image other))
+  pub sound : IsSoundFlash (making_of c) image
+  pub sound_beside : IsTrue (b.reading.is_sound other)
+
+-- a fact on the bytes of both flashes once k operations of both were made
+abbrev pub IfBothAfter : Run → Beside → ℕ → (List ℕ → List ℕ → Type 0) → Type 0
+IfBothAfter r b k P = IfSome (bytes_after r.flash (ops_of false r.configuration r.history b k)) (λ image. IfSome (bytes_after b.flash (ops_of true r.configuration r.history b k)) (P image))
+
+-- each start-up lists what it found in the bytes of its moment
+abbrev pub StartUpsFindBoth : Run → Beside → Type 0
+StartUpsFindBoth r b =
+    TellsBytes b.flash → BeginsSound b.reading b.flash → (marks : List (Instance × Mark)) (ops : ℕ) → Contains r.history (Found marks ops) → ops < last_count
+    → IfBothAfter r b ops (λ image other. Lists r.configuration marks (marks_in (held_both r.configuration b image other)))
+
+-- any images that a power cut may leave keep to the history up to then
+abbrev pub CutsKeepBoth : Run → Beside → Type 0
+CutsKeepBoth r b =
+    TellsOperations b.flash → BeginsSound b.reading b.flash → (k : ℕ) (image other : List ℕ) → k < last_count → AreCutImages r.configuration r.history r.flash b k image other
+    → KeepBoth r.configuration b (up_to k r.history) image other
+
+-- the bytes at the exit keep to the whole history
+abbrev pub ExitKeepsBoth : Run → Beside → Type 0
+ExitKeepsBoth r b =
+    TellsBytes b.flash → BeginsSound b.reading b.flash → HasStarted r.history → of_both (λ f. length f.operations) r b < last_count
+    → IfSome (bytes_now r.flash.exit) (λ image. IfSome (bytes_now b.flash.exit) (KeepBoth r.configuration b r.history image))
+
+-- any images that a power cut may leave have the counts that the last start-up by then found, with the writes since
+abbrev pub CutsCountBoth : Run → Beside → Type 0
+CutsCountBoth r b =
+    TellsOperations b.flash → BeginsSound b.reading b.flash → (k ops : ℕ) (image other : List ℕ) → k < last_count
+    → AreCutImages r.configuration r.history r.flash b k image other → last_found (up_to k r.history) ≡ Some ops
+    → IfBothAfter r b ops (λ first second. KeepsCounts r.configuration (up_to k r.history)
+    (counts_in (held_both r.configuration b first second)) (counts_in (held_both r.configuration b image other)))
+
+-- a planned cut kept the operation with this number of one of the devices from its flash
+pub record MayBeKeptOf (r : Run) (b : Beside) (second : Bool) (n : ℕ) : Type 0 where
+  pub operation : ℕ
+  pub whose : is_beside r.configuration r.history b operation ≡ second
+  pub number : ops_of second r.configuration r.history b operation ≡ n
+  pub kept : MayBeKept r operation
+
+-- the operations are those of the flashes, but for these, each done as far as its cut says; each flash has its own cuts
+abbrev pub OperationsAreBoth : Run → Beside → Type 0
+OperationsAreBoth r b =
+    (own other : List ℕ) × IsMerged own other r.cuts × AreOperations r.configuration.geometry r.flash (MayBeKeptOf r b false) own
+    × AreOperations b.reading.geometry b.flash (MayBeKeptOf r b true) other
+
+-- each flash's faults pay for the failures of its own blocks, but where it is worn out
+abbrev pub FailuresArePaidByBoth : Run → Beside → Type 0
+FailuresArePaidByBoth r b =
+    IsPaid (λ block. not (b.blocks block)) r.configuration (λ k n urgent. IsWornOut (making_of r.configuration) r.flash (ops_of false r.configuration r.history b k) n urgent)
+    r.flash.entry.faults r.flash.exit.faults r.history
+    × IsPaid b.blocks r.configuration (λ k n urgent. IsWornBy b.reading b.flash (ops_of true r.configuration r.history b k) n urgent) b.flash.entry.faults b.flash.exit.faults r.history
+
+-- the fields of the promise over one flash, but for the Off that tells an operation in which the power went off
+pub record PromiseOfBoth (r : Run) (b : Beside) : Type 0 where
+  pub beside : r.beside ≡ Some b
+  pub order : HasOrder r r.history
+  pub power_cut : TellsOperations r.flash → StartsSound (making_of r.configuration) r.flash → CutsKeepBoth r b
+  pub counts : TellsOperations r.flash → StartsSound (making_of r.configuration) r.flash → CutsCountBoth r b
+  pub found : TellsBytes r.flash → StartsSound (making_of r.configuration) r.flash → StartUpsFindBoth r b
+  pub at_exit : TellsBytes r.flash → StartsSound (making_of r.configuration) r.flash → ExitKeepsBoth r b
+  pub block_machine : IsLegal r.configuration r.most r.history
+  pub faults : FailuresArePaidByBoth r b
+  pub wear : OperationsAreDue (making_of r.configuration) r.flash
+  pub refusals : (id : ℕ) → RefusesAsAsked r.configuration r.course r.history id
+  pub off : CutsExplain r.course r.history r.cuts (of_both (λ f. f.entry.cuts) r b) (of_both (λ f. f.exit.cuts) r b)
+  pub operations : HasStarted r.history → OperationsAreBoth r b
+  pub begins : BeginsBefore r.history
+  pub counted : TellsAtMost (of_both (λ f. length f.operations) r b) r.history
+
+-- over one flash, or over both
+abbrev pub PromiseOfEither : Run → Type 0
+PromiseOfEither r = Promise r ⊎ ((b : Beside) × PromiseOfBoth r b)
