@@ -29,6 +29,10 @@ AsksMove caller r answer s t = IfOk answer (λ reply. MovesBy false (record { en
 abbrev pub TurnsMove : UnitState → UnitState → Type 0
 TurnsMove s t = (e : Option Entry) × (t.desk.entries ≡ s.desk.entries ++ entry_list e) × MovesBy false (record { entry = e; behind = moment_seen (unit_seen t) } ∷ []) (unit_seen s) (unit_seen t)
 
+-- a plan of a power cut is none
+abbrev pub PlansMove : UnitState → UnitState → Type 0
+PlansMove s t = MovesBy false [] (unit_seen s) (unit_seen t)
+
 -- FROM THE FIRST START-UP ON
 -- Start-ups failed since, each by a fault, and made no operation. What the history tells stays, and a further start-up has what it needs.
 pub record HasFallen (last s : UnitState) : Type 0 where

@@ -29,7 +29,7 @@ ghost use Rattle.nvm_flash.specs.nvm_core.Paying.{TurnPays};
 ghost use Rattle.nvm_flash.specs.nvm_core.StartUps.{Restarts, StartsKeep};
 ghost use Rattle.nvm_flash.specs.nvm_core.Work.{Lowers, TakesTurns};
 ghost use Rattle.nvm.specs.Closing.{Closes};
-ghost use Rattle.nvm.specs.Turned.{AsksMove, TurnsMove};
+ghost use Rattle.nvm.specs.Turned.{AsksMove, PlansMove, TurnsMove};
 ghost use Rattle.nvm.specs.Unit.{IsUnit, Stands, Stays, UnitTurns, left_behind, takes_of};
 
 use nvm_flash::fee_core::Origin;
@@ -195,6 +195,7 @@ impl<F: Flash, O: Origin> UnitStack<F, O> {
         ensures keeps { StaysKept self.old.desk self.old.hand (told_of self.old.device) (told_clock self.old.device) self.new.desk self.new.hand (told_of self.new.device) (told_clock self.new.device) }
         ensures only { self.new ≡ record self.old { device = self.new.device } }
         ensures due { KeepsDue (now_of told_of self.old) (now_of told_of self.new) }
+        ensures moved { PlansMove self.old self.new }
         ensures stays { Stays self.old self.new }
     {
         let left = plans_left(self.plans, which, nth);

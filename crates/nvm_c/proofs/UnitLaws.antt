@@ -24,14 +24,16 @@ use Rattle.nvm.specs.nvm_flash.nvm_laws.declared.turned.Turned.{Turned}
 use Rattle.nvm.specs.nvm_flash.nvm_laws.declared.turned.FoundAnswer.{FoundAnswer}
 use Rattle.nvm.specs.nvm_flash.nvm_laws.declared.turned.FoundAnswer.TheVariants as found
 use Rattle.nvm.proofs.nvm_flash.Returning.{comes_back as back_so}
+use Rattle.nvm.specs.Turned.{unit_seen}
 use Rattle.nvm.specs.Unit.{Stays, UnitTurns, takes_of}
+use Rattle.nvm.specs.nvm_moves.Seen.{frame_in, frame_of}
 use Rattle.script_player.specs.uds_gateway.block_laws.Laws.{EntriesAreCounted, HistoriesGoOn, HistoriesStep, SumsGrow}
 use Rattle.script_player.specs.Calls as calls
 use Rattle.script_player.specs.PlainTold.{told_by}
 use Rattle.script_player.proofs.uds_gateway.HistoryLaws.{entries_are_counted, histories_go_on, histories_step, sums_grow}
 use Rattle.script_player.proofs.PlainHalves.{IsBehind, ended}
 use Rattle.script_player.proofs.PlainBehind.{behind_device}
-use Rattle.nvm_c.specs.Unit.{UnitState, CameBack, Closes, IsLent, Opens, unit_told}
+use Rattle.nvm_c.specs.Unit.{UnitState, CameBack, Closes, IsLent, IsPlanCall, IsStartCall, Opens, unit_told}
 use Rattle.nvm_c.specs.Work.{PlansCut}
 
 -- THE FIRST START-UP
@@ -96,7 +98,7 @@ turns_told s t answer (inl half) behind power = ended told_of s t answer half (b
 turns_told s t answer (inr (between, half, second)) behind power = behind_device told_of told_clock s between t half power answer second (behind (second.ready ∙ half.ready))
 
 -- a start-up, by what it came to
-pub restarts_told : (s t : UnitState) (answer : FoundAnswer) → Restarts told_of answer s t → calls.Restarts answer (unit_told s) (unit_told t)
+restarts_told : (s t : UnitState) (answer : FoundAnswer) → Restarts told_of answer s t → calls.Restarts answer (unit_told s) (unit_told t)
 restarts_told s t found.Ready restarts =
     let steps : HistoriesStep = histories_step in
     let goes_on : HistoriesGoOn = histories_go_on in
@@ -113,6 +115,17 @@ restarts_told s t found.NoRoom restarts =
     let counted : EntriesAreCounted = entries_are_counted in
     search rules
 restarts_told s t found.Memory restarts = ap unit_told restarts
+
+restarts_frame : (s t : UnitState) (answer : FoundAnswer) → Restarts told_of answer s t → frame_of false (unit_seen t) ≡ frame_of false (unit_seen s)
+restarts_frame s t found.Ready starts =
+    ap (λ (c : Configuration). frame_in false c (told_of t.device).fixed) (ap (λ (x : UnitState). x.desk.config) starts.only) ∙ ap (frame_in false s.desk.config) starts.finds.up.restarted.fixed
+restarts_frame s t found.Failed fails =
+    ap (λ (c : Configuration). frame_in false c (told_of t.device).fixed) (ap (λ (x : UnitState). x.desk.config) fails.only) ∙ ap (frame_in false s.desk.config) fails.fails.restarted.fixed
+restarts_frame s t found.NoRoom stays = ap (λ (x : UnitState). frame_in false x.desk.config (told_of x.device).fixed) stays.0
+restarts_frame s t found.Memory stays = ap (λ (x : UnitState). frame_in false x.desk.config (told_of x.device).fixed) stays
+
+pub start_call : (s t : UnitState) (answer : FoundAnswer) → Restarts told_of answer s t → IsStartCall answer s t
+start_call s t answer restarts = record { told = restarts_told s t answer restarts; frame = restarts_frame s t answer restarts }
 
 -- and whether it stands
 abbrev pub up_behind : FoundAnswer → Bool → Bool
@@ -139,5 +152,5 @@ restarted_lent s t answer up plans unit restarts stays =
     record { is_up = restarts_up s t answer up unit.is_up restarts; takes = restarts_take s t answer restarts ∙ unit.takes; counted = still_counted s t stays unit.counted }
 
 -- a plan is one that was to be, where one might be
-pub planned_cut : (s t : UnitState) (nth keep plans : ℕ) → takes_of s ≡ plans → 1 ≤ nth → 1 ≤ plans → calls.Arms nth keep (unit_told s) (unit_told t) → PlansCut nth keep s t
+pub planned_cut : (s t : UnitState) (nth keep plans : ℕ) → takes_of s ≡ plans → 1 ≤ nth → 1 ≤ plans → IsPlanCall nth keep s t → PlansCut nth keep s t
 planned_cut s t nth keep plans takes some left arms = (some, omega (arith, takes, left), arms)

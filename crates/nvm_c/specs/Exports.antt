@@ -16,11 +16,10 @@ use Rattle.nvm.specs.nvm_flash.nvm_laws.declared.turned.Turned.{Turned}
 use Rattle.nvm.specs.nvm_flash.nvm_laws.declared.turned.Turned.TheVariants as turned
 use Rattle.nvm.specs.nvm_flash.nvm_laws.declared.turned.FoundAnswer.{FoundAnswer}
 use Rattle.nvm.specs.nvm_flash.nvm_laws.declared.turned.FoundAnswer.TheVariants as found
-use Rattle.script_player.specs.Calls.{Asks, Restarts, Turns}
 use Rattle.lent_flash.specs.Flash.{flash_over}
 use Rattle.nvm_c.specs.Held.{Kept, origin_by}
 use Rattle.nvm_c.specs.Services.{answer_code, answer_value, number_of, request_of}
-use Rattle.nvm_c.specs.Unit.{UnitState, unit_told, given_last, last_line, Opens}
+use Rattle.nvm_c.specs.Unit.{UnitState, IsAskCall, IsStartCall, IsTurnCall, given_last, last_line, Opens}
 use Rattle.nvm_c.specs.Work.{PlansCut, PlansNone, StaysDown}
 use Rattle.nvm_c.specs.declared.services.Service.{Service}
 
@@ -36,7 +35,7 @@ Looks old new P = (new ≡ old) × IfSome old (λ k. P k.state)
 -- the service's request was asked, of the one caller, and this is the answer
 pub record AsksBy (v : Service) (block number : ℕ) (content : List ℕ) (code value : ℕ) (s t : UnitState) : Type 0 where
   pub answer : Result Reply AskFault
-  pub asks : Asks 0 (request_of v block number content) answer (unit_told s) (unit_told t)
+  pub asks : IsAskCall (request_of v block number content) answer s t
   pub replies : IfOk answer (λ reply. reply ≡ reply_of s.desk.config s.desk.cap (state_of s.desk) (request_of v block number content))
   pub code_is : code ≡ answer_code answer
   pub value_is : value ≡ answer_value answer
@@ -57,7 +56,7 @@ turned_code turned.Off = 4
 
 -- one turn was made, or the last start-up failed
 abbrev pub IsTurned : ℕ → UnitState → UnitState → Type 0
-IsTurned code s t = ((answer : Turned) × (code ≡ turned_code answer) × Turns answer (unit_told s) (unit_told t)) ⊎ ((code ≡ 5) × StaysDown s t)
+IsTurned code s t = ((answer : Turned) × (code ≡ turned_code answer) × IsTurnCall answer s t) ⊎ ((code ≡ 5) × StaysDown s t)
 
 -- a power cut was planned; or none was, since none could be, and nothing changed; or the last start-up failed
 abbrev pub IsPlanned : (nth keep code : ℕ) → UnitState → UnitState → Type 0
@@ -70,7 +69,7 @@ found_code found.NoRoom = 3
 found_code found.Memory = 4
 
 abbrev pub IsRestarted : ℕ → UnitState → UnitState → Type 0
-IsRestarted code s t = (answer : FoundAnswer) × (code ≡ found_code answer) × Restarts answer (unit_told s) (unit_told t)
+IsRestarted code s t = (answer : FoundAnswer) × (code ≡ found_code answer) × IsStartCall answer s t
 
 -- OPENING AND CLOSING
 -- the handle keeps a unit of a configuration over what a flash told, behind its first start-up

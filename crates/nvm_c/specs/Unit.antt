@@ -1,18 +1,25 @@
 -- A unit: a stack over memory that is lent, behind its first start-up.
-use Rattle.std.specs.Prelude.{◌≡◌, ◌≤◌, ◌-◌, ℕ, Bool, false, List, length, Option, Some, IsSomeAnd, option_map, slice_get}
+use Rattle.std.specs.Prelude.{◌≡◌, ◌≤◌, ◌-◌, ℕ, Bool, false, List, length, Option, Some, IsSomeAnd, Result, option_map, slice_get}
 use Rattle.nvm.specs.block_config.Config.{Configuration}
+use Rattle.nvm.specs.block_machine.Words.{Reply, Request}
 use Rattle.nvm.specs.fls_devices.Cutter.{cutting, told_cutting}
 use Rattle.nvm.specs.fls_model.Told.{Told, bytes_now}
 use Rattle.nvm.specs.nv_desk.Recorder.{endless, keeps}
+use Rattle.nvm.specs.nv_desk.declared.ask.AskFault.{AskFault}
 use Rattle.nvm.specs.nvm_core.StartUps.{StartsUp}
 use Rattle.nvm.specs.nvm_core.nv_desk_copies.Front.{given_at}
 use Rattle.nvm.specs.nvm_flash.Made.{IsBack, IsMadeStack, IsOrigin}
 pub use Rattle.nvm.specs.Closing.{UnitState, Closes}
+use Rattle.nvm.specs.Turned.{AsksMove, PlansMove, TurnsMove, unit_seen}
 use Rattle.nvm.specs.Unit.{takes_of}
 use Rattle.nvm.specs.nvm_flash.fee_laws.Made.{part_at}
 use Rattle.nvm.specs.nvm_flash.fee_told.Device.{told_of, clock_of}
+use Rattle.nvm.specs.nvm_flash.nvm_laws.declared.turned.FoundAnswer.{FoundAnswer}
+use Rattle.nvm.specs.nvm_flash.nvm_laws.declared.turned.Turned.{Turned}
 use Rattle.nvm.specs.nvm_flash.promise_device.Making.{Making}
+use Rattle.nvm.specs.nvm_moves.Seen.{frame_of}
 use Rattle.nvm_script.specs.Lines.{entry_line}
+use Rattle.script_player.specs.Calls.{Arms, Asks, Restarts, Turns}
 use Rattle.script_player.specs.PlainTold.{told_by}
 use Rattle.script_player.specs.Told.{StackTold}
 
@@ -32,6 +39,28 @@ pub record Opens (c : Configuration) (making : Making) (entry : Told) (s : UnitS
   pub is_made : IsMadeStack c endless making entry made
   pub starts : StartsUp told_of made s
 
+-- CALLS
+-- a request of the one caller
+pub record IsAskCall (request : Request) (answer : Result Reply AskFault) (s t : UnitState) : Type 0 where
+  pub told : Asks 0 request answer (unit_told s) (unit_told t)
+  pub moved : AsksMove 0 request answer s t
+
+-- a turn
+pub record IsTurnCall (answer : Turned) (s t : UnitState) : Type 0 where
+  pub told : Turns answer (unit_told s) (unit_told t)
+  pub moved : TurnsMove s t
+
+-- a further start-up, behind which jobs have as many turns as before
+pub record IsStartCall (answer : FoundAnswer) (s t : UnitState) : Type 0 where
+  pub told : Restarts answer (unit_told s) (unit_told t)
+  pub frame : frame_of false (unit_seen t) ≡ frame_of false (unit_seen s)
+
+-- a plan of a power cut
+pub record IsPlanCall (nth keep : ℕ) (s t : UnitState) : Type 0 where
+  pub told : Arms nth keep (unit_told s) (unit_told t)
+  pub moved : PlansMove s t
+
+-- WHAT IT SHOWS
 -- what the last entry gave, where that is a Post that gave something
 abbrev pub given_last : UnitState → Option (List ℕ)
 given_last s = given_at s.desk.entries (length s.desk.entries - 1)

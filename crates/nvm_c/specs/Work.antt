@@ -10,8 +10,7 @@ use Rattle.nvm.specs.nv_desk.Request.{whole_request}
 use Rattle.nvm.specs.nv_desk.declared.ask.AskFault.{AskFault}
 use Rattle.nvm.specs.nvm_flash.Made.{ComesBack, IsOrigin}
 use Rattle.nvm.specs.nvm_flash.promise_device.Making.{Making}
-use Rattle.script_player.specs.Calls.{Arms, Asks, Restarts, Turns}
-use Rattle.nvm_c.specs.Unit.{UnitState, unit_told, given_last, last_line, Opens, CameBack}
+use Rattle.nvm_c.specs.Unit.{UnitState, unit_told, IsAskCall, IsPlanCall, IsStartCall, IsTurnCall, given_last, last_line, Opens, CameBack}
 use Rattle.nvm_c.specs.declared.work.Task.{Task}
 use Rattle.nvm_c.specs.declared.work.Task.TheVariants as task
 use Rattle.nvm_c.specs.declared.work.Work.{Work}
@@ -40,12 +39,12 @@ StaysDown s t = (s.ready ≡ false) × (t ≡ s)
 
 -- a power cut is planned: at an operation from the next one on, where the flash takes a plan
 abbrev pub PlansCut : (nth keep : ℕ) → UnitState → UnitState → Type 0
-PlansCut nth keep s t = (1 ≤ nth) × (1 ≤ (unit_told s).causes.takes) × Arms nth keep (unit_told s) (unit_told t)
+PlansCut nth keep s t = (1 ≤ nth) × (1 ≤ (unit_told s).causes.takes) × IsPlanCall nth keep s t
 
 -- a request was answered so
 abbrev pub IsTaken : Request → Result Reply AskFault → UnitState → UnitState → Type 0
 IsTaken request answer s t =
-    (s.ready ≡ true) × Asks 0 request answer (unit_told s) (unit_told t) × IfOk answer (λ reply. reply ≡ reply_of s.desk.config s.desk.cap (state_of s.desk) request)
+    (s.ready ≡ true) × IsAskCall request answer s t × IfOk answer (λ reply. reply ≡ reply_of s.desk.config s.desk.cap (state_of s.desk) request)
 
 -- none is: the operation would be no later one, or the flash takes no plan any more
 abbrev pub PlansNone : (nth : ℕ) → UnitState → Type 0
@@ -60,12 +59,12 @@ Does (task.Enter kind buffer) (outcome.Asked answer) s t = IsTaken (whole_reques
 Does (task.Enter kind buffer) outcome.Down s t = StaysDown s t
 Does (task.Lend bytes) (outcome.Lent buffer) s t = IfSome buffer (λ b. bytes ≤ b.room) × (t ≡ s)
 Does (task.Keep buffer) outcome.Kept s t = t ≡ s
-Does task.Turn (outcome.Turned answer) s t = (s.ready ≡ true) × Turns answer (unit_told s) (unit_told t)
+Does task.Turn (outcome.Turned answer) s t = (s.ready ≡ true) × IsTurnCall answer s t
 Does task.Turn outcome.Down s t = StaysDown s t
 Does (task.Cut nth keep) outcome.Planned s t = (s.ready ≡ true) × PlansCut nth keep s t
 Does (task.Cut nth keep) outcome.NotPlanned s t = (s.ready ≡ true) × (t ≡ s) × PlansNone nth s
 Does (task.Cut nth keep) outcome.Down s t = StaysDown s t
-Does task.Restart (outcome.Found answer) s t = Restarts answer (unit_told s) (unit_told t)
+Does task.Restart (outcome.Found answer) s t = IsStartCall answer s t
 Does (task.Status block) (outcome.StatusIs result) s t = (result ≡ status_of (state_of s.desk) block) × (t ≡ s)
 Does (task.Valid block) (outcome.Is valid) s t = (valid ≡ (block_at (state_of s.desk) block).valid) × (t ≡ s)
 Does (task.Ram block) (outcome.Content buffer) s t = (buffer.content ≡ (block_at (state_of s.desk) block).ram) × (t ≡ s)

@@ -8,9 +8,8 @@ ghost use Rattle.nvm.specs.nv_desk.Event.{entry_of};
 ghost use Rattle.nvm.specs.nv_desk.Recorder.{keeps};
 ghost use Rattle.nvm.specs.nv_desk.Request.{request_lent, whole_request};
 ghost use Rattle.nvm_script.specs.Lines.{entry_line};
-ghost use Rattle.script_player.specs.Calls.{Asks, Restarts, Turns};
 ghost use Rattle.nvm.specs.Unit.{Stands, takes_of};
-ghost use Rattle.nvm_c.specs.Unit.{CameBack, TakenFrom, given_last, last_line, unit_told};
+ghost use Rattle.nvm_c.specs.Unit.{CameBack, IsAskCall, IsStartCall, IsTurnCall, TakenFrom, given_last, last_line};
 ghost use Rattle.nvm_c.specs.Work.{PlansCut, PlansNone};
 
 use lent_flash::{Lent, LentFlash};
@@ -74,7 +73,7 @@ impl<O: Origin> LentUnit<O> {
     pub fn ask(&mut self, alloc: Global, request: Request) -> Result<Reply, AskFault>
         requires ready { self.old.ready ≡ true }
         requires store { HasStore self.old.desk.config request }
-        ensures asks { Asks 0 request result (unit_told self.old) (unit_told self.new) }
+        ensures asks { IsAskCall request result self.old self.new }
         ensures replies { IfOk result (λ reply. reply ≡ reply_of self.old.desk.config self.old.desk.cap (state_of self.old.desk) request) }
     {
         let before = self.unit.stack();
@@ -95,7 +94,7 @@ impl<O: Origin> LentUnit<O> {
     ) -> Result<Reply, AskFault>
         requires ready { self.old.ready ≡ true }
         requires store { HasStore self.old.desk.config (whole_request kind content.now) }
-        ensures asks { Asks 0 (whole_request kind content.now) result (unit_told self.old) (unit_told self.new) }
+        ensures asks { IsAskCall (whole_request kind content.now) result self.old self.new }
         ensures replies { IfOk result (λ reply. reply ≡ reply_of self.old.desk.config self.old.desk.cap (state_of self.old.desk) (whole_request kind content.now)) }
         ensures total { length content.now ≤ (desc_of self.old.desk.config (asked_block (whole_request kind content.now))).length
             → IsErrOf result AskFault.Memory → ⊥ }
@@ -131,7 +130,7 @@ impl<O: Origin> LentUnit<O> {
     /// One turn of the main function.
     pub fn turn(&mut self) -> Turned
         requires { self.old.ready ≡ true }
-        ensures { Turns result (unit_told self.old) (unit_told self.new) }
+        ensures { IsTurnCall result self.old self.new }
     {
         let before = self.unit.stack();
         let _device = before.device();
@@ -143,7 +142,7 @@ impl<O: Origin> LentUnit<O> {
 
     /// A further start-up.
     pub fn restart(&mut self, alloc: Global) -> FoundAnswer
-        ensures { Restarts result (unit_told self.old) (unit_told self.new) }
+        ensures { IsStartCall result self.old self.new }
     {
         let found = self.unit.restart(alloc);
         match found {

@@ -6,6 +6,7 @@ use Rattle.nvm_flash.specs.nvm_laws.DueCalls.{KeepsDue}
 use Rattle.nvm_flash.specs.nvm_laws.Keeps.{StaysKept}
 use Rattle.nvm_flash.specs.nvm_core.Due.{now_of}
 use Rattle.nvm.specs.Closing.{UnitState}
+use Rattle.nvm.specs.Turned.{PlansMove}
 use Rattle.nvm.specs.Unit.{Stays}
 use Rattle.nvm.proofs.UnitLaws.{armed_stay, arms_take, kept_unit}
 use Rattle.nvm.proofs.UnitTurns.{armed_moves, armed_turned}
@@ -18,6 +19,11 @@ invariant_of-self g c =
     kept_unit g.O.Origin.making g.O.Origin.entry c.self.inside.plans c.plans_left-left.result s t c.self.invariant ready (ap (λ (x : UnitState). x.ready) c.arm.ensures.only) (armed_stay s t c.arm.ensures.only).config
     (arms_take c.args.which c.args.nth c.args.keep c.self.inside.plans s t c.self.invariant.takes c.arm.ensures.arms ∙ sym c.plans_left-left.ensures) c.arm.ensures.keeps
     (armed_turned s t c.self.invariant.turned ready c.arm.ensures.only (armed_moves c.args.which c.args.nth c.args.keep s t c.arm.ensures.only c.arm.ensures.arms c.arm.ensures.keeps c.arm.ensures.due))
+
+pub returns-clause-moved : goal.returns-clause-moved
+returns-clause-moved g c =
+    let s = c.self.inside.stack in let t = c.arm.new.self in
+    subst (λ (x : UnitState). PlansMove x t) c.self.view_is (armed_moves c.args.which c.args.nth c.args.keep s t c.arm.ensures.only c.arm.ensures.arms c.arm.ensures.keeps c.arm.ensures.due)
 
 pub returns-clause-stays : goal.returns-clause-stays
 returns-clause-stays g c = subst (λ (x : UnitState). Stays x c.arm.new.self) c.self.view_is (armed_stay c.self.inside.stack c.arm.new.self c.arm.ensures.only)

@@ -23,4 +23,4 @@ returns-clause-planned g c done =
     let is : unit_told t ≡ shown s.desk s.hand s.copies s.ready (armed 0 c.args.nth c.args.keep d) = ap unit_told c.arm.ensures.only ∙ ap (shown s.desk s.hand s.copies s.ready) c.arm.ensures.arms.0 in
     subst (λ (x : UnitState). PlansCut c.args.nth c.args.keep x t) c.self.view_is
     (planned_cut s t c.args.nth c.args.keep c.self.inside.plans c.self.invariant.takes (let some = c.if-nth-eq0 in grind (arith, some)) (let left = c.if-self-eq0 in grind (arith, left))
-    (subst (λ (x : StackTold). Arms c.args.nth c.args.keep (unit_told s) x) (sym is) (arms c.args.nth c.args.keep s.desk s.hand s.copies s.ready d later power)))
+    (record { told = subst (λ (x : StackTold). Arms c.args.nth c.args.keep (unit_told s) x) (sym is) (arms c.args.nth c.args.keep s.desk s.hand s.copies s.ready d later power); moved = c.arm.ensures.moved }))

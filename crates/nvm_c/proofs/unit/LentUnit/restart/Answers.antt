@@ -1,8 +1,7 @@
 use Rattle.std.proofs.Common.{inl, inr, subst}
 use Rattle.nvm.specs.nvm_flash.nvm_laws.declared.turned.FoundAnswer.{FoundAnswer}
-use Rattle.script_player.specs.Calls.{Restarts}
-use Rattle.nvm_c.specs.Unit.{UnitState, IsLent, unit_told}
-use Rattle.nvm_c.proofs.UnitLaws.{restarted_lent, restarts_told, up_behind}
+use Rattle.nvm_c.specs.Unit.{UnitState, IsLent, IsStartCall}
+use Rattle.nvm_c.proofs.UnitLaws.{restarted_lent, start_call, up_behind}
 use Rattle.nvm_c.proofs.unit.LentUnit.restart.Goals as goal
 
 pub invariant_of-self : goal.invariant_of-self
@@ -26,12 +25,12 @@ invariant_of-self-in-NoRoom g c =
 
 pub returns-in-Ready : goal.returns-in-Ready
 returns-in-Ready g c =
-    subst (λ (x : UnitState). Restarts c.restart-found.result (unit_told x) (unit_told c.restart-found.new.self)) c.self.view_is (restarts_told c.self.inside.unit c.restart-found.new.self c.restart-found.result c.restart-found.ensures.restarts)
+    subst (λ (x : UnitState). IsStartCall c.restart-found.result x c.restart-found.new.self) c.self.view_is (start_call c.self.inside.unit c.restart-found.new.self c.restart-found.result c.restart-found.ensures.restarts)
 
 pub returns-in-Failed : goal.returns-in-Failed
 returns-in-Failed g c =
-    subst (λ (x : UnitState). Restarts c.restart-found.result (unit_told x) (unit_told c.restart-found.new.self)) c.self.view_is (restarts_told c.self.inside.unit c.restart-found.new.self c.restart-found.result c.restart-found.ensures.restarts)
+    subst (λ (x : UnitState). IsStartCall c.restart-found.result x c.restart-found.new.self) c.self.view_is (start_call c.self.inside.unit c.restart-found.new.self c.restart-found.result c.restart-found.ensures.restarts)
 
 pub returns-in-NoRoom : goal.returns-in-NoRoom
 returns-in-NoRoom g c =
-    subst (λ (x : UnitState). Restarts c.restart-found.result (unit_told x) (unit_told c.restart-found.new.self)) c.self.view_is (restarts_told c.self.inside.unit c.restart-found.new.self c.restart-found.result c.restart-found.ensures.restarts)
+    subst (λ (x : UnitState). IsStartCall c.restart-found.result x c.restart-found.new.self) c.self.view_is (start_call c.self.inside.unit c.restart-found.new.self c.restart-found.result c.restart-found.ensures.restarts)

@@ -5,9 +5,8 @@ use Rattle.nvm.specs.nvm_flash.nvm_laws.Ties.{IsTied}
 use Rattle.nvm.specs.nvm_core.Stack.{PowersOff}
 use Rattle.nvm.specs.nvm_core.nv_desk_copies.Front.{AreSynchronized}
 use Rattle.nvm.specs.ram_blocks.Plain.{told_of as copy_told}
-use Rattle.script_player.specs.Calls.{Turns}
 use Rattle.nvm.proofs.UnitLaws.{turns_take, turns_up}
-use Rattle.nvm_c.specs.Unit.{UnitState, unit_told}
+use Rattle.nvm_c.specs.Unit.{UnitState, IsTurnCall}
 use Rattle.nvm_c.proofs.UnitLaws.{still_counted, turns_told}
 use Rattle.nvm_c.proofs.unit.LentUnit.turn.Goals as goal
 
@@ -33,12 +32,14 @@ returns g c =
     let ready = ap (λ (x : UnitState). x.ready) c.self.view_is ∙ c.requires in
     let old : Tells s = subst Tells c.stack-before.ensures (record { tied = c.device-device.ensures.tied; power = c.device-device.ensures.power; synchronized = c.device-device.ensures.synchronized }) in
     let new : Tells t = subst Tells c.stack-after.ensures (record { tied = c.device-behind.ensures.tied; power = c.device-behind.ensures.power; synchronized = c.device-behind.ensures.synchronized }) in
-    subst (λ (x : UnitState). Turns c.turn-turned.result (unit_told x) (unit_told t)) c.self.view_is
-    (turns_told s t c.turn-turned.result is.turns (λ same. record {
-      power = new.power (same ∙ ready);
-      counted = is.counted;
-      lowers = is.lowers;
-      tied = old.tied ready;
-      tied_behind = new.tied (same ∙ ready);
-      synchronized = old.synchronized;
-    }) (old.power ready))
+    subst (λ (x : UnitState). IsTurnCall c.turn-turned.result x t) c.self.view_is (record {
+      moved = is.moved;
+      told = turns_told s t c.turn-turned.result is.turns (λ same. record {
+        power = new.power (same ∙ ready);
+        counted = is.counted;
+        lowers = is.lowers;
+        tied = old.tied ready;
+        tied_behind = new.tied (same ∙ ready);
+        synchronized = old.synchronized;
+      }) (old.power ready);
+    })
