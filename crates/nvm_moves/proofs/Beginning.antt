@@ -18,11 +18,11 @@ use Rattle.promise_run.specs.JobTurns.{job_turns, write_pages}
 use Rattle.promise_run.specs.Operations.{HasWork, costs_of, left_behind}
 use Rattle.promise_run.specs.Promise.{making_of}
 use Rattle.promise_run.specs.DeviceTurns.{HadPages, HasMovesTo, MayGoOn, worn_by}
-use Rattle.promise_run.specs.Turns.{Moment, Move, entries_of, moment_behind, ArePaidSince, Among, BeginWhatIsDue, BeginsAt, EachMove, EachMoveSince, PostsPicked, PostsUrgent, StaysAtRest, TakeKept, turns_beside}
+use Rattle.promise_run.specs.Turns.{Moment, entries_of, moment_behind, ArePaidSince, Among, BeginWhatIsDue, BeginsAt, EachMove, EachMoveSince, PostsPicked, PostsUrgent, StaysAtRest, TakeKept, turns_beside}
 use Rattle.nvm_moves.specs.Along.{Along, Cursor}
 use Rattle.nvm_moves.specs.Beginning.{BeginsMoves}
 use Rattle.nvm_moves.specs.Moved.{HasMoved, IsAt, IsLawful}
-use Rattle.nvm_moves.specs.Seen.{Begun, Seen, frame_of, moment_by, moment_seen, work_seen}
+use Rattle.nvm_moves.specs.Seen.{Begun, Seen, frame_of, moment_by, moment_seen}
 use Rattle.nvm_moves.specs.Served.{DueAt, IsServable}
 use Rattle.nvm_moves.proofs.Consequences.{are_made, are_paid, begin_what_is_due, stays_at_rest, take_kept}
 use Rattle.nvm_moves.proofs.Moved.{counts_then, moment_then}

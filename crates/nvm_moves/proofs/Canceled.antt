@@ -1,7 +1,7 @@
 -- Where a WriteAll that was canceled is all that is pending, what is due is its end.
 use Rattle.std.specs.Prelude.{option_to_list}
 use Rattle.std.proofs.Common.{◌≡◌, ℕ, Bool, true, false, IsTrue, List, [], ◌∷◌, ◌++◌, Option, Some, None, if◌then◌else◌, refl, sym, ap, ◌∙◌, subst}
-use Rattle.nvm_core.specs.block_machine.Words.{ReqResult, Canceled, JobKind, ReadAllJob, WriteAllJob, Taken, TookNothing, Entry, Ask, Pick, Wrote, Post, Off, Found, Configuration}
+use Rattle.nvm_core.specs.block_machine.Words.{ReqResult, Canceled, JobKind, ReadAllJob, WriteAllJob, Taken, TookNothing, Entry, Pick, Post, Configuration}
 use Rattle.nvm_core.specs.block_machine.State.{State, Job, Sweep, jobs_of}
 use Rattle.nvm_core.specs.block_machine.Sweeps.{sweep_result}
 use Rattle.nvm_core.specs.block_machine.Next.{Next, BeginSweep, EndSweep, next_member, next_of}

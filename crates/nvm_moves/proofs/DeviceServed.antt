@@ -8,7 +8,7 @@ use Rattle.nvm_core.specs.memif.Told.{DeviceTold, Fixed, Part, Stand, Open, Ende
 use Rattle.nvm_core.specs.memif.Clock.{Clock}
 use Rattle.nvm_core.specs.memif.Calls.{Nearer, Works, urgent_first}
 use Rattle.nvm_core.specs.memif.declared.answer.JobResult.{JobResult}
-use Rattle.nvm_core.specs.memif.declared.answer.JobResult.TheVariants.{JobOk, JobFailed, JobPending, JobCanceled, BlockInconsistent, BlockInvalid}
+use Rattle.nvm_core.specs.memif.declared.answer.JobResult.TheVariants.{JobOk}
 use Rattle.nvm_core.specs.memif.Told as device
 use Rattle.nvm_core.specs.block_machine.Words.{Mark, Instance, Configuration}
 use Rattle.nvm_core.specs.block_machine.State.{State, Job}

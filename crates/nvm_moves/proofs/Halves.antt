@@ -7,10 +7,10 @@ use Rattle.nvm_core.specs.memif.Clock.{Clock, SameClock}
 use Rattle.nvm_core.specs.memif.Calls.{InOrder, RoomIsLeft, Turns}
 use Rattle.nvm_core.specs.memif.declared.answer.DeviceTurn.{DeviceTurn}
 use Rattle.nvm_core.specs.memif.declared.answer.DeviceTurn.TheVariants as turn
-use Rattle.nvm_core.specs.block_machine.Words.{Entry, Ask, Pick, Wrote, Post, Off, Found, Taken, Configuration}
+use Rattle.nvm_core.specs.block_machine.Words.{Entry, Pick, Post, Off, Taken, Configuration}
 use Rattle.nvm_core.specs.block_machine.State.{State, Job}
 use Rattle.nvm_core.specs.block_machine.Blocks.{job_block}
-use Rattle.nvm_core.specs.block_machine.Next.{Next, Nothing, PickJob, BeginSweep, PickMember, PostMember, EndSweep, next_of}
+use Rattle.nvm_core.specs.block_machine.Next.{Next, Nothing, PostMember, EndSweep, next_of}
 use Rattle.nvm_core.specs.block_machine.Legal.{MayPick}
 use Rattle.nvm_core.specs.nv_desk_copies.Posts.{IsPostedNext}
 use Rattle.nvm_core.specs.nvm_laws.Halves.{IsHalf}
@@ -51,9 +51,7 @@ use Rattle.nvm_core.specs.DueWrites.{IsDueFor, free_turns}
 use Rattle.nvm_core.specs.JobNumbers.{IsOfBlock}
 use Rattle.nvm_core.proofs.Working.{device_counts}
 use Rattle.nvm_core.specs.OperationStart.{LeavesDevice}
-use Rattle.nvm_core.specs.nvm_figures.Left.{most_turns}
 use Rattle.nvm_core.specs.job_progress.Hand.{is_finished}
-use Rattle.nvm_core.specs.job_progress.JobInHand.{program_for}
 use Rattle.nvm_core.specs.Work.{left_of, left_with, IsWithin, TakesTurns}
 use Rattle.nvm_core.proofs.block_laws.HistoryLaws.{histories_step}
 use Rattle.nvm_moves.proofs.Most.{begun_most, held_bounded, most_is, some_by, turned_most, within_of}

@@ -1,5 +1,5 @@
 -- The turns that are left of the job in hand in all, whatever fails.
-use Rattle.std.specs.Prelude.{IfSome, is_none, option_map}
+use Rattle.std.specs.Prelude.{is_none, option_map}
 use Rattle.std.proofs.Common.{◌≡◌, inl, inr, ◌≤◌, ◌<◌, ◌+◌, ◌*◌, ℕ, suc, Bool, true, false, if◌then◌else◌, Option, Some, None, refl, sym, ap, ◌∙◌, subst, arith}
 use Rattle.std.proofs.Math.Nat.{mul-le-mul_right, suc-mul}
 use Rattle.nvm_core.specs.memif.Told.{DeviceTold, Fixed, Part, Stand, Open, Ended, is_open}

@@ -6,7 +6,7 @@ use Rattle.nvm_core.specs.nv_base.declared.job.Outcome.TheVariants.{First}
 use Rattle.nvm_core.specs.memif.Told.{DeviceTold, Fixed, Stand, Open, Ended, figures_at, is_open, most_of, most_open, op_of}
 use Rattle.nvm_core.specs.memif.Clock.{Clock}
 use Rattle.nvm_core.specs.memif.Calls.{InOrder}
-use Rattle.nvm_core.specs.block_machine.Words.{JobKind, ReadJob, WriteJob, RestoreJob, EraseJob, InvalidateJob, ReadAllJob, WriteAllJob, Outcome, Configuration}
+use Rattle.nvm_core.specs.block_machine.Words.{JobKind, WriteJob, RestoreJob, ReadAllJob, WriteAllJob, Outcome, Configuration}
 use Rattle.nvm_core.specs.block_machine.State.{State, Job}
 use Rattle.nvm_core.specs.block_machine.Blocks.{kind_of, mark_by}
 use Rattle.nvm_core.specs.job_programs.Program.{Program, after_by, is_again, next_in, operation, tried, works}

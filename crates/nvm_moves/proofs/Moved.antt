@@ -1,7 +1,7 @@
 -- What a call does as a move, and moves behind moves.
 use Rattle.std.specs.Prelude.{IfSome, IsTrue, if◌then◌else◌, is_none, option_map, not, ◌&&◌, ◌||◌}
 use Rattle.std.specs.Option.{option_map_or}
-use Rattle.std.proofs.Common.{◌≡◌, inl, inr, ◌≤◌, ◌<◌, ◌+◌, ◌-◌, ℕ, Bool, true, false, List, [], ◌∷◌, ◌++◌, Option, Some, None, refl, sym, ap, ◌∙◌, subst, arith, append_assoc}
+use Rattle.std.proofs.Common.{◌≡◌, inl, inr, ◌≤◌, ◌<◌, ◌+◌, ℕ, Bool, true, false, List, [], ◌∷◌, ◌++◌, Option, Some, None, refl, sym, ap, ◌∙◌, subst, arith, append_assoc}
 use Rattle.std.proofs.lemmas.List.{append-nil}
 use Rattle.nvm_core.specs.nv_base.Count.{Rose, WereCounted}
 use Rattle.nvm_core.specs.memif.Told.{DeviceTold, faults_of, nothing_open}

@@ -8,7 +8,7 @@ use Rattle.nvm_core.specs.memif.Clock.{Clock}
 use Rattle.nvm_core.specs.block_machine.Words.{Instance, Mark, Taken, Request, Reply, Entry, Ask, Pick, Wrote, Post, Off, Found, Configuration}
 use Rattle.nvm_core.specs.block_machine.State.{State, Job}
 use Rattle.nvm_core.specs.block_machine.Blocks.{job_block}
-use Rattle.nvm_core.specs.block_machine.Next.{Next, PickJob, BeginSweep, PickMember, next_of}
+use Rattle.nvm_core.specs.block_machine.Next.{Next, PickJob, next_of}
 use Rattle.nvm_core.specs.block_machine.Steps.{after_from, picked, wrote}
 use Rattle.nvm_core.specs.promise_blocks.Work.{has_risen}
 use Rattle.nvm_core.proofs.job_progress.Asking.{asked_hand}

@@ -1,7 +1,6 @@
 -- The calls of a stack of one's own, as moves.
 use Rattle.std.specs.Prelude.{◌||◌, min, if◌then◌else◌}
 use Rattle.std.proofs.Common.{◌≡◌, ◌⊎◌, inl, inr, ℕ, ◌+◌, ◌≤◌, Bool, true, false, List, [], ◌∷◌, ◌++◌, Option, Some, None, refl, sym, ap, ◌∙◌, subst, arith}
-use Rattle.std.proofs.lemmas.Bool.{cases_Bool}
 use Rattle.nvm_core.specs.nv_base.Count.{last_count}
 use Rattle.nvm_core.specs.memif.Told.{DeviceTold, Fixed, Part, PartTold, Stand, Open, Ended as EndedJob, armed, faults_of, is_off, is_open, most_open, ops_of}
 use Rattle.nvm_core.specs.memif.Clock.{Clock, Seals}
@@ -17,17 +16,16 @@ use Rattle.nvm_core.specs.job_progress.Hand.{HandState}
 use Rattle.nvm_core.specs.nvm_device_laws.Turn.{TellsSlots}
 use Rattle.nvm_core.specs.nvm_laws.Due.{IsDue}
 use Rattle.nvm_core.specs.nvm_laws.DueCalls.{KeepsDue, TurnServesDue}
-use Rattle.nvm_core.specs.nvm_laws.DueLaws.{with_entries}
 use Rattle.nvm_core.specs.nvm_laws.Keeps.{StaysKept}
 use Rattle.nvm_core.specs.nvm_laws.Ties.{IsTied}
 use Rattle.nvm_core.specs.nvm_laws.Traits.{KeepsSeal, TakesKeptInHand}
 use Rattle.nvm_core.specs.nvm_laws.declared.turned.Turned.{Turned}
 use Rattle.nvm_core.specs.nvm_laws.declared.turned.Turned.TheVariants as turned
 use Rattle.nvm_core.specs.nvm_laws.declared.turned.Act.TheVariants.{Ended}
-use Rattle.nvm_core.specs.DeviceWork.{IsSimple, costs_in, tries_left, work_in}
+use Rattle.nvm_core.specs.DeviceWork.{IsSimple, tries_left, work_in}
 use Rattle.nvm_core.specs.BehindDevice.{TurnsDevice}
 use Rattle.nvm_core.specs.Due.{now_of}
-use Rattle.nvm_core.specs.DueWrites.{IsDueFor, free_turns}
+use Rattle.nvm_core.specs.DueWrites.{free_turns}
 use Rattle.nvm_core.specs.JobNumbers.{IsOfBlock}
 use Rattle.nvm_core.specs.Operations.{left_on}
 use Rattle.nvm_core.specs.Paying.{TurnPays, worn_so_far}
@@ -41,10 +39,10 @@ use Rattle.nvm_core.proofs.StartWork.{start_leaves}
 use Rattle.nvm_core.proofs.TurnWork.{closed_tries}
 use Rattle.nvm_core.proofs.TurnedBehind.{has_turned}
 use Rattle.nvm_core.specs.promise_blocks.Work.{has_risen}
-use Rattle.promise_run.specs.Turns.{Moment, Move, entry_list, turns_beside}
+use Rattle.promise_run.specs.Turns.{Move, entry_list, turns_beside}
 use Rattle.promise_run.proofs.StartUps.{turns_start_none}
-use Rattle.nvm_moves.specs.Seen.{Seen, IsOn, all_with, moment_by, moment_seen, seen_as, seen_in, work_seen}
-use Rattle.promise_run.specs.DeviceTurns.{HadPages, MayGoOn}
+use Rattle.nvm_moves.specs.Seen.{Seen, IsOn, all_with, moment_by, moment_seen, seen_as, seen_in}
+use Rattle.promise_run.specs.DeviceTurns.{MayGoOn}
 use Rattle.nvm_moves.specs.Worked.{KeepsToWork}
 use Rattle.nvm_moves.specs.Moved.{MovesBy}
 use Rattle.nvm_moves.proofs.AskedBlocks.{ask_leaves_power}

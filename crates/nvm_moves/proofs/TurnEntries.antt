@@ -6,10 +6,10 @@ use Rattle.nvm_core.specs.nv_base.Entry.{ops_of}
 use Rattle.nvm_core.specs.memif.Told.{DeviceTold, Stand, Open, Ended as Closed}
 use Rattle.nvm_core.specs.memif.Told as device
 use Rattle.nvm_core.specs.memif.declared.answer.JobResult.{JobResult}
-use Rattle.nvm_core.specs.memif.declared.answer.JobResult.TheVariants.{JobOk, JobFailed, JobPending, JobCanceled, BlockInconsistent, BlockInvalid}
-use Rattle.nvm_core.specs.block_machine.Words.{Mark, Taken, Entry, Ask, Pick, Wrote, Post, Off, Found, Configuration}
+use Rattle.nvm_core.specs.memif.declared.answer.JobResult.TheVariants.{JobOk}
+use Rattle.nvm_core.specs.block_machine.Words.{Mark, Taken, Entry, Ask, Pick, Post, Found, Configuration}
 use Rattle.nvm_core.specs.block_machine.State.{State}
-use Rattle.nvm_core.specs.block_machine.Next.{Next, Nothing, PickJob, BeginSweep, PickMember, PostMember, EndSweep, next_of}
+use Rattle.nvm_core.specs.block_machine.Next.{Next, PostMember, EndSweep, next_of}
 use Rattle.nvm_core.specs.block_machine.Steps.{step, after_from}
 use Rattle.nvm_core.specs.ram_blocks.Told.{Told}
 use Rattle.nvm_core.specs.nv_desk.Desk.{DeskState, state_of}

@@ -1,5 +1,5 @@
 -- A law along the moves of one history.
-use Rattle.std.specs.Prelude.{◌≡◌, ◌⊎◌, ◌-◌, ◌&&◌, ◌||◌, ℕ, Bool, if◌then◌else◌, is_none, option_map, List, [], ◌∷◌, Option, None}
+use Rattle.std.specs.Prelude.{◌-◌, ◌&&◌, ◌||◌, ℕ, Bool, if◌then◌else◌, is_none, option_map, List, [], ◌∷◌, Option, None}
 use Rattle.nvm_core.specs.block_machine.Words.{Configuration}
 use Rattle.nvm_core.specs.block_machine.State.{State, Job}
 use Rattle.nvm_core.specs.block_machine.Steps.{after_from}

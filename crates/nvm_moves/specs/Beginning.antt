@@ -1,7 +1,7 @@
 -- Where the moves of a history begin.
-use Rattle.std.specs.Prelude.{◌≡◌, ◌≤◌, ℕ, nat_lt, if◌then◌else◌, List, [], ◌∷◌, Option, None}
+use Rattle.std.specs.Prelude.{◌≡◌, ◌≤◌, ℕ, nat_lt, if◌then◌else◌, List, [], ◌∷◌, None}
 use Rattle.nvm_core.specs.memif.Told.{Part, PartTold, faults_of}
-use Rattle.nvm_core.specs.block_machine.Words.{Instance, Mark, Entry, Found}
+use Rattle.nvm_core.specs.block_machine.Words.{Instance, Mark, Found}
 use Rattle.nvm_core.specs.block_machine.State.{State, Job}
 use Rattle.nvm_core.specs.job_progress.JobInHand.{program_for}
 use Rattle.nvm_core.specs.nvm_figures.Left.{most_turns}

@@ -1,5 +1,5 @@
 -- What moves do to a stack.
-use Rattle.std.specs.Prelude.{◌≡◌, ◌⊎◌, ◌≤◌, ◌<◌, ◌+◌, ℕ, Bool, true, false, IsTrue, is_none, not, ◌||◌, List, [], ◌∷◌, ◌++◌, Option, Some, None, IfSome}
+use Rattle.std.specs.Prelude.{◌≡◌, ◌⊎◌, ◌≤◌, ◌<◌, ◌+◌, ℕ, Bool, true, false, IsTrue, is_none, List, [], ◌∷◌, ◌++◌, Option, Some, None, IfSome}
 use Rattle.nvm_core.specs.nv_base.Count.{Rose}
 use Rattle.nvm_core.specs.nv_base.Entry.{ops_of}
 use Rattle.nvm_core.specs.memif.Told.{Part, PartTold, faults_of}
@@ -13,8 +13,7 @@ use Rattle.nvm_core.specs.block_machine.Steps.{after_from}
 use Rattle.nvm_core.specs.promise_blocks.Payment.{Worn}
 use Rattle.nvm_core.specs.promise_blocks.Work.{has_risen}
 use Rattle.nvm_core.specs.nv_desk.Desk.{DeskState, state_of}
-use Rattle.nvm_core.specs.job_progress.JobInHand.{IsPaired, program_for}
-use Rattle.nvm_core.specs.nvm_figures.Left.{most_turns}
+use Rattle.nvm_core.specs.job_progress.JobInHand.{IsPaired}
 use Rattle.nvm_core.specs.nvm_device_laws.Turn.{TellsSlots}
 use Rattle.nvm_core.specs.nvm_laws.AtDevice.{GoesOn}
 use Rattle.nvm_core.specs.nvm_laws.Due.{post_first}
