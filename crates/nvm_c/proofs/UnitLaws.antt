@@ -27,11 +27,12 @@ use Rattle.nvm.proofs.nvm_flash.Returning.{comes_back as back_so}
 use Rattle.nvm.specs.Turned.{unit_seen}
 use Rattle.nvm.specs.Unit.{Stays, UnitTurns, takes_of}
 use Rattle.nvm.specs.nvm_moves.Seen.{frame_in, frame_of}
-use Rattle.script_player.specs.uds_gateway.block_laws.Laws.{EntriesAreCounted, HistoriesGoOn, HistoriesStep, SumsGrow}
+use Rattle.script_player.specs.uds_gateway.block_laws.Laws.{HistoriesStep, SumsGrow}
 use Rattle.script_player.specs.Calls as calls
 use Rattle.script_player.specs.PlainTold.{told_by}
-use Rattle.script_player.proofs.uds_gateway.HistoryLaws.{entries_are_counted, histories_go_on, histories_step, sums_grow}
+use Rattle.script_player.proofs.uds_gateway.HistoryLaws.{histories_step, sums_grow}
 use Rattle.script_player.proofs.PlainHalves.{IsBehind, ended}
+use Rattle.script_player.proofs.PlainStarts.{restarts_told}
 use Rattle.script_player.proofs.PlainBehind.{behind_device}
 use Rattle.nvm_c.specs.Unit.{UnitState, CameBack, Closes, IsLent, IsPlanCall, IsStartCall, Opens, unit_told}
 use Rattle.nvm_c.specs.Work.{PlansCut}
@@ -97,25 +98,7 @@ pub turns_told : (s t : UnitState) (answer : Turned) → UnitTurns answer s t �
 turns_told s t answer (inl half) behind power = ended told_of s t answer half (behind half.ready)
 turns_told s t answer (inr (between, half, second)) behind power = behind_device told_of told_clock s between t half power answer second (behind (second.ready ∙ half.ready))
 
--- a start-up, by what it came to
-restarts_told : (s t : UnitState) (answer : FoundAnswer) → Restarts told_of answer s t → calls.Restarts answer (unit_told s) (unit_told t)
-restarts_told s t found.Ready restarts =
-    let steps : HistoriesStep = histories_step in
-    let goes_on : HistoriesGoOn = histories_go_on in
-    let counted : EntriesAreCounted = entries_are_counted in
-    let prices : SumsGrow = sums_grow in
-    search rules
-restarts_told s t found.Failed restarts =
-    let steps : HistoriesStep = histories_step in
-    let goes_on : HistoriesGoOn = histories_go_on in
-    let counted : EntriesAreCounted = entries_are_counted in
-    let prices : SumsGrow = sums_grow in
-    search rules
-restarts_told s t found.NoRoom restarts =
-    let counted : EntriesAreCounted = entries_are_counted in
-    search rules
-restarts_told s t found.Memory restarts = ap unit_told restarts
-
+-- a start-up: as many turns are left of each job
 restarts_frame : (s t : UnitState) (answer : FoundAnswer) → Restarts told_of answer s t → frame_of false (unit_seen t) ≡ frame_of false (unit_seen s)
 restarts_frame s t found.Ready starts =
     ap (λ (c : Configuration). frame_in false c (told_of t.device).fixed) (ap (λ (x : UnitState). x.desk.config) starts.only) ∙ ap (frame_in false s.desk.config) starts.finds.up.restarted.fixed
@@ -125,7 +108,7 @@ restarts_frame s t found.NoRoom stays = ap (λ (x : UnitState). frame_in false x
 restarts_frame s t found.Memory stays = ap (λ (x : UnitState). frame_in false x.desk.config (told_of x.device).fixed) stays
 
 pub start_call : (s t : UnitState) (answer : FoundAnswer) → Restarts told_of answer s t → IsStartCall answer s t
-start_call s t answer restarts = record { told = restarts_told s t answer restarts; frame = restarts_frame s t answer restarts }
+start_call s t answer restarts = record { told = restarts_told told_of s t answer restarts; frame = restarts_frame s t answer restarts }
 
 -- and whether it stands
 abbrev pub up_behind : FoundAnswer → Bool → Bool

@@ -1,5 +1,5 @@
 -- Each start-up that a player makes has its Found.
-use Rattle.std.proofs.Common.{◌≡◌, ◌+◌, ℕ, Bool, true, false, List, [], ◌∷◌, ◌++◌, refl, sym, ap, ◌∙◌, subst, inl, inr, arith, append-nil}
+use Rattle.std.proofs.Common.{rules, ◌≡◌, ◌+◌, ℕ, Bool, true, false, List, [], ◌∷◌, ◌++◌, refl, sym, ap, ◌∙◌, subst, inl, inr, arith, append-nil}
 use Rattle.uds_gateway.specs.memif.Told.{DeviceTold}
 use Rattle.uds_gateway.specs.memif.Clock.{Clock}
 use Rattle.uds_gateway.specs.block_machine.Words.{Entry, Ask, Pick, Wrote, Post, Off, Found, Configuration}
@@ -17,6 +17,10 @@ use Rattle.uds_gateway.specs.nvm_core.Turns as core
 use Rattle.uds_gateway.specs.script_walks.Turn.{IsOneOrNone}
 use Rattle.uds_gateway.proofs.StackMoves.{device_starts}
 use Rattle.uds_gateway.proofs.StartUps.{founds_add}
+use Rattle.uds_gateway.specs.block_laws.Laws.{EntriesAreCounted, HistoriesGoOn, HistoriesStep, SumsGrow}
+use Rattle.uds_gateway.proofs.HistoryLaws.{entries_are_counted, histories_go_on, histories_step, sums_grow}
+use Rattle.script_player.specs.Calls as calls
+use Rattle.script_player.specs.PlainTold.{told_by}
 use Rattle.script_player.specs.PlainKept.{AreStartsFound}
 
 -- where none was made and the entries tell none
@@ -73,3 +77,22 @@ module _ {D : Type 0} (device : D → DeviceTold) (clock : D → Clock) (old new
       subst (λ (b : Bool). AreStartsFound b new.desk (device new.device)) (sym (ap (λ (s : StackState D (List PlainBlock)). s.ready) restarts.only)) (omega (arith, was, more, all))
   restart_starts found.NoRoom restarts ready are = subst (λ (s : StackState D (List PlainBlock)). AreStartsFound s.ready s.desk (device s.device)) (sym restarts.0) are
   restart_starts found.Memory restarts ready are = subst (λ (s : StackState D (List PlainBlock)). AreStartsFound s.ready s.desk (device s.device)) (sym restarts) are
+
+-- what is told of it, by what it came to
+pub restarts_told : {D : Type 0} (told : D → DeviceTold) (old new : StackState D (List PlainBlock)) (answer : FoundAnswer) → Restarts told answer old new → calls.Restarts answer (told_by told old) (told_by told new)
+restarts_told told old new found.Ready restarts =
+    let steps : HistoriesStep = histories_step in
+    let goes_on : HistoriesGoOn = histories_go_on in
+    let counted : EntriesAreCounted = entries_are_counted in
+    let prices : SumsGrow = sums_grow in
+    search rules
+restarts_told told old new found.Failed restarts =
+    let steps : HistoriesStep = histories_step in
+    let goes_on : HistoriesGoOn = histories_go_on in
+    let counted : EntriesAreCounted = entries_are_counted in
+    let prices : SumsGrow = sums_grow in
+    search rules
+restarts_told told old new found.NoRoom restarts =
+    let counted : EntriesAreCounted = entries_are_counted in
+    search rules
+restarts_told told old new found.Memory restarts = ap (told_by told) restarts

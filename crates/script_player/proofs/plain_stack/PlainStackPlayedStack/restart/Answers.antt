@@ -1,4 +1,4 @@
-use Rattle.std.proofs.Common.{rules, ◌≡◌, Bool, true, false, List, [], ◌∷◌, Option, Some, sym, ap, subst, inl, ◌∙◌}
+use Rattle.std.proofs.Common.{◌≡◌, Bool, true, false, List, [], ◌∷◌, Option, Some, sym, ap, subst, inl, ◌∙◌}
 use Rattle.uds_gateway.specs.memif.Told.{DeviceTold, Part, PartTold, ops_of}
 use Rattle.uds_gateway.specs.memif.Trials.{Lasts}
 use Rattle.uds_gateway.specs.block_machine.Words.{Entry, Found}
@@ -14,8 +14,6 @@ use Rattle.uds_gateway.specs.nvm_laws.declared.turned.FoundAnswer.{FoundAnswer}
 use Rattle.uds_gateway.specs.nvm_laws.declared.turned.FoundAnswer.TheVariants as found
 use Rattle.uds_gateway.specs.nvm_core.Stack.{StackState, PowersOff}
 use Rattle.uds_gateway.specs.nvm_core.StartUps.{DownKeepsAsTold, Restarts, StartsKeep}
-use Rattle.uds_gateway.specs.block_laws.Laws.{EntriesAreCounted, HistoriesGoOn, HistoriesStep, SumsGrow}
-use Rattle.uds_gateway.proofs.HistoryLaws.{entries_are_counted, histories_go_on, histories_step, sums_grow}
 use Rattle.script_player.specs.Calls as calls
 use Rattle.uds_gateway.specs.nvm_moves.Moved.{MovesBy}
 use Rattle.uds_gateway.proofs.StackMoves.{stack_starts}
@@ -25,7 +23,7 @@ use Rattle.script_player.specs.PlainTold.{told_by}
 use Rattle.script_player.specs.PlainKept.{IsKept, AreStartsFound}
 use Rattle.script_player.specs.PlainPaying.{seen_by}
 use Rattle.script_player.proofs.PlainPaying.{fails_last, restart_tells, same_entry, same_last}
-use Rattle.script_player.proofs.PlainStarts.{restart_starts}
+use Rattle.script_player.proofs.PlainStarts.{restart_starts, restarts_told}
 use Rattle.script_player.proofs.plain_stack.PlainStackPlayedStack.restart.Goals as goal
 
 -- whatever the last start-up came to, a further one has what it needs
@@ -98,25 +96,6 @@ returns-clause-moved g c =
     (restart_moves told clock s new
     (λ before kept. restart_keeps told clock before s new (c.restart-answer.ensures.down before) kept c.restart-answer.result c.restart-answer.ensures.restarts c.restart-answer.ensures.keeps)
     c.restart-answer.ensures.lasts (subst (λ (x : g.row.D.Denot). InOrder (told x) (clock x)) c.device-behind.ensures.device c.status-status.ensures.order) c.device-behind.ensures.power c.restart-answer.result c.restart-answer.ensures.restarts)
-
--- what is told of it, by what it came to
-restarts_told : {D : Type 0} (told : D → DeviceTold) (old new : StackState D (List PlainBlock)) (answer : FoundAnswer) → Restarts told answer old new → calls.Restarts answer (told_by told old) (told_by told new)
-restarts_told told old new found.Ready restarts =
-    let steps : HistoriesStep = histories_step in
-    let goes_on : HistoriesGoOn = histories_go_on in
-    let counted : EntriesAreCounted = entries_are_counted in
-    let prices : SumsGrow = sums_grow in
-    search rules
-restarts_told told old new found.Failed restarts =
-    let steps : HistoriesStep = histories_step in
-    let goes_on : HistoriesGoOn = histories_go_on in
-    let counted : EntriesAreCounted = entries_are_counted in
-    let prices : SumsGrow = sums_grow in
-    search rules
-restarts_told told old new found.NoRoom restarts =
-    let counted : EntriesAreCounted = entries_are_counted in
-    search rules
-restarts_told told old new found.Memory restarts = ap (told_by told) restarts
 
 pub returns-clause-restarts : goal.returns-clause-restarts
 returns-clause-restarts g c =
