@@ -54,33 +54,25 @@ WritesBy IsEnd e = Writes IsEnd e.written e.written_after e.status
 
 -- EACH COMMAND
 
--- where no run is begun, for one of these reasons, by what was read and by the flash
-abbrev pub StopsFor : (Option (List ℕ) → ℕ → ℕ → Option ToldBytes → Status → List (List ℕ) → Type 0) → Ended → Type 0
-StopsFor IsEnd e = HasNoRun (IsEnd e.left e.read_faults e.read_faults_after e.entry.bytes) e.written e.written_after e.status e.entry e.exit
-
--- `play`, or `run`
-pub record KeepsSteps (m : Mode) (e : Ended) : Type 0 where
-  pub promise : HasPromise (call_in m e) ⊎ StopsFor (StepsStopBy m) e
+-- a command that makes a run: what is promised of it; or none is begun, for one of these reasons, by what was read and by the flash
+pub record MakesRun (Promised : Type 0) (IsEnd : Option (List ℕ) → ℕ → ℕ → Option ToldBytes → Status → List (List ℕ) → Type 0) (e : Ended) : Type 0 where
+  pub promise : Promised ⊎ HasNoRun (IsEnd e.left e.read_faults e.read_faults_after e.entry.bytes) e.written e.written_after e.status e.entry e.exit
   pub untouched : IsBeforeAttach e.status → e.exit ≡ e.entry
   pub causes : IsCaused e
 
 abbrev pub KeepsPlay : Ended → Type 0
-KeepsPlay = KeepsSteps mode.Play
+KeepsPlay e = MakesRun (HasPromise (call_in mode.Play e)) (StepsStopBy mode.Play) e
 
 abbrev pub KeepsRunCommand : Ended → Type 0
-KeepsRunCommand = KeepsSteps mode.Run
+KeepsRunCommand e = MakesRun (HasPromise (call_in mode.Run e)) (StepsStopBy mode.Run) e
 
 -- with the steps that are drawn for a configuration
-pub record KeepsSoak (steps : Configuration → List Step) (e : Ended) : Type 0 where
-  pub promise : HasSoaked e.left steps (call_in mode.Play e) ⊎ StopsFor SoakStopsBy e
-  pub untouched : IsBeforeAttach e.status → e.exit ≡ e.entry
-  pub causes : IsCaused e
+abbrev pub KeepsSoak : (Configuration → List Step) → Ended → Type 0
+KeepsSoak steps e = MakesRun (HasSoaked e.left steps (call_in mode.Play e)) SoakStopsBy e
 
 -- with an answer to each request
-pub record KeepsUds (e : Ended) : Type 0 where
-  pub promise : HasAnswered e.left e.status (call_in mode.Play e) ⊎ StopsFor UdsStopsBy e
-  pub untouched : IsBeforeAttach e.status → e.exit ≡ e.entry
-  pub causes : IsCaused e
+abbrev pub KeepsUds : Ended → Type 0
+KeepsUds e = MakesRun (HasAnswered e.left e.status (call_in mode.Play e)) UdsStopsBy e
 
 pub record KeepsCheck (e : Ended) : Type 0 where
   pub by_input : WritesBy (ChecksBy e.left e.read_faults e.read_faults_after) e
