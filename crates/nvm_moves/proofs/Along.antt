@@ -1,10 +1,5 @@
 -- A law along moves, one behind another.
-use Rattle.std.proofs.Common.{◌≡◌, ◌≤◌, ℕ, List, [], ◌∷◌, ◌++◌, refl, sym, ap, ◌∙◌, arith, append_assoc}
-use Rattle.nvm_core.specs.block_machine.Words.{Entry}
-use Rattle.nvm_core.specs.block_machine.Steps.{after_from}
-use Rattle.nvm_core.proofs.block_laws.HistoryLaws.{histories_go_on}
-use Rattle.promise_run.specs.Turns.{Moment, Move, entry_list, entries_of, moment_behind}
-use Rattle.nvm_moves.specs.Along.{Cursor, Frame, next_by, cursor_behind, Along}
+use Rattle.nvm_moves.proofs.Common.{◌≡◌, ◌≤◌, ℕ, List, [], ◌∷◌, ◌++◌, refl, sym, ap, ◌∙◌, arith, append_assoc, Entry, after_from, histories_go_on, Moment, Move, entry_list, entries_of, moment_behind, Cursor, Frame, next_by, cursor_behind, Along}
 
 -- THE CURSOR
 pub cursor_more : (c : Frame) (k : Cursor) (a b : List Move) → cursor_behind c k (a ++ b) ≡ cursor_behind c (cursor_behind c k a) b

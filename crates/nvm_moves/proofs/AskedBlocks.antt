@@ -1,17 +1,15 @@
 -- A block with an accepted job, while requests come.
-use Rattle.std.specs.Prelude.{IsTrue, ◌==◌, unwrap_or, map, slice_get}
+use Rattle.nvm_moves.proofs.Common.{IsTrue, ◌==◌, ◌≡◌, ◌+◌, ◌<◌, ℕ, zero, suc, true, List, [], ◌∷◌, length, Option, Some, None, refl, sym, ap, ◌∙◌, arith, ReqResult, Request, Write, Reply, Accepted, JobKind, Taken, Instance, Mark, Entry, Ask, Pick, Wrote, Post, Off, Found, Configuration, State, Job, is_pending, status_of, Next, PickJob, BeginSweep, PickMember, PostMember, EndSweep, next_of, reply_of, at_first, step, after, after_from, picked, wrote}
+use Rattle.std.specs.Prelude.{unwrap_or, map, slice_get}
 use Rattle.std.specs.List.{enumerate_from}
-use Rattle.std.proofs.Common.{◌≡◌, ◌+◌, ◌<◌, ℕ, zero, suc, true, List, [], ◌∷◌, length, Option, Some, None, refl, sym, ap, ◌∙◌, arith}
 use Rattle.std.proofs.lemmas.List.{length-map, length-set}
 use Rattle.std.proofs.lemmas.List.FromFn.{length-enumerate_from}
 use Rattle.nvm_core.specs.block_config.Block.{plain_block}
-use Rattle.nvm_core.specs.block_machine.Words.{ReqResult, Fine, Request, SetIndex, SetProtection, SetLock, SetRam, PutRam, ReadAll, WriteAll, CancelWriteAll, Write, Reply, Accepted, JobKind, Taken, Instance, Mark, Entry, Ask, Pick, Wrote, Post, Off, Found, BlockDesc, Configuration}
-use Rattle.nvm_core.specs.block_machine.State.{State, Job, BlockState}
-use Rattle.nvm_core.specs.block_machine.Blocks.{asked_block, is_immediate, is_pending, job_kind, status_of}
-use Rattle.nvm_core.specs.block_machine.Next.{Next, PickJob, BeginSweep, PickMember, PostMember, EndSweep, next_of}
-use Rattle.nvm_core.specs.block_machine.Reply.{reply_of}
-use Rattle.nvm_core.specs.block_machine.StartUp.{at_first, started_block}
-use Rattle.nvm_core.specs.block_machine.Steps.{step, after, after_from, changed, changed_by, accepted_by, asked, picked, wrote, posted, posted_next}
+use Rattle.nvm_core.specs.block_machine.Words.{Fine, SetIndex, SetProtection, SetLock, SetRam, PutRam, ReadAll, WriteAll, CancelWriteAll, BlockDesc}
+use Rattle.nvm_core.specs.block_machine.State.{BlockState}
+use Rattle.nvm_core.specs.block_machine.Blocks.{asked_block, is_immediate, job_kind}
+use Rattle.nvm_core.specs.block_machine.StartUp.{started_block}
+use Rattle.nvm_core.specs.block_machine.Steps.{changed, changed_by, accepted_by, asked, posted, posted_next}
 use Rattle.nvm_core.proofs.block_laws.Locality.{entries_give_status}
 use Rattle.nvm_core.proofs.job_progress.Asking.{pending_stay}
 

@@ -1,14 +1,11 @@
 -- Where a WriteAll that was canceled is all that is pending, what is due is its end.
-use Rattle.std.specs.Prelude.{option_to_list}
-use Rattle.std.proofs.Common.{◌≡◌, ℕ, Bool, true, false, IsTrue, List, [], ◌∷◌, ◌++◌, Option, Some, None, if◌then◌else◌, refl, sym, ap, ◌∙◌, subst}
-use Rattle.nvm_core.specs.block_machine.Words.{ReqResult, Canceled, JobKind, ReadAllJob, WriteAllJob, Taken, TookNothing, Entry, Pick, Post, Configuration}
-use Rattle.nvm_core.specs.block_machine.State.{State, Job, Sweep, jobs_of}
+use Rattle.nvm_moves.proofs.Common.{option_to_list, ◌≡◌, ℕ, Bool, true, false, List, [], ◌∷◌, ◌++◌, Option, Some, None, if◌then◌else◌, refl, sym, ap, ◌∙◌, subst, ReqResult, JobKind, ReadAllJob, WriteAllJob, Taken, Entry, Pick, Post, Configuration, State, Job, Sweep, Next, BeginSweep, EndSweep, next_member, next_of, MayPick, is_due, begins_with_pick_or_post, EndsCanceled}
+use Rattle.std.proofs.Common.{IsTrue}
+use Rattle.nvm_core.specs.block_machine.Words.{Canceled, TookNothing}
+use Rattle.nvm_core.specs.block_machine.State.{jobs_of}
 use Rattle.nvm_core.specs.block_machine.Sweeps.{sweep_result}
-use Rattle.nvm_core.specs.block_machine.Next.{Next, BeginSweep, EndSweep, next_member, next_of}
-use Rattle.nvm_core.specs.block_machine.Legal.{IsAllowed, MayPick, MayPost, MayPostNext}
+use Rattle.nvm_core.specs.block_machine.Legal.{IsAllowed, MayPost, MayPostNext}
 use Rattle.nvm_core.specs.block_machine.Results.{Answer}
-use Rattle.script_walks.specs.Walk.{is_due, begins_with_pick_or_post}
-use Rattle.promise_run.specs.Turns.{EndsCanceled}
 use Rattle.nvm_moves.proofs.Resting.{next_at, some_none}
 
 -- the entry that ends it

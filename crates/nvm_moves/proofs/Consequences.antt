@@ -1,10 +1,6 @@
 -- What the promise says of moves, by the law along them.
-use Rattle.std.proofs.Common.{List, [], ◌∷◌}
-use Rattle.nvm_core.specs.memif.Clock.{Clock, TakesKept}
-use Rattle.nvm_core.specs.promise_blocks.Payment.{Worn}
-use Rattle.promise_run.specs.Turns.{Move, AreMovesMade, ArePaidSince, BeginWhatIsDue, CountFailed, StaysAtRest, TakeKept}
-use Rattle.nvm_moves.specs.Along.{Cursor, Frame, next_by, Along}
-use Rattle.nvm_moves.specs.Moved.{IsLawful, IsPaidAt}
+use Rattle.nvm_moves.proofs.Common.{List, [], ◌∷◌, Clock, TakesKept, Worn, Move, ArePaidSince, BeginWhatIsDue, CountFailed, StaysAtRest, TakeKept, Cursor, Frame, next_by, Along, IsLawful, IsPaidAt}
+use Rattle.promise_run.specs.Turns.{AreMovesMade}
 
 module _ (f : Frame) (clock : Clock) where
   pub are_made : (k : Cursor) (ms : List Move) → Along f (IsLawful f.config clock) k ms → AreMovesMade k.now ms

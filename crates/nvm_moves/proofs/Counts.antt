@@ -1,7 +1,7 @@
 -- Whether a count rose.
-use Rattle.std.proofs.Common.{◌⊎◌, inl, inr, ℕ, ◌+◌, ◌<◌, ◌≤◌, min, arith}
+use Rattle.nvm_moves.proofs.Common.{◌⊎◌, inl, inr, ℕ, ◌+◌, ◌<◌, ◌≤◌, arith, Rose, last_count}
+use Rattle.std.proofs.Common.{min}
 use Rattle.std.proofs.lemmas.Bool.Decides.{leb_tells}
-use Rattle.nvm_core.specs.nv_base.Count.{Rose, last_count}
 
 pub rose_or : (a b : ℕ) → Rose a b ⊎ ¬ Rose a b
 rose_or a b = elim (leb_tells b a) [

@@ -1,19 +1,8 @@
 -- What is due, in the device's own turn.
-use Rattle.std.proofs.Common.{◌≡◌, inl, inr, ℕ, ◌+◌, ◌≤◌, Bool, true, false, Option, sym, ◌∙◌, subst, arith}
-use Rattle.std.proofs.lemmas.Bool.{cases_Bool}
-use Rattle.nvm_core.specs.nv_base.Count.{Rose}
-use Rattle.nvm_core.specs.memif.Told.{faults_of, nothing_open}
-use Rattle.nvm_core.specs.memif.Clock.{Clock}
-use Rattle.nvm_core.specs.block_machine.Words.{Entry}
-use Rattle.nvm_core.specs.nv_desk.Desk.{state_of}
-use Rattle.nvm_core.specs.job_progress.JobInHand.{IsPaired}
-use Rattle.nvm_core.specs.nvm_laws.Due.{StackNow, IsDue, IsDueInHand, IsDueNext, IsNearer, post_first}
-use Rattle.nvm_core.specs.nvm_laws.declared.turned.Turned.{Turned}
+use Rattle.nvm_moves.proofs.Common.{◌≡◌, inl, inr, ℕ, ◌+◌, ◌≤◌, Bool, true, false, Option, sym, ◌∙◌, subst, arith, cases_Bool, Rose, faults_of, nothing_open, Clock, Entry, state_of, IsPaired, StackNow, IsDue, IsDueInHand, IsDueNext, IsNearer, post_first, Turned, TurnsDevice, asked_by, more_due, Moment, IsAskedDue, IsDueWithin}
 use Rattle.nvm_core.specs.nvm_laws.declared.turned.Turned.TheVariants as turned
-use Rattle.nvm_core.specs.BehindDevice.{TurnsDevice, asked_by}
-use Rattle.nvm_core.proofs.DueWrites.{more_due, takes_one}
-use Rattle.promise_run.specs.Turns.{Moment, is_off}
-use Rattle.nvm_moves.specs.Served.{IsAskedDue, IsDueWithin}
+use Rattle.nvm_core.proofs.DueWrites.{takes_one}
+use Rattle.promise_run.specs.Turns.{is_off}
 use Rattle.nvm_moves.proofs.Counts.{rose_in, rose_or}
 use Rattle.nvm_moves.proofs.DeviceServed.{next_on}
 use Rattle.nvm_moves.proofs.Servable.{still_on}

@@ -1,31 +1,15 @@
 -- What is due, in the device's own turn.
-use Rattle.std.specs.Prelude.{IfSome}
-use Rattle.std.specs.Option.{option_map_or}
-use Rattle.std.proofs.Common.{◌≡◌, inl, inr, ℕ, ◌+◌, ◌≤◌, Bool, true, false, List, length, Option, Some, None, refl, sym, ap, ◌∙◌, subst, arith, length-append}
-use Rattle.std.proofs.lemmas.Bool.{cases_Bool}
-use Rattle.nvm_core.specs.nv_base.Count.{Rose}
-use Rattle.nvm_core.specs.memif.Told.{DeviceTold, Fixed, Part, Stand, Open, Ended as Closed, IfElse, is_urgent}
-use Rattle.nvm_core.specs.memif.Clock.{Clock}
+use Rattle.nvm_moves.proofs.Common.{IfSome, option_map_or, ◌≡◌, inl, inr, ℕ, ◌+◌, ◌≤◌, Bool, true, false, List, length, Option, Some, None, refl, sym, ap, ◌∙◌, subst, arith, cases_Bool, Rose, DeviceTold, Fixed, Part, Stand, Open, Closed, Clock, JobResult, JobOk, Mark, Instance, Configuration, State, Job, block_at, job_block, rank_of, next_in, after_from, wrote, DeskState, state_of, HandState, IsPaired, is_hand_urgent, settled_by, wrote_by, IsDueNext, post_first, none_first, entry_list}
+use Rattle.std.proofs.Common.{length-append}
+use Rattle.nvm_core.specs.memif.Told.{IfElse, is_urgent}
 use Rattle.nvm_core.specs.memif.Calls.{Nearer, Works, urgent_first}
-use Rattle.nvm_core.specs.memif.declared.answer.JobResult.{JobResult}
-use Rattle.nvm_core.specs.memif.declared.answer.JobResult.TheVariants.{JobOk}
 use Rattle.nvm_core.specs.memif.Told as device
-use Rattle.nvm_core.specs.block_machine.Words.{Mark, Instance, Configuration}
-use Rattle.nvm_core.specs.block_machine.State.{State, Job}
-use Rattle.nvm_core.specs.block_machine.Blocks.{block_at, indices_of, job_block, rank_of}
-use Rattle.nvm_core.specs.block_machine.Next.{next_in}
-use Rattle.nvm_core.specs.block_machine.Steps.{after_from, wrote}
-use Rattle.nvm_core.specs.nv_desk.Desk.{DeskState, state_of}
-use Rattle.nvm_core.specs.job_progress.Hand.{HandState}
-use Rattle.nvm_core.specs.job_progress.JobInHand.{IsPaired}
-use Rattle.nvm_core.specs.nvm_device_laws.Tries.{is_hand_urgent}
-use Rattle.nvm_core.specs.nvm_device_laws.Turn.{settled_by, wrote_by}
-use Rattle.nvm_core.specs.nvm_laws.Due.{IsDueNext, pages_now, post_first}
+use Rattle.nvm_core.specs.block_machine.Blocks.{indices_of}
+use Rattle.nvm_core.specs.nvm_laws.Due.{pages_now}
 use Rattle.nvm_core.specs.nvm_figures.Urgent.{pages_of}
 use Rattle.nvm_core.proofs.memif.Turning.{works_fixed}
 use Rattle.nvm_core.proofs.nvm_laws.DueBlocks.{same_pages}
-use Rattle.nvm_core.proofs.nvm_laws.Traits.{none_first, urgent_in_hand}
-use Rattle.promise_run.specs.Turns.{entry_list}
+use Rattle.nvm_core.proofs.nvm_laws.Traits.{urgent_in_hand}
 use Rattle.nvm_moves.proofs.DueAsked.{IsStandard}
 use Rattle.nvm_moves.proofs.TurnEntries.{AddsOne, state_behind}
 

@@ -1,29 +1,8 @@
 -- What a turn does at the device, by what its halves tell.
-use Rattle.std.specs.Prelude.{IfSome, ◌||◌}
-use Rattle.std.proofs.Common.{◌≡◌, ℕ, Bool, true, false, Option, sym, ap, ◌∙◌, subst, inl, inr, arith}
-use Rattle.std.proofs.lemmas.Bool.{cases_Bool}
-use Rattle.nvm_core.specs.memif.Told.{DeviceTold, PartTold, is_off}
-use Rattle.nvm_core.specs.memif.Clock.{Clock}
-use Rattle.nvm_core.specs.memif.Calls.{InOrder, RoomIsLeft}
-use Rattle.nvm_core.specs.block_machine.Words.{Configuration}
-use Rattle.nvm_core.specs.block_machine.State.{State}
-use Rattle.nvm_core.specs.nv_desk.Desk.{DeskState, state_of}
-use Rattle.nvm_core.specs.job_progress.Hand.{HandState}
-use Rattle.nvm_core.specs.job_progress.JobInHand.{IsPaired}
-use Rattle.nvm_core.specs.nvm_laws.AtDevice.{GoesOn}
-use Rattle.nvm_core.specs.nvm_laws.Turns.{hand_by}
-use Rattle.nvm_core.specs.nvm_laws.declared.turned.Turned.{Turned}
-use Rattle.nvm_core.specs.promise_blocks.Work.{IsWorked}
-use Rattle.nvm_core.specs.BehindDevice.{TurnsDevice, asked_by}
-use Rattle.nvm_core.specs.DeviceWork.{IsSimple, costs_in, moment_in, work_in}
-use Rattle.nvm_core.specs.OperationStart.{LeavesDevice}
-use Rattle.nvm_core.specs.Paying.{worn_so_far}
+use Rattle.nvm_moves.proofs.Common.{IfSome, ◌||◌, ◌≡◌, ℕ, Bool, true, false, Option, sym, ap, ◌∙◌, subst, inl, inr, arith, cases_Bool, DeviceTold, PartTold, is_off, Clock, InOrder, RoomIsLeft, Configuration, State, DeskState, state_of, HandState, IsPaired, GoesOn, hand_by, Turned, IsWorked, TurnsDevice, asked_by, IsSimple, costs_in, work_in, LeavesDevice, worn_so_far, device_lasts, Move, IsOn, HadPages}
+use Rattle.nvm_core.specs.DeviceWork.{moment_in}
 use Rattle.nvm_core.proofs.DeviceWork.{works_behind}
-use Rattle.nvm_core.proofs.Paying.{device_lasts}
 use Rattle.nvm_core.proofs.TurnWork.{half_begins, hand_is_open}
-use Rattle.promise_run.specs.Turns.{Move}
-use Rattle.nvm_moves.specs.Seen.{IsOn}
-use Rattle.promise_run.specs.DeviceTurns.{HadPages}
 
 -- THE POWER
 is_on : (first second : Bool) → first ≡ false → second ≡ false → (first || second) ≡ false

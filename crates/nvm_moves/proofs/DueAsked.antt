@@ -1,32 +1,14 @@
 -- What is due, while requests come beside one device.
-use Rattle.std.specs.Prelude.{IfSome, IsTrue, not, option_to_list}
+use Rattle.nvm_moves.proofs.Common.{IfSome, IsTrue, not, option_to_list, ◌≡◌, inl, inr, ℕ, zero, suc, ◌+◌, ◌≤◌, arith, Bool, true, false, List, [], ◌∷◌, ◌++◌, length, Option, Some, None, refl, sym, ap, ◌∙◌, subst, append_assoc, and_parts, DeviceTold, Request, Write, Reply, Accepted, Entry, Ask, Configuration, State, Job, is_pending, job_block, rank_of, status_of, reply_of, next_in, step, DeskState, state_of, HandState, IsDue, post_first, with_entries, IsOfBlock, AreFirst, IsDueFor, free_turns, pages_in, histories_step, asked_hand, more_due, Moment, Move, urgent_block, not_true, AreServed, IsAskedDue, IsDueWithin}
 use Rattle.std.specs.List.{list_all}
-use Rattle.std.proofs.Common.{◌≡◌, inl, inr, ℕ, zero, suc, ◌+◌, ◌≤◌, arith, Bool, true, false, List, [], ◌∷◌, ◌++◌, length, Option, Some, None, refl, sym, ap, ◌∙◌, subst, append_assoc}
-use Rattle.std.proofs.lemmas.Bool.{and_parts}
-use Rattle.nvm_core.specs.memif.Told.{DeviceTold}
-use Rattle.nvm_core.specs.block_machine.Words.{Request, Write, Reply, Accepted, Entry, Ask, Configuration}
-use Rattle.nvm_core.specs.block_machine.State.{State, Job}
-use Rattle.nvm_core.specs.block_machine.Blocks.{is_pending, job_block, rank_of, status_of}
-use Rattle.nvm_core.specs.block_machine.Reply.{reply_of}
-use Rattle.nvm_core.specs.block_machine.Next.{next_in}
-use Rattle.nvm_core.specs.block_machine.Steps.{step}
 use Rattle.nvm_core.specs.block_laws.Consistent.{Each}
-use Rattle.nvm_core.specs.nv_desk.Desk.{DeskState, state_of}
-use Rattle.nvm_core.specs.job_progress.Hand.{HandState}
-use Rattle.nvm_core.specs.nvm_laws.Due.{IsDue, post_first}
-use Rattle.nvm_core.specs.nvm_laws.DueLaws.{AreReplied, NextIsPending, with_entries}
-use Rattle.nvm_core.specs.JobNumbers.{IsOfBlock}
-use Rattle.nvm_core.specs.DueWrites.{AreFirst, IsDueFor, free_turns, pages_in}
-use Rattle.nvm_core.proofs.block_laws.HistoryLaws.{entries_are_counted, histories_step}
+use Rattle.nvm_core.specs.nvm_laws.DueLaws.{AreReplied, NextIsPending}
+use Rattle.nvm_core.proofs.block_laws.HistoryLaws.{entries_are_counted}
 use Rattle.nvm_core.proofs.block_laws.NextLaws.{next_is_waiting}
-use Rattle.nvm_core.proofs.job_progress.Asking.{asked_hand}
 use Rattle.nvm_core.proofs.nvm_laws.DueAsking.{accepted_are_due, many_held, many_next}
-use Rattle.nvm_core.proofs.DueWrites.{more_due}
 use Rattle.nvm_core.proofs.JobNumbers.{accepted_of_block, jobs_below, stays_of_block}
 use Rattle.script_walks.proofs.Jobs.{each_right}
-use Rattle.promise_run.specs.Turns.{Moment, Move, urgent_block}
-use Rattle.promise_run.proofs.UrgentAsks.{not_true, urgent_is}
-use Rattle.nvm_moves.specs.Served.{AreServed, IsAskedDue, IsDueWithin}
+use Rattle.promise_run.proofs.UrgentAsks.{urgent_is}
 use Rattle.nvm_moves.proofs.Served.{served_as}
 use Rattle.nvm_moves.proofs.AskedBlocks.{accepted_pending, ask_leaves_power, is_sized, pending_on}
 use Rattle.nvm_moves.proofs.TurnEntries.{none_more}

@@ -1,69 +1,30 @@
 -- A turn's halves, and a whole turn of a stack, as moves.
-use Rattle.std.specs.Prelude.{IfSome, IsTrue, is_none, not, ◌||◌}
-use Rattle.std.proofs.Common.{◌≡◌, ◌⊎◌, inl, inr, ℕ, ◌+◌, ◌<◌, ◌≤◌, Bool, true, false, List, [], ◌∷◌, Option, Some, None, refl, sym, ap, ◌∙◌, subst, arith}
-use Rattle.nvm_core.specs.nv_base.Count.{Rose, next_count}
-use Rattle.nvm_core.specs.memif.Told.{DeviceTold, Fixed, Stand, faults_of, is_off as is_device_off, nothing_open, ops_of}
-use Rattle.nvm_core.specs.memif.Clock.{Clock, SameClock}
-use Rattle.nvm_core.specs.memif.Calls.{InOrder, RoomIsLeft, Turns}
+use Rattle.nvm_moves.proofs.Common.{IfSome, IsTrue, is_none, not, ◌||◌, ◌≡◌, ◌⊎◌, inl, inr, ℕ, ◌+◌, ◌<◌, ◌≤◌, Bool, true, false, List, [], ◌∷◌, Option, Some, None, refl, sym, ap, ◌∙◌, subst, arith, Rose, DeviceTold, Fixed, Stand, faults_of, nothing_open, Clock, InOrder, RoomIsLeft, Entry, Pick, Post, Off, Taken, Configuration, State, Job, job_block, Next, Nothing, PostMember, EndSweep, next_of, MayPick, IsPostedNext, IsHalf, GoesOn, with_entries, DeskState, state_of, HandState, IsPaired, Told, IsTied, IsDue, IsDueInHand, IsNearer, post_first, TurnServesDue, StaysKept, AddsBy, hand_by, Turned, Ended, has_turned, TurnsDevice, asked_by, StackState, IsFirstHalf, OwesSince, has_urgent, worn_so_far, TurnPays, KeepsSeal, TakesKeptInHand, Lasts, half_lasts, device_lasts, Worn, IsWorked, is_posted, IsSimple, costs_in, work_in, now_of, IsDueFor, free_turns, IsOfBlock, LeavesDevice, is_finished, left_with, IsWithin, TakesTurns, histories_step, is_due, is_at_rest, begins_with_pick_or_post, Moment, Move, EndsCanceled, entry_list, is_asked, is_found, is_picked, not_true, bound_of, Begun, IsOn, Seen, all_with, frame_in, moment_by, most_by, IsDueWithin, HadPages, FitsHand, IsBound, IsTurnTold, IsHalfTold}
+use Rattle.nvm_core.specs.nv_base.Count.{next_count}
+use Rattle.nvm_core.specs.memif.Told.{is_off as is_device_off, ops_of}
+use Rattle.nvm_core.specs.memif.Clock.{SameClock}
+use Rattle.nvm_core.specs.memif.Calls.{Turns}
 use Rattle.nvm_core.specs.memif.declared.answer.DeviceTurn.{DeviceTurn}
 use Rattle.nvm_core.specs.memif.declared.answer.DeviceTurn.TheVariants as turn
-use Rattle.nvm_core.specs.block_machine.Words.{Entry, Pick, Post, Off, Taken, Configuration}
-use Rattle.nvm_core.specs.block_machine.State.{State, Job}
-use Rattle.nvm_core.specs.block_machine.Blocks.{job_block}
-use Rattle.nvm_core.specs.block_machine.Next.{Next, Nothing, PostMember, EndSweep, next_of}
-use Rattle.nvm_core.specs.block_machine.Legal.{MayPick}
-use Rattle.nvm_core.specs.nv_desk_copies.Posts.{IsPostedNext}
-use Rattle.nvm_core.specs.nvm_laws.Halves.{IsHalf}
-use Rattle.nvm_core.specs.nvm_laws.AtDevice.{AtDevice, GoesOn}
-use Rattle.nvm_core.specs.nvm_laws.DueLaws.{with_entries}
-use Rattle.nvm_core.specs.nv_desk.Desk.{DeskState, state_of}
-use Rattle.nvm_core.specs.job_progress.Hand.{HandState}
-use Rattle.nvm_core.specs.job_progress.JobInHand.{IsPaired}
-use Rattle.nvm_core.specs.ram_blocks.Told.{Told}
-use Rattle.nvm_core.specs.nvm_laws.Ties.{IsTied}
-use Rattle.nvm_core.specs.nvm_laws.Due.{IsDue, IsDueInHand, IsNearer, post_first}
-use Rattle.nvm_core.specs.nvm_laws.DueCalls.{TurnServesDue}
+use Rattle.nvm_core.specs.nvm_laws.AtDevice.{AtDevice}
 use Rattle.nvm_core.specs.nvm_laws.DueLaws.{IsServed}
-use Rattle.nvm_core.specs.nvm_laws.Keeps.{StackKeepsAsTold, StaysKept}
-use Rattle.nvm_core.specs.nvm_laws.Turns.{AddsBy, hand_by}
-use Rattle.nvm_core.specs.nvm_laws.declared.turned.Turned.{Turned}
+use Rattle.nvm_core.specs.nvm_laws.Keeps.{StackKeepsAsTold}
 use Rattle.nvm_core.specs.nvm_laws.declared.turned.Turned.TheVariants as turned
 use Rattle.nvm_core.specs.nvm_laws.declared.turned.Act.{Act}
-use Rattle.nvm_core.specs.nvm_laws.declared.turned.Act.TheVariants.{Ended, Device}
-use Rattle.nvm_core.proofs.TurnedBehind.{has_turned}
+use Rattle.nvm_core.specs.nvm_laws.declared.turned.Act.TheVariants.{Device}
 use Rattle.nvm_core.proofs.nvm_laws.Traits.{device_turns_keep_seal, device_turns_take_kept, first_halves_keep_seal}
-use Rattle.nvm_core.specs.BehindDevice.{TurnsDevice, asked_by}
-use Rattle.nvm_core.specs.Stack.{StackState}
 use Rattle.nvm_core.specs.Turns as core
-use Rattle.nvm_core.specs.Turns.{IsFirstHalf}
-use Rattle.nvm_core.specs.Paying.{OwesSince, has_urgent, worn_so_far, TurnPays}
-use Rattle.nvm_core.specs.nvm_laws.Traits.{KeepsSeal, TakesKeptInHand}
-use Rattle.nvm_core.specs.memif.Trials.{Lasts}
-use Rattle.nvm_core.proofs.Paying.{half_pays, device_owes, device_urgency, device_adds, asked_free, device_picks_none, asked_picks_none, IsNoPick, half_lasts, device_lasts}
+use Rattle.nvm_core.proofs.Paying.{half_pays, device_owes, device_urgency, device_adds, asked_free, device_picks_none, asked_picks_none, IsNoPick}
 use Rattle.nvm_core.proofs.Traits.{half_takes_none}
 use Rattle.nvm_core.proofs.TurnWork.{half_works}
 use Rattle.nvm_core.proofs.TurnsMade.{half_adds}
-use Rattle.nvm_core.specs.promise_blocks.Payment.{Worn}
-use Rattle.nvm_core.specs.promise_blocks.Work.{Effort, IsWorked, is_posted}
-use Rattle.nvm_core.specs.DeviceWork.{IsSimple, costs_in, moment_in as moment_of, work_in}
-use Rattle.nvm_core.specs.Due.{now_of}
-use Rattle.nvm_core.specs.DueWrites.{IsDueFor, free_turns}
-use Rattle.nvm_core.specs.JobNumbers.{IsOfBlock}
+use Rattle.nvm_core.specs.promise_blocks.Work.{Effort}
+use Rattle.nvm_core.specs.DeviceWork.{moment_in as moment_of}
 use Rattle.nvm_core.proofs.Working.{device_counts}
-use Rattle.nvm_core.specs.OperationStart.{LeavesDevice}
-use Rattle.nvm_core.specs.job_progress.Hand.{is_finished}
-use Rattle.nvm_core.specs.Work.{left_of, left_with, IsWithin, TakesTurns}
-use Rattle.nvm_core.proofs.block_laws.HistoryLaws.{histories_step}
+use Rattle.nvm_core.specs.Work.{left_of}
 use Rattle.nvm_moves.proofs.Most.{begun_most, held_bounded, most_is, some_by, turned_most, within_of}
 use Rattle.nvm_moves.proofs.InAll.{all_bounded, turn_falls}
-use Rattle.script_walks.specs.Walk.{is_due, is_at_rest, begins_with_pick_or_post}
-use Rattle.promise_run.specs.Turns.{Moment, Move, BeginsIn, EndsCanceled, entry_list, is_asked, is_found, is_off, is_picked}
-use Rattle.promise_run.proofs.UrgentAsks.{not_true}
-use Rattle.nvm_moves.specs.Along.{bound_of}
-use Rattle.nvm_moves.specs.Seen.{Begun, IsOn, Seen, all_with, frame_in, moment_by, most_by}
-use Rattle.nvm_moves.specs.Served.{IsDueWithin}
-use Rattle.promise_run.specs.DeviceTurns.{HadPages}
-use Rattle.nvm_moves.specs.Moved.{FitsHand, IsBound, IsTurnTold, IsHalfTold}
+use Rattle.promise_run.specs.Turns.{BeginsIn, is_off}
 use Rattle.nvm_moves.proofs.Canceled.{allowed_ends, held_ends, late_ends}
 use Rattle.nvm_moves.proofs.DeviceDue.{device_soon}
 use Rattle.nvm_moves.proofs.DeviceWorks.{device_works, on_by}

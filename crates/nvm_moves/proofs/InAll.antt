@@ -1,26 +1,15 @@
 -- The turns that are left of the job in hand in all, whatever fails.
-use Rattle.std.specs.Prelude.{is_none, option_map}
-use Rattle.std.proofs.Common.{◌≡◌, inl, inr, ◌≤◌, ◌<◌, ◌+◌, ◌*◌, ℕ, suc, Bool, true, false, if◌then◌else◌, Option, Some, None, refl, sym, ap, ◌∙◌, subst, arith}
+use Rattle.nvm_moves.proofs.Common.{is_none, option_map, ◌≡◌, inl, inr, ◌≤◌, ◌<◌, ◌+◌, ℕ, suc, Bool, true, false, if◌then◌else◌, Option, Some, None, refl, sym, ap, ◌∙◌, subst, arith, DeviceTold, Fixed, Part, Stand, Open, is_open, Clock, InOrder, Configuration, State, Job, most_turns, stack_left, HandState, is_finished, IsInHand, IsPaired, program_for, GoesOn, hand_by, TurnsDevice, LeavesDevice, tries_left, all_with}
+use Rattle.std.proofs.Common.{◌*◌}
 use Rattle.std.proofs.Math.Nat.{mul-le-mul_right, suc-mul}
-use Rattle.nvm_core.specs.memif.Told.{DeviceTold, Fixed, Part, Stand, Open, Ended, is_open}
-use Rattle.nvm_core.specs.memif.Clock.{Clock}
-use Rattle.nvm_core.specs.memif.Calls.{InOrder, JobTurns}
-use Rattle.nvm_core.specs.block_machine.Words.{Configuration}
-use Rattle.nvm_core.specs.block_machine.State.{State, Job}
+use Rattle.nvm_core.specs.memif.Told.{Ended}
+use Rattle.nvm_core.specs.memif.Calls.{JobTurns}
 use Rattle.nvm_core.specs.promise_blocks.Work.{tries_of}
-use Rattle.nvm_core.specs.nvm_figures.Left.{most_turns, stack_left}
-use Rattle.nvm_core.specs.job_progress.Hand.{HandState, is_finished, with_start}
-use Rattle.nvm_core.specs.job_progress.JobInHand.{IsInHand, IsPaired, program_for}
-use Rattle.nvm_core.specs.nvm_laws.AtDevice.{GoesOn}
-use Rattle.nvm_core.specs.nvm_laws.Turns.{hand_by}
+use Rattle.nvm_core.specs.job_progress.Hand.{with_start}
 use Rattle.nvm_core.specs.nvm_laws.declared.turned.Turned.TheVariants as turned
-use Rattle.nvm_core.specs.BehindDevice.{TurnsDevice}
-use Rattle.nvm_core.specs.OperationStart.{LeavesDevice}
-use Rattle.nvm_core.specs.DeviceWork.{tries_left}
 use Rattle.nvm_core.proofs.TriesLeft.{begun_takes, tries_bounded, turned_few}
 use Rattle.nvm_core.proofs.nvm_figures.Figures.{was_closed}
 use Rattle.promise_run.specs.Turns.{turns_in_all}
-use Rattle.nvm_moves.specs.Seen.{all_with}
 use Rattle.nvm_moves.proofs.Most.{begun_most, hands_are_bounded, most_of_job, turned_most}
 
 -- what is open, with the Post

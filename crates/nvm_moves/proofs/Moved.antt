@@ -1,51 +1,25 @@
 -- What a call does as a move, and moves behind moves.
-use Rattle.std.specs.Prelude.{IfSome, IsTrue, if◌then◌else◌, is_none, option_map, not, ◌&&◌, ◌||◌}
-use Rattle.std.specs.Option.{option_map_or}
-use Rattle.std.proofs.Common.{◌≡◌, inl, inr, ◌≤◌, ◌<◌, ◌+◌, ℕ, Bool, true, false, List, [], ◌∷◌, ◌++◌, Option, Some, None, refl, sym, ap, ◌∙◌, subst, arith, append_assoc}
-use Rattle.std.proofs.lemmas.List.{append-nil}
-use Rattle.nvm_core.specs.nv_base.Count.{Rose, WereCounted}
-use Rattle.nvm_core.specs.memif.Told.{DeviceTold, faults_of, nothing_open}
-use Rattle.nvm_core.specs.memif.Clock.{Clock, TakesKept}
-use Rattle.nvm_core.specs.memif.Trials.{Lasts}
-use Rattle.nvm_core.proofs.memif.Turning.{lasts_more, same_clock, same_told}
-use Rattle.nvm_core.specs.block_machine.Words.{Entry, Ask, Pick, Wrote, Post, Off, Found, Configuration}
-use Rattle.nvm_core.specs.block_machine.State.{State, Job}
-use Rattle.nvm_core.specs.block_machine.Blocks.{rank_of}
-use Rattle.nvm_core.specs.block_machine.StartUp.{at_first}
-use Rattle.nvm_core.specs.block_machine.Steps.{after, after_from}
+use Rattle.nvm_moves.proofs.Common.{IfSome, IsTrue, is_none, option_map, not, ◌&&◌, ◌||◌, option_map_or, ◌≡◌, inl, inr, ◌≤◌, ◌<◌, ◌+◌, ℕ, Bool, true, false, List, [], ◌∷◌, ◌++◌, Option, Some, None, refl, sym, ap, ◌∙◌, subst, arith, append_assoc, append-nil, Rose, DeviceTold, faults_of, nothing_open, Clock, TakesKept, Lasts, same_clock, same_told, Entry, Ask, Pick, Wrote, Post, Off, Found, Configuration, State, Job, rank_of, at_first, after, after_from, Worn, histories_go_on, DeskState, state_of, is_hand_urgent, with_entries, OwesSince, has_urgent, worn_so_far, half_lasts, HandState, Fixed, Work, AreWorkedTo, IsSimple, costs_in, work_in, AreFirst, pages_in, none_worked, worked_more, Moment, Move, entry_list, entries_of, moment_behind, is_asked, is_found, is_picked, found_behind, Among, CountFailed, turns_beside, cases_Bool, left_with, most_turns, has_risen, is_at_rest, Bound, Cursor, Frame, bound_of, left_behind, next_by, cursor_behind, one_less, renewed, Along, Begun, Seen, all_with, frame_in, frame_of, moment_by, moment_seen, most_by, AreServed, DueAt, IsServable, HadPages, MayGoOn, FitsHand, IsBound, IsLawful, IsPaidAt, IsTurnTold, IsAt, IsHalfTold, AreAsked, HasMoved, MovesBy}
+use Rattle.std.specs.Prelude.{if◌then◌else◌}
+use Rattle.nvm_core.specs.nv_base.Count.{WereCounted}
+use Rattle.nvm_core.proofs.memif.Turning.{lasts_more}
 use Rattle.nvm_core.specs.block_machine.Prices.{price_in_faults}
-use Rattle.nvm_core.specs.promise_blocks.Payment.{Worn}
-use Rattle.nvm_core.proofs.block_laws.HistoryLaws.{histories_go_on}
-use Rattle.nvm_core.specs.nv_desk.Desk.{DeskState, state_of}
-use Rattle.nvm_core.specs.nvm_device_laws.Tries.{is_hand_urgent}
-use Rattle.nvm_core.specs.nvm_laws.DueLaws.{with_entries}
-use Rattle.nvm_core.specs.Paying.{OwesSince, PaysSince, has_urgent, worn_so_far}
+use Rattle.nvm_core.specs.Paying.{PaysSince}
 use Rattle.nvm_core.proofs.nvm_laws.Paying.{asked_urgency}
 use Rattle.nvm_core.proofs.Trying.{since_stays, part_rises}
-use Rattle.nvm_core.proofs.Paying.{half_goes, half_lasts}
-use Rattle.nvm_core.specs.job_progress.Hand.{HandState}
-use Rattle.nvm_core.specs.memif.Told.{Fixed}
-use Rattle.nvm_core.specs.promise_blocks.Work.{Work}
-use Rattle.nvm_core.specs.DeviceWork.{AreWorkedTo, IsSimple, costs_in, work_in}
-use Rattle.nvm_core.specs.DueWrites.{AreFirst, pages_in}
-use Rattle.nvm_core.proofs.WorkLists.{none_worked, one_worked, worked_more}
-use Rattle.promise_run.specs.Turns.{Moment, Move, entry_list, entries_of, moment_behind, is_asked, is_found, is_picked, found_behind, Among, CountFailed, HasImmediate, IsPaidSince, turns_beside}
+use Rattle.nvm_core.proofs.Paying.{half_goes}
+use Rattle.nvm_core.proofs.WorkLists.{one_worked}
+use Rattle.promise_run.specs.Turns.{HasImmediate, IsPaidSince}
 use Rattle.promise_run.proofs.TakenPages.{found_more}
-use Rattle.std.proofs.lemmas.Bool.{cases_Bool, or_parts}
-use Rattle.nvm_core.specs.Work.{left_with}
-use Rattle.nvm_core.specs.nvm_figures.Left.{most_turns}
-use Rattle.nvm_core.specs.promise_blocks.Work.{has_risen}
+use Rattle.std.proofs.lemmas.Bool.{or_parts}
 use Rattle.nvm_core.proofs.DeviceWork.{risen}
-use Rattle.script_walks.specs.Walk.{is_at_rest}
 use Rattle.promise_run.proofs.Paid.{since_too}
 use Rattle.nvm_moves.proofs.TurnEntries.{asks_urgent, none_more}
-use Rattle.nvm_moves.specs.Along.{Bound, Cursor, Frame, bound_of, left_behind, next_by, cursor_behind, one_less, renewed, Along}
 use Rattle.nvm_moves.proofs.Along.{along_by, along_more, along_to, cursor_more, cursor_now, cursor_state, entries_more}
-use Rattle.nvm_moves.specs.Seen.{Begun, Seen, all_seen, all_with, device_begun, frame_in, frame_of, hand_begun, left_seen, moment_by, moment_seen, most_by, most_seen, work_seen}
-use Rattle.nvm_moves.specs.Served.{AreServed, DueAt, IsServable, ServesBy, due_by}
-use Rattle.promise_run.specs.DeviceTurns.{HadPages, MayGoOn}
+use Rattle.nvm_moves.specs.Seen.{all_seen, device_begun, hand_begun, left_seen, most_seen, work_seen}
+use Rattle.nvm_moves.specs.Served.{ServesBy, due_by}
 use Rattle.nvm_moves.specs.Worked.{KeepToWork}
-use Rattle.nvm_moves.specs.Moved.{FitsHand, IsBound, IsLawful, IsPaidAt, IsTurnTold, IsAt, IsHalfTold, IsStartTold, IsStillTold, GrowsBy, ArePending, AreAsked, AreAsksMade, AreAsksTold, Owes, HasMoved, MovesBy}
+use Rattle.nvm_moves.specs.Moved.{IsStartTold, IsStillTold, GrowsBy, ArePending, AreAsksMade, AreAsksTold, Owes}
 use Rattle.nvm_moves.proofs.Consequences.{count_failed}
 use Rattle.nvm_moves.proofs.Served.{served_as, served_more, served_on}
 use Rattle.nvm_moves.proofs.WorkedMoves.{asks_worked, worked_on, worn_on}

@@ -1,20 +1,10 @@
 -- A job is posted within its turns, by the law along moves.
-use Rattle.std.specs.Prelude.{IfSome, nat_le, nat_lt, ◌||◌, is_none, option_map}
-use Rattle.std.proofs.Common.{◌≡◌, inl, inr, ◌≤◌, ◌-◌, ℕ, Bool, true, false, List, [], ◌∷◌, ◌++◌, Option, Some, None, refl, sym, ap, ◌∙◌, subst, arith}
-use Rattle.std.proofs.lemmas.Bool.{cases_Bool, eq-eqb, leb-true, ltb-true}
-use Rattle.nvm_core.specs.nv_base.Count.{Rose, last_count}
-use Rattle.nvm_core.specs.nv_base.Entry.{ops_of}
-use Rattle.nvm_core.specs.memif.Clock.{Clock}
-use Rattle.nvm_core.specs.block_machine.Words.{Instance, Mark, Taken, Request, Reply, Entry, Ask, Pick, Wrote, Post, Off, Found, Configuration}
-use Rattle.nvm_core.specs.block_machine.State.{State, Job}
-use Rattle.nvm_core.specs.block_machine.Blocks.{job_block}
-use Rattle.nvm_core.specs.block_machine.Next.{Next, PickJob, next_of}
-use Rattle.nvm_core.specs.block_machine.Steps.{after_from, picked, wrote}
-use Rattle.nvm_core.specs.promise_blocks.Work.{has_risen}
-use Rattle.nvm_core.proofs.job_progress.Asking.{asked_hand}
-use Rattle.promise_run.specs.Turns.{Moment, Move, EachMove, IsMoveMade, IsPostedWithin, PostsPicked, ends, entry_list, fails, is_asked, is_found, is_picked}
-use Rattle.nvm_moves.specs.Along.{Along, Bound, Cursor, Frame, bound_of, left_behind, next_by, one_less, renewed}
-use Rattle.nvm_moves.specs.Moved.{FitsHand, IsLawful, PostsAt}
+use Rattle.nvm_moves.proofs.Common.{IfSome, ◌||◌, is_none, option_map, ◌≡◌, inl, inr, ◌≤◌, ℕ, Bool, true, false, List, [], ◌∷◌, ◌++◌, Option, Some, None, refl, sym, ap, ◌∙◌, subst, arith, cases_Bool, Rose, last_count, ops_of, Clock, Instance, Mark, Taken, Request, Reply, Entry, Ask, Pick, Wrote, Post, Off, Found, Configuration, State, Job, job_block, Next, PickJob, next_of, after_from, picked, wrote, has_risen, asked_hand, Moment, Move, EachMove, PostsPicked, entry_list, is_asked, is_found, is_picked, Along, Bound, Cursor, Frame, bound_of, left_behind, next_by, one_less, renewed, FitsHand, IsLawful}
+use Rattle.std.specs.Prelude.{nat_le, nat_lt}
+use Rattle.std.proofs.Common.{◌-◌}
+use Rattle.std.proofs.lemmas.Bool.{eq-eqb, leb-true, ltb-true}
+use Rattle.promise_run.specs.Turns.{IsMoveMade, IsPostedWithin, ends, fails}
+use Rattle.nvm_moves.specs.Moved.{PostsAt}
 use Rattle.nvm_moves.proofs.AskedBlocks.{ask_leaves_power}
 
 -- COUNTS

@@ -1,14 +1,11 @@
 -- At rest, and what is due, by what comes next.
-use Rattle.std.specs.Prelude.{option_to_list, is_none, ◌==◌}
-use Rattle.std.proofs.Common.{◌≡◌, ◌&&◌, ℕ, Bool, true, false, IsTrue, List, [], ◌∷◌, ◌++◌, length, Option, Some, None, if◌then◌else◌, refl, sym, ap, ◌∙◌, arith}
-use Rattle.std.proofs.lemmas.Bool.{and_parts, eqb-true}
-use Rattle.nvm_core.specs.block_machine.Words.{Configuration}
-use Rattle.nvm_core.specs.block_machine.State.{State, Job, Sweep}
-use Rattle.nvm_core.specs.block_machine.Blocks.{block_at, desc_of}
+use Rattle.nvm_moves.proofs.Common.{option_to_list, is_none, ◌==◌, ◌≡◌, ℕ, Bool, true, false, List, [], ◌∷◌, ◌++◌, length, Option, Some, None, if◌then◌else◌, refl, sym, ap, ◌∙◌, arith, and_parts, Configuration, State, Job, Sweep, block_at, Nothing, PickJob, BeginSweep, PickMember, PostMember, next_member, next_in, next_of, is_due, is_at_rest}
+use Rattle.std.proofs.Common.{◌&&◌, IsTrue}
+use Rattle.std.proofs.lemmas.Bool.{eqb-true}
+use Rattle.nvm_core.specs.block_machine.Blocks.{desc_of}
 use Rattle.nvm_core.specs.block_machine.Sweeps.{is_picked}
-use Rattle.nvm_core.specs.block_machine.Next.{Nothing, PickJob, BeginSweep, PickMember, PostMember, next_in_sweep, next_member, next_in, next_by, next_of}
+use Rattle.nvm_core.specs.block_machine.Next.{next_in_sweep, next_by}
 use Rattle.nvm_core.proofs.block_laws.NextLaws.{none_waits}
-use Rattle.script_walks.specs.Walk.{is_due, is_at_rest}
 
 -- NOTHING COMES NEXT
 rest_parts : (hand : Option Job) (waiting : List Job) (sweep : Option Sweep) → IsTrue ((length (option_to_list hand ++ waiting) == 0) && is_none sweep) → (hand ≡ None) × (waiting ≡ []) × (sweep ≡ None)

@@ -1,16 +1,7 @@
 -- What may go on at a device is ready there.
-use Rattle.std.proofs.Common.{◌≡◌, inl, inr, ℕ, Bool, true, false, if◌then◌else◌, Option, refl, sym, ap, ◌∙◌, arith}
-use Rattle.nvm_core.specs.memif.Told.{DeviceTold}
-use Rattle.nvm_core.specs.memif.Clock.{Clock, Seals}
-use Rattle.nvm_core.specs.memif.Calls.{FreesReady, InOrder, pages_open, pages_urgent}
-use Rattle.nvm_core.specs.memif.Trials.{Lasts}
-use Rattle.nvm_core.specs.nv_desk.Desk.{DeskState, state_of}
-use Rattle.nvm_core.specs.job_progress.Hand.{HandState}
-use Rattle.nvm_core.specs.job_progress.JobInHand.{IsPaired}
+use Rattle.nvm_moves.proofs.Common.{◌≡◌, inl, inr, ℕ, Bool, true, false, if◌then◌else◌, Option, refl, sym, ap, ◌∙◌, arith, DeviceTold, Clock, Seals, FreesReady, InOrder, Lasts, DeskState, state_of, HandState, IsPaired, none_first, IsOn, MayGoOn}
+use Rattle.nvm_core.specs.memif.Calls.{pages_open, pages_urgent}
 use Rattle.nvm_core.specs.nvm_laws.Traits.{IsSealedSince}
-use Rattle.nvm_core.proofs.nvm_laws.Traits.{none_first}
-use Rattle.nvm_moves.specs.Seen.{IsOn}
-use Rattle.promise_run.specs.DeviceTurns.{MayGoOn}
 use Rattle.nvm_moves.proofs.DueAsked.{IsRoomy}
 use Rattle.nvm_moves.proofs.DeviceServed.{not_urgent}
 use Rattle.nvm_moves.proofs.TurnServed.{first_off}

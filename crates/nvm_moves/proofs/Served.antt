@@ -1,15 +1,6 @@
 -- Urgent writes that are posted soon, over moves behind moves, and by a later clock.
-use Rattle.std.proofs.Common.{◌≤◌, ℕ, Bool, if◌then◌else◌, List, [], ◌∷◌, ◌++◌, inl, inr, arith}
-use Rattle.nvm_core.specs.memif.Told.{DeviceTold}
-use Rattle.nvm_core.specs.memif.Clock.{Clock, Seals}
-use Rattle.nvm_core.specs.memif.Trials.{Lasts}
-use Rattle.nvm_core.specs.block_machine.Words.{Configuration}
-use Rattle.nvm_core.specs.block_machine.State.{State}
-use Rattle.nvm_core.specs.block_machine.Steps.{after_from}
-use Rattle.promise_run.specs.Turns.{Moment, Move, entry_list, entries_of, moment_behind, is_found, found_behind, CountFailed, EachMoveSince, PostsUrgent}
+use Rattle.nvm_moves.proofs.Common.{◌≤◌, ℕ, Bool, if◌then◌else◌, List, [], ◌∷◌, ◌++◌, inl, inr, arith, DeviceTold, Clock, Seals, Lasts, Configuration, State, after_from, Moment, Move, entry_list, entries_of, moment_behind, is_found, found_behind, CountFailed, EachMoveSince, PostsUrgent, AreServed, MayGoOn}
 use Rattle.promise_run.proofs.UrgentPosts.{soon_by, soon_more, urgent_by, urgent_more}
-use Rattle.nvm_moves.specs.Served.{AreServed}
-use Rattle.promise_run.specs.DeviceTurns.{MayGoOn}
 
 module _ (more : ℕ) (c : Configuration) (pages : State → ℕ → ℕ) where
   urgent_as : (free : ℕ → ℕ → ℕ → Type 0) (Q R : Bool → ℕ → ℕ → Type 0) → ((one : Bool) (id turns : ℕ) → Q one id turns → R one id turns) → (since : ℕ) (s : State) (ms : List Move)

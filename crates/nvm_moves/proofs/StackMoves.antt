@@ -1,50 +1,19 @@
 -- The calls of a stack of one's own, as moves.
-use Rattle.std.specs.Prelude.{◌||◌, min, if◌then◌else◌}
-use Rattle.std.proofs.Common.{◌≡◌, ◌⊎◌, inl, inr, ℕ, ◌+◌, ◌≤◌, Bool, true, false, List, [], ◌∷◌, ◌++◌, Option, Some, None, refl, sym, ap, ◌∙◌, subst, arith}
-use Rattle.nvm_core.specs.nv_base.Count.{last_count}
-use Rattle.nvm_core.specs.memif.Told.{DeviceTold, Fixed, Part, PartTold, Stand, Open, Ended as EndedJob, armed, faults_of, is_off, is_open, most_open, ops_of}
-use Rattle.nvm_core.specs.memif.Clock.{Clock, Seals}
-use Rattle.nvm_core.specs.memif.Calls.{Arms, FreesReady, InOrder, IsSealing}
-use Rattle.nvm_core.specs.memif.Trials.{Lasts}
-use Rattle.nvm_core.proofs.memif.Turning.{same_clock, same_lasts, same_told}
-use Rattle.nvm_core.specs.block_machine.Words.{Request, Reply, Entry, Ask, Found}
-use Rattle.nvm_core.specs.block_machine.State.{State}
-use Rattle.nvm_core.proofs.block_laws.HistoryLaws.{histories_step}
-use Rattle.nvm_core.specs.ram_blocks.Told.{Told}
-use Rattle.nvm_core.specs.nv_desk.Desk.{DeskState, state_of}
-use Rattle.nvm_core.specs.job_progress.Hand.{HandState}
+use Rattle.nvm_moves.proofs.Common.{◌||◌, ◌≡◌, ◌⊎◌, inl, inr, ℕ, ◌+◌, ◌≤◌, Bool, true, false, List, [], ◌∷◌, ◌++◌, Option, Some, None, refl, sym, ap, ◌∙◌, subst, arith, last_count, DeviceTold, Fixed, Part, PartTold, Stand, Open, faults_of, is_off, is_open, most_open, Clock, Seals, FreesReady, InOrder, Lasts, same_clock, same_told, Request, Reply, Entry, Ask, Found, State, histories_step, Told, DeskState, state_of, HandState, IsDue, TurnServesDue, StaysKept, IsTied, KeepsSeal, TakesKeptInHand, Turned, Ended, IsSimple, tries_left, work_in, TurnsDevice, now_of, free_turns, IsOfBlock, left_on, TurnPays, worn_so_far, StackState, PowersOff, IsFirstHalf, left_with, TakesTurns, closed_tries, has_turned, has_risen, Move, entry_list, turns_beside, Seen, IsOn, all_with, moment_by, moment_seen, MayGoOn, MovesBy}
+use Rattle.std.specs.Prelude.{min, if◌then◌else◌}
+use Rattle.nvm_core.specs.memif.Told.{Ended as EndedJob, armed, ops_of}
+use Rattle.nvm_core.specs.memif.Calls.{Arms, IsSealing}
+use Rattle.nvm_core.proofs.memif.Turning.{same_lasts}
 use Rattle.nvm_core.specs.nvm_device_laws.Turn.{TellsSlots}
-use Rattle.nvm_core.specs.nvm_laws.Due.{IsDue}
-use Rattle.nvm_core.specs.nvm_laws.DueCalls.{KeepsDue, TurnServesDue}
-use Rattle.nvm_core.specs.nvm_laws.Keeps.{StaysKept}
-use Rattle.nvm_core.specs.nvm_laws.Ties.{IsTied}
-use Rattle.nvm_core.specs.nvm_laws.Traits.{KeepsSeal, TakesKeptInHand}
-use Rattle.nvm_core.specs.nvm_laws.declared.turned.Turned.{Turned}
+use Rattle.nvm_core.specs.nvm_laws.DueCalls.{KeepsDue}
 use Rattle.nvm_core.specs.nvm_laws.declared.turned.Turned.TheVariants as turned
-use Rattle.nvm_core.specs.nvm_laws.declared.turned.Act.TheVariants.{Ended}
-use Rattle.nvm_core.specs.DeviceWork.{IsSimple, tries_left, work_in}
-use Rattle.nvm_core.specs.BehindDevice.{TurnsDevice}
-use Rattle.nvm_core.specs.Due.{now_of}
-use Rattle.nvm_core.specs.DueWrites.{free_turns}
-use Rattle.nvm_core.specs.JobNumbers.{IsOfBlock}
-use Rattle.nvm_core.specs.Operations.{left_on}
-use Rattle.nvm_core.specs.Paying.{TurnPays, worn_so_far}
-use Rattle.nvm_core.specs.Stack.{StackState, PowersOff}
 use Rattle.nvm_core.specs.StartUps.{StartsUp}
 use Rattle.nvm_core.specs.Turns as core
-use Rattle.nvm_core.specs.Turns.{IsFirstHalf}
-use Rattle.nvm_core.specs.Work.{left_with, TakesTurns}
 use Rattle.nvm_core.proofs.DeviceWork.{none_some}
 use Rattle.nvm_core.proofs.StartWork.{start_leaves}
-use Rattle.nvm_core.proofs.TurnWork.{closed_tries}
-use Rattle.nvm_core.proofs.TurnedBehind.{has_turned}
-use Rattle.nvm_core.specs.promise_blocks.Work.{has_risen}
-use Rattle.promise_run.specs.Turns.{Move, entry_list, turns_beside}
 use Rattle.promise_run.proofs.StartUps.{turns_start_none}
-use Rattle.nvm_moves.specs.Seen.{Seen, IsOn, all_with, moment_by, moment_seen, seen_as, seen_in}
-use Rattle.promise_run.specs.DeviceTurns.{MayGoOn}
+use Rattle.nvm_moves.specs.Seen.{seen_as, seen_in}
 use Rattle.nvm_moves.specs.Worked.{KeepsToWork}
-use Rattle.nvm_moves.specs.Moved.{MovesBy}
 use Rattle.nvm_moves.proofs.AskedBlocks.{ask_leaves_power}
 use Rattle.nvm_moves.proofs.DueAsked.{one_served}
 use Rattle.nvm_moves.proofs.Halves.{as_turn, turn_is_told}

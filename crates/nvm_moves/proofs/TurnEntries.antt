@@ -1,32 +1,11 @@
 -- The entry of a driver's turn, if it adds one.
-use Rattle.std.specs.Prelude.{IfSome}
-use Rattle.std.proofs.lemmas.List.{append-nil}
-use Rattle.std.proofs.Common.{◌≡◌, ◌⊎◌, inl, inr, ℕ, true, false, List, [], Option, Some, None, refl, sym, ap, ◌∙◌}
-use Rattle.nvm_core.specs.nv_base.Entry.{ops_of}
-use Rattle.nvm_core.specs.memif.Told.{DeviceTold, Stand, Open, Ended as Closed}
+use Rattle.nvm_moves.proofs.Common.{IfSome, append-nil, ◌≡◌, ◌⊎◌, inl, inr, ℕ, true, false, List, [], Option, Some, None, refl, sym, ap, ◌∙◌, ops_of, DeviceTold, Stand, Open, Closed, JobResult, JobOk, Mark, Taken, Entry, Ask, Pick, Post, Found, Configuration, State, Next, PostMember, EndSweep, next_of, step, after_from, Told, DeskState, state_of, IsPostedNext, settled_by, wrote_by, IsHalf, AddsBy, Turned, Ended, is_posted, asked_by, histories_go_on, entry_list, is_asked, is_found, urgent_block}
 use Rattle.nvm_core.specs.memif.Told as device
-use Rattle.nvm_core.specs.memif.declared.answer.JobResult.{JobResult}
-use Rattle.nvm_core.specs.memif.declared.answer.JobResult.TheVariants.{JobOk}
-use Rattle.nvm_core.specs.block_machine.Words.{Mark, Taken, Entry, Ask, Pick, Post, Found, Configuration}
-use Rattle.nvm_core.specs.block_machine.State.{State}
-use Rattle.nvm_core.specs.block_machine.Next.{Next, PostMember, EndSweep, next_of}
-use Rattle.nvm_core.specs.block_machine.Steps.{step, after_from}
-use Rattle.nvm_core.specs.ram_blocks.Told.{Told}
-use Rattle.nvm_core.specs.nv_desk.Desk.{DeskState, state_of}
-use Rattle.nvm_core.specs.nv_desk_copies.Posts.{IsPostedNext}
 use Rattle.nvm_core.specs.job_progress.Asks.{is_of_jobs}
-use Rattle.nvm_core.specs.nvm_device_laws.Turn.{settled_by, wrote_by}
-use Rattle.nvm_core.specs.nvm_laws.Halves.{IsHalf}
-use Rattle.nvm_core.specs.nvm_laws.Turns.{AddsBy}
-use Rattle.nvm_core.specs.nvm_laws.declared.turned.Turned.{Turned}
 use Rattle.nvm_core.specs.nvm_laws.declared.turned.Turned.TheVariants as turned
-use Rattle.nvm_core.specs.nvm_laws.declared.turned.Act.TheVariants.{Ended}
-use Rattle.nvm_core.specs.promise_blocks.Work.{is_posted}
-use Rattle.nvm_core.specs.BehindDevice.{asked_by}
-use Rattle.nvm_core.proofs.block_laws.HistoryLaws.{histories_go_on}
 use Rattle.nvm_core.proofs.job_progress.Powering.{jobs_keep_power}
 use Rattle.nvm_core.specs.nvm_laws.DueLaws.{with_entries as with_more}
-use Rattle.promise_run.specs.Turns.{entry_list, is_asked, is_found, is_off, urgent_block}
+use Rattle.promise_run.specs.Turns.{is_off}
 
 -- an entry of a job, or an Off, with the operations so far
 pub record IsOfTurn (ops : ℕ) (e : Entry) : Type 0 where

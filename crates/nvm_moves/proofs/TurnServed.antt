@@ -1,33 +1,13 @@
 -- What is due, in one turn.
-use Rattle.std.specs.Prelude.{IsTrue, ◌||◌, ◌&&◌}
-use Rattle.std.proofs.Common.{◌≡◌, ◌⊎◌, inl, inr, ℕ, Bool, true, false, List, [], ◌∷◌, ◌++◌, Option, refl, sym, ap, ◌∙◌, subst}
-use Rattle.std.proofs.lemmas.Bool.{cases_Bool}
-use Rattle.nvm_core.specs.nv_base.Count.{Rose}
-use Rattle.nvm_core.specs.memif.Told.{DeviceTold, faults_of, is_off}
-use Rattle.nvm_core.specs.memif.Clock.{Clock}
-use Rattle.nvm_core.specs.memif.Calls.{InOrder}
-use Rattle.nvm_core.specs.memif.Trials.{Lasts}
-use Rattle.nvm_core.specs.ram_blocks.Told.{Told}
-use Rattle.nvm_core.specs.block_machine.Words.{Entry}
-use Rattle.nvm_core.specs.nv_desk.Desk.{DeskState, state_of}
-use Rattle.nvm_core.specs.nvm_laws.Ties.{IsTied}
-use Rattle.nvm_core.specs.nvm_laws.declared.turned.Turned.{Turned}
+use Rattle.nvm_moves.proofs.Common.{IsTrue, ◌||◌, ◌&&◌, ◌≡◌, ◌⊎◌, inl, inr, ℕ, Bool, true, false, List, [], ◌∷◌, ◌++◌, Option, refl, sym, ap, ◌∙◌, subst, cases_Bool, Rose, DeviceTold, faults_of, is_off, Clock, InOrder, Lasts, Told, Entry, DeskState, state_of, IsTied, Turned, Ended, StackNow, IsDue, IsNearer, TurnServesDue, StackState, PowersOff, IsFirstHalf, now_of, IsOfBlock, IsDueFor, true_false, Moment, entry_list, IsOn}
 use Rattle.nvm_core.specs.nvm_laws.declared.turned.Turned.TheVariants as turned
-use Rattle.nvm_core.specs.nvm_laws.declared.turned.Act.TheVariants.{Ended}
-use Rattle.nvm_core.specs.nvm_laws.Due.{StackNow, IsDue, IsNearer, PostsDue}
-use Rattle.nvm_core.specs.nvm_laws.DueCalls.{TurnServesDue}
+use Rattle.nvm_core.specs.nvm_laws.Due.{PostsDue}
 use Rattle.nvm_core.specs.nvm_laws.DueLaws.{IsServed as IsServedBy}
-use Rattle.nvm_core.specs.Stack.{StackState, PowersOff}
 use Rattle.nvm_core.specs.Turns as core
-use Rattle.nvm_core.specs.Turns.{IsFirstHalf}
-use Rattle.nvm_core.specs.Due.{now_of}
-use Rattle.nvm_core.specs.JobNumbers.{IsOfBlock}
-use Rattle.nvm_core.specs.DueWrites.{IsDueFor, IsServedFor}
-use Rattle.nvm_core.proofs.DeviceWork.{true_false}
+use Rattle.nvm_core.specs.DueWrites.{IsServedFor}
 use Rattle.nvm_core.proofs.DueWrites.{IsTurning, nearer_for, of_block_behind, turn_serves}
 use Rattle.promise_run.proofs.UrgentAsks.{posts_another, posts_own}
-use Rattle.promise_run.specs.Turns.{Moment, entry_list, is_off as is_off_entry, posts_other, IsPostedSoon}
-use Rattle.nvm_moves.specs.Seen.{IsOn}
+use Rattle.promise_run.specs.Turns.{is_off as is_off_entry, posts_other, IsPostedSoon}
 use Rattle.nvm_moves.proofs.Counts.{rose_in, rose_or}
 use Rattle.nvm_moves.proofs.TurnEntries.{AddsOne, on_behind}
 

@@ -1,21 +1,8 @@
 -- What moves do at the device, one behind another, and by a later clock.
-use Rattle.std.proofs.Common.{◌≡◌, ◌≤◌, ℕ, Bool, true, false, List, [], ◌∷◌, Some, arith}
-use Rattle.nvm_core.specs.memif.Told.{DeviceTold}
-use Rattle.nvm_core.specs.memif.Clock.{Clock}
-use Rattle.nvm_core.specs.memif.Trials.{Lasts}
-use Rattle.nvm_core.specs.block_machine.Words.{Entry, Ask, Configuration}
-use Rattle.nvm_core.specs.block_machine.State.{State}
-use Rattle.nvm_core.specs.block_machine.Steps.{after_from}
-use Rattle.nvm_core.specs.promise_blocks.Payment.{Worn}
+use Rattle.nvm_moves.proofs.Common.{◌≡◌, ◌≤◌, ℕ, Bool, true, false, List, [], ◌∷◌, Some, arith, DeviceTold, Clock, Lasts, Entry, Ask, Configuration, State, after_from, Worn, Costs, Work, AreWorkedTo, worn_so_far, none_worked, worked_more, CountFailed, AreAsked, HadPages}
 use Rattle.nvm_core.specs.promise_blocks.Moves.{Moment, Move, moment_behind}
-use Rattle.nvm_core.specs.promise_blocks.Work.{Costs, Work}
-use Rattle.nvm_core.specs.DeviceWork.{AreWorkedTo}
-use Rattle.nvm_core.specs.Paying.{worn_so_far}
-use Rattle.nvm_core.proofs.WorkLists.{ask_worked, none_worked, worked_more}
-use Rattle.promise_run.specs.Turns.{CountFailed}
+use Rattle.nvm_core.proofs.WorkLists.{ask_worked}
 use Rattle.promise_run.proofs.WorkedMoves.{worked_by}
-use Rattle.nvm_moves.specs.Moved.{AreAsked}
-use Rattle.promise_run.specs.DeviceTurns.{HadPages}
 use Rattle.nvm_moves.proofs.DueAsked.{asked_moves}
 
 -- requests leave what is open

@@ -1,18 +1,9 @@
 -- What explains refused copies and power cuts, over all steps.
-use Rattle.std.specs.Prelude.{map, unwrap_or}
-use Rattle.std.proofs.Common.{◌≡◌, ◌≤◌, ◌+◌, ℕ, List, [], ◌∷◌, ◌++◌, Option, Some, None, length, refl, sym, ap, ◌∙◌, subst, arith, append-nil, append_assoc}
+use Rattle.script_player.proofs.Common.{map, unwrap_or, ◌≡◌, ◌≤◌, ◌+◌, ℕ, List, [], ◌∷◌, ◌++◌, Option, Some, None, length, refl, sym, ap, ◌∙◌, subst, arith, append-nil, append_assoc, ops_behind, Instance, Mark, Entry, Found, Configuration, State, after_from, histories_go_on, Step, joined, Event, Made, Added, events_of, AreAsAsked, asked_by, ops_at}
 use Rattle.std.proofs.lemmas.List.Sums.{fold-append}
 use Rattle.std.proofs.lemmas.Grind.{flat_map-append}
-use Rattle.uds_gateway.specs.nv_base.Entry.{ops_of, ops_behind}
-use Rattle.uds_gateway.specs.block_machine.Words.{Instance, Mark, Entry, Found, Configuration}
-use Rattle.uds_gateway.specs.block_machine.State.{State}
-use Rattle.uds_gateway.specs.block_machine.Steps.{after_from}
-use Rattle.uds_gateway.proofs.HistoryLaws.{histories_go_on}
-use Rattle.uds_gateway.specs.script_walks.Words.{Step}
-use Rattle.uds_gateway.specs.script_walks.Walk.{joined}
-use Rattle.uds_gateway.specs.promise_run.Run.{Event, Made, Added, events_of}
-use Rattle.uds_gateway.specs.promise_run.Refusals.{AreAsAsked, StepsRefuse, asked_by}
-use Rattle.script_player.specs.Told.{ops_at}
+use Rattle.uds_gateway.specs.nv_base.Entry.{ops_of}
+use Rattle.uds_gateway.specs.promise_run.Refusals.{StepsRefuse}
 
 -- OPERATIONS
 

@@ -1,17 +1,8 @@
 -- Power cuts that are planned, from call to call and from step to step.
-use Rattle.std.proofs.Common.{◌≡◌, ℕ, true, List, [], ◌∷◌, ◌++◌, Option, Some, None, refl, sym, ap, ◌∙◌, subst, inl, inr, arith, append_assoc}
-use Rattle.uds_gateway.specs.block_machine.Words.{Request, Reply, Entry, Ask, Pick, Wrote, Post, Off, Found, Configuration}
-use Rattle.uds_gateway.specs.block_machine.State.{State}
-use Rattle.uds_gateway.specs.block_machine.Steps.{step, after_from}
-use Rattle.uds_gateway.proofs.HistoryLaws.{histories_step}
-use Rattle.uds_gateway.specs.script_walks.Words.{Step, StepKind, AskStep, Refuse}
-use Rattle.uds_gateway.specs.script_walks.Turn.{IsTurn}
-use Rattle.uds_gateway.specs.promise_run.Turns.{Moment, Move, Planned, entry_list, entries_of, moment_behind, moment_after, planned_by, IsInTime, AreInTime, CutsCome, AreMoves, all_moves}
-use Rattle.uds_gateway.proofs.PlannedCuts.{none_in_time, from_more}
-use Rattle.script_player.specs.Told.{StackTold, state_of, moment_of}
-use Rattle.script_player.specs.Coming.{Stands, IsComing, IsPending, CarriesCuts, PlansCuts}
-use Rattle.script_player.specs.Calls.{AddsAsk, MakesTurn, Refuses}
-use Rattle.script_player.specs.Walking.{planned_behind}
+use Rattle.script_player.proofs.Common.{◌≡◌, ℕ, true, List, [], ◌∷◌, ◌++◌, Option, Some, None, refl, sym, ap, ◌∙◌, subst, inl, inr, arith, append_assoc, Request, Reply, Entry, Ask, Pick, Wrote, Post, Off, Found, Configuration, State, step, after_from, histories_step, Step, StepKind, AskStep, Refuse, IsTurn, Moment, Move, Planned, entry_list, entries_of, moment_behind, moment_after, planned_by, IsInTime, AreInTime, AreMoves, all_moves, from_more, StackTold, state_of, moment_of, IsComing, IsPending, PlansCuts, AddsAsk, MakesTurn, Refuses, planned_behind}
+use Rattle.uds_gateway.specs.promise_run.Turns.{CutsCome}
+use Rattle.uds_gateway.proofs.PlannedCuts.{none_in_time}
+use Rattle.script_player.specs.Coming.{Stands, CarriesCuts}
 use Rattle.script_player.proofs.Grown.{state_grown}
 use Rattle.script_player.proofs.InHand.{stays_off}
 

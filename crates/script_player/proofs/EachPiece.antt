@@ -1,12 +1,5 @@
 -- What each step of a walk keeps, with a step more.
-use Rattle.std.proofs.Common.{◌≡◌, List, [], ◌∷◌, ◌++◌, length, sym, ◌∙◌, subst, arith}
-use Rattle.uds_gateway.specs.block_machine.Words.{Entry, Configuration}
-use Rattle.uds_gateway.specs.block_machine.State.{State}
-use Rattle.uds_gateway.specs.block_machine.Steps.{after_from}
-use Rattle.uds_gateway.specs.script_walks.Words.{Step}
-use Rattle.uds_gateway.specs.script_walks.Walk.{joined}
-use Rattle.uds_gateway.specs.promise_run.Run.{EachPiece}
-use Rattle.uds_gateway.proofs.HistoryLaws.{histories_go_on}
+use Rattle.script_player.proofs.Common.{◌≡◌, List, [], ◌∷◌, ◌++◌, length, sym, ◌∙◌, subst, arith, Entry, Configuration, State, after_from, Step, joined, EachPiece, histories_go_on}
 
 -- a fact of each place and one of a place more
 pub each_more : (c : Configuration) (P Q : State → Step → List Entry → List Step → List (List Entry) → Type 0) (x : Step) (p : List Entry) (last : State)

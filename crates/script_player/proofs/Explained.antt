@@ -1,18 +1,5 @@
 -- What explains refused copies and power cuts, from entries to entries.
-use Rattle.std.specs.Prelude.{map}
-use Rattle.std.proofs.Common.{◌≡◌, ◌≤◌, ◌+◌, ℕ, zero, suc, List, [], ◌∷◌, ◌++◌, Option, None, refl, sym, ap, subst, inl, arith}
-use Rattle.std.proofs.lemmas.List.{map-append}
-use Rattle.uds_gateway.specs.nv_base.Entry.{ops_behind}
-use Rattle.uds_gateway.specs.block_machine.Words.{Entry, Configuration}
-use Rattle.uds_gateway.specs.block_machine.State.{State}
-use Rattle.uds_gateway.specs.block_machine.Blocks.{desc_of}
-use Rattle.uds_gateway.specs.block_machine.Steps.{step, after_from}
-use Rattle.uds_gateway.specs.script_walks.Words.{StepKind, Cut, Refuse, Restart}
-use Rattle.uds_gateway.specs.promise_run.Run.{DueCut, Event, Added, plan_after}
-use Rattle.uds_gateway.specs.promise_run.Refusals.{copy_told, left_by, AreAsAsked, asked_by}
-use Rattle.script_player.specs.Told.{StackTold, state_of, IsGrown, IsNoEarlier, AreCut, plan_behind, ops_at}
-use Rattle.script_player.specs.Calls.{AreExplained, Arms, Refuses}
-use Rattle.script_player.specs.Made.{IsExplained}
+use Rattle.script_player.proofs.Common.{map, ◌≡◌, ◌≤◌, ◌+◌, ℕ, zero, suc, List, [], ◌∷◌, ◌++◌, Option, None, refl, sym, ap, subst, inl, arith, map-append, ops_behind, Entry, Configuration, State, desc_of, step, after_from, StepKind, Cut, Refuse, Restart, DueCut, Event, Added, plan_after, copy_told, left_by, AreAsAsked, asked_by, StackTold, state_of, IsGrown, IsNoEarlier, AreCut, plan_behind, ops_at, AreExplained, Arms, Refuses, IsExplained}
 use Rattle.script_player.proofs.Grown.{state_more}
 use Rattle.script_player.proofs.Offs.{no_earlier_more, no_earlier_same, none_cut_same, step_before, are_earlier, are_more}
 

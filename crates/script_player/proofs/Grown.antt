@@ -1,10 +1,5 @@
 -- A stack with some entries more.
-use Rattle.std.proofs.Common.{◌≡◌, true, List, ◌++◌, ap, ◌∙◌, subst, append_assoc}
-use Rattle.uds_gateway.specs.block_machine.Words.{Entry, Configuration}
-use Rattle.uds_gateway.specs.block_machine.StartUp.{at_first}
-use Rattle.uds_gateway.specs.block_machine.Steps.{after, after_from}
-use Rattle.uds_gateway.proofs.HistoryLaws.{histories_go_on}
-use Rattle.script_player.specs.Told.{StackTold, state_of, IsGrown}
+use Rattle.script_player.proofs.Common.{◌≡◌, true, List, ◌++◌, ap, ◌∙◌, subst, append_assoc, Entry, Configuration, at_first, after, after_from, histories_go_on, StackTold, state_of, IsGrown}
 
 -- the state behind more entries
 pub state_more : (c : Configuration) (h es : List Entry) → after c (h ++ es) ≡ after_from c (after c h) es

@@ -1,15 +1,7 @@
 -- The power, entry by entry.
-use Rattle.std.specs.List.{list_all}
-use Rattle.std.proofs.Common.{◌≡◌, ℕ, true, false, IsTrue, List, [], ◌∷◌, Option, Some, None, refl, ◌∙◌}
-use Rattle.std.proofs.lemmas.Bool.{and_parts}
-use Rattle.uds_gateway.specs.block_machine.Words.{ReqResult, Instance, Mark, Taken, Entry, Ask, Pick, Wrote, Post, Off, Found, Configuration}
-use Rattle.uds_gateway.specs.block_machine.State.{State, Job}
-use Rattle.uds_gateway.specs.block_machine.StartUp.{at_first}
-use Rattle.uds_gateway.specs.block_machine.Next.{Next, PickJob, BeginSweep, PickMember, PostMember, EndSweep, next_of}
-use Rattle.uds_gateway.specs.block_machine.Steps.{step, after, after_from, picked, wrote, posted, posted_next}
+use Rattle.script_player.proofs.Common.{list_all, ◌≡◌, ℕ, true, false, IsTrue, List, [], ◌∷◌, Option, Some, None, refl, ◌∙◌, and_parts, ReqResult, Instance, Mark, Taken, Entry, Ask, Pick, Wrote, Post, Off, Found, Configuration, State, Job, at_first, Next, PickJob, BeginSweep, PickMember, PostMember, EndSweep, next_of, step, after, after_from, is_calm_entry, is_found}
+use Rattle.uds_gateway.specs.block_machine.Steps.{picked, wrote, posted, posted_next}
 use Rattle.uds_gateway.proofs.Along.{Leaves, asked_leaves}
-use Rattle.uds_gateway.specs.promise_run.Completeness.{is_calm_entry}
-use Rattle.uds_gateway.specs.promise_run.Turns.{is_found}
 
 picked_on : (c : Configuration) (s : State) (t : Taken) (next : Next) → s.off ≡ false → (picked c s t next).off ≡ false
 picked_on c s t (PickJob j) on = on

@@ -1,3 +1,4 @@
+mod Common
 pub mod Table
 pub mod Offs
 pub mod Explained

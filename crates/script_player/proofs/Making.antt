@@ -1,40 +1,17 @@
 -- Each kind of step is made.
-use Rattle.std.proofs.Common.{◌≡◌, ◌<◌, ◌≤◌, ◌+◌, ◌^◌, ℕ, zero, suc, Bool, true, false, IsTrue, List, [], ◌∷◌, ◌++◌, length, get_or, refl, sym, ap, ◌∙◌, subst, arith, Option, append-nil, length-set}
-use Rattle.std.specs.Prelude.{not, slice_set, Result, Ok, Err, OnOk, IfErr}
+use Rattle.script_player.proofs.Common.{◌≡◌, ◌<◌, ◌≤◌, ◌+◌, ◌^◌, ℕ, zero, suc, Bool, true, false, IsTrue, List, [], ◌∷◌, ◌++◌, length, get_or, refl, sym, ap, ◌∙◌, subst, arith, Option, append-nil, length-set, not, slice_set, Instance, Mark, Request, Reply, Entry, Ask, Found, Configuration, State, desc_of, is_synchronized, next_of, fits, step, after, next_number, Step, StepKind, AskStep, Store, Turn, Drain, Restart, Cut, Refuse, HasNoRoom, DueCut, plan_after, is_drain, stores_of, request_after, CanBePlayed, AreNewest, JobsTookStored, is_store, histories_step, starts_keep_stored, StackTold, state_of, moment_of, Arms, Stores, Refuses, StaysCalm, HasTurned, AreMade, MakesTurns, Drains, PlansCuts, cuts_in, IsMade, Makes, IsAsked, IsExplained, Moment, Move, Planned, planned_by, AreMovesOf, FindsWork, Seen, MovesBy, AskMoves, asked_by, Rose, HasLastStores}
+use Rattle.std.specs.Prelude.{Result, Ok, Err, OnOk, IfErr}
 use Rattle.std.proofs.Math.Nat.{min-eq_left}
-use Rattle.uds_gateway.specs.block_machine.Words.{Instance, Mark, Request, Reply, Entry, Ask, Found, Configuration}
-use Rattle.uds_gateway.specs.block_machine.State.{State}
-use Rattle.uds_gateway.specs.block_machine.Blocks.{desc_of, is_synchronized}
-use Rattle.uds_gateway.specs.block_machine.Next.{next_of}
-use Rattle.uds_gateway.specs.block_machine.Reply.{fits}
-use Rattle.uds_gateway.specs.block_machine.Steps.{step, after}
-use Rattle.uds_gateway.specs.ram_blocks.Copies.{next_number}
-use Rattle.uds_gateway.specs.script_walks.Words.{Step, StepKind, AskStep, Store, Turn, Drain, Restart, Cut, Refuse}
-use Rattle.uds_gateway.specs.promise_run.Run.{HasNoRoom, DueCut, plan_after}
-use Rattle.uds_gateway.specs.promise_run.InRoom.{is_drain}
-use Rattle.uds_gateway.specs.script_walks.Walk.{stores_of, request_after, copies_by, TakesStore, IsPieceBy}
-use Rattle.nvm_script.specs.Played.{CanBePlayed}
-use Rattle.uds_gateway.specs.script_walks.Stores.{AreNewest, JobsTookStored}
-use Rattle.uds_gateway.specs.script_walks.StoreLaws.{is_store}
-use Rattle.uds_gateway.proofs.HistoryLaws.{histories_step}
+use Rattle.uds_gateway.specs.script_walks.Walk.{copies_by, TakesStore, IsPieceBy}
 use Rattle.uds_gateway.proofs.NewestStores.{others_keep_newest, stores_are_newest, stores_are_few}
-use Rattle.uds_gateway.proofs.WalkedJobs.{steps_keep_stored, asks_keep_stored, starts_keep_stored}
-use Rattle.script_player.specs.Told.{StackTold, state_of, moment_of}
-use Rattle.script_player.specs.Calls.{StartsAgain, Arms, Stores, Refuses}
-use Rattle.script_player.specs.Kept.{IsKept, StaysCalm, HasTurned, AreMade, MakesTurns, Drains}
-use Rattle.script_player.specs.Coming.{PlansCuts}
-use Rattle.script_player.specs.Made.{cuts_in, IsMade, Makes, IsAsked, IsExplained}
-use Rattle.uds_gateway.specs.promise_run.Turns.{Moment, Move, Planned, planned_by, AreMovesOf, FindsWork}
+use Rattle.uds_gateway.proofs.WalkedJobs.{steps_keep_stored, asks_keep_stored}
+use Rattle.script_player.specs.Calls.{StartsAgain}
+use Rattle.script_player.specs.Kept.{IsKept}
 use Rattle.script_player.proofs.Coming.{pending_same, refuse_cuts, ask_cuts, turns_cuts}
 use Rattle.script_player.proofs.Moves.{move_to}
-use Rattle.uds_gateway.specs.nvm_moves.Seen.{Seen}
-use Rattle.uds_gateway.specs.nvm_moves.Moved.{MovesBy}
-use Rattle.script_player.specs.Paying.{AskMoves, StartsAnew}
-use Rattle.uds_gateway.specs.promise_run.Refusals.{asked_by}
+use Rattle.script_player.specs.Paying.{StartsAnew}
 use Rattle.script_player.proofs.Explained.{by_cut, by_entries, by_nothing, by_refuse, by_restart}
-use Rattle.uds_gateway.specs.nv_base.Count.{Rose}
 use Rattle.script_player.proofs.InHand.{power_on}
-use Rattle.script_player.specs.Table.{HasLastStores}
 use Rattle.script_player.proofs.Table.{same_table}
 
 -- a step of this kind

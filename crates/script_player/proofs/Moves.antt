@@ -1,26 +1,14 @@
 -- Moves, one after another.
 use Rattle.std.specs.Prelude.{IfSome}
-use Rattle.std.proofs.Common.{◌≡◌, ℕ, Bool, false, inl, inr, Option, None, List, [], ◌∷◌, ◌++◌, IsTrue, map, Some, refl, sym, ap, ◌∙◌, subst, append_assoc, append-nil}
-use Rattle.std.proofs.lemmas.List.{append_cancel_left, map-append}
+use Rattle.script_player.proofs.Common.{◌≡◌, ℕ, Bool, false, inl, inr, Option, None, List, [], ◌∷◌, ◌++◌, IsTrue, Some, refl, sym, ap, ◌∙◌, subst, append_assoc, append-nil, append_cancel_left, map-append, Instance, Mark, Request, Reply, Entry, Ask, Pick, Wrote, Post, Off, Found, Configuration, State, Step, Drain, IsTurn, Moment, Move, entry_list, entries_of, moment_behind, moment_after, AreMovesOf, AreMoves, FindsWork, is_found, all_moves, IsInTime, AreInTime, after_from, StackTold, state_of, moment_of, IsGrown, Seen, MovesBy, moves_more, none_moves, TurnMoves, AllTell, MakesTurn, from_more, AreMade}
+use Rattle.std.proofs.Common.{map}
 use Rattle.uds_gateway.specs.nv_base.Entry.{ops_of}
-use Rattle.uds_gateway.specs.block_machine.Words.{Instance, Mark, Request, Reply, Entry, Ask, Pick, Wrote, Post, Off, Found, Configuration}
-use Rattle.uds_gateway.specs.block_machine.State.{State}
-use Rattle.uds_gateway.specs.script_walks.Words.{Step, Drain}
-use Rattle.uds_gateway.specs.script_walks.Turn.{IsTurn}
-use Rattle.uds_gateway.specs.promise_run.Turns.{Moment, Move, entry_list, entries_of, moment_behind, moment_after, AreTurnsMade, AreMovesOf, AreMoves, HasMoves, ClosesAtDrains, FindsWork, FindWorkAtDrains, is_asked, is_found, is_picked, is_off, urgent_block, IsPostedSoon, all_moves, IsInTime, AreInTime}
-use Rattle.uds_gateway.specs.block_machine.Steps.{after_from}
-use Rattle.script_player.specs.Told.{StackTold, state_of, moment_of, IsGrown}
+use Rattle.uds_gateway.specs.promise_run.Turns.{AreTurnsMade, HasMoves, ClosesAtDrains, FindWorkAtDrains, is_asked, is_picked, is_off, urgent_block, IsPostedSoon}
 use Rattle.uds_gateway.proofs.Counted.{behind_more}
 use Rattle.script_player.proofs.Grown.{state_grown}
 use Rattle.uds_gateway.proofs.DeviceWork.{entry_is, entry_none}
-use Rattle.uds_gateway.specs.nvm_moves.Seen.{Seen}
-use Rattle.uds_gateway.specs.nvm_moves.Moved.{MovesBy}
-use Rattle.uds_gateway.proofs.Moved.{moves_more, none_moves}
-use Rattle.script_player.specs.Paying.{TurnMoves}
-use Rattle.script_player.specs.Calls.{AllTell, MakesTurn}
-use Rattle.uds_gateway.proofs.PlannedCuts.{from_more, in_time_more}
+use Rattle.uds_gateway.proofs.PlannedCuts.{in_time_more}
 use Rattle.script_player.proofs.Coming.{entries_more, in_time, turn_coming}
-use Rattle.script_player.specs.Kept.{AreMade}
 
 -- TURNS
 

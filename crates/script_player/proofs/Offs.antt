@@ -1,13 +1,5 @@
 -- Power cuts that were planned, and others, from events to events.
-use Rattle.std.specs.Prelude.{map}
-use Rattle.std.proofs.Common.{◌≡◌, ◌≤◌, ◌+◌, ◌⊎◌, ℕ, List, [], ◌∷◌, ◌++◌, Option, Some, None, refl, sym, ap, ◌∙◌, subst, inl, inr, arith, append-nil, append_assoc}
-use Rattle.uds_gateway.specs.nv_base.Count.{WereCounted, last_count}
-use Rattle.uds_gateway.specs.nv_base.Entry.{ops_behind}
-use Rattle.uds_gateway.specs.block_machine.Words.{Entry, Ask, Pick, Wrote, Post, Off, Found}
-use Rattle.uds_gateway.specs.block_machine.State.{State}
-use Rattle.uds_gateway.specs.script_walks.Words.{StepKind}
-use Rattle.uds_gateway.specs.promise_run.Run.{DueCut, Event, Made, Added, plan_after, CutsAre}
-use Rattle.script_player.specs.Told.{StackTold, state_of, TellsOff, IsNoEarlier, AreCut, plan_behind, ops_at}
+use Rattle.script_player.proofs.Common.{map, ◌≡◌, ◌≤◌, ◌+◌, ◌⊎◌, ℕ, List, [], ◌∷◌, ◌++◌, Option, Some, None, refl, sym, ap, ◌∙◌, subst, inl, inr, arith, append-nil, append_assoc, WereCounted, last_count, ops_behind, Entry, Ask, Pick, Wrote, Post, Off, Found, State, StepKind, DueCut, Event, Made, Added, plan_after, CutsAre, StackTold, state_of, TellsOff, IsNoEarlier, AreCut, plan_behind, ops_at}
 
 -- COUNTS
 

@@ -1,28 +1,22 @@
 -- What moves by the one law came to, and what calls that make none keep.
-use Rattle.std.proofs.Common.{None, ◌≡◌, ◌≤◌, ◌++◌, ℕ, Bool, List, take, refl, ap, subst, inl, inr, arith}
+use Rattle.script_player.proofs.Common.{None, ◌≡◌, ◌≤◌, ◌++◌, ℕ, Bool, List, take, refl, ap, subst, inl, inr, arith, DeviceTold, Clock, Lasts, Entry, Configuration, after, DeskState, Moment, Move, entries_of, Seen, MovesBy, LastsOn}
 use Rattle.std.specs.Prelude.{false}
-use Rattle.uds_gateway.specs.memif.Told.{DeviceTold}
-use Rattle.uds_gateway.specs.memif.Clock.{Clock, Past, Seals, TakesKept}
-use Rattle.uds_gateway.specs.memif.Trials.{Lasts}
+use Rattle.uds_gateway.specs.memif.Clock.{Past, Seals, TakesKept}
 use Rattle.uds_gateway.proofs.Turning.{same_clock, same_told}
-use Rattle.uds_gateway.specs.block_machine.Words.{Entry, Configuration}
-use Rattle.uds_gateway.specs.block_machine.Steps.{after}
-use Rattle.uds_gateway.specs.nv_desk.Desk.{DeskState}
 use Rattle.uds_gateway.specs.promise_run.DeviceTurns.{HadPages, HasMovesTo, MayGoOn, worn_by}
 use Rattle.uds_gateway.specs.promise_run.JobTurns.{write_pages}
 use Rattle.uds_gateway.specs.promise_run.Operations.{costs_of}
 use Rattle.uds_gateway.specs.promise_run.Promise.{making_of}
-use Rattle.uds_gateway.specs.promise_run.Turns.{Moment, Move, entries_of, turns_beside}
+use Rattle.uds_gateway.specs.promise_run.Turns.{turns_beside}
 use Rattle.uds_gateway.proofs.Counted.{counted_by}
 use Rattle.uds_gateway.proofs.Paid.{since_too}
 use Rattle.uds_gateway.proofs.TakenPages.{taken_by}
 use Rattle.uds_gateway.proofs.UrgentPosts.{urgent_by}
 use Rattle.uds_gateway.proofs.WorkedBy.{worked_by}
 use Rattle.uds_gateway.specs.nvm_moves.Beginning.{BeginsMoves}
-use Rattle.uds_gateway.specs.nvm_moves.Seen.{Seen, moment_seen}
-use Rattle.uds_gateway.specs.nvm_moves.Moved.{MovesBy}
+use Rattle.uds_gateway.specs.nvm_moves.Seen.{moment_seen}
 use Rattle.uds_gateway.proofs.Beginning.{moves_came}
-use Rattle.script_player.specs.Paying.{CameBy, LastsOn}
+use Rattle.script_player.specs.Paying.{CameBy}
 
 -- nothing more is told
 pub none_last : (s : Seen) → LastsOn s s

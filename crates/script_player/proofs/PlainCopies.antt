@@ -1,18 +1,9 @@
 -- An application in memory behind its own steps and behind copies.
-use Rattle.std.specs.Prelude.{◌==◌, slice_set, map, if◌then◌else◌, option_map, option_and_then, unwrap_or}
-use Rattle.std.proofs.Common.{◌≡◌, ℕ, zero, suc, Bool, true, false, List, [], ◌∷◌, length, get_or, Option, Some, None, refl, sym, ap, ◌∙◌, subst}
+use Rattle.script_player.proofs.Common.{◌==◌, slice_set, map, if◌then◌else◌, option_map, unwrap_or, ◌≡◌, ℕ, zero, suc, Bool, true, false, List, [], ◌∷◌, length, get_or, Option, Some, None, refl, sym, ap, ◌∙◌, subst, map-set, block_of, BlockDesc, Configuration, plain_block, desc_of, is_synchronized, AreSynchronized, length_where_sync, sync_length_of, PlainBlock, Told, Synchronized, IsSynchronized, told_at, told_of, store_of, stored, refusing, no_plain}
+use Rattle.std.specs.Prelude.{option_and_then}
 use Rattle.std.proofs.Math.Seq.{map-set_same}
-use Rattle.std.proofs.lemmas.List.{map-set}
-use Rattle.uds_gateway.specs.block_config.Config.{block_of}
-use Rattle.uds_gateway.specs.block_machine.Words.{BlockDesc, RamKind, Configuration}
+use Rattle.uds_gateway.specs.block_machine.Words.{RamKind}
 use Rattle.uds_gateway.specs.block_config.declared.block.RamKind.TheVariants as kind
-use Rattle.uds_gateway.specs.block_config.Block.{plain_block}
-use Rattle.uds_gateway.specs.block_machine.Blocks.{desc_of, is_synchronized}
-use Rattle.uds_gateway.specs.nv_desk_copies.Front.{AreSynchronized}
-use Rattle.nvm_script.specs.Rules.{length_where_sync, sync_length_of}
-use Rattle.uds_gateway.specs.ram_blocks.declared.plain_block.PlainBlock.{PlainBlock}
-use Rattle.uds_gateway.specs.ram_blocks.Told.{Told, Synchronized, IsSynchronized, told_at}
-use Rattle.uds_gateway.specs.ram_blocks.Plain.{told_of, store_of, stored, refusing, no_plain}
 
 -- a block among others, by what is seen of it
 pub store_here : (bs : List PlainBlock) (k : ℕ) → get_or (map store_of bs) k (0, []) ≡ store_of (get_or bs k no_plain)

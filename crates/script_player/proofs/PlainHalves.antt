@@ -1,38 +1,16 @@
 -- A turn that is its first half alone.
-use Rattle.std.specs.Prelude.{IsTrue, map, not, ◌&&◌}
+use Rattle.script_player.proofs.Common.{map, not, ◌&&◌, ◌≡◌, ◌≤◌, ◌+◌, ℕ, Bool, true, false, List, [], ◌∷◌, ◌++◌, get_or, Option, None, refl, sym, ap, ◌∙◌, subst, inl, inr, DeviceTold, faults_of, ops_of, ReqResult, Pick, Post, Job, desc_of, is_synchronized, job_block, names_ram, Answer, Next, Nothing, PickJob, BeginSweep, PickMember, PostMember, EndSweep, next_of, PlainBlock, Told, told_of, store_of, DeskState, copies_out_next, AreSynchronized, HandState, IsPaired, Turned, StackState, PowersOff, IsFirstHalf, is_at_rest, is_due, copies_next, TakesNewest, copied_in, Turns, IsAnswer, Lowers, told_by, shown, to_refuse_in, MayPick, moment_of, at_rest, due_rest, rests_next, some_none}
+use Rattle.std.specs.Prelude.{IsTrue}
 use Rattle.std.specs.Option.{option_map_or}
-use Rattle.std.proofs.Common.{◌≡◌, ◌≤◌, ◌+◌, ℕ, Bool, true, false, List, [], ◌∷◌, ◌++◌, get_or, Option, None, refl, sym, ap, ◌∙◌, subst, inl, inr}
-use Rattle.uds_gateway.specs.memif.Told.{DeviceTold, faults_of, ops_of}
-use Rattle.uds_gateway.specs.block_machine.Words.{ReqResult, Pick, Post}
-use Rattle.uds_gateway.specs.block_machine.State.{Job}
-use Rattle.uds_gateway.specs.block_machine.Blocks.{desc_of, is_synchronized, job_block, names_ram}
-use Rattle.uds_gateway.specs.block_machine.Results.{Answer}
-use Rattle.uds_gateway.specs.block_machine.Next.{Next, Nothing, PickJob, BeginSweep, PickMember, PostMember, EndSweep, next_of}
-use Rattle.uds_gateway.specs.ram_blocks.declared.plain_block.PlainBlock.{PlainBlock}
-use Rattle.uds_gateway.specs.ram_blocks.Told.{Told}
-use Rattle.uds_gateway.specs.ram_blocks.Plain.{told_of, store_of}
-use Rattle.uds_gateway.specs.nv_desk.Desk.{DeskState, state_of}
-use Rattle.uds_gateway.specs.nv_desk_copies.Takes.{copies_out_next}
-use Rattle.uds_gateway.specs.nv_desk_copies.Front.{AreSynchronized}
+use Rattle.uds_gateway.specs.nv_desk.Desk.{state_of}
 use Rattle.uds_gateway.specs.nv_desk_copies.Posts.{IsPosted, IsPostedNext}
-use Rattle.uds_gateway.specs.job_progress.Hand.{HandState}
-use Rattle.uds_gateway.specs.job_progress.JobInHand.{IsPaired}
 use Rattle.uds_gateway.specs.nvm_laws.Halves.{AddsPost}
 use Rattle.uds_gateway.specs.nvm_laws.Ties.{IsTied}
-use Rattle.uds_gateway.specs.nvm_laws.declared.turned.Turned.{Turned}
 use Rattle.uds_gateway.specs.nvm_laws.declared.turned.Turned.TheVariants as turned
 use Rattle.uds_gateway.specs.nvm_laws.declared.turned.Act.TheVariants.{Ended}
-use Rattle.uds_gateway.specs.nvm_core.Stack.{StackState, PowersOff}
-use Rattle.uds_gateway.specs.nvm_core.Turns.{IsFirstHalf}
 use Rattle.uds_gateway.specs.nvm_core.Work as work
-use Rattle.uds_gateway.specs.script_walks.Walk.{is_at_rest, is_due, copies_next}
-use Rattle.uds_gateway.specs.script_walks.Turn.{TakesNewest}
-use Rattle.uds_gateway.specs.promise_run.Refusals.{copied_in}
-use Rattle.script_player.specs.Calls.{Turns, IsAnswer, Lowers}
-use Rattle.script_player.specs.PlainTold.{told_by, shown, to_refuse_in}
-use Rattle.uds_gateway.specs.block_machine.Legal.{IsAllowed, MayPick, MayPost, MayPostNext}
-use Rattle.script_player.specs.Told.{moment_of}
-use Rattle.uds_gateway.proofs.Resting.{at_rest, due_off, due_rest, rests_next, some_none}
+use Rattle.uds_gateway.specs.block_machine.Legal.{IsAllowed, MayPost, MayPostNext}
+use Rattle.uds_gateway.proofs.Resting.{due_off}
 use Rattle.script_player.proofs.PlainDevices.{goes_same, came_same}
 use Rattle.script_player.proofs.PlainPicks.{newest, stored_so}
 use Rattle.script_player.proofs.PlainRefused.{IsOn, IsSpent, pick_spent, post_spent, entry_asked}

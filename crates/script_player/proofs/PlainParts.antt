@@ -1,16 +1,7 @@
 -- A turn of the device, by its parts.
-use Rattle.std.specs.Prelude.{◌-◌, option_map}
-use Rattle.std.proofs.Common.{◌≡◌, ◌<◌, ◌≤◌, ◌+◌, ◌⊎◌, ℕ, Bool, true, false, List, [], ◌∷◌, ◌++◌, length, Option, Some, None, refl, sym, ap, ◌∙◌, subst, inl, inr, arith, append-nil, length-append}
-use Rattle.std.proofs.lemmas.Bool.Decides.{leb_tells}
-use Rattle.uds_gateway.specs.nv_base.Count.{last_count, next_count, Rose, WereCounted}
-use Rattle.uds_gateway.specs.nv_base.Plan.{Planning, nearer, IsDue}
-use Rattle.uds_gateway.specs.nv_base.declared.plan.Plan.{Plan}
-use Rattle.uds_gateway.specs.memif.Told.{PartTold}
-use Rattle.uds_gateway.specs.memif.Calls.{PartTurns, PlanStays}
-use Rattle.uds_gateway.specs.block_machine.Words.{Off}
-use Rattle.uds_gateway.specs.promise_run.Run.{DueCut, Added, CutsAre}
-use Rattle.script_player.specs.Told.{IsNoEarlier}
-use Rattle.script_player.specs.PlainTold.{due_cut, plan_from}
+use Rattle.script_player.proofs.Common.{◌-◌, option_map, ◌≡◌, ◌<◌, ◌≤◌, ◌+◌, ◌⊎◌, ℕ, Bool, true, false, List, [], ◌∷◌, ◌++◌, length, Option, Some, None, refl, sym, ap, ◌∙◌, subst, inl, inr, arith, append-nil, length-append, leb_tells, last_count, next_count, Rose, WereCounted, Planning, Plan, PartTold, PartTurns, Off, DueCut, Added, CutsAre, IsNoEarlier, due_cut, plan_from}
+use Rattle.uds_gateway.specs.nv_base.Plan.{nearer, IsDue}
+use Rattle.uds_gateway.specs.memif.Calls.{PlanStays}
 use Rattle.script_player.proofs.PlainPlans.{plan_waits}
 
 -- THE COUNTS OF ITS PLANS

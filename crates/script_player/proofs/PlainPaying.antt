@@ -1,29 +1,10 @@
 -- The calls of a stack whose application stores in memory, as it is seen.
-use Rattle.std.specs.Prelude.{◌||◌, not}
-use Rattle.std.proofs.Common.{◌≡◌, ℕ, Bool, true, false, List, [], ◌∷◌, ◌++◌, Option, Some, None, refl, sym, ap, ◌∙◌, subst}
-use Rattle.std.proofs.lemmas.List.{append_cancel_left}
-use Rattle.uds_gateway.specs.memif.Told.{DeviceTold, Part, PartTold, is_off}
-use Rattle.uds_gateway.specs.memif.Clock.{Clock}
-use Rattle.uds_gateway.specs.memif.Trials.{Lasts}
+use Rattle.script_player.proofs.Common.{◌||◌, not, ◌≡◌, ℕ, Bool, true, false, List, [], ◌∷◌, ◌++◌, Option, Some, None, refl, sym, ap, ◌∙◌, subst, append_cancel_left, DeviceTold, Part, PartTold, is_off, Clock, Lasts, Entry, PlainBlock, DeskState, HandState, TellsSlots, FoundAnswer, StackState, Restarts, Move, MovesBy, IsSeen, LastsOn, IsKept, seen_by, told_by}
 use Rattle.uds_gateway.specs.memif.Marks.{ComesFrom}
 use Rattle.uds_gateway.proofs.Turning.{told_before}
-use Rattle.uds_gateway.specs.block_machine.Words.{Entry}
-use Rattle.uds_gateway.specs.ram_blocks.declared.plain_block.PlainBlock.{PlainBlock}
-use Rattle.uds_gateway.specs.nv_desk.Desk.{DeskState}
-use Rattle.uds_gateway.specs.job_progress.Hand.{HandState}
-use Rattle.uds_gateway.specs.nvm_device_laws.Turn.{TellsSlots}
 use Rattle.uds_gateway.specs.nvm_laws.Keeps.{StaysKept}
-use Rattle.uds_gateway.specs.nvm_laws.declared.turned.FoundAnswer.{FoundAnswer}
 use Rattle.uds_gateway.specs.nvm_laws.declared.turned.FoundAnswer.TheVariants as found
-use Rattle.uds_gateway.specs.nvm_core.Stack.{StackState}
-use Rattle.uds_gateway.specs.nvm_core.StartUps.{Restarts}
-use Rattle.uds_gateway.specs.promise_run.Turns.{Move}
 use Rattle.uds_gateway.specs.nvm_moves.Seen.{seen_as, seen_in}
-use Rattle.uds_gateway.specs.nvm_moves.Moved.{MovesBy}
-use Rattle.script_player.specs.Paying.{IsSeen, LastsOn}
-use Rattle.script_player.specs.PlainKept.{IsKept}
-use Rattle.script_player.specs.PlainPaying.{seen_by}
-use Rattle.script_player.specs.PlainTold.{told_by}
 use Rattle.script_player.proofs.Paying.{none_last}
 use Rattle.script_player.proofs.PlainTurning.{not_two}
 

@@ -1,15 +1,5 @@
 -- Planned power cuts.
-use Rattle.std.specs.Prelude.{option_map}
-use Rattle.std.proofs.Common.{◌≡◌, ◌≤◌, ℕ, Bool, true, false, List, [], ◌∷◌, Option, Some, None, refl, inl, arith}
-use Rattle.uds_gateway.specs.nv_base.Entry.{ops_behind}
-use Rattle.uds_gateway.specs.nv_base.declared.plan.Plan.{Plan}
-use Rattle.uds_gateway.specs.block_machine.Words.{Entry, Configuration}
-use Rattle.uds_gateway.specs.block_machine.State.{State}
-use Rattle.uds_gateway.specs.block_machine.Steps.{after, after_from, step}
-use Rattle.uds_gateway.specs.block_machine.StartUp.{at_first}
-use Rattle.uds_gateway.specs.promise_run.Run.{DueCut}
-use Rattle.script_player.specs.Told.{IsNoEarlier}
-use Rattle.script_player.specs.PlainTold.{due_cut, plan_from}
+use Rattle.script_player.proofs.Common.{option_map, ◌≡◌, ◌≤◌, ℕ, Bool, true, false, List, [], ◌∷◌, Option, Some, None, refl, inl, arith, ops_behind, Plan, Entry, Configuration, State, after, after_from, step, at_first, DueCut, IsNoEarlier, due_cut, plan_from}
 
 -- THE PLAN OF A PART
 

@@ -1,27 +1,14 @@
 -- Each start-up that a player makes has its Found.
-use Rattle.std.proofs.Common.{rules, ◌≡◌, ◌+◌, ℕ, Bool, true, false, List, [], ◌∷◌, ◌++◌, refl, sym, ap, ◌∙◌, subst, inl, inr, arith, append-nil}
-use Rattle.uds_gateway.specs.memif.Told.{DeviceTold}
-use Rattle.uds_gateway.specs.memif.Clock.{Clock}
-use Rattle.uds_gateway.specs.block_machine.Words.{Entry, Ask, Pick, Wrote, Post, Off, Found, Configuration}
-use Rattle.uds_gateway.specs.block_machine.State.{State}
+use Rattle.script_player.proofs.Common.{rules, ◌≡◌, ◌+◌, ℕ, Bool, true, false, List, [], ◌∷◌, ◌++◌, refl, sym, ap, ◌∙◌, subst, inl, inr, arith, append-nil, DeviceTold, Clock, Entry, Ask, Pick, Wrote, Post, Off, Found, Configuration, State, PlainBlock, Told, DeskState, Turned, FoundAnswer, StackState, Restarts, HistoriesStep, SumsGrow, histories_go_on, histories_step, sums_grow, told_by, AreStartsFound}
 use Rattle.uds_gateway.specs.promise_blocks.Operations.{founds}
-use Rattle.uds_gateway.specs.ram_blocks.declared.plain_block.PlainBlock.{PlainBlock}
-use Rattle.uds_gateway.specs.ram_blocks.Told.{Told}
-use Rattle.uds_gateway.specs.nv_desk.Desk.{DeskState}
-use Rattle.uds_gateway.specs.nvm_laws.declared.turned.Turned.{Turned}
-use Rattle.uds_gateway.specs.nvm_laws.declared.turned.FoundAnswer.{FoundAnswer}
 use Rattle.uds_gateway.specs.nvm_laws.declared.turned.FoundAnswer.TheVariants as found
-use Rattle.uds_gateway.specs.nvm_core.Stack.{StackState}
-use Rattle.uds_gateway.specs.nvm_core.StartUps.{Restarts}
 use Rattle.uds_gateway.specs.nvm_core.Turns as core
 use Rattle.uds_gateway.specs.script_walks.Turn.{IsOneOrNone}
 use Rattle.uds_gateway.proofs.StackMoves.{device_starts}
 use Rattle.uds_gateway.proofs.StartUps.{founds_add}
-use Rattle.uds_gateway.specs.block_laws.Laws.{EntriesAreCounted, HistoriesGoOn, HistoriesStep, SumsGrow}
-use Rattle.uds_gateway.proofs.HistoryLaws.{entries_are_counted, histories_go_on, histories_step, sums_grow}
+use Rattle.uds_gateway.specs.block_laws.Laws.{EntriesAreCounted, HistoriesGoOn}
+use Rattle.uds_gateway.proofs.HistoryLaws.{entries_are_counted}
 use Rattle.script_player.specs.Calls as calls
-use Rattle.script_player.specs.PlainTold.{told_by}
-use Rattle.script_player.specs.PlainKept.{AreStartsFound}
 
 -- where none was made and the entries tell none
 pub starts_on : (ready : Bool) (old new : DeskState) (d d_new : DeviceTold) (es : List Entry) → new.entries ≡ old.entries ++ es → founds es ≡ 0 → d_new.starts ≡ d.starts → AreStartsFound ready old d → AreStartsFound ready new d_new

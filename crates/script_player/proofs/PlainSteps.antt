@@ -1,30 +1,12 @@
 -- The steps of the player: a power cut that is planned, a store, copies that are to be refused.
-use Rattle.std.specs.Prelude.{◌==◌, ◌&&◌, ◌-◌, min, unwrap_or, option_map, map, nat_le, slice_set, if◌then◌else◌}
-use Rattle.std.proofs.Common.{◌≡◌, ◌≢◌, get_or-set_other, ◌≤◌, ◌+◌, ◌⊎◌, ℕ, zero, suc, Bool, true, false, List, [], ◌∷◌, length, get_or, Option, Some, None, refl, sym, ap, ◌∙◌, subst, inl, inr, arith}
-use Rattle.std.proofs.lemmas.Bool.Decides.{eqb_tells, leb_tells}
-use Rattle.std.proofs.lemmas.List.{map-set}
+use Rattle.script_player.proofs.Common.{◌==◌, ◌&&◌, ◌-◌, min, unwrap_or, option_map, map, nat_le, slice_set, if◌then◌else◌, ◌≡◌, ◌≢◌, get_or-set_other, ◌≤◌, ◌+◌, ◌⊎◌, ℕ, zero, suc, Bool, true, false, List, [], ◌∷◌, length, get_or, Option, Some, None, refl, sym, ap, ◌∙◌, subst, inl, inr, arith, eqb_tells, leb_tells, map-set, last_count, ops_behind, Planning, DeviceTold, armed, ops_of, faults_of, is_off, PlainBlock, next_number, Told, Synchronized, IsSynchronized, to_refuse_by, told_of, store_of, stored, refusing, no_plain, DeskState, HandState, PowersOff, Cut, Refuse, DueCut, plan_after, asked_by, IsNoEarlier, IsComing, PlansCuts, Arms, Stores, Refuses, plan_from, plan_in, takes_in, ops_in, to_refuse_in, shown}
 use Prim.Native.Nat.compare
-use Rattle.uds_gateway.specs.nv_base.Count.{last_count}
-use Rattle.uds_gateway.specs.nv_base.Entry.{ops_behind}
-use Rattle.uds_gateway.specs.nv_base.Plan.{Planning, planned}
-use Rattle.uds_gateway.specs.memif.Told.{DeviceTold, armed, ops_of, faults_of, is_off}
-use Rattle.uds_gateway.specs.ram_blocks.declared.plain_block.PlainBlock.{PlainBlock}
-use Rattle.uds_gateway.specs.ram_blocks.Copies.{next_number}
-use Rattle.uds_gateway.specs.ram_blocks.Told.{Told, Synchronized, IsSynchronized, to_refuse_by}
-use Rattle.uds_gateway.specs.ram_blocks.Plain.{told_of, store_of, stored, refusing, no_plain}
-use Rattle.uds_gateway.specs.nv_desk.Desk.{DeskState, state_of}
-use Rattle.uds_gateway.specs.job_progress.Hand.{HandState}
+use Rattle.uds_gateway.specs.nv_base.Plan.{planned}
+use Rattle.uds_gateway.specs.nv_desk.Desk.{state_of}
 use Rattle.uds_gateway.specs.nvm_laws.Work.{stack_work}
 use Rattle.uds_gateway.specs.nvm_core.Work.{left_with}
-use Rattle.uds_gateway.specs.nvm_core.Stack.{PowersOff}
-use Rattle.uds_gateway.specs.script_walks.Words.{Cut, Refuse}
-use Rattle.uds_gateway.specs.promise_run.Run.{DueCut, plan_after}
-use Rattle.uds_gateway.specs.promise_run.Refusals.{asked_by}
-use Rattle.script_player.specs.Told.{IsNoEarlier}
-use Rattle.script_player.specs.Coming.{IsComing, PlansCuts}
 use Rattle.script_player.proofs.Coming.{pending_same}
-use Rattle.script_player.specs.Calls.{Arms, Stores, Refuses}
-use Rattle.script_player.specs.PlainTold.{plan_from, plan_in, takes_in, ops_in, causes_in, to_refuse_in, shown}
+use Rattle.script_player.specs.PlainTold.{causes_in}
 use Rattle.script_player.proofs.PlainPlans.{ops_told}
 use Rattle.script_player.proofs.PlainCopies.{store_here, stored_told, stored_stores, refusing_stores}
 

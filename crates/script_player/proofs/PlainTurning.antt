@@ -1,24 +1,12 @@
 -- A turn: what it adds, and how that is explained.
-use Rattle.std.specs.Prelude.{◌||◌, not, IsTrue, map}
-use Rattle.std.proofs.Common.{◌≡◌, ◌+◌, ℕ, suc, Bool, true, false, List, [], ◌∷◌, ◌++◌, length, get_or, Option, None, refl, sym, ap, ◌∙◌, subst, inl, inr, arith, append-nil}
-use Rattle.std.proofs.lemmas.List.{ext_get_or, length-map}
-use Rattle.uds_gateway.specs.memif.Told.{DeviceTold, Fixed, is_off}
-use Rattle.uds_gateway.specs.block_machine.Words.{Entry, Off}
-use Rattle.uds_gateway.specs.block_machine.State.{State}
-use Rattle.uds_gateway.specs.block_machine.Steps.{step}
-use Rattle.uds_gateway.specs.ram_blocks.declared.plain_block.PlainBlock.{PlainBlock}
+use Rattle.script_player.proofs.Common.{◌||◌, not, map, ◌≡◌, ◌+◌, ℕ, suc, Bool, true, false, List, [], ◌∷◌, ◌++◌, length, get_or, Option, None, refl, sym, ap, ◌∙◌, subst, inl, inr, arith, append-nil, length-map, DeviceTold, Fixed, is_off, Entry, Off, State, step, PlainBlock, told_of, store_of, DeskState, DueCut, Added, CutsAre, AreAsAsked, StackState, PowersOff, histories_step, IsGrown, IsNoEarlier, AreCut, plan_behind, AreExplained, AllTell, is_due, told_by, to_refuse_in, plan_in, came_in, ops_in}
+use Rattle.std.specs.Prelude.{IsTrue}
+use Rattle.std.proofs.lemmas.List.{ext_get_or}
 use Rattle.uds_gateway.specs.ram_blocks.Told.{sizes_of}
-use Rattle.uds_gateway.specs.ram_blocks.Plain.{told_of, store_of}
-use Rattle.uds_gateway.specs.nv_desk.Desk.{DeskState, state_of}
-use Rattle.uds_gateway.specs.promise_run.Run.{DueCut, Added, CutsAre}
-use Rattle.uds_gateway.specs.promise_run.Refusals.{AreAsAsked}
-use Rattle.uds_gateway.specs.nvm_core.Stack.{StackState, PowersOff}
-use Rattle.uds_gateway.proofs.HistoryLaws.{histories_step}
-use Rattle.script_player.specs.Told.{IsGrown, IsNoEarlier, AreCut, plan_behind}
+use Rattle.uds_gateway.specs.nv_desk.Desk.{state_of}
 use Rattle.script_player.specs.Coming.{MissesNone}
-use Rattle.script_player.specs.Calls.{AreExplained, AllTell, MakesOne}
-use Rattle.uds_gateway.specs.script_walks.Walk.{is_due, begins_with_pick_or_post}
-use Rattle.script_player.specs.PlainTold.{told_by, to_refuse_in, plan_in, came_in, ops_in}
+use Rattle.script_player.specs.Calls.{MakesOne}
+use Rattle.uds_gateway.specs.script_walks.Walk.{begins_with_pick_or_post}
 use Rattle.script_player.proofs.PlainPlans.{none_earlier}
 use Rattle.script_player.proofs.PlainDevices.{Goes, DeviceCut}
 

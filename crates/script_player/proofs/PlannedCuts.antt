@@ -1,13 +1,9 @@
 -- The power cuts that steps plan.
-use Rattle.std.specs.Prelude.{slice_get}
-use Rattle.std.proofs.Common.{◌≡◌, ◌≤◌, ◌+◌, ℕ, List, take, Some, ap, ◌∙◌, arith}
-use Rattle.std.proofs.lemmas.List.{take_more}
-use Rattle.std.proofs.lemmas.List.Sums.{sum_by_push}
+use Rattle.script_player.proofs.Common.{slice_get, ◌≡◌, ◌≤◌, ◌+◌, ℕ, List, take, Some, ap, ◌∙◌, arith, take_more, sum_by_push, cuts_in, cuts_of}
 use Rattle.std.proofs.lemmas.Option.{slice_get_within, get_or_from_slice_get}
 use Rattle.nvm_script.specs.declared.step.Step.{Step}
 use Rattle.nvm_script.specs.declared.step.StepKind.{StepKind}
 use Rattle.nvm_script.specs.declared.step.StepKind.TheVariants.{Cut}
-use Rattle.script_player.specs.Made.{cuts_in, cuts_of}
 
 pub one_more : (steps : List Step) (i : ℕ) (x : Step) → slice_get steps i ≡ Some x → cuts_of (take (i + 1) steps) ≡ cuts_of (take i steps) + cuts_in x.kind
 one_more steps i x at =

@@ -1,37 +1,20 @@
 -- Requests of a UDS gateway, one after another.
-use Rattle.std.specs.Prelude.{not}
-use Rattle.std.proofs.Common.{◌≡◌, ◌≢◌, ◌<◌, ◌≤◌, ◌+◌, ◌-◌, length-append, ℕ, true, false, IsTrue, List, [], ◌∷◌, ◌++◌, length, take, drop, get_or, zero, suc, None, Result, Ok, Err, refl, sym, ap, ◌∙◌, subst, inl, inr, arith, append-nil, append_assoc}
-use Rattle.std.proofs.lemmas.List.{map-append, take_more}
-use Rattle.std.proofs.lemmas.List.Folds.{list_all-append}
-use Rattle.uds_gateway.specs.nv_desk.Desk.{DeskState}
-use Rattle.uds_gateway.specs.nvm_laws.declared.turned.Turned.{Turned}
+use Rattle.script_player.proofs.Common.{not, ◌≡◌, ◌≢◌, ◌<◌, ◌≤◌, ◌+◌, length-append, ℕ, true, false, IsTrue, List, [], ◌∷◌, ◌++◌, length, take, drop, get_or, zero, suc, None, Result, Ok, Err, refl, sym, ap, ◌∙◌, subst, inl, inr, arith, append-nil, append_assoc, map-append, take_more, list_all-append, DeskState, Turned, Instance, Mark, Request, Reply, Entry, Ask, Post, Off, Found, Configuration, State, Job, fits, after, step, histories_step, ServeStop, HasOne, Goes, is_on_way, Step, AskStep, Turn, request_after, is_at_rest, joined, CanBePlayed, StackTold, state_of, desk_of, AddsAsk, Turns, MakesTurns, IsAsked, IsFresh, HasWalked, Seen, none_moves, AskMoves, IsSeen, LastsOn, TurnMoves, EndsRequest, AreServedSoFar, HasServed}
+use Rattle.std.proofs.Common.{◌-◌}
 use Rattle.uds_gateway.specs.nvm_laws.declared.turned.Turned.TheVariants as turned
-use Rattle.uds_gateway.specs.block_machine.Words.{Instance, Mark, Request, Reply, Accepted, Refused, StatusIs, IndexIs, Entry, Ask, Post, Off, Found, Configuration}
-use Rattle.uds_gateway.specs.block_machine.State.{State, Job}
+use Rattle.uds_gateway.specs.block_machine.Words.{Accepted, Refused, StatusIs, IndexIs}
 use Rattle.uds_gateway.specs.block_machine.Blocks.{asked_block}
 use Rattle.uds_gateway.specs.block_machine.Legal.{HasStore}
-use Rattle.uds_gateway.specs.block_machine.Reply.{reply_of, fits}
-use Rattle.uds_gateway.specs.block_machine.Steps.{after, step}
-use Rattle.uds_gateway.proofs.HistoryLaws.{histories_step}
+use Rattle.uds_gateway.specs.block_machine.Reply.{reply_of}
 use Rattle.uds_gateway.specs.declared.code.NegativeCode.{NegativeCode}
-use Rattle.uds_gateway.specs.declared.stop.ServeStop.{ServeStop}
 use Rattle.uds_gateway.specs.declared.stop.ServeStop.TheVariants as stop
 use Rattle.uds_gateway.specs.Services.{asked_by}
-use Rattle.uds_gateway.specs.Jobs.{HasNone, HasOne, IsOwn}
-use Rattle.uds_gateway.specs.Turning.{Goes, ComesToPost, ComesToOff, is_on_way}
+use Rattle.uds_gateway.specs.Jobs.{HasNone, IsOwn}
+use Rattle.uds_gateway.specs.Turning.{ComesToPost, ComesToOff}
 use Rattle.uds_gateway.proofs.Served.{served_more}
 use Rattle.uds_gateway.proofs.Jobs.{accepted_one, refused_none, own_cases, own_reply, IsYesOrNo}
-use Rattle.uds_gateway.specs.script_walks.Words.{Step, AskStep, Turn}
-use Rattle.uds_gateway.specs.script_walks.Walk.{request_after, is_at_rest, joined}
-use Rattle.nvm_script.specs.Played.{CanBePlayed}
-use Rattle.script_player.specs.Told.{StackTold, state_of, desk_of}
-use Rattle.script_player.specs.Calls.{AddsAsk, Turns}
-use Rattle.script_player.specs.Kept.{IsKept, MakesTurns}
-use Rattle.script_player.specs.Made.{IsAsked, IsFresh, HasWalked}
-use Rattle.uds_gateway.specs.nvm_moves.Seen.{Seen}
-use Rattle.uds_gateway.proofs.Moved.{none_moves}
-use Rattle.script_player.specs.Paying.{AskMoves, IsSeen, LastsOn, TurnMoves}
-use Rattle.script_player.specs.Requests.{is_of_request, AreOfRequests, no_stores, IsServing, ServesNoMore, EndsJob, EndsRequest, AreServedSoFar, HasServed}
+use Rattle.script_player.specs.Kept.{IsKept}
+use Rattle.script_player.specs.Requests.{is_of_request, AreOfRequests, no_stores, IsServing, ServesNoMore, EndsJob}
 use Rattle.script_player.proofs.Causes.{joined_more}
 use Rattle.script_player.proofs.Making.{ask_made, turns_made}
 use Rattle.script_player.proofs.Offs.{none_counted}

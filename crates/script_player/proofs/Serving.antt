@@ -1,13 +1,6 @@
 -- A stack in which nothing fails.
-use Rattle.std.specs.List.{list_all}
-use Rattle.std.proofs.Common.{◌≡◌, ◌≤◌, IsTrue, List, ◌++◌, sym, ◌∙◌, subst}
-use Rattle.std.proofs.lemmas.Bool.{and_parts}
-use Rattle.std.proofs.lemmas.List.Folds.{list_all-append}
-use Rattle.uds_gateway.specs.block_machine.Words.{Entry}
-use Rattle.uds_gateway.proofs.Turning.{rose_before, rose_since}
-use Rattle.uds_gateway.specs.promise_run.Completeness.{is_calm_entry}
-use Rattle.script_player.specs.Told.{StackTold}
-use Rattle.script_player.specs.Kept.{StaysCalm}
+use Rattle.script_player.proofs.Common.{list_all, ◌≡◌, ◌≤◌, IsTrue, List, ◌++◌, sym, ◌∙◌, subst, and_parts, list_all-append, Entry, rose_since, is_calm_entry, StackTold, StaysCalm}
+use Rattle.uds_gateway.proofs.Turning.{rose_before}
 
 -- what stays calm in all is calm up to a moment, and from it on
 pub calm_until : (old mid new : StackTold) (more : List Entry) → new.entries ≡ mid.entries ++ more → mid.faults ≤ new.faults → StaysCalm old new → StaysCalm old mid

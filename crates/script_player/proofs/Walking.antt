@@ -1,40 +1,21 @@
 -- Step after step.
 use Rattle.std.specs.Prelude.{take}
-use Rattle.std.proofs.Common.{◌≡◌, ◌<◌, ◌≤◌, ◌+◌, ◌*◌, ◌^◌, ℕ, true, false, List, [], ◌∷◌, ◌++◌, Option, None, length, map, replicate, refl, sym, ap, ◌∙◌, subst, arith, add-one, length-append, append_assoc, append-nil}
-use Rattle.std.proofs.lemmas.List.{length-map}
-use Rattle.std.proofs.lemmas.List.Sums.{sum_by_push, sum_by-append, sum_by-cons}
+use Rattle.script_player.proofs.Common.{◌≡◌, ◌<◌, ◌≤◌, ◌+◌, ◌*◌, ◌^◌, ℕ, true, false, List, [], ◌∷◌, ◌++◌, Option, None, length, replicate, refl, sym, ap, ◌∙◌, subst, arith, add-one, length-append, append_assoc, append-nil, length-map, sum_by_push, WereCounted, ops_behind, Entry, Found, Configuration, State, at_first, after, after_from, Step, joined, ArePlayed, AreNewest, JobsTookStored, store_of, plain_blocks_of, EachPiece, HasNoRoom, DueCut, Event, Made, Added, events_of, AreAsAsked, asked_by, is_drain, starts_keep_stored, StackTold, state_of, moment_of, IsNoEarlier, AreCut, TellsOff, plan_behind, ops_at, cuts_in, cuts_of, IsExplained, IsMade, IsLeft, IsFresh, Makes, HasWalked, AreUnderWay, planned_behind, HasLastStores, Moment, Move, entries_of, moment_behind, moment_after, Planned, planned_by, AreInTime, FindsWork, all_moves, Seen, MovesBy, moves_more, none_moves, IsSeen, LastsOn, IsPending}
+use Rattle.std.proofs.Common.{map}
+use Rattle.std.proofs.lemmas.List.Sums.{sum_by-append, sum_by-cons}
 use Rattle.std.proofs.Math.Seq.{get_or-append_seam}
-use Rattle.uds_gateway.specs.nv_base.Count.{WereCounted}
-use Rattle.uds_gateway.specs.nv_base.Entry.{ops_behind}
-use Rattle.uds_gateway.specs.block_machine.Words.{Entry, Found, Configuration}
-use Rattle.uds_gateway.specs.block_machine.State.{State}
-use Rattle.uds_gateway.specs.block_machine.StartUp.{at_first}
-use Rattle.uds_gateway.specs.block_machine.Steps.{after, after_from}
-use Rattle.uds_gateway.specs.script_walks.Words.{Step}
-use Rattle.uds_gateway.specs.script_walks.Walk.{IsPiece, IsWalkOf, joined}
-use Rattle.nvm_script.specs.Played.{IsPlayed, ArePlayed}
-use Rattle.uds_gateway.specs.script_walks.Stores.{AreNewest, JobsTookStored}
-use Rattle.uds_gateway.specs.ram_blocks.Plain.{store_of, plain_blocks_of}
-use Rattle.uds_gateway.specs.promise_run.Run.{Played, EachPiece, HasNoRoom, HadRoom, DueCut, Event, Made, Added, events_of}
-use Rattle.uds_gateway.specs.promise_run.Refusals.{AreAsAsked, RefusesAsAsked, asked_by}
-use Rattle.uds_gateway.specs.promise_run.InRoom.{is_drain}
-use Rattle.uds_gateway.proofs.WalkedJobs.{starts_keep_stored}
+use Rattle.uds_gateway.specs.script_walks.Walk.{IsPiece, IsWalkOf}
+use Rattle.nvm_script.specs.Played.{IsPlayed}
+use Rattle.uds_gateway.specs.promise_run.Run.{Played, HadRoom}
+use Rattle.uds_gateway.specs.promise_run.Refusals.{RefusesAsAsked}
 use Rattle.uds_gateway.proofs.FirstStores.{first_are_newest}
 use Rattle.uds_gateway.proofs.Walks.{walks_grow}
 use Rattle.script_player.specs.declared.steps.StepFault.{StepFault}
 use Rattle.script_player.specs.declared.steps.StepFault.TheVariants.{Flash, HistoryFull, Memory}
-use Rattle.script_player.specs.Told.{StackTold, state_of, moment_of, IsNoEarlier, AreCut, TellsOff, plan_behind, ops_at}
 use Rattle.script_player.specs.Kept.{IsKept}
-use Rattle.script_player.specs.Made.{cuts_in, cuts_of, IsExplained, IsMade, IsLeft, IsFresh, Makes, HasWalked, WereLeft, WasBroken}
-use Rattle.script_player.specs.Walking.{IsWalking, AreUnderWay, planned_behind}
-use Rattle.script_player.specs.Table.{HasLastStores}
-use Rattle.uds_gateway.specs.promise_run.Turns.{Moment, Move, entries_of, moment_behind, moment_after, Planned, planned_by, AreInTime, FindsWork, all_moves}
-use Rattle.uds_gateway.specs.nvm_moves.Seen.{Seen}
-use Rattle.uds_gateway.specs.nvm_moves.Moved.{MovesBy}
-use Rattle.uds_gateway.proofs.Moved.{moves_more, none_moves}
-use Rattle.script_player.specs.Paying.{IsSeen, LastsOn}
+use Rattle.script_player.specs.Made.{WereLeft, WasBroken}
+use Rattle.script_player.specs.Walking.{IsWalking}
 use Rattle.script_player.proofs.Paying.{came_by, none_last}
-use Rattle.script_player.specs.Coming.{IsPending}
 use Rattle.script_player.proofs.Coming.{come_more, entries_more, planned_more}
 use Rattle.script_player.proofs.Moves.{all_more, closes_more, finds_more, has_more}
 use Rattle.script_player.proofs.Grown.{state_more}

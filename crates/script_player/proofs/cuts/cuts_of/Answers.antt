@@ -1,4 +1,4 @@
-use Rattle.std.proofs.Common.{arith}
+use Rattle.script_player.proofs.Common.{arith}
 use Rattle.script_player.proofs.PlannedCuts.{one_more, few_in}
 use Rattle.script_player.proofs.cuts.cuts_of.Goals.{in-Some, in_default}
 use Rattle.script_player.proofs.cuts.cuts_of.Goals as goal

@@ -1,5 +1,4 @@
-use Rattle.std.proofs.Common.{◌≡◌, ◌≤◌, take}
-use Rattle.script_player.specs.Made.{cuts_of}
+use Rattle.script_player.proofs.Common.{◌≡◌, ◌≤◌, take, cuts_of}
 use Rattle.script_player.proofs.cuts.cuts_of.Given as goal
 
 abbrev pub invariant-loop-i : goal.invariant-loop-i

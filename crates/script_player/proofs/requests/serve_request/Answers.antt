@@ -1,4 +1,4 @@
-use Rattle.std.proofs.Common.{subst}
+use Rattle.script_player.proofs.Common.{subst}
 use Rattle.uds_gateway.specs.declared.asked.AskedFault.{AskedFault}
 use Rattle.uds_gateway.specs.Services.{asked_by}
 use Rattle.uds_gateway.specs.Answers.{IsWhy}

@@ -1,6 +1,4 @@
-use Rattle.std.proofs.Common.{take}
-use Rattle.uds_gateway.specs.memif.Told.{Part, PartTold}
-use Rattle.script_player.specs.Requests.{AreServedSoFar}
+use Rattle.script_player.proofs.Common.{take, Part, PartTold, AreServedSoFar}
 use Rattle.script_player.proofs.requests.serve_requests.Given as goal
 
 -- the requests before i are served

@@ -1,7 +1,5 @@
-use Rattle.std.proofs.Common.{sym, ◌∙◌}
-use Rattle.uds_gateway.specs.Turning.{is_on_way}
+use Rattle.script_player.proofs.Common.{sym, ◌∙◌, is_on_way, desk_of}
 use Rattle.uds_gateway.proofs.JobTurns.{goes_more, on_way, turns_fall}
-use Rattle.script_player.specs.Told.{desk_of}
 use Rattle.script_player.proofs.Grown.{ready_grown}
 use Rattle.script_player.proofs.Served.{first_turn, more_turns, turn_nears}
 use Rattle.script_player.proofs.requests.turns_to_post.Goals as goal

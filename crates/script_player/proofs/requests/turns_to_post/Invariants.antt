@@ -1,10 +1,5 @@
-use Rattle.std.proofs.Common.{◌≡◌, ◌+◌, true, List, if◌then◌else◌}
-use Rattle.uds_gateway.specs.block_machine.Words.{Request}
-use Rattle.uds_gateway.specs.memif.Told.{Part, PartTold}
-use Rattle.uds_gateway.specs.Jobs.{HasOne}
-use Rattle.uds_gateway.specs.Turning.{Goes, is_on_way}
-use Rattle.uds_gateway.specs.script_walks.Words.{Step}
-use Rattle.script_player.specs.Told.{state_of, desk_of}
+use Rattle.script_player.proofs.Common.{◌≡◌, ◌+◌, true, List, Request, Part, PartTold, HasOne, Goes, is_on_way, Step, state_of, desk_of}
+use Rattle.std.proofs.Common.{if◌then◌else◌}
 use Rattle.script_player.specs.Kept.{IsKept}
 use Rattle.script_player.proofs.Served.{TurnsSome}
 use Rattle.script_player.proofs.requests.turns_to_post.Given as goal

@@ -1,7 +1,4 @@
-use Rattle.std.proofs.Common.{subst}
-use Rattle.uds_gateway.specs.block_machine.Words.{Request, Ask}
-use Rattle.script_player.specs.Calls.{AddsAsk}
-use Rattle.script_player.specs.Made.{IsAsked}
+use Rattle.script_player.proofs.Common.{subst, Request, Ask, AddsAsk, IsAsked}
 use Rattle.script_player.proofs.steps.ask.Goals as goal
 
 pub returns-in-Ok-clause-asked : goal.returns-in-Ok-clause-asked

@@ -1,11 +1,6 @@
-use Rattle.std.proofs.Common.{ℕ, List, ◌++◌, ◌∷◌, [], refl, sym, ◌∙◌, subst}
+use Rattle.script_player.proofs.Common.{ℕ, List, ◌++◌, ◌∷◌, [], refl, sym, ◌∙◌, subst, Step, CanBePlayed, Stores, Makes, IsLeft, HasLastStores}
 use Rattle.nvm_script.specs.declared.step.StepKind.{StepKind}
 use Rattle.nvm_script.specs.declared.step.StepKind.TheVariants as kind
-use Rattle.uds_gateway.specs.script_walks.Words.{Step}
-use Rattle.nvm_script.specs.Played.{CanBePlayed}
-use Rattle.script_player.specs.Calls.{Stores}
-use Rattle.script_player.specs.Made.{Makes, IsLeft}
-use Rattle.script_player.specs.Table.{HasLastStores}
 use Rattle.script_player.proofs.Making.{at_kind, on_ok, if_err, step_made, ask_made, restart_made, turns_made, drain_made, arm_made, refuse_made, store_made, next_store}
 use Rattle.script_player.proofs.Table.{noted_table, is_sync, is_within}
 use Rattle.script_player.proofs.steps.make_step.Goals as goal

@@ -1,9 +1,7 @@
-use Rattle.std.proofs.Common.{◌≡◌, ◌++◌, ◌∷◌, [], List, length, sym, ap, ◌∙◌, subst, append_assoc, append-nil, arith, rules}
+use Rattle.script_player.proofs.Common.{◌≡◌, ◌++◌, ◌∷◌, [], List, length, sym, ap, ◌∙◌, subst, append_assoc, append-nil, arith, rules, into_iter_items, ArePlayed}
 use Rattle.std.proofs.lemmas.List.{nil_from_length}
-use Rattle.std.specs.Vec.Iter.{into_iter_items}
 use Rattle.uds_gateway.specs.block_config.Config.{Configuration}
 use Rattle.nvm_script.specs.declared.step.Step.{Step}
-use Rattle.nvm_script.specs.Played.{ArePlayed}
 use Rattle.script_player.proofs.Table.{holds_synchronized}
 use Rattle.script_player.proofs.Walking.{is_played, none_made, begin, go_on, all_made, some_made}
 use Rattle.script_player.proofs.steps.make_steps.Goals as goal

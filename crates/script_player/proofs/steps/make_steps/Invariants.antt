@@ -1,7 +1,5 @@
-use Rattle.std.proofs.Common.{◌≡◌, ◌++◌, length}
-use Rattle.std.specs.Vec.Iter.{into_iter_items, into_iter_len}
-use Rattle.uds_gateway.specs.memif.Told.{Part, PartTold}
-use Rattle.script_player.specs.Walking.{AreUnderWay}
+use Rattle.script_player.proofs.Common.{◌≡◌, ◌++◌, length, into_iter_items, Part, PartTold, AreUnderWay}
+use Rattle.std.specs.Vec.Iter.{into_iter_len}
 use Rattle.script_player.proofs.steps.make_steps.Given as goal
 
 -- the steps that the loop has given are made

@@ -1,8 +1,6 @@
-use Rattle.std.proofs.Common.{[], ◌∷◌, ◌++◌, arith, length-append}
-use Rattle.uds_gateway.proofs.Turning.{rose_since}
+use Rattle.script_player.proofs.Common.{[], ◌∷◌, ◌++◌, arith, length-append, rose_since, state_of, moment_of}
 use Rattle.script_player.proofs.Grown.{ready_grown}
 use Rattle.script_player.proofs.Moves.{none_moved, made_more, move_to, turn_moved}
-use Rattle.script_player.specs.Told.{state_of, moment_of}
 use Rattle.script_player.proofs.Turned.{turn_kept, turned_more, none_turned, drained, find_more, find_but_last, find_here}
 use Rattle.script_player.proofs.turns.drain.Goals as goal
 

@@ -1,10 +1,5 @@
-use Rattle.std.proofs.Common.{◌≡◌, ◌≤◌, ◌+◌, true, List, length}
-use Rattle.uds_gateway.specs.block_machine.Words.{Entry}
-use Rattle.uds_gateway.specs.memif.Told.{Part, PartTold}
-use Rattle.uds_gateway.specs.script_walks.Words.{Step}
-use Rattle.uds_gateway.specs.promise_run.Turns.{Move}
-use Rattle.script_player.specs.Told.{state_of, moment_of}
-use Rattle.script_player.specs.Kept.{IsKept, HasTurned, AreMade, AllFindWork}
+use Rattle.script_player.proofs.Common.{◌≡◌, ◌≤◌, ◌+◌, true, List, length, Entry, Part, PartTold, Step, Move, state_of, moment_of, HasTurned, AreMade, AllFindWork}
+use Rattle.script_player.specs.Kept.{IsKept}
 use Rattle.script_player.proofs.turns.drain.Given as goal
 
 abbrev pub invariant-loop : goal.invariant-loop

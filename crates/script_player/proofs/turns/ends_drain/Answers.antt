@@ -1,5 +1,4 @@
-use Rattle.std.proofs.Common.{◌≤◌, ℕ, sym, ◌∙◌, subst}
-use Rattle.uds_gateway.specs.nv_base.Count.{Rose}
+use Rattle.script_player.proofs.Common.{◌≤◌, ℕ, sym, ◌∙◌, subst, Rose}
 use Rattle.script_player.proofs.Turned.{last_ends, last_closes, others_lower, others_find}
 use Rattle.script_player.proofs.turns.ends_drain.Goals as goal
 

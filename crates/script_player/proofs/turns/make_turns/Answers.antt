@@ -1,7 +1,5 @@
-use Rattle.std.proofs.Common.{◌≡◌, ℕ, false, refl, subst, arith}
-use Rattle.script_player.specs.Kept.{MakesTurns}
+use Rattle.script_player.proofs.Common.{◌≡◌, ℕ, false, refl, subst, arith, MakesTurns, none_moves}
 use Rattle.script_player.proofs.Grown.{ready_grown}
-use Rattle.uds_gateway.proofs.Moved.{none_moves}
 use Rattle.script_player.proofs.Turned.{one_turn_more}
 use Rattle.script_player.proofs.turns.make_turns.Goals as goal
 

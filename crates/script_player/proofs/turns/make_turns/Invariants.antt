@@ -1,7 +1,5 @@
-use Rattle.std.proofs.Common.{◌≡◌, true, List}
-use Rattle.uds_gateway.specs.memif.Told.{Part, PartTold}
-use Rattle.uds_gateway.specs.script_walks.Words.{Step}
-use Rattle.script_player.specs.Kept.{IsKept, MakesTurns}
+use Rattle.script_player.proofs.Common.{◌≡◌, true, List, Part, PartTold, Step, MakesTurns}
+use Rattle.script_player.specs.Kept.{IsKept}
 use Rattle.script_player.proofs.turns.make_turns.Given as goal
 
 abbrev pub invariant-loop-turn : goal.invariant-loop-turn

@@ -1,12 +1,6 @@
-use Rattle.std.specs.Prelude.{IsErrOf, ◌↔◌}
-use Rattle.std.proofs.Common.{rules, ◌≡◌, Bool, true, false, IsTrue, Result, Ok, refl}
-use Rattle.uds_gateway.specs.nv_desk.declared.ask.AskFault.{AskFault}
+use Rattle.script_player.proofs.Common.{IsErrOf, ◌↔◌, rules, ◌≡◌, Bool, true, false, IsTrue, Result, Ok, refl, AskFault, Reply, fits, HistoriesStep, SumsGrow, histories_step, sums_grow}
 use Rattle.uds_gateway.specs.nv_desk.declared.ask.AskFault.TheVariants as fault
 use Rattle.uds_gateway.specs.nv_desk.Desk.{state_of}
-use Rattle.uds_gateway.specs.block_machine.Words.{Reply}
-use Rattle.uds_gateway.specs.block_machine.Reply.{fits}
-use Rattle.uds_gateway.specs.block_laws.Laws.{HistoriesStep, SumsGrow}
-use Rattle.uds_gateway.proofs.HistoryLaws.{histories_step, sums_grow}
 use Rattle.script_player.proofs.plain_stack.PlainStack.enter.Goals as goal
 
 -- a request that was answered had room

@@ -1,15 +1,6 @@
-use Rattle.std.proofs.Common.{◌≡◌, false, List, [], sym, subst, ap, ◌∙◌}
-use Rattle.uds_gateway.specs.memif.Told.{armed, Part, PartTold, DeviceTold}
-use Rattle.uds_gateway.specs.ram_blocks.declared.plain_block.PlainBlock.{PlainBlock}
-use Rattle.uds_gateway.specs.nvm_core.Stack.{StackState}
-use Rattle.script_player.specs.PlainKept.{IsKept, AreStartsFound}
-use Rattle.script_player.specs.Told.{StackTold}
-use Rattle.script_player.specs.Calls.{Arms}
-use Rattle.uds_gateway.specs.nvm_moves.Moved.{MovesBy}
+use Rattle.script_player.proofs.Common.{◌≡◌, false, List, [], sym, subst, ap, ◌∙◌, armed, Part, PartTold, DeviceTold, PlainBlock, StackState, IsKept, AreStartsFound, StackTold, Arms, MovesBy, seen_by, told_by, shown}
 use Rattle.uds_gateway.proofs.StackMoves.{stack_arms}
-use Rattle.script_player.specs.PlainPaying.{seen_by}
 use Rattle.script_player.proofs.PlainPaying.{keeps_by}
-use Rattle.script_player.specs.PlainTold.{told_by, shown}
 use Rattle.script_player.proofs.PlainSteps.{arms}
 use Rattle.script_player.proofs.PlainStarts.{stands_on}
 use Rattle.script_player.proofs.plain_stack.PlainStackPlayedStack.arm.Goals as goal

@@ -1,22 +1,9 @@
-use Rattle.std.specs.Prelude.{IsErrOf, IfOk, ◌↔◌}
-use Rattle.std.proofs.Common.{rules, ◌≡◌, Bool, true, false, IsTrue, Result, Ok, Some, List, [], ◌∷◌, ◌++◌, refl, sym, ap, ◌∙◌, subst}
-use Rattle.uds_gateway.specs.memif.Told.{Part, PartTold}
-use Rattle.uds_gateway.specs.memif.Calls.{FreesReady, InOrder}
-use Rattle.uds_gateway.specs.nv_desk.declared.ask.AskFault.{AskFault}
+use Rattle.script_player.proofs.Common.{IsErrOf, ◌↔◌, rules, ◌≡◌, Bool, true, false, IsTrue, Result, Ok, Some, List, [], ◌∷◌, ◌++◌, refl, sym, ap, ◌∙◌, subst, Part, PartTold, InOrder, AskFault, Reply, Entry, Ask, fits, HistoriesStep, SumsGrow, histories_step, sums_grow, PlainBlock, StackState, MovesBy, moment_of, IsKept, AreStartsFound, seen_by, told_by}
+use Rattle.std.specs.Prelude.{IfOk}
+use Rattle.uds_gateway.specs.memif.Calls.{FreesReady}
 use Rattle.uds_gateway.specs.nv_desk.declared.ask.AskFault.TheVariants as fault
 use Rattle.uds_gateway.specs.nv_desk.Desk.{state_of}
-use Rattle.uds_gateway.specs.block_machine.Words.{Reply, Entry, Ask}
-use Rattle.uds_gateway.specs.block_machine.Reply.{fits}
-use Rattle.uds_gateway.specs.block_laws.Laws.{HistoriesStep, SumsGrow}
-use Rattle.uds_gateway.proofs.HistoryLaws.{histories_step, sums_grow}
-use Rattle.uds_gateway.specs.ram_blocks.declared.plain_block.PlainBlock.{PlainBlock}
-use Rattle.uds_gateway.specs.nvm_core.Stack.{StackState}
-use Rattle.uds_gateway.specs.nvm_moves.Moved.{MovesBy}
 use Rattle.uds_gateway.proofs.StackMoves.{stack_asks}
-use Rattle.script_player.specs.Told.{moment_of}
-use Rattle.script_player.specs.PlainKept.{IsKept, AreStartsFound}
-use Rattle.script_player.specs.PlainPaying.{seen_by}
-use Rattle.script_player.specs.PlainTold.{told_by}
 use Rattle.script_player.proofs.PlainPaying.{keeps_by, same_entry}
 use Rattle.script_player.proofs.PlainStarts.{ask_starts}
 use Rattle.script_player.proofs.plain_stack.PlainStackPlayedStack.ask.Goals as goal

@@ -1,9 +1,4 @@
-use Rattle.std.proofs.Common.{List, subst}
-use Rattle.uds_gateway.specs.ram_blocks.declared.plain_block.PlainBlock.{PlainBlock}
-use Rattle.uds_gateway.specs.nvm_core.Stack.{StackState}
-use Rattle.script_player.specs.Paying.{IsSeen}
-use Rattle.script_player.specs.PlainPaying.{seen_by}
-use Rattle.script_player.specs.PlainTold.{told_by}
+use Rattle.script_player.proofs.Common.{List, subst, PlainBlock, StackState, IsSeen, seen_by, told_by}
 use Rattle.script_player.proofs.PlainPaying.{is_seen}
 use Rattle.script_player.proofs.plain_stack.PlainStackPlayedStack.len.Goals as goal
 

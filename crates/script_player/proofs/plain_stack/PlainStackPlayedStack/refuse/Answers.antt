@@ -1,19 +1,5 @@
-use Rattle.std.specs.Prelude.{map, IsSome}
-use Rattle.std.proofs.Common.{◌≡◌, ℕ, false, List, [], sym, subst, Option, Some, None, refl}
-use Rattle.uds_gateway.specs.block_machine.Words.{Configuration}
-use Rattle.uds_gateway.specs.ram_blocks.declared.plain_block.PlainBlock.{PlainBlock}
-use Rattle.uds_gateway.specs.ram_blocks.Told.{Told, IsSynchronized}
-use Rattle.uds_gateway.specs.ram_blocks.Plain.{told_of}
-use Rattle.uds_gateway.specs.nv_desk_copies.Front.{AreSynchronized}
-use Rattle.nvm_script.specs.Rules.{sync_length_of}
-use Rattle.uds_gateway.specs.nvm_core.Stack.{StackState}
-use Rattle.uds_gateway.specs.memif.Told.{Part, PartTold}
-use Rattle.uds_gateway.specs.nvm_moves.Moved.{MovesBy}
-use Rattle.uds_gateway.proofs.StackMoves.{stack_stays}
-use Rattle.script_player.specs.PlainKept.{IsKept}
-use Rattle.script_player.specs.PlainPaying.{seen_by}
-use Rattle.script_player.specs.Calls.{Refuses}
-use Rattle.script_player.specs.PlainTold.{told_by}
+use Rattle.script_player.proofs.Common.{map, ◌≡◌, ℕ, false, List, [], sym, subst, Option, Some, None, refl, Configuration, PlainBlock, Told, IsSynchronized, told_of, AreSynchronized, sync_length_of, StackState, Part, PartTold, MovesBy, stack_stays, IsKept, seen_by, Refuses, told_by}
+use Rattle.std.specs.Prelude.{IsSome}
 use Rattle.script_player.proofs.PlainCopies.{may_store}
 use Rattle.script_player.proofs.PlainSteps.{refuses}
 use Rattle.script_player.proofs.plain_stack.PlainStackPlayedStack.refuse.Goals as goal

@@ -1,27 +1,11 @@
-use Rattle.std.proofs.Common.{◌≡◌, Bool, true, false, List, [], ◌∷◌, Option, Some, sym, ap, subst, inl, ◌∙◌}
-use Rattle.uds_gateway.specs.memif.Told.{DeviceTold, Part, PartTold, ops_of}
-use Rattle.uds_gateway.specs.memif.Trials.{Lasts}
-use Rattle.uds_gateway.specs.block_machine.Words.{Entry, Found}
-use Rattle.uds_gateway.specs.memif.Clock.{Clock}
-use Rattle.uds_gateway.specs.memif.Calls.{InOrder}
+use Rattle.script_player.proofs.Common.{◌≡◌, Bool, true, false, List, [], ◌∷◌, Option, Some, sym, ap, subst, inl, ◌∙◌, DeviceTold, Part, PartTold, ops_of, Lasts, Entry, Found, Clock, InOrder, HandState, DeskState, PlainBlock, TellsSlots, FoundAnswer, StackState, PowersOff, Restarts, MovesBy, moment_of, told_by, IsKept, AreStartsFound, seen_by}
 use Rattle.uds_gateway.specs.promise_blocks.OverDevice.{HasStarted}
-use Rattle.uds_gateway.specs.job_progress.Hand.{HandState}
-use Rattle.uds_gateway.specs.nv_desk.Desk.{DeskState}
-use Rattle.uds_gateway.specs.ram_blocks.declared.plain_block.PlainBlock.{PlainBlock}
-use Rattle.uds_gateway.specs.nvm_device_laws.Turn.{TellsSlots}
 use Rattle.uds_gateway.specs.nvm_laws.Keeps.{StackKeepsAsTold}
-use Rattle.uds_gateway.specs.nvm_laws.declared.turned.FoundAnswer.{FoundAnswer}
 use Rattle.uds_gateway.specs.nvm_laws.declared.turned.FoundAnswer.TheVariants as found
-use Rattle.uds_gateway.specs.nvm_core.Stack.{StackState, PowersOff}
-use Rattle.uds_gateway.specs.nvm_core.StartUps.{DownKeepsAsTold, Restarts, StartsKeep}
+use Rattle.uds_gateway.specs.nvm_core.StartUps.{DownKeepsAsTold, StartsKeep}
 use Rattle.script_player.specs.Calls as calls
-use Rattle.uds_gateway.specs.nvm_moves.Moved.{MovesBy}
 use Rattle.uds_gateway.proofs.StackMoves.{stack_starts}
 use Rattle.script_player.specs.Paying.{StartMoves}
-use Rattle.script_player.specs.Told.{moment_of}
-use Rattle.script_player.specs.PlainTold.{told_by}
-use Rattle.script_player.specs.PlainKept.{IsKept, AreStartsFound}
-use Rattle.script_player.specs.PlainPaying.{seen_by}
 use Rattle.script_player.proofs.PlainPaying.{fails_last, restart_tells, same_entry, same_last}
 use Rattle.script_player.proofs.PlainStarts.{restart_starts, restarts_told}
 use Rattle.script_player.proofs.plain_stack.PlainStackPlayedStack.restart.Goals as goal

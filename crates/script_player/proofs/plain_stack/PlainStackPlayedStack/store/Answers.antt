@@ -1,16 +1,4 @@
-use Rattle.std.specs.Prelude.{map}
-use Rattle.std.proofs.Common.{◌≡◌, false, List, [], length, sym, subst, Some}
-use Rattle.uds_gateway.specs.ram_blocks.declared.plain_block.PlainBlock.{PlainBlock}
-use Rattle.uds_gateway.specs.ram_blocks.Plain.{told_of}
-use Rattle.nvm_script.specs.Rules.{sync_length_of}
-use Rattle.uds_gateway.specs.nvm_core.Stack.{StackState}
-use Rattle.uds_gateway.specs.memif.Told.{Part, PartTold}
-use Rattle.uds_gateway.specs.nvm_moves.Moved.{MovesBy}
-use Rattle.uds_gateway.proofs.StackMoves.{stack_stays}
-use Rattle.script_player.specs.PlainKept.{IsKept}
-use Rattle.script_player.specs.PlainPaying.{seen_by}
-use Rattle.script_player.specs.Calls.{Stores}
-use Rattle.script_player.specs.PlainTold.{told_by}
+use Rattle.script_player.proofs.Common.{map, ◌≡◌, false, List, [], length, sym, subst, Some, PlainBlock, told_of, sync_length_of, StackState, Part, PartTold, MovesBy, stack_stays, IsKept, seen_by, Stores, told_by}
 use Rattle.script_player.proofs.PlainCopies.{may_store}
 use Rattle.script_player.proofs.PlainSteps.{stores}
 use Rattle.script_player.proofs.plain_stack.PlainStackPlayedStack.store.Goals as goal

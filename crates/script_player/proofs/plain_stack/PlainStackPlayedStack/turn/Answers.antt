@@ -1,21 +1,8 @@
-use Rattle.std.proofs.Common.{◌≡◌, true, List, sym, subst, ap, ◌∙◌, inl, inr}
-use Rattle.uds_gateway.specs.block_machine.Words.{Request}
-use Rattle.uds_gateway.specs.ram_blocks.declared.plain_block.PlainBlock.{PlainBlock}
-use Rattle.uds_gateway.specs.memif.Told.{Part, PartTold}
-use Rattle.uds_gateway.specs.memif.Calls.{InOrder}
-use Rattle.uds_gateway.specs.nvm_core.Stack.{StackState}
-use Rattle.script_player.specs.PlainKept.{IsKept, AreStartsFound}
-use Rattle.script_player.specs.Calls.{Turns}
-use Rattle.script_player.specs.Paying.{TurnMoves}
-use Rattle.script_player.specs.Told.{state_of, desk_of, StackTold}
-use Rattle.uds_gateway.specs.Jobs.{HasOne}
-use Rattle.uds_gateway.specs.Turning.{Goes}
+use Rattle.script_player.proofs.Common.{◌≡◌, true, List, sym, subst, ap, ◌∙◌, inl, inr, Request, PlainBlock, Part, PartTold, InOrder, StackState, IsKept, AreStartsFound, Turns, TurnMoves, state_of, desk_of, StackTold, HasOne, Goes, seen_by, told_by}
 use Rattle.uds_gateway.proofs.JobTurns.{turn_goes}
 use Rattle.script_player.proofs.Served.{goes_told}
-use Rattle.script_player.specs.PlainPaying.{seen_by}
 use Rattle.uds_gateway.proofs.StackMoves.{stack_turns, turned_ready}
 use Rattle.script_player.proofs.PlainPaying.{keeps_by, up_moves}
-use Rattle.script_player.specs.PlainTold.{told_by}
 use Rattle.script_player.proofs.PlainHalves.{IsBehind, ended}
 use Rattle.script_player.proofs.PlainBehind.{behind_device}
 use Rattle.script_player.proofs.PlainStarts.{turn_starts}
