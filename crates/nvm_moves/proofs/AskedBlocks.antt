@@ -1,17 +1,5 @@
 -- A block with an accepted job, while requests come.
-use Rattle.nvm_moves.proofs.Common.{IsTrue, ◌==◌, ◌≡◌, ◌+◌, ◌<◌, ℕ, zero, suc, true, List, [], ◌∷◌, length, Option, Some, None, refl, sym, ap, ◌∙◌, arith, ReqResult, Request, Write, Reply, Accepted, JobKind, Taken, Instance, Mark, Entry, Ask, Pick, Wrote, Post, Off, Found, Configuration, State, Job, is_pending, status_of, Next, PickJob, BeginSweep, PickMember, PostMember, EndSweep, next_of, reply_of, at_first, step, after, after_from, picked, wrote}
-use Rattle.std.specs.Prelude.{unwrap_or, map, slice_get}
-use Rattle.std.specs.List.{enumerate_from}
-use Rattle.std.proofs.lemmas.List.{length-map, length-set}
-use Rattle.std.proofs.lemmas.List.FromFn.{length-enumerate_from}
-use Rattle.nvm_core.specs.block_config.Block.{plain_block}
-use Rattle.nvm_core.specs.block_machine.Words.{Fine, SetIndex, SetProtection, SetLock, SetRam, PutRam, ReadAll, WriteAll, CancelWriteAll, BlockDesc}
-use Rattle.nvm_core.specs.block_machine.State.{BlockState}
-use Rattle.nvm_core.specs.block_machine.Blocks.{asked_block, is_immediate, job_kind}
-use Rattle.nvm_core.specs.block_machine.StartUp.{started_block}
-use Rattle.nvm_core.specs.block_machine.Steps.{changed, changed_by, accepted_by, asked, posted, posted_next}
-use Rattle.nvm_core.proofs.block_laws.Locality.{entries_give_status}
-use Rattle.nvm_core.proofs.job_progress.Asking.{pending_stay}
+use Rattle.nvm_moves.proofs.Common.{IsTrue, ◌==◌, ◌≡◌, ◌+◌, ◌<◌, ℕ, zero, suc, true, List, [], ◌∷◌, length, Option, Some, None, refl, sym, ap, ◌∙◌, arith, ReqResult, Request, Write, Reply, Accepted, JobKind, Taken, Instance, Mark, Entry, Ask, Pick, Wrote, Post, Off, Found, Configuration, State, Job, is_pending, status_of, Next, PickJob, BeginSweep, PickMember, PostMember, EndSweep, next_of, reply_of, at_first, step, after, after_from, picked, wrote, unwrap_or, map, slice_get, enumerate_from, length-map, length-set, length-enumerate_from, plain_block, Fine, SetIndex, SetProtection, SetLock, SetRam, PutRam, ReadAll, WriteAll, CancelWriteAll, BlockDesc, BlockState, asked_block, is_immediate, job_kind, started_block, changed, changed_by, accepted_by, asked, posted, posted_next, entries_give_status, pending_stay}
 
 -- THE NUMBER OF BLOCKS
 -- the states of so many blocks, behind a start-up

@@ -1,15 +1,9 @@
 -- The moves of a history, from its first start-up on.
-use Rattle.nvm_moves.proofs.Common.{◌≡◌, ◌⊎◌, ◌≤◌, ◌++◌, ℕ, Bool, List, [], ◌∷◌, Option, Some, None, refl, sym, ap, ◌∙◌, subst, inl, inr, arith, IfSome, DeviceTold, Fixed, Stand, Open, faults_of, is_off, is_open, most_open, InOrder, Clock, TakesKept, Instance, Mark, Entry, Found, Configuration, State, Job, after, Costs, Work, DeskState, state_of, costs_in, work_in, left_on, true_false, closed_tries, pages_in, HadPages, MayGoOn, Moment, entries_of, moment_behind, ArePaidSince, Among, BeginWhatIsDue, EachMove, EachMoveSince, PostsPicked, PostsUrgent, StaysAtRest, TakeKept, turns_beside, Along, Cursor, HasMoved, IsAt, IsLawful, Begun, Seen, frame_of, moment_by, moment_seen, DueAt, IsServable}
-use Rattle.std.proofs.Common.{take, append-nil}
-use Rattle.std.specs.Prelude.{if◌then◌else◌, is_some, true, false}
+use Rattle.nvm_moves.proofs.Common.{◌≡◌, ◌⊎◌, ◌≤◌, ◌++◌, ℕ, Bool, List, [], ◌∷◌, Option, Some, None, refl, sym, ap, ◌∙◌, subst, inl, inr, arith, IfSome, DeviceTold, Fixed, Stand, Open, faults_of, is_off, is_open, most_open, InOrder, Clock, TakesKept, Instance, Mark, Entry, Found, Configuration, State, Job, after, Costs, Work, DeskState, state_of, costs_in, work_in, left_on, true_false, closed_tries, pages_in, HadPages, MayGoOn, Moment, entries_of, moment_behind, ArePaidSince, Among, BeginWhatIsDue, EachMove, EachMoveSince, PostsPicked, PostsUrgent, StaysAtRest, TakeKept, turns_beside, Along, Cursor, HasMoved, IsAt, IsLawful, Begun, Seen, frame_of, moment_by, moment_seen, DueAt, IsServable, take, is_some, AreWorked, job_turns, write_pages, HasWork, costs_of, making_of, HasMovesTo, worn_by, BeginsAt, BeginsMoves}
+use Rattle.std.proofs.Common.{append-nil}
+use Rattle.std.specs.Prelude.{if◌then◌else◌, true, false}
 use Rattle.nvm_core.specs.memif.Told.{Ended}
-use Rattle.nvm_core.specs.promise_blocks.Work.{AreWorked}
-use Rattle.promise_run.specs.JobTurns.{job_turns, write_pages}
-use Rattle.promise_run.specs.Operations.{HasWork, costs_of, left_behind}
-use Rattle.promise_run.specs.Promise.{making_of}
-use Rattle.promise_run.specs.DeviceTurns.{HasMovesTo, worn_by}
-use Rattle.promise_run.specs.Turns.{BeginsAt}
-use Rattle.nvm_moves.specs.Beginning.{BeginsMoves}
+use Rattle.promise_run.specs.Operations.{left_behind}
 use Rattle.nvm_moves.proofs.Consequences.{are_made, are_paid, begin_what_is_due, stays_at_rest, take_kept}
 use Rattle.nvm_moves.proofs.Moved.{counts_then, moment_then}
 use Rattle.nvm_moves.proofs.Posted.{posts_picked}

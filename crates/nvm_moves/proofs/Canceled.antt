@@ -1,11 +1,6 @@
 -- Where a WriteAll that was canceled is all that is pending, what is due is its end.
-use Rattle.nvm_moves.proofs.Common.{option_to_list, ◌≡◌, ℕ, Bool, true, false, List, [], ◌∷◌, ◌++◌, Option, Some, None, if◌then◌else◌, refl, sym, ap, ◌∙◌, subst, ReqResult, JobKind, ReadAllJob, WriteAllJob, Taken, Entry, Pick, Post, Configuration, State, Job, Sweep, Next, BeginSweep, EndSweep, next_member, next_of, MayPick, is_due, begins_with_pick_or_post, EndsCanceled}
+use Rattle.nvm_moves.proofs.Common.{option_to_list, ◌≡◌, ℕ, Bool, true, false, List, [], ◌∷◌, ◌++◌, Option, Some, None, if◌then◌else◌, refl, sym, ap, ◌∙◌, subst, ReqResult, JobKind, ReadAllJob, WriteAllJob, Taken, Entry, Pick, Post, Configuration, State, Job, Sweep, Next, BeginSweep, EndSweep, next_member, next_of, MayPick, is_due, begins_with_pick_or_post, EndsCanceled, Canceled, TookNothing, jobs_of, sweep_result, IsAllowed, MayPost, MayPostNext, Answer}
 use Rattle.std.proofs.Common.{IsTrue}
-use Rattle.nvm_core.specs.block_machine.Words.{Canceled, TookNothing}
-use Rattle.nvm_core.specs.block_machine.State.{jobs_of}
-use Rattle.nvm_core.specs.block_machine.Sweeps.{sweep_result}
-use Rattle.nvm_core.specs.block_machine.Legal.{IsAllowed, MayPost, MayPostNext}
-use Rattle.nvm_core.specs.block_machine.Results.{Answer}
 use Rattle.nvm_moves.proofs.Resting.{next_at, some_none}
 
 -- the entry that ends it

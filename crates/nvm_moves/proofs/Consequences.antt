@@ -1,6 +1,5 @@
 -- What the promise says of moves, by the law along them.
-use Rattle.nvm_moves.proofs.Common.{List, [], ◌∷◌, Clock, TakesKept, Worn, Move, ArePaidSince, BeginWhatIsDue, CountFailed, StaysAtRest, TakeKept, Cursor, Frame, next_by, Along, IsLawful, IsPaidAt}
-use Rattle.promise_run.specs.Turns.{AreMovesMade}
+use Rattle.nvm_moves.proofs.Common.{List, [], ◌∷◌, Clock, TakesKept, Worn, Move, ArePaidSince, BeginWhatIsDue, CountFailed, StaysAtRest, TakeKept, Cursor, Frame, next_by, Along, IsLawful, IsPaidAt, AreMovesMade}
 
 module _ (f : Frame) (clock : Clock) where
   pub are_made : (k : Cursor) (ms : List Move) → Along f (IsLawful f.config clock) k ms → AreMovesMade k.now ms

@@ -1,7 +1,5 @@
 -- Whether a count rose.
-use Rattle.nvm_moves.proofs.Common.{◌⊎◌, inl, inr, ℕ, ◌+◌, ◌<◌, ◌≤◌, arith, Rose, last_count}
-use Rattle.std.proofs.Common.{min}
-use Rattle.std.proofs.lemmas.Bool.Decides.{leb_tells}
+use Rattle.nvm_moves.proofs.Common.{◌⊎◌, inl, inr, ℕ, ◌+◌, ◌<◌, ◌≤◌, arith, Rose, last_count, min, leb_tells}
 
 pub rose_or : (a b : ℕ) → Rose a b ⊎ ¬ Rose a b
 rose_or a b = elim (leb_tells b a) [

@@ -1,7 +1,6 @@
 -- What is due, in the device's own turn.
-use Rattle.nvm_moves.proofs.Common.{◌≡◌, inl, inr, ℕ, ◌+◌, ◌≤◌, Bool, true, false, Option, sym, ◌∙◌, subst, arith, cases_Bool, Rose, faults_of, nothing_open, Clock, Entry, state_of, IsPaired, StackNow, IsDue, IsDueInHand, IsDueNext, IsNearer, post_first, Turned, TurnsDevice, asked_by, more_due, Moment, IsAskedDue, IsDueWithin}
+use Rattle.nvm_moves.proofs.Common.{◌≡◌, inl, inr, ℕ, ◌+◌, ◌≤◌, Bool, true, false, Option, sym, ◌∙◌, subst, arith, cases_Bool, Rose, faults_of, nothing_open, Clock, Entry, state_of, IsPaired, StackNow, IsDue, IsDueInHand, IsDueNext, IsNearer, post_first, Turned, TurnsDevice, asked_by, more_due, Moment, IsAskedDue, IsDueWithin, takes_one}
 use Rattle.nvm_core.specs.nvm_laws.declared.turned.Turned.TheVariants as turned
-use Rattle.nvm_core.proofs.DueWrites.{takes_one}
 use Rattle.promise_run.specs.Turns.{is_off}
 use Rattle.nvm_moves.proofs.Counts.{rose_in, rose_or}
 use Rattle.nvm_moves.proofs.DeviceServed.{next_on}

@@ -1,15 +1,6 @@
 -- What is due, in the device's own turn.
-use Rattle.nvm_moves.proofs.Common.{IfSome, option_map_or, ◌≡◌, inl, inr, ℕ, ◌+◌, ◌≤◌, Bool, true, false, List, length, Option, Some, None, refl, sym, ap, ◌∙◌, subst, arith, cases_Bool, Rose, DeviceTold, Fixed, Part, Stand, Open, Closed, Clock, JobResult, JobOk, Mark, Instance, Configuration, State, Job, block_at, job_block, rank_of, next_in, after_from, wrote, DeskState, state_of, HandState, IsPaired, is_hand_urgent, settled_by, wrote_by, IsDueNext, post_first, none_first, entry_list}
-use Rattle.std.proofs.Common.{length-append}
-use Rattle.nvm_core.specs.memif.Told.{IfElse, is_urgent}
-use Rattle.nvm_core.specs.memif.Calls.{Nearer, Works, urgent_first}
+use Rattle.nvm_moves.proofs.Common.{IfSome, option_map_or, ◌≡◌, inl, inr, ℕ, ◌+◌, ◌≤◌, Bool, true, false, List, length, Option, Some, None, refl, sym, ap, ◌∙◌, subst, arith, cases_Bool, Rose, DeviceTold, Fixed, Part, Stand, Open, Closed, Clock, JobResult, JobOk, Mark, Instance, Configuration, State, Job, block_at, job_block, rank_of, next_in, after_from, wrote, DeskState, state_of, HandState, IsPaired, is_hand_urgent, settled_by, wrote_by, IsDueNext, post_first, none_first, entry_list, length-append, IfElse, is_urgent, Nearer, Works, urgent_first, indices_of, pages_now, pages_of, works_fixed, same_pages, urgent_in_hand}
 use Rattle.nvm_core.specs.memif.Told as device
-use Rattle.nvm_core.specs.block_machine.Blocks.{indices_of}
-use Rattle.nvm_core.specs.nvm_laws.Due.{pages_now}
-use Rattle.nvm_core.specs.nvm_figures.Urgent.{pages_of}
-use Rattle.nvm_core.proofs.memif.Turning.{works_fixed}
-use Rattle.nvm_core.proofs.nvm_laws.DueBlocks.{same_pages}
-use Rattle.nvm_core.proofs.nvm_laws.Traits.{urgent_in_hand}
 use Rattle.nvm_moves.proofs.DueAsked.{IsStandard}
 use Rattle.nvm_moves.proofs.TurnEntries.{AddsOne, state_behind}
 

@@ -1,8 +1,5 @@
 -- What a turn does at the device, by what its halves tell.
-use Rattle.nvm_moves.proofs.Common.{IfSome, ◌||◌, ◌≡◌, ℕ, Bool, true, false, Option, sym, ap, ◌∙◌, subst, inl, inr, arith, cases_Bool, DeviceTold, PartTold, is_off, Clock, InOrder, RoomIsLeft, Configuration, State, DeskState, state_of, HandState, IsPaired, GoesOn, hand_by, Turned, IsWorked, TurnsDevice, asked_by, IsSimple, costs_in, work_in, LeavesDevice, worn_so_far, device_lasts, Move, IsOn, HadPages}
-use Rattle.nvm_core.specs.DeviceWork.{moment_in}
-use Rattle.nvm_core.proofs.DeviceWork.{works_behind}
-use Rattle.nvm_core.proofs.TurnWork.{half_begins, hand_is_open}
+use Rattle.nvm_moves.proofs.Common.{IfSome, ◌||◌, ◌≡◌, ℕ, Bool, true, false, Option, sym, ap, ◌∙◌, subst, inl, inr, arith, cases_Bool, DeviceTold, PartTold, is_off, Clock, InOrder, RoomIsLeft, Configuration, State, DeskState, state_of, HandState, IsPaired, GoesOn, hand_by, Turned, IsWorked, TurnsDevice, asked_by, IsSimple, costs_in, work_in, LeavesDevice, worn_so_far, device_lasts, Move, IsOn, HadPages, moment_in, works_behind, half_begins, hand_is_open}
 
 -- THE POWER
 is_on : (first second : Bool) → first ≡ false → second ≡ false → (first || second) ≡ false

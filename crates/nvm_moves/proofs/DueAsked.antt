@@ -1,14 +1,5 @@
 -- What is due, while requests come beside one device.
-use Rattle.nvm_moves.proofs.Common.{IfSome, IsTrue, not, option_to_list, ◌≡◌, inl, inr, ℕ, zero, suc, ◌+◌, ◌≤◌, arith, Bool, true, false, List, [], ◌∷◌, ◌++◌, length, Option, Some, None, refl, sym, ap, ◌∙◌, subst, append_assoc, and_parts, DeviceTold, Request, Write, Reply, Accepted, Entry, Ask, Configuration, State, Job, is_pending, job_block, rank_of, status_of, reply_of, next_in, step, DeskState, state_of, HandState, IsDue, post_first, with_entries, IsOfBlock, AreFirst, IsDueFor, free_turns, pages_in, histories_step, asked_hand, more_due, Moment, Move, urgent_block, not_true, AreServed, IsAskedDue, IsDueWithin}
-use Rattle.std.specs.List.{list_all}
-use Rattle.nvm_core.specs.block_laws.Consistent.{Each}
-use Rattle.nvm_core.specs.nvm_laws.DueLaws.{AreReplied, NextIsPending}
-use Rattle.nvm_core.proofs.block_laws.HistoryLaws.{entries_are_counted}
-use Rattle.nvm_core.proofs.block_laws.NextLaws.{next_is_waiting}
-use Rattle.nvm_core.proofs.nvm_laws.DueAsking.{accepted_are_due, many_held, many_next}
-use Rattle.nvm_core.proofs.JobNumbers.{accepted_of_block, jobs_below, stays_of_block}
-use Rattle.script_walks.proofs.Jobs.{each_right}
-use Rattle.promise_run.proofs.UrgentAsks.{urgent_is}
+use Rattle.nvm_moves.proofs.Common.{IfSome, IsTrue, not, option_to_list, ◌≡◌, inl, inr, ℕ, zero, suc, ◌+◌, ◌≤◌, arith, Bool, true, false, List, [], ◌∷◌, ◌++◌, length, Option, Some, None, refl, sym, ap, ◌∙◌, subst, append_assoc, and_parts, DeviceTold, Request, Write, Reply, Accepted, Entry, Ask, Configuration, State, Job, is_pending, job_block, rank_of, status_of, reply_of, next_in, step, DeskState, state_of, HandState, IsDue, post_first, with_entries, IsOfBlock, AreFirst, IsDueFor, free_turns, pages_in, histories_step, asked_hand, more_due, Moment, Move, urgent_block, not_true, AreServed, IsAskedDue, IsDueWithin, list_all, Each, AreReplied, NextIsPending, entries_are_counted, next_is_waiting, accepted_are_due, many_held, many_next, accepted_of_block, jobs_below, stays_of_block, each_right, urgent_is}
 use Rattle.nvm_moves.proofs.Served.{served_as}
 use Rattle.nvm_moves.proofs.AskedBlocks.{accepted_pending, ask_leaves_power, is_sized, pending_on}
 use Rattle.nvm_moves.proofs.TurnEntries.{none_more}

@@ -1,30 +1,12 @@
 -- A turn's halves, and a whole turn of a stack, as moves.
-use Rattle.nvm_moves.proofs.Common.{IfSome, IsTrue, is_none, not, ◌||◌, ◌≡◌, ◌⊎◌, inl, inr, ℕ, ◌+◌, ◌<◌, ◌≤◌, Bool, true, false, List, [], ◌∷◌, Option, Some, None, refl, sym, ap, ◌∙◌, subst, arith, Rose, DeviceTold, Fixed, Stand, faults_of, nothing_open, Clock, InOrder, RoomIsLeft, Entry, Pick, Post, Off, Taken, Configuration, State, Job, job_block, Next, Nothing, PostMember, EndSweep, next_of, MayPick, IsPostedNext, IsHalf, GoesOn, with_entries, DeskState, state_of, HandState, IsPaired, Told, IsTied, IsDue, IsDueInHand, IsNearer, post_first, TurnServesDue, StaysKept, AddsBy, hand_by, Turned, Ended, has_turned, TurnsDevice, asked_by, StackState, IsFirstHalf, OwesSince, has_urgent, worn_so_far, TurnPays, KeepsSeal, TakesKeptInHand, Lasts, half_lasts, device_lasts, Worn, IsWorked, is_posted, IsSimple, costs_in, work_in, now_of, IsDueFor, free_turns, IsOfBlock, LeavesDevice, is_finished, left_with, IsWithin, TakesTurns, histories_step, is_due, is_at_rest, begins_with_pick_or_post, Moment, Move, EndsCanceled, entry_list, is_asked, is_found, is_picked, not_true, bound_of, Begun, IsOn, Seen, all_with, frame_in, moment_by, most_by, IsDueWithin, HadPages, FitsHand, IsBound, IsTurnTold, IsHalfTold}
-use Rattle.nvm_core.specs.nv_base.Count.{next_count}
-use Rattle.nvm_core.specs.memif.Told.{is_off as is_device_off, ops_of}
-use Rattle.nvm_core.specs.memif.Clock.{SameClock}
-use Rattle.nvm_core.specs.memif.Calls.{Turns}
-use Rattle.nvm_core.specs.memif.declared.answer.DeviceTurn.{DeviceTurn}
+use Rattle.nvm_moves.proofs.Common.{AreFirst, DueAt, IsPostedSoon, IfSome, IsTrue, is_none, not, ◌||◌, ◌≡◌, ◌⊎◌, inl, inr, ℕ, ◌+◌, ◌<◌, ◌≤◌, Bool, true, false, List, [], ◌∷◌, Option, Some, None, refl, sym, ap, ◌∙◌, subst, arith, Rose, DeviceTold, Fixed, Stand, faults_of, nothing_open, Clock, InOrder, RoomIsLeft, Entry, Pick, Post, Off, Taken, Configuration, State, Job, job_block, Next, Nothing, PostMember, EndSweep, next_of, MayPick, IsPostedNext, IsHalf, GoesOn, with_entries, DeskState, state_of, HandState, IsPaired, Told, IsTied, IsDue, IsDueInHand, IsNearer, post_first, TurnServesDue, StaysKept, AddsBy, hand_by, Turned, Ended, has_turned, TurnsDevice, asked_by, StackState, IsFirstHalf, OwesSince, has_urgent, worn_so_far, TurnPays, KeepsSeal, TakesKeptInHand, Lasts, half_lasts, device_lasts, Worn, IsWorked, is_posted, IsSimple, costs_in, work_in, now_of, IsDueFor, free_turns, IsOfBlock, LeavesDevice, is_finished, left_with, IsWithin, TakesTurns, histories_step, is_due, is_at_rest, begins_with_pick_or_post, Moment, Move, EndsCanceled, entry_list, is_asked, is_found, is_picked, not_true, bound_of, Begun, IsOn, Seen, all_with, frame_in, moment_by, most_by, IsDueWithin, HadPages, FitsHand, IsBound, IsTurnTold, IsHalfTold, next_count, is_device_off, SameClock, Turns, DeviceTurn, AtDevice, IsServed, StackKeepsAsTold, Act, Device, device_turns_keep_seal, device_turns_take_kept, first_halves_keep_seal, half_pays, device_owes, device_urgency, device_adds, asked_free, device_picks_none, asked_picks_none, IsNoPick, half_takes_none, half_works, half_adds, Effort, moment_of, device_counts, left_of, BeginsIn}
+use Rattle.nvm_core.specs.memif.Told.{ops_of}
 use Rattle.nvm_core.specs.memif.declared.answer.DeviceTurn.TheVariants as turn
-use Rattle.nvm_core.specs.nvm_laws.AtDevice.{AtDevice}
-use Rattle.nvm_core.specs.nvm_laws.DueLaws.{IsServed}
-use Rattle.nvm_core.specs.nvm_laws.Keeps.{StackKeepsAsTold}
 use Rattle.nvm_core.specs.nvm_laws.declared.turned.Turned.TheVariants as turned
-use Rattle.nvm_core.specs.nvm_laws.declared.turned.Act.{Act}
-use Rattle.nvm_core.specs.nvm_laws.declared.turned.Act.TheVariants.{Device}
-use Rattle.nvm_core.proofs.nvm_laws.Traits.{device_turns_keep_seal, device_turns_take_kept, first_halves_keep_seal}
 use Rattle.nvm_core.specs.Turns as core
-use Rattle.nvm_core.proofs.Paying.{half_pays, device_owes, device_urgency, device_adds, asked_free, device_picks_none, asked_picks_none, IsNoPick}
-use Rattle.nvm_core.proofs.Traits.{half_takes_none}
-use Rattle.nvm_core.proofs.TurnWork.{half_works}
-use Rattle.nvm_core.proofs.TurnsMade.{half_adds}
-use Rattle.nvm_core.specs.promise_blocks.Work.{Effort}
-use Rattle.nvm_core.specs.DeviceWork.{moment_in as moment_of}
-use Rattle.nvm_core.proofs.Working.{device_counts}
-use Rattle.nvm_core.specs.Work.{left_of}
 use Rattle.nvm_moves.proofs.Most.{begun_most, held_bounded, most_is, some_by, turned_most, within_of}
 use Rattle.nvm_moves.proofs.InAll.{all_bounded, turn_falls}
-use Rattle.promise_run.specs.Turns.{BeginsIn, is_off}
+use Rattle.promise_run.specs.Turns.{is_off}
 use Rattle.nvm_moves.proofs.Canceled.{allowed_ends, held_ends, late_ends}
 use Rattle.nvm_moves.proofs.DeviceDue.{device_soon}
 use Rattle.nvm_moves.proofs.DeviceWorks.{device_works, on_by}
@@ -299,6 +281,52 @@ module _ {D C : Type 0} (told : D → DeviceTold) (clock : D → Clock) (copies 
   lowers_by answer hand between d old new leaves goes paired shut turns adds fixed order hands paired_new on held = absurd turns
 
   module _ (old new : StackState D C) (U V : Type 0) (uncut : U → V) (stays : StaysKept old.desk old.hand (told old.device) (clock old.device) new.desk new.hand (told new.device) (clock new.device)) where
+    -- what a first half that ends the turn adds comes soon
+    abbrev EndsSoon : Type 0
+    EndsSoon =
+        (e : Option Entry) → AddsOne (ops_of (told new.device)) old.desk new.desk e → U → AreFirst (told old.device).fixed → (one : Bool) (id turns : ℕ) → DueAt (seen None U old) one id turns
+        → IsPostedSoon (λ o n. DueAt (seen None V new) o id n) one id turns (faults_of (told old.device)) (record { entry = e; behind = moment_by None (told new.device) } ∷ [])
+
+    -- a first half that ends the turn, by what is told of the device behind it
+    ended_by : (answer : Turned) → (answer ≡ turned.Off → (state_of old.desk).off ≡ true) → TakesTurns told answer old new → IsTied old.desk old.hand (told old.device) → InOrder (told new.device) (clock new.device)
+        → IsFirstHalf told copies is_store looked (Ended answer) old new → faults_of (told old.device) ≤ faults_of (told new.device) → Lasts (told old.device) (clock old.device) (told new.device) (clock new.device)
+        → TakesKeptInHand old.desk (told old.device) (told new.device) (clock new.device) → TurnPays told clock old new → KeepsSeal (told old.device) (clock old.device) (told new.device) (clock new.device) → EndsSoon
+        → IsTurnTold (seen None U old) (seen None V new)
+    ended_by answer off takes tied order half counted lasts kept pays seals soon =
+        let (e, is) = half_entry (IsWithin new.hand (told new.device)) (ops_of (told new.device)) old.desk new.desk old.hand new.hand (told old.device) (told new.device) answer _ _ _ _ off (picked_within old new answer takes) (posted_out old new answer half) refl half.half half.at_device in
+        let adds = is.one in
+        let ops : (told new.device).ops ≡ (told old.device).ops = ap (λ (d : DeviceTold). d.ops) half.device in
+        record {
+          entry = e;
+          fits = is.fits;
+          most = λ picked. most_behind old new e (is.picks picked) adds.adds half.device half.tied.paired order;
+          held = λ other on held. absurd (is.drops other on held);
+          fewer = λ other none on held. absurd (is.drops other on held);
+          lowers = λ other on held. absurd (is.drops other on held);
+          turns = is.turns;
+          ended = refl;
+          begins = (state_of old.desk, inr refl, is.begins);
+          rests = λ rest idle. let (none, hand, device) = is.rests rest in (none, ap (moment_by None) device);
+          adds = adds.adds;
+          one = omega (arith, ops);
+          told = told_by (told new.device).ops e adds.of;
+          fixed = ap (λ (d : DeviceTold). d.fixed) half.device;
+          counted = counted;
+          lasts = lasts;
+          stays = record { told = stays.told; kept = stays.kept };
+          all = λ before kept. kept.all;
+          kept = kept;
+          pays = pays;
+          uncut = uncut;
+          seals = seals;
+          dues = soon e adds;
+          work = λ at simple. (
+            None,
+            half_works (HadPages (clock new.device)) (worn_so_far (told new.device) (clock new.device)) old.desk new.desk old.hand new.hand (told old.device) (told new.device) (record { entry = e; behind = moment_by None (told new.device) }) refl half.device
+                (ap (λ (x : DeskState). x.entries) adds.adds) tied.paired half.tied.paired _ _ _ _ answer half.half half.at_device,
+          );
+        }
+
     -- THE FIRST HALF
     module _ (tied : IsTied old.desk old.hand (told old.device)) (same : SameClock (clock old.device) (clock new.device)) where
       seals_by : (act : Act) → IsFirstHalf told copies is_store looked act old new → KeepsSeal (told old.device) (clock old.device) (told new.device) (clock new.device)
@@ -309,42 +337,13 @@ module _ {D C : Type 0} (told : D → DeviceTold) (clock : D → Clock) (copies 
       pub ended_is_told : (answer : Turned) → (answer ≡ turned.Off → (state_of old.desk).off ≡ true) → TakesTurns told answer old new → InOrder (told new.device) (clock new.device) → (V → IsOn new.desk (told new.device))
           → ((number turns : ℕ) → IsDue number turns (now_of told old) → IsServed (Ended answer) number turns (now_of told old) (now_of told new)) → IsFirstHalf told copies is_store looked (Ended answer) old new → IsTurnTold (seen None U old) (seen None V new)
       ended_is_told answer off takes order is_on serves half =
-          let (e, is) = half_entry (IsWithin new.hand (told new.device)) (ops_of (told new.device)) old.desk new.desk old.hand new.hand (told old.device) (told new.device) answer _ _ _ _ off (picked_within old new answer takes) (posted_out old new answer half) refl half.half half.at_device in
-          let adds = is.one in
-          let ops : (told new.device).ops ≡ (told old.device).ops = ap (λ (d : DeviceTold). d.ops) half.device in
           let faults : faults_of (told new.device) ≡ faults_of (told old.device) = ap faults_of half.device in
           let lasts = half_lasts (told old.device) (told new.device) (clock old.device) (clock new.device) half.device same in
-          record {
-            entry = e;
-            fits = is.fits;
-            most = λ picked. most_behind old new e (is.picks picked) adds.adds half.device half.tied.paired order;
-            held = λ other on held. absurd (is.drops other on held);
-            fewer = λ other none on held. absurd (is.drops other on held);
-            lowers = λ other on held. absurd (is.drops other on held);
-            turns = is.turns;
-            ended = refl;
-            begins = (state_of old.desk, inr refl, is.begins);
-            rests = λ rest idle. let (none, hand, device) = is.rests rest in (none, ap (moment_by None) device);
-            adds = adds.adds;
-            one = omega (arith, ops);
-            told = told_by (told new.device).ops e adds.of;
-            fixed = ap (λ (d : DeviceTold). d.fixed) half.device;
-            counted = omega (arith, faults);
-            lasts = lasts;
-            stays = record { told = stays.told; kept = stays.kept };
-            all = λ before kept. kept.all;
-            kept = half_takes_none old.desk (told old.device) (told new.device) (clock new.device) half.device;
-            pays = λ before since kept owes.
-                half_pays since old.desk new.desk old.hand new.hand (told old.device) (told new.device) (clock old.device) (clock new.device) half.device same tied.paired stays before kept owes answer _ _ _ _ half.half half.at_device;
-            uncut = uncut;
-            seals = seals_by (Ended answer) half;
-            dues = λ at first. ended_soon told clock copies is_store looked old new e adds (moment_by None (told new.device)) refl order (is_on (uncut at)) tied lasts answer half serves;
-            work = λ at simple. (
-              None,
-              half_works (HadPages (clock new.device)) (worn_so_far (told new.device) (clock new.device)) old.desk new.desk old.hand new.hand (told old.device) (told new.device) (record { entry = e; behind = moment_by None (told new.device) }) refl half.device
-                  (ap (λ (x : DeskState). x.entries) adds.adds) tied.paired half.tied.paired _ _ _ _ answer half.half half.at_device,
-            );
-          }
+          ended_by answer off takes tied order half (omega (arith, faults)) lasts (half_takes_none old.desk (told old.device) (told new.device) (clock new.device) half.device)
+          (λ before since kept owes.
+          half_pays since old.desk new.desk old.hand new.hand (told old.device) (told new.device) (clock old.device) (clock new.device) half.device same tied.paired stays before kept owes answer _ _ _ _ half.half half.at_device)
+          (seals_by (Ended answer) half)
+          (λ e adds at first. ended_soon told clock copies is_store looked old new e adds (moment_by None (told new.device)) refl order (is_on (uncut at)) tied lasts answer half serves)
 
       -- what is due before it is in hand then
       due_within : IsFirstHalf told copies is_store looked Device old new → ((number turns : ℕ) → IsDue number turns (now_of told old) → IsDueInHand number turns (now_of told new)) → (one : Bool) (id turns : ℕ) → IsDueFor id one turns (now_of told old)
@@ -450,39 +449,8 @@ module _ {D C : Type 0} (told : D → DeviceTold) (clock : D → Clock) (copies 
         → KeepsSeal (told old.device) (clock old.device) (told new.device) (clock new.device) → TurnServesDue (now_of told old) (now_of told new) → InOrder (told old.device) (clock old.device) → InOrder (told new.device) (clock new.device)
         → (U → IsOn old.desk (told old.device)) → (V → IsOn new.desk (told new.device)) → IsTurnTold (seen None U old) (seen None V new)
     turn_is_told answer (inl half) counted lasts pays kept off takes tied paired_new seals comes order order_new is_on is_on_new =
-        let (e, is) = half_entry (IsWithin new.hand (told new.device)) (ops_of (told new.device)) old.desk new.desk old.hand new.hand (told old.device) (told new.device) answer _ _ _ _ (off half) (picked_within old new answer takes) (posted_out old new answer half) refl half.half half.at_device in
-        let adds = is.one in
-        let ops : (told new.device).ops ≡ (told old.device).ops = ap (λ (d : DeviceTold). d.ops) half.device in
-        record {
-          fits = is.fits;
-          most = λ picked. most_behind old new e (is.picks picked) adds.adds half.device half.tied.paired order_new;
-          held = λ other on held. absurd (is.drops other on held);
-          fewer = λ other none on held. absurd (is.drops other on held);
-          lowers = λ other on held. absurd (is.drops other on held);
-          turns = is.turns;
-          ended = refl;
-          begins = (state_of old.desk, inr refl, is.begins);
-          rests = λ rest idle. let (none, hand, device) = is.rests rest in (none, ap (moment_by None) device);
-          entry = e;
-          adds = adds.adds;
-          one = omega (arith, ops);
-          told = told_by (told new.device).ops e adds.of;
-          fixed = ap (λ (d : DeviceTold). d.fixed) half.device;
-          counted = counted;
-          lasts = lasts;
-          stays = record { told = stays.told; kept = stays.kept };
-          all = λ before kept. kept.all;
-          kept = kept;
-          pays = pays;
-          uncut = uncut;
-          seals = seals;
-          dues = λ at first. turn_soon told clock copies is_store looked old new e adds (moment_by None (told new.device)) refl order_new (is_on_new (uncut at)) tied lasts answer (inl half) comes;
-          work = λ at simple. (
-            None,
-            half_works (HadPages (clock new.device)) (worn_so_far (told new.device) (clock new.device)) old.desk new.desk old.hand new.hand (told old.device) (told new.device) (record { entry = e; behind = moment_by None (told new.device) }) refl half.device
-                (ap (λ (x : DeskState). x.entries) adds.adds) tied.paired half.tied.paired _ _ _ _ answer half.half half.at_device,
-          );
-        }
+        ended_by answer (off half) takes tied order_new half counted lasts kept pays seals
+        (λ e adds at first. turn_soon told clock copies is_store looked old new e adds (moment_by None (told new.device)) refl order_new (is_on_new (uncut at)) tied lasts answer (inl half) comes)
     turn_is_told answer (inr (between, half, rest)) counted lasts pays kept off takes tied paired_new seals comes order order_new is_on is_on_new =
         let d = told between.device in
         let d_new = told new.device in

@@ -1,15 +1,7 @@
 -- The turns that are left of the job in hand in all, whatever fails.
-use Rattle.nvm_moves.proofs.Common.{is_none, option_map, ◌≡◌, inl, inr, ◌≤◌, ◌<◌, ◌+◌, ℕ, suc, Bool, true, false, if◌then◌else◌, Option, Some, None, refl, sym, ap, ◌∙◌, subst, arith, DeviceTold, Fixed, Part, Stand, Open, is_open, Clock, InOrder, Configuration, State, Job, most_turns, stack_left, HandState, is_finished, IsInHand, IsPaired, program_for, GoesOn, hand_by, TurnsDevice, LeavesDevice, tries_left, all_with}
-use Rattle.std.proofs.Common.{◌*◌}
-use Rattle.std.proofs.Math.Nat.{mul-le-mul_right, suc-mul}
+use Rattle.nvm_moves.proofs.Common.{is_none, option_map, ◌≡◌, inl, inr, ◌≤◌, ◌<◌, ◌+◌, ℕ, suc, Bool, true, false, if◌then◌else◌, Option, Some, None, refl, sym, ap, ◌∙◌, subst, arith, DeviceTold, Fixed, Part, Stand, Open, is_open, Clock, InOrder, Configuration, State, Job, most_turns, stack_left, HandState, is_finished, IsInHand, IsPaired, program_for, GoesOn, hand_by, TurnsDevice, LeavesDevice, tries_left, all_with, ◌*◌, mul-le-mul_right, suc-mul, JobTurns, tries_of, with_start, begun_takes, tries_bounded, turned_few, was_closed, turns_in_all}
 use Rattle.nvm_core.specs.memif.Told.{Ended}
-use Rattle.nvm_core.specs.memif.Calls.{JobTurns}
-use Rattle.nvm_core.specs.promise_blocks.Work.{tries_of}
-use Rattle.nvm_core.specs.job_progress.Hand.{with_start}
 use Rattle.nvm_core.specs.nvm_laws.declared.turned.Turned.TheVariants as turned
-use Rattle.nvm_core.proofs.TriesLeft.{begun_takes, tries_bounded, turned_few}
-use Rattle.nvm_core.proofs.nvm_figures.Figures.{was_closed}
-use Rattle.promise_run.specs.Turns.{turns_in_all}
 use Rattle.nvm_moves.proofs.Most.{begun_most, hands_are_bounded, most_of_job, turned_most}
 
 -- what is open, with the Post

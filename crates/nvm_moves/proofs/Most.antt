@@ -1,17 +1,7 @@
 -- The turns that are left of the job in hand, and its most.
-use Rattle.nvm_moves.proofs.Common.{option_map, ◌≡◌, ◌≤◌, ◌<◌, ◌+◌, ℕ, suc, Bool, true, false, if◌then◌else◌, List, length, Option, Some, None, refl, sym, ap, ◌∙◌, subst, arith, DeviceTold, Fixed, Stand, Open, is_open, most_open, Clock, InOrder, JobKind, ReadAllJob, WriteAllJob, Configuration, State, Job, stack_left, most_turns, HandState, is_finished, IsInHand, IsPaired, program_for, GoesOn, hand_by, left_with, IsWithin}
-use Rattle.std.specs.Prelude.{IsSome, drop}
-use Rattle.nvm_core.specs.nv_base.Marks.{number_of}
-use Rattle.nvm_core.specs.nv_base.declared.job.Outcome.TheVariants.{First}
-use Rattle.nvm_core.specs.memif.Told.{Ended, figures_at, most_of, op_of}
-use Rattle.nvm_core.specs.block_machine.Words.{WriteJob, RestoreJob, Outcome}
-use Rattle.nvm_core.specs.block_machine.Blocks.{kind_of, mark_by}
-use Rattle.nvm_core.specs.job_programs.Program.{Program, after_by, is_again, next_in, operation, tried, works}
-use Rattle.nvm_core.specs.nvm_figures.Left.{ahead, most_at, over_tries, over_unstarted}
-use Rattle.nvm_core.proofs.TriesLeft.{few_ahead}
-use Rattle.nvm_core.proofs.nvm_figures.Tries.{next_ahead, start_takes}
-use Rattle.nvm_core.specs.nvm_device_laws.Outcomes.{outcome_by}
-use Rattle.nvm_core.proofs.job_progress.AtOperation.{at_operation}
+use Rattle.nvm_moves.proofs.Common.{option_map, ◌≡◌, ◌≤◌, ◌<◌, ◌+◌, ℕ, suc, Bool, true, false, if◌then◌else◌, List, length, Option, Some, None, refl, sym, ap, ◌∙◌, subst, arith, DeviceTold, Fixed, Stand, Open, is_open, most_open, Clock, InOrder, JobKind, ReadAllJob, WriteAllJob, Configuration, State, Job, stack_left, most_turns, HandState, is_finished, IsInHand, IsPaired, program_for, GoesOn, hand_by, left_with, IsWithin, IsSome, drop, number_of, First, figures_at, most_of, op_of, WriteJob, RestoreJob, Outcome, kind_of, mark_by, Program, after_by, is_again, operation, tried, works, ahead, most_at, over_tries, over_unstarted, few_ahead, next_ahead, start_takes, outcome_by, at_operation}
+use Rattle.nvm_core.specs.memif.Told.{Ended}
+use Rattle.nvm_core.specs.job_programs.Program.{next_in}
 
 -- those of the program in hand are those of the machine's job
 pub most_of_job : (c : Configuration) (s : State) (h : HandState) (d : DeviceTold) (f : Fixed) (j : Job) → IsInHand c s h d → s.hand ≡ Some j

@@ -1,25 +1,8 @@
 -- What a call does as a move, and moves behind moves.
-use Rattle.nvm_moves.proofs.Common.{IfSome, IsTrue, is_none, option_map, not, ◌&&◌, ◌||◌, option_map_or, ◌≡◌, inl, inr, ◌≤◌, ◌<◌, ◌+◌, ℕ, Bool, true, false, List, [], ◌∷◌, ◌++◌, Option, Some, None, refl, sym, ap, ◌∙◌, subst, arith, append_assoc, append-nil, Rose, DeviceTold, faults_of, nothing_open, Clock, TakesKept, Lasts, same_clock, same_told, Entry, Ask, Pick, Wrote, Post, Off, Found, Configuration, State, Job, rank_of, at_first, after, after_from, Worn, histories_go_on, DeskState, state_of, is_hand_urgent, with_entries, OwesSince, has_urgent, worn_so_far, half_lasts, HandState, Fixed, Work, AreWorkedTo, IsSimple, costs_in, work_in, AreFirst, pages_in, none_worked, worked_more, Moment, Move, entry_list, entries_of, moment_behind, is_asked, is_found, is_picked, found_behind, Among, CountFailed, turns_beside, cases_Bool, left_with, most_turns, has_risen, is_at_rest, Bound, Cursor, Frame, bound_of, left_behind, next_by, cursor_behind, one_less, renewed, Along, Begun, Seen, all_with, frame_in, frame_of, moment_by, moment_seen, most_by, AreServed, DueAt, IsServable, HadPages, MayGoOn, FitsHand, IsBound, IsLawful, IsPaidAt, IsTurnTold, IsAt, IsHalfTold, AreAsked, HasMoved, MovesBy}
+use Rattle.nvm_moves.proofs.Common.{IfSome, IsTrue, is_none, option_map, not, ◌&&◌, ◌||◌, option_map_or, ◌≡◌, inl, inr, ◌≤◌, ◌<◌, ◌+◌, ℕ, Bool, true, false, List, [], ◌∷◌, ◌++◌, Option, Some, None, refl, sym, ap, ◌∙◌, subst, arith, append_assoc, append-nil, Rose, DeviceTold, faults_of, nothing_open, Clock, TakesKept, Lasts, same_clock, same_told, Entry, Ask, Pick, Wrote, Post, Off, Found, Configuration, State, Job, rank_of, at_first, after, after_from, Worn, histories_go_on, DeskState, state_of, is_hand_urgent, with_entries, OwesSince, has_urgent, worn_so_far, half_lasts, HandState, Fixed, Work, AreWorkedTo, IsSimple, costs_in, work_in, AreFirst, pages_in, none_worked, worked_more, Moment, Move, entry_list, entries_of, moment_behind, is_asked, is_found, is_picked, found_behind, Among, CountFailed, turns_beside, cases_Bool, left_with, most_turns, has_risen, is_at_rest, Bound, Cursor, Frame, bound_of, left_behind, next_by, cursor_behind, one_less, renewed, Along, Begun, Seen, all_with, frame_in, frame_of, moment_by, moment_seen, most_by, AreServed, DueAt, IsServable, HadPages, MayGoOn, FitsHand, IsBound, IsLawful, IsPaidAt, IsTurnTold, IsAt, IsHalfTold, AreAsked, HasMoved, MovesBy, WereCounted, lasts_more, price_in_faults, PaysSince, asked_urgency, since_stays, part_rises, half_goes, one_worked, HasImmediate, IsPaidSince, found_more, or_parts, risen, since_too, all_seen, device_begun, hand_begun, left_seen, most_seen, work_seen, ServesBy, due_by, KeepToWork, IsStartTold, IsStillTold, GrowsBy, ArePending, AreAsksMade, AreAsksTold, Owes}
 use Rattle.std.specs.Prelude.{if◌then◌else◌}
-use Rattle.nvm_core.specs.nv_base.Count.{WereCounted}
-use Rattle.nvm_core.proofs.memif.Turning.{lasts_more}
-use Rattle.nvm_core.specs.block_machine.Prices.{price_in_faults}
-use Rattle.nvm_core.specs.Paying.{PaysSince}
-use Rattle.nvm_core.proofs.nvm_laws.Paying.{asked_urgency}
-use Rattle.nvm_core.proofs.Trying.{since_stays, part_rises}
-use Rattle.nvm_core.proofs.Paying.{half_goes}
-use Rattle.nvm_core.proofs.WorkLists.{one_worked}
-use Rattle.promise_run.specs.Turns.{HasImmediate, IsPaidSince}
-use Rattle.promise_run.proofs.TakenPages.{found_more}
-use Rattle.std.proofs.lemmas.Bool.{or_parts}
-use Rattle.nvm_core.proofs.DeviceWork.{risen}
-use Rattle.promise_run.proofs.Paid.{since_too}
 use Rattle.nvm_moves.proofs.TurnEntries.{asks_urgent, none_more}
 use Rattle.nvm_moves.proofs.Along.{along_by, along_more, along_to, cursor_more, cursor_now, cursor_state, entries_more}
-use Rattle.nvm_moves.specs.Seen.{all_seen, device_begun, hand_begun, left_seen, most_seen, work_seen}
-use Rattle.nvm_moves.specs.Served.{ServesBy, due_by}
-use Rattle.nvm_moves.specs.Worked.{KeepToWork}
-use Rattle.nvm_moves.specs.Moved.{IsStartTold, IsStillTold, GrowsBy, ArePending, AreAsksMade, AreAsksTold, Owes}
 use Rattle.nvm_moves.proofs.Consequences.{count_failed}
 use Rattle.nvm_moves.proofs.Served.{served_as, served_more, served_on}
 use Rattle.nvm_moves.proofs.WorkedMoves.{asks_worked, worked_on, worn_on}

@@ -1,10 +1,5 @@
 -- A job is posted within its turns, by the law along moves.
-use Rattle.nvm_moves.proofs.Common.{IfSome, ◌||◌, is_none, option_map, ◌≡◌, inl, inr, ◌≤◌, ℕ, Bool, true, false, List, [], ◌∷◌, ◌++◌, Option, Some, None, refl, sym, ap, ◌∙◌, subst, arith, cases_Bool, Rose, last_count, ops_of, Clock, Instance, Mark, Taken, Request, Reply, Entry, Ask, Pick, Wrote, Post, Off, Found, Configuration, State, Job, job_block, Next, PickJob, next_of, after_from, picked, wrote, has_risen, asked_hand, Moment, Move, EachMove, PostsPicked, entry_list, is_asked, is_found, is_picked, Along, Bound, Cursor, Frame, bound_of, left_behind, next_by, one_less, renewed, FitsHand, IsLawful}
-use Rattle.std.specs.Prelude.{nat_le, nat_lt}
-use Rattle.std.proofs.Common.{◌-◌}
-use Rattle.std.proofs.lemmas.Bool.{eq-eqb, leb-true, ltb-true}
-use Rattle.promise_run.specs.Turns.{IsMoveMade, IsPostedWithin, ends, fails}
-use Rattle.nvm_moves.specs.Moved.{PostsAt}
+use Rattle.nvm_moves.proofs.Common.{IfSome, ◌||◌, is_none, option_map, ◌≡◌, inl, inr, ◌≤◌, ℕ, Bool, true, false, List, [], ◌∷◌, ◌++◌, Option, Some, None, refl, sym, ap, ◌∙◌, subst, arith, cases_Bool, Rose, last_count, ops_of, Clock, Instance, Mark, Taken, Request, Reply, Entry, Ask, Pick, Wrote, Post, Off, Found, Configuration, State, Job, job_block, Next, PickJob, next_of, after_from, picked, wrote, has_risen, asked_hand, Moment, Move, EachMove, PostsPicked, entry_list, is_asked, is_found, is_picked, Along, Bound, Cursor, Frame, bound_of, left_behind, next_by, one_less, renewed, FitsHand, IsLawful, nat_le, nat_lt, ◌-◌, eq-eqb, leb-true, ltb-true, IsMoveMade, IsPostedWithin, ends, fails, PostsAt}
 use Rattle.nvm_moves.proofs.AskedBlocks.{ask_leaves_power}
 
 -- COUNTS

@@ -1,11 +1,8 @@
 -- At rest, and what is due, by what comes next.
-use Rattle.nvm_moves.proofs.Common.{option_to_list, is_none, ◌==◌, ◌≡◌, ℕ, Bool, true, false, List, [], ◌∷◌, ◌++◌, length, Option, Some, None, if◌then◌else◌, refl, sym, ap, ◌∙◌, arith, and_parts, Configuration, State, Job, Sweep, block_at, Nothing, PickJob, BeginSweep, PickMember, PostMember, next_member, next_in, next_of, is_due, is_at_rest}
+use Rattle.nvm_moves.proofs.Common.{option_to_list, is_none, ◌==◌, ◌≡◌, ℕ, Bool, true, false, List, [], ◌∷◌, ◌++◌, length, Option, Some, None, if◌then◌else◌, refl, sym, ap, ◌∙◌, arith, and_parts, Configuration, State, Job, Sweep, block_at, Nothing, PickJob, BeginSweep, PickMember, PostMember, next_member, next_in, next_of, is_due, is_at_rest, eqb-true, desc_of, next_in_sweep, none_waits}
 use Rattle.std.proofs.Common.{◌&&◌, IsTrue}
-use Rattle.std.proofs.lemmas.Bool.{eqb-true}
-use Rattle.nvm_core.specs.block_machine.Blocks.{desc_of}
 use Rattle.nvm_core.specs.block_machine.Sweeps.{is_picked}
-use Rattle.nvm_core.specs.block_machine.Next.{next_in_sweep, next_by}
-use Rattle.nvm_core.proofs.block_laws.NextLaws.{none_waits}
+use Rattle.nvm_core.specs.block_machine.Next.{next_by}
 
 -- NOTHING COMES NEXT
 rest_parts : (hand : Option Job) (waiting : List Job) (sweep : Option Sweep) → IsTrue ((length (option_to_list hand ++ waiting) == 0) && is_none sweep) → (hand ≡ None) × (waiting ≡ []) × (sweep ≡ None)

@@ -1,7 +1,5 @@
 -- What may go on at a device is ready there.
-use Rattle.nvm_moves.proofs.Common.{◌≡◌, inl, inr, ℕ, Bool, true, false, if◌then◌else◌, Option, refl, sym, ap, ◌∙◌, arith, DeviceTold, Clock, Seals, FreesReady, InOrder, Lasts, DeskState, state_of, HandState, IsPaired, none_first, IsOn, MayGoOn}
-use Rattle.nvm_core.specs.memif.Calls.{pages_open, pages_urgent}
-use Rattle.nvm_core.specs.nvm_laws.Traits.{IsSealedSince}
+use Rattle.nvm_moves.proofs.Common.{◌≡◌, inl, inr, ℕ, Bool, true, false, if◌then◌else◌, Option, refl, sym, ap, ◌∙◌, arith, DeviceTold, Clock, Seals, FreesReady, InOrder, Lasts, DeskState, state_of, HandState, IsPaired, none_first, IsOn, MayGoOn, pages_open, pages_urgent, IsSealedSince}
 use Rattle.nvm_moves.proofs.DueAsked.{IsRoomy}
 use Rattle.nvm_moves.proofs.DeviceServed.{not_urgent}
 use Rattle.nvm_moves.proofs.TurnServed.{first_off}

@@ -1,6 +1,5 @@
 -- Urgent writes that are posted soon, over moves behind moves, and by a later clock.
-use Rattle.nvm_moves.proofs.Common.{◌≤◌, ℕ, Bool, if◌then◌else◌, List, [], ◌∷◌, ◌++◌, inl, inr, arith, DeviceTold, Clock, Seals, Lasts, Configuration, State, after_from, Moment, Move, entry_list, entries_of, moment_behind, is_found, found_behind, CountFailed, EachMoveSince, PostsUrgent, AreServed, MayGoOn}
-use Rattle.promise_run.proofs.UrgentPosts.{soon_by, soon_more, urgent_by, urgent_more}
+use Rattle.nvm_moves.proofs.Common.{◌≤◌, ℕ, Bool, if◌then◌else◌, List, [], ◌∷◌, ◌++◌, inl, inr, arith, DeviceTold, Clock, Seals, Lasts, Configuration, State, after_from, Moment, Move, entry_list, entries_of, moment_behind, is_found, found_behind, CountFailed, EachMoveSince, PostsUrgent, AreServed, MayGoOn, soon_by, soon_more, urgent_by, urgent_more}
 
 module _ (more : ℕ) (c : Configuration) (pages : State → ℕ → ℕ) where
   urgent_as : (free : ℕ → ℕ → ℕ → Type 0) (Q R : Bool → ℕ → ℕ → Type 0) → ((one : Bool) (id turns : ℕ) → Q one id turns → R one id turns) → (since : ℕ) (s : State) (ms : List Move)

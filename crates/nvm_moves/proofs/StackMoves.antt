@@ -1,19 +1,9 @@
 -- The calls of a stack of one's own, as moves.
-use Rattle.nvm_moves.proofs.Common.{◌||◌, ◌≡◌, ◌⊎◌, inl, inr, ℕ, ◌+◌, ◌≤◌, Bool, true, false, List, [], ◌∷◌, ◌++◌, Option, Some, None, refl, sym, ap, ◌∙◌, subst, arith, last_count, DeviceTold, Fixed, Part, PartTold, Stand, Open, faults_of, is_off, is_open, most_open, Clock, Seals, FreesReady, InOrder, Lasts, same_clock, same_told, Request, Reply, Entry, Ask, Found, State, histories_step, Told, DeskState, state_of, HandState, IsDue, TurnServesDue, StaysKept, IsTied, KeepsSeal, TakesKeptInHand, Turned, Ended, IsSimple, tries_left, work_in, TurnsDevice, now_of, free_turns, IsOfBlock, left_on, TurnPays, worn_so_far, StackState, PowersOff, IsFirstHalf, left_with, TakesTurns, closed_tries, has_turned, has_risen, Move, entry_list, turns_beside, Seen, IsOn, all_with, moment_by, moment_seen, MayGoOn, MovesBy}
+use Rattle.nvm_moves.proofs.Common.{◌||◌, ◌≡◌, ◌⊎◌, inl, inr, ℕ, ◌+◌, ◌≤◌, Bool, true, false, List, [], ◌∷◌, ◌++◌, Option, Some, None, refl, sym, ap, ◌∙◌, subst, arith, last_count, DeviceTold, Fixed, Part, PartTold, Stand, Open, faults_of, is_off, is_open, most_open, Clock, Seals, FreesReady, InOrder, Lasts, same_clock, same_told, Request, Reply, Entry, Ask, Found, State, histories_step, Told, DeskState, state_of, HandState, IsDue, TurnServesDue, StaysKept, IsTied, KeepsSeal, TakesKeptInHand, Turned, Ended, IsSimple, tries_left, work_in, TurnsDevice, now_of, free_turns, IsOfBlock, left_on, TurnPays, worn_so_far, StackState, PowersOff, IsFirstHalf, left_with, TakesTurns, closed_tries, has_turned, has_risen, Move, entry_list, turns_beside, Seen, IsOn, all_with, moment_by, moment_seen, MayGoOn, MovesBy, EndedJob, armed, Arms, IsSealing, same_lasts, TellsSlots, KeepsDue, StartsUp, none_some, start_leaves, turns_start_none, seen_as, seen_in, KeepsToWork}
 use Rattle.std.specs.Prelude.{min, if◌then◌else◌}
-use Rattle.nvm_core.specs.memif.Told.{Ended as EndedJob, armed, ops_of}
-use Rattle.nvm_core.specs.memif.Calls.{Arms, IsSealing}
-use Rattle.nvm_core.proofs.memif.Turning.{same_lasts}
-use Rattle.nvm_core.specs.nvm_device_laws.Turn.{TellsSlots}
-use Rattle.nvm_core.specs.nvm_laws.DueCalls.{KeepsDue}
+use Rattle.nvm_core.specs.memif.Told.{ops_of}
 use Rattle.nvm_core.specs.nvm_laws.declared.turned.Turned.TheVariants as turned
-use Rattle.nvm_core.specs.StartUps.{StartsUp}
 use Rattle.nvm_core.specs.Turns as core
-use Rattle.nvm_core.proofs.DeviceWork.{none_some}
-use Rattle.nvm_core.proofs.StartWork.{start_leaves}
-use Rattle.promise_run.proofs.StartUps.{turns_start_none}
-use Rattle.nvm_moves.specs.Seen.{seen_as, seen_in}
-use Rattle.nvm_moves.specs.Worked.{KeepsToWork}
 use Rattle.nvm_moves.proofs.AskedBlocks.{ask_leaves_power}
 use Rattle.nvm_moves.proofs.DueAsked.{one_served}
 use Rattle.nvm_moves.proofs.Halves.{as_turn, turn_is_told}

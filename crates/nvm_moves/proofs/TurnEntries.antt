@@ -1,10 +1,7 @@
 -- The entry of a driver's turn, if it adds one.
-use Rattle.nvm_moves.proofs.Common.{IfSome, append-nil, ◌≡◌, ◌⊎◌, inl, inr, ℕ, true, false, List, [], Option, Some, None, refl, sym, ap, ◌∙◌, ops_of, DeviceTold, Stand, Open, Closed, JobResult, JobOk, Mark, Taken, Entry, Ask, Pick, Post, Found, Configuration, State, Next, PostMember, EndSweep, next_of, step, after_from, Told, DeskState, state_of, IsPostedNext, settled_by, wrote_by, IsHalf, AddsBy, Turned, Ended, is_posted, asked_by, histories_go_on, entry_list, is_asked, is_found, urgent_block}
+use Rattle.nvm_moves.proofs.Common.{IfSome, append-nil, ◌≡◌, ◌⊎◌, inl, inr, ℕ, true, false, List, [], Option, Some, None, refl, sym, ap, ◌∙◌, ops_of, DeviceTold, Stand, Open, Closed, JobResult, JobOk, Mark, Taken, Entry, Ask, Pick, Post, Found, Configuration, State, Next, PostMember, EndSweep, next_of, step, after_from, Told, DeskState, state_of, IsPostedNext, settled_by, wrote_by, IsHalf, AddsBy, Turned, Ended, is_posted, asked_by, histories_go_on, entry_list, is_asked, is_found, urgent_block, is_of_jobs, jobs_keep_power, with_more}
 use Rattle.nvm_core.specs.memif.Told as device
-use Rattle.nvm_core.specs.job_progress.Asks.{is_of_jobs}
 use Rattle.nvm_core.specs.nvm_laws.declared.turned.Turned.TheVariants as turned
-use Rattle.nvm_core.proofs.job_progress.Powering.{jobs_keep_power}
-use Rattle.nvm_core.specs.nvm_laws.DueLaws.{with_entries as with_more}
 use Rattle.promise_run.specs.Turns.{is_off}
 
 -- an entry of a job, or an Off, with the operations so far

@@ -1,13 +1,7 @@
 -- What is due, in one turn.
-use Rattle.nvm_moves.proofs.Common.{IsTrue, ◌||◌, ◌&&◌, ◌≡◌, ◌⊎◌, inl, inr, ℕ, Bool, true, false, List, [], ◌∷◌, ◌++◌, Option, refl, sym, ap, ◌∙◌, subst, cases_Bool, Rose, DeviceTold, faults_of, is_off, Clock, InOrder, Lasts, Told, Entry, DeskState, state_of, IsTied, Turned, Ended, StackNow, IsDue, IsNearer, TurnServesDue, StackState, PowersOff, IsFirstHalf, now_of, IsOfBlock, IsDueFor, true_false, Moment, entry_list, IsOn}
+use Rattle.nvm_moves.proofs.Common.{IsTrue, ◌||◌, ◌&&◌, ◌≡◌, ◌⊎◌, inl, inr, ℕ, Bool, true, false, List, [], ◌∷◌, ◌++◌, Option, refl, sym, ap, ◌∙◌, subst, cases_Bool, Rose, DeviceTold, faults_of, is_off, Clock, InOrder, Lasts, Told, Entry, DeskState, state_of, IsTied, Turned, Ended, StackNow, IsDue, IsNearer, TurnServesDue, StackState, PowersOff, IsFirstHalf, now_of, IsOfBlock, IsDueFor, true_false, Moment, entry_list, IsOn, PostsDue, IsServedBy, IsServedFor, IsTurning, nearer_for, of_block_behind, turn_serves, posts_another, posts_own, is_off_entry, posts_other, IsPostedSoon}
 use Rattle.nvm_core.specs.nvm_laws.declared.turned.Turned.TheVariants as turned
-use Rattle.nvm_core.specs.nvm_laws.Due.{PostsDue}
-use Rattle.nvm_core.specs.nvm_laws.DueLaws.{IsServed as IsServedBy}
 use Rattle.nvm_core.specs.Turns as core
-use Rattle.nvm_core.specs.DueWrites.{IsServedFor}
-use Rattle.nvm_core.proofs.DueWrites.{IsTurning, nearer_for, of_block_behind, turn_serves}
-use Rattle.promise_run.proofs.UrgentAsks.{posts_another, posts_own}
-use Rattle.promise_run.specs.Turns.{is_off as is_off_entry, posts_other, IsPostedSoon}
 use Rattle.nvm_moves.proofs.Counts.{rose_in, rose_or}
 use Rattle.nvm_moves.proofs.TurnEntries.{AddsOne, on_behind}
 

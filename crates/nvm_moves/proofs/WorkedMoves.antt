@@ -1,8 +1,6 @@
 -- What moves do at the device, one behind another, and by a later clock.
-use Rattle.nvm_moves.proofs.Common.{◌≡◌, ◌≤◌, ℕ, Bool, true, false, List, [], ◌∷◌, Some, arith, DeviceTold, Clock, Lasts, Entry, Ask, Configuration, State, after_from, Worn, Costs, Work, AreWorkedTo, worn_so_far, none_worked, worked_more, CountFailed, AreAsked, HadPages}
+use Rattle.nvm_moves.proofs.Common.{◌≡◌, ◌≤◌, ℕ, Bool, true, false, List, [], ◌∷◌, Some, arith, DeviceTold, Clock, Lasts, Entry, Ask, Configuration, State, after_from, Worn, Costs, Work, AreWorkedTo, worn_so_far, none_worked, worked_more, CountFailed, AreAsked, HadPages, ask_worked, worked_by}
 use Rattle.nvm_core.specs.promise_blocks.Moves.{Moment, Move, moment_behind}
-use Rattle.nvm_core.proofs.WorkLists.{ask_worked}
-use Rattle.promise_run.proofs.WorkedMoves.{worked_by}
 use Rattle.nvm_moves.proofs.DueAsked.{asked_moves}
 
 -- requests leave what is open
