@@ -3,6 +3,7 @@ pub mod Contents
 pub mod Descriptions
 pub mod Devices
 pub mod Faults
+pub mod Found
 pub mod LegalItem
 pub mod Lines
 pub mod Numbering

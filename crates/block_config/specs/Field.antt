@@ -1,9 +1,16 @@
 -- Members of a JSON object, as a configuration has them. Where a key stands twice its last value counts, as in the
 -- value that a JSON reader makes of the text.
-use Rattle.std.specs.Prelude.{ℕ, ◌&&◌, nat_le, Bool, false, if◌then◌else◌, List, [], ◌∷◌, Option, Some, None, option_and_then}
+use Rattle.std.specs.Prelude.{ℕ, ◌&&◌, nat_le, Bool, false, if◌then◌else◌, List, [], ◌∷◌, Option, Some, None, option_and_then, option_map}
+use Rattle.std.specs.Borrow.{Bor}
 use Rattle.std.specs.List.{list_all}
 use Rattle.serde_json.specs.Data.{Data, Members, no_members, member}
 use Rattle.serde_json.specs.Find.{get, as_number, as_u64}
+use Rattle.serde_json.specs.View.{view}
+use Rattle.serde_json.specs.declared.value.Value.{Value}
+
+-- what a value is, where there is one
+abbrev pub shown : Option (Bor Value) → Option Data
+shown o = option_map (λ v. view v.now) o
 
 abbrev pub keys_of : Members → List (List ℕ)
 keys_of no_members = []

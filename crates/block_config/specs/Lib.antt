@@ -13,3 +13,4 @@ pub mod Reading
 pub mod Rules
 pub mod Second
 pub mod Sizes
+pub mod Values

@@ -6,41 +6,41 @@ ghost use Rattle.block_config.specs.Item.{keeps, block_of, content_in, items_in,
 
 use crate::content::read_content;
 use crate::field::number_or;
-use crate::item::{count_at, device_at, items_in, kind_of, length_of, ram_of, truth_of};
+use crate::item::{Item, count_at, device_at, is_true, items_in, kind_of, length_of, ram_of};
 use crate::{BlockDesc, RomList};
 use nv_base::{Bytes, bytes_of};
 use serde_json::Value;
 use std::alloc::{AllocError, Global};
 
 /// The block that an item describes.
-pub fn block_of(alloc: Global, item: &Value) -> Result<BlockDesc, AllocError>
+pub fn block_of(alloc: Global, item: &Item) -> Result<BlockDesc, AllocError>
     requires { keeps 18 (view item.now) ≡ true }
     ensures { IfOk result (λ b. b ≡ block_of (view item.now)) }
 {
     Ok(BlockDesc {
         kind: kind_of(item),
         length: length_of(item),
-        priority: number_or(item, "priority", 100, 255).unwrap_or(0),
+        priority: number_or(item.values.priority, 100, 255).unwrap_or(0),
         ram: ram_of(item),
         defaults: defaults_of(alloc, item)?,
         nv: count_at(item).unwrap_or(0),
         rom: rom_of(alloc, item)?,
-        readall: truth_of(item, "readall"),
-        writeall: truth_of(item, "writeall"),
-        once: truth_of(item, "once"),
-        protected: truth_of(item, "protected"),
-        resistant: truth_of(item, "resistant"),
-        reads: number_or(item, "reads", 0, 7).unwrap_or(0),
-        writes: number_or(item, "writes", 0, 7).unwrap_or(0),
-        repeats: number_or(item, "repeats", 0, 7).unwrap_or(0),
+        readall: is_true(item.values.readall),
+        writeall: is_true(item.values.writeall),
+        once: is_true(item.values.once),
+        protected: is_true(item.values.protected),
+        resistant: is_true(item.values.resistant),
+        reads: number_or(item.values.reads, 0, 7).unwrap_or(0),
+        writes: number_or(item.values.writes, 0, 7).unwrap_or(0),
+        repeats: number_or(item.values.repeats, 0, 7).unwrap_or(0),
         device: device_at(item).unwrap_or(1),
     })
 }
 
-fn defaults_of(alloc: Global, item: &Value) -> Result<Option<Bytes>, AllocError>
+fn defaults_of(alloc: Global, item: &Item) -> Result<Option<Bytes>, AllocError>
     ensures { IfOk result (λ r. r ≡ option_and_then content_in (get (codes "defaults") (view item.now))) }
 {
-    match item.get("defaults") {
+    match item.values.defaults {
         Some(value) => content_in(alloc, value),
         None => Ok(None),
     }
@@ -56,11 +56,11 @@ fn content_in(alloc: Global, value: &Value) -> Result<Option<Bytes>, AllocError>
     }
 }
 
-fn rom_of(alloc: Global, item: &Value) -> Result<RomList, AllocError>
+fn rom_of(alloc: Global, item: &Item) -> Result<RomList, AllocError>
     requires { keeps 18 (view item.now) ≡ true }
     ensures { IfOk result (λ r. r ≡ contents_of (option_and_then items_in (get (codes "rom") (view item.now)))) }
 {
-    match item.get("rom").and_then(items_in) {
+    match item.values.rom.and_then(items_in) {
         Some(items) => contents_of(alloc, items),
         None => Ok(RomList::new(alloc)),
     }

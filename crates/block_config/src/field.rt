@@ -2,7 +2,7 @@
 ghost use Rattle.std.specs.Prelude.{◌≡◌, ◌≤◌, IfSome, false};
 ghost use Rattle.serde_json.specs.View.{view};
 ghost use Rattle.serde_json.specs.Find.{as_bool};
-ghost use Rattle.block_config.specs.Field.{number_in, needed, optional};
+ghost use Rattle.block_config.specs.Field.{number_in, needed, if_given, shown};
 
 use serde_json::Value;
 
@@ -25,21 +25,21 @@ pub fn number_at(value: &Value, key: &str, low: u32, high: u32) -> Option<u32>
     number_in(value.get(key)?, low, high)
 }
 
-/// The number at a key, at most so much; where it is absent, this one.
-pub fn number_or(value: &Value, key: &str, absent: u8, high: u8) -> Option<u8>
-    ensures { result ≡ optional key.now absent (number_in 0 high) (view value.now) }
+/// The number that a value is, at most so much; where there is none, this one.
+pub fn number_or(value: Option<&Value>, absent: u8, high: u8) -> Option<u8>
+    ensures { result ≡ if_given absent (number_in 0 high) (shown value.entry) }
 {
-    match value.get(key) {
+    match value {
         None => Some(absent),
         Some(member) => Some(number_in(member, 0, u32::from(high))? as u8),
     }
 }
 
-/// Whether a key has the value true; where it is absent, false.
-pub fn truth_at(value: &Value, key: &str) -> Option<bool>
-    ensures { result ≡ optional key.now false as_bool (view value.now) }
+/// Whether a value is true or false; where there is none, false.
+pub fn truth_or(value: Option<&Value>) -> Option<bool>
+    ensures { result ≡ if_given false as_bool (shown value.entry) }
 {
-    match value.get(key) {
+    match value {
         None => Some(false),
         Some(member) => member.as_bool(),
     }

@@ -7,13 +7,24 @@ ghost use Rattle.block_config.specs.Reading.{breaker, first_fault, item_rules};
 
 use crate::block::manager_block;
 use crate::description::block_of;
-use crate::item::keeps;
+use crate::item::{Item, item_of, keeps};
 use crate::{BlockDesc, ConfigFault};
 use serde_json::Value;
 use std::alloc::{AllocError, Global};
 
+/// The items that these values are.
+pub fn items_of(alloc: Global, values: &[Value]) -> Result<Vec<Item>, AllocError>
+    ensures { IfOk result (λ items. items.items ≡ values.now) }
+{
+    let mut items = Vec::with_capacity(alloc, values.len())?;
+    for value in values {
+        items.push(item_of(value))?;
+    }
+    Ok(items)
+}
+
 /// The first rule that an item breaks, with the first block that breaks it.
-pub fn first_fault(items: &[Value]) -> Option<ConfigFault>
+pub fn first_fault(items: &[Item]) -> Option<ConfigFault>
     requires { length items.now ≤ 511 }
     ensures { result ≡ first_fault item_rules (map view items.now) }
 {
@@ -26,7 +37,7 @@ pub fn first_fault(items: &[Value]) -> Option<ConfigFault>
 }
 
 /// The fault of the first item that names no device.
-pub fn device_fault(items: &[Value]) -> Option<ConfigFault>
+pub fn device_fault(items: &[Item]) -> Option<ConfigFault>
     requires { length items.now ≤ 511 }
     ensures { result ≡ first_fault (25 ∷ []) (map view items.now) }
 {
@@ -37,7 +48,7 @@ pub fn device_fault(items: &[Value]) -> Option<ConfigFault>
 }
 
 /// The first block that breaks a rule; the items begin at block 2.
-fn breaker(rule: u8, items: &[Value]) -> Option<u16>
+fn breaker(rule: u8, items: &[Item]) -> Option<u16>
     requires { length items.now ≤ 511 }
     ensures { result ≡ breaker rule 2 (map view items.now) }
 {
@@ -52,7 +63,7 @@ fn breaker(rule: u8, items: &[Value]) -> Option<u16>
 }
 
 /// Block 1, and the blocks that these items describe.
-pub fn blocks_of(alloc: Global, id: u16, items: &[Value]) -> Result<Vec<BlockDesc>, AllocError>
+pub fn blocks_of(alloc: Global, id: u16, items: &[Item]) -> Result<Vec<BlockDesc>, AllocError>
     requires { All (λ item. keeps 18 (view item) ≡ true) items.now }
     ensures { IfOk result (λ blocks. blocks.items ≡ manager_block id ∷ map block_of (map view items.now)) }
 {

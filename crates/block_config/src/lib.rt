@@ -21,6 +21,7 @@ mod reading;
 mod rom_list;
 mod second;
 mod sizes;
+mod values;
 
 pub use block::{BlockDesc, BlockKind, RamKind};
 pub use config::Config;

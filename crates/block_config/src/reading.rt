@@ -10,7 +10,8 @@ ghost use Rattle.block_config.specs.Rules.{IsQueueSize};
 ghost use Rattle.block_config.specs.Sizes.{need_of};
 
 use crate::head::{Head, banks_at, blocks_at, broken, head_of};
-use crate::items::{blocks_of, device_fault, first_fault};
+use crate::item::Item;
+use crate::items::{blocks_of, device_fault, first_fault, items_of};
 use crate::second::second_of;
 use crate::sizes::{Measures, measures_of};
 use crate::{BlockDesc, Config, ConfigFault, demo};
@@ -49,19 +50,20 @@ fn config_of(alloc: Global, value: &Value) -> Result<Config, ConfigFault>
     ensures err { IfErr result (λ fault. (fault ≡ ConfigFault.Memory) ⊎ (config_of (view value.now) ≡ Err fault)) }
 {
     let head = head_of(value)?;
-    let items = blocks_at(value).ok_or(broken(10))?;
-    if let Some(fault) = first_fault(items) {
+    let values = blocks_at(value).ok_or(broken(10))?;
+    let items = items_of(alloc, values)?;
+    if let Some(fault) = first_fault(&items) {
         return Err(fault);
     }
-    let blocks = blocks_of(alloc, head.id, items)?;
-    described(head, value, items, blocks)
+    let blocks = blocks_of(alloc, head.id, &items)?;
+    described(head, value, &items, blocks)
 }
 
 /// The configuration of a head and blocks that keep their rules, or the first of those behind that is broken.
 fn described(
     head: Head,
     value: &Value,
-    items: &[Value],
+    items: &[Item],
     blocks: Vec<BlockDesc>,
 ) -> Result<Config, ConfigFault>
     requires geometry { IsLegal head.geometry }
