@@ -77,6 +77,43 @@ impl BlockKind {
     }
 }
 
+impl BlockDesc {
+    /// The same description once more.
+    pub(crate) fn copied(&self, alloc: Global) -> Result<BlockDesc, AllocError>
+        ensures { IfOk result (λ b. b ≡ self.now) }
+    {
+        let defaults = copy_of(alloc, &self.defaults)?;
+        let rom = self.rom.copied(alloc)?;
+        Ok(BlockDesc {
+            kind: self.kind,
+            length: self.length,
+            priority: self.priority,
+            ram: self.ram,
+            defaults,
+            nv: self.nv,
+            rom,
+            readall: self.readall,
+            writeall: self.writeall,
+            once: self.once,
+            protected: self.protected,
+            resistant: self.resistant,
+            reads: self.reads,
+            writes: self.writes,
+            repeats: self.repeats,
+            device: self.device,
+        })
+    }
+}
+
+fn copy_of(alloc: Global, content: &Option<Bytes>) -> Result<Option<Bytes>, AllocError>
+    ensures { IfOk result (λ copy. copy ≡ content.now) }
+{
+    match content {
+        Some(bytes) => Ok(Some(bytes_of(alloc, bytes.as_slice())?)),
+        None => Ok(None),
+    }
+}
+
 /// A native block of this length for which nothing else was configured.
 pub(crate) fn plain_block(alloc: Global, length: u16) -> BlockDesc
     ensures { result ≡ plain_block length }

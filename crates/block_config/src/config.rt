@@ -66,6 +66,26 @@ impl Config {
         }
     }
 
+    /// The same configuration once more, in memory of its own.
+    pub fn copied(&self, alloc: Global) -> Result<Config, AllocError>
+        ensures { IfOk result (λ c. c ≡ self.now) }
+    {
+        let mut blocks = Vec::with_capacity(alloc, self.blocks.len())?;
+        for block in &self.blocks {
+            blocks.push(block.copied(alloc)?)?;
+        }
+        Ok(Config {
+            id: self.id,
+            geometry: self.geometry,
+            banks: self.banks,
+            eeprom: self.eeprom,
+            standard: self.standard,
+            immediate: self.immediate,
+            blocks,
+            measures: self.measures,
+        })
+    }
+
     /// The shape of the flash.
     pub fn geometry(&self) -> Geometry
         ensures value { result ≡ self.now.geometry }

@@ -1,8 +1,8 @@
 // The ROM datasets of a block.
-ghost use Rattle.std.specs.Prelude.{◌≡◌, ◌<◌, ◌≤◌, ◌+◌, ◌^◌, ◌++◌, ◌∷◌, [], length, Some, MatchOption, OnOk, OnErr, IfErr, slice_get};
+ghost use Rattle.std.specs.Prelude.{◌≡◌, ◌<◌, ◌≤◌, ◌+◌, ◌^◌, ◌++◌, ◌∷◌, [], length, Some, MatchOption, OnOk, OnErr, IfErr, IfOk, slice_get};
 
-use nv_base::Bytes;
-use std::alloc::{AllocFailed, Global};
+use nv_base::{Bytes, bytes_of};
+use std::alloc::{AllocError, AllocFailed, Global};
 use std::marker::Model;
 
 /// The contents of a block's ROM datasets. Contracts see the list.
@@ -29,6 +29,17 @@ impl RomList {
         RomList {
             items: Vec::new(alloc),
         }
+    }
+
+    /// The same contents once more.
+    pub(crate) fn copied(&self, alloc: Global) -> Result<RomList, AllocError>
+        ensures { IfOk result (λ r. r ≡ self.now) }
+    {
+        let mut items = Vec::new(alloc);
+        for content in &self.items {
+            items.push(bytes_of(alloc, content.as_slice())?)?;
+        }
+        Ok(RomList { items })
     }
 
     /// How many contents it holds.
