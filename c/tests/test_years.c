@@ -59,7 +59,6 @@ int main(int count, char **words) {
     NvM_SimFlash(flash, sizeof flash, 0);
     NvM_Init(NULL);
     if (NvM_SimFault() != NVM_SIM_UP) return 2;
-    write_both(0);      /* (the first request gives back what the start-up found) */
     bytes = heap_standing;
     pieces = heap_pieces;
     calls = heap_calls;

@@ -1,18 +1,20 @@
 -- What a start-up leaves.
-use Rattle.std.proofs.Common.{◌≡◌, ◌<◌, ℕ, zero, suc, ◌+◌, ◌==◌, ◌||◌, ◌&&◌, Bool, true, false, if◌then◌else◌, List, [], ◌∷◌, map, length, get_or, slice_get, replicate, unwrap_or, refl, sym, ap, ◌∙◌, arith, add-one, Some, None, Option, take}
+use Rattle.std.proofs.Common.{◌≡◌, ◌<◌, ℕ, zero, suc, ◌+◌, ◌==◌, ◌||◌, ◌&&◌, Bool, true, false, if◌then◌else◌, List, [], ◌∷◌, map, length, get_or, slice_get, replicate, unwrap_or, slice_set, ◌++◌, refl, sym, ap, subst, ◌∙◌, arith, inl, inr, Some, None, Option}
 use Rattle.std.specs.List.{enumerate_from, list_any}
-use Rattle.std.specs.Option.{option_map_or}
+use Rattle.std.proofs.lemmas.Bool.{cases_Bool}
+use Rattle.std.proofs.lemmas.Bool.Decides.{nat_tests}
 use Rattle.std.proofs.lemmas.List.{length-replicate}
 use Rattle.block_machine.specs.block_config.Block.{plain_block}
 use Rattle.block_machine.specs.block_config.Config.{block_of}
 use Rattle.block_machine.specs.Words.{Instance, Mark, BlockDesc, Configuration}
-use Rattle.block_machine.specs.Blocks.{no_block, desc_of, is_permanent}
+use Rattle.block_machine.specs.State.{BlockState}
+use Rattle.block_machine.specs.Blocks.{no_block, desc_of, is_permanent, keeps_ram}
 use Rattle.block_machine.specs.StartUp.{started_block}
 use Rattle.ram_blocks.specs.declared.kept.RamBlock.{RamBlock}
 use Rattle.ram_blocks.specs.Kept.{zeros, ram_of, no_ram, kept_of}
 use Rattle.block_states.specs.declared.facts.BlockFacts.{BlockFacts}
 use Rattle.block_states.specs.Shown.{state_of, states_of, rooms_in}
-use Rattle.block_states.specs.States.{KeptBlocks, rooms_of, started_blocks, no_facts, started_facts, started_by, written_by, RoomsHaveLengths}
+use Rattle.block_states.specs.States.{KeptBlocks, rooms_of, started_blocks, no_facts, started_facts, started_by, state_at, changed_at, RoomsHaveLengths}
 
 -- the RAM of enumerated blocks
 abbrev rams_from : ℕ → List BlockDesc → List RamBlock
@@ -115,44 +117,108 @@ start_shown c marks fs old new same cleared long each =
     let started = started_are c marks fs (omega arith) each in
     rw (is, started, same) refl
 
--- A LOOP
+-- ONE MARK MORE
 
 or_false : (a : Bool) → (a || false) ≡ a
 or_false true = refl
 or_false false = refl
 
-or_assoc : (a b c : Bool) → (a || (b || c)) ≡ ((a || b) || c)
-or_assoc true b c = refl
-or_assoc false b c = refl
-
-any_next : {X : Type 0} (p : X → Bool) (xs : List X) (i : ℕ) → i < length xs
-    → list_any p (take (suc i) xs) ≡ (list_any p (take i xs) || option_map_or p (slice_get xs i) false)
-any_next p [] i below = absurd (omega arith)
-any_next p (x ∷ xs) zero below = or_false (p x)
-any_next p (x ∷ xs) (suc i) below = ap (λ b. p x || b) (any_next p xs i (omega arith))
-    ∙ or_assoc (p x) (list_any p (take i xs)) (option_map_or p (slice_get xs i) false)
-
 or_true : (a : Bool) → (a || true) ≡ true
 or_true true = refl
 or_true false = refl
 
-once_noted : (once here before now protected : Bool) → now ≡ (before || here)
-    → (if once && here then record (record no_facts { protected = if once then before else protected }) { protected = true } else record no_facts { protected = if once then before else protected })
-    ≡ record no_facts { protected = if once then now else protected }
-once_noted false here before now protected is = refl
-once_noted true true before now protected is = ap (λ b. record no_facts { protected = b }) (sym (is ∙ or_true before))
-once_noted true false before now protected is = ap (λ b. record no_facts { protected = b }) (sym (is ∙ or_false before))
+or_assoc : (a b c : Bool) → (a || (b || c)) ≡ ((a || b) || c)
+or_assoc true b c = refl
+or_assoc false b c = refl
 
--- a block with one mark more
-noted : (here : Bool) (marks : List (Instance × Mark)) (i id : ℕ) (o : Option BlockDesc) (before : BlockFacts) → i < length marks
-    → here ≡ option_map_or (λ x. x.0.block == id) (slice_get marks i) false → before ≡ started_by (take i marks) id o
-    → written_by here o before ≡ started_by (take (suc i) marks) id o
-noted here marks i id None before below is so_far = so_far
-noted here marks i id (Some d) before below is so_far =
-    rw so_far (once_noted d.once here (list_any (λ x. x.0.block == id) (take i marks)) (list_any (λ x. x.0.block == id) (take (suc i) marks)) d.protected
-    (any_next (λ x. x.0.block == id) marks i below ∙ ap (λ b. list_any (λ x. x.0.block == id) (take i marks) || b) (sym is)))
+any_more : {X : Type 0} (p : X → Bool) (xs : List X) (x : X) → list_any p (xs ++ x ∷ []) ≡ (list_any p xs || p x)
+any_more p [] x = or_false (p x)
+any_more p (y ∷ ys) x = ap (λ b. p y || b) (any_more p ys x) ∙ or_assoc (p y) (list_any p ys) (p x)
 
-pub note_more : (marks : List (Instance × Mark)) (i id : ℕ) (o : Option BlockDesc) (before : BlockFacts) → i < length marks
-    → before ≡ started_by (take i marks) id o
-    → written_by (option_map_or (λ x. x.0.block == id) (slice_get marks i) false) o before ≡ started_by (take (i + 1) marks) id o
-note_more marks i id o before below so_far = rw (add-one i) (noted _ marks i id o before below refl so_far)
+own_test : (n : ℕ) → (n == n) ≡ true
+own_test n = grind (arith, nat_tests)
+
+other_test : (a b : ℕ) → (a ≡ b → ⊥) → (a == b) ≡ false
+other_test a b other = elim (cases_Bool (a == b)) [
+  | inr off ↦ off
+  | inl on ↦ let same : a ≡ b = grind (arith, nat_tests) in absurd (other same)
+]
+
+-- a write-once block is protected by a mark of its own
+protects : (once own before : Bool) (now protected : Bool) → now ≡ (before || own) → once ≡ true → own ≡ true → (if once then now else protected) ≡ true
+protects true true before now protected is once own = is ∙ or_true before
+protects true false before now protected is once own = absurd (cc own)
+protects false own before now protected is once on = absurd (cc once)
+
+-- and by no other one
+leaves : (once own before now protected : Bool) → now ≡ (before || own) → (once ≡ true → own ≡ true → ⊥) → (if once then now else protected) ≡ (if once then before else protected)
+leaves true true before now protected is never = absurd (never refl refl)
+leaves true false before now protected is never = is ∙ or_false before
+leaves false own before now protected is never = refl
+
+abbrev with_protected : (c : Configuration) (id : ℕ) (d : BlockDesc) → Bool → BlockState
+with_protected c id d protected = record no_block { protected = protected; ram = if keeps_ram c id then replicate d.length 0 else [] }
+
+noted_one : (c : Configuration) (marks : List (Instance × Mark)) (m : Instance × Mark) (id : ℕ) (d : BlockDesc) → d.once ≡ true → m.0.block ≡ id
+    → started_block c (marks ++ m ∷ []) id d ≡ record (started_block c marks id d) { protected = true }
+noted_one c marks m id d once own =
+    let on : (m.0.block == id) ≡ true = subst (λ n. (m.0.block == n) ≡ true) own (own_test m.0.block) in
+    ap (with_protected c id d) (protects d.once (m.0.block == id) (list_any (λ x. x.0.block == id) marks) (list_any (λ x. x.0.block == id) (marks ++ m ∷ [])) d.protected
+    (any_more (λ x. x.0.block == id) marks m) once on)
+
+kept_one : (c : Configuration) (marks : List (Instance × Mark)) (m : Instance × Mark) (id : ℕ) (d : BlockDesc) → (d.once ≡ true → m.0.block ≡ id → ⊥)
+    → started_block c (marks ++ m ∷ []) id d ≡ started_block c marks id d
+kept_one c marks m id d never =
+    ap (with_protected c id d) (leaves d.once (m.0.block == id) (list_any (λ x. x.0.block == id) marks) (list_any (λ x. x.0.block == id) (marks ++ m ∷ [])) d.protected
+    (any_more (λ x. x.0.block == id) marks m) (λ once on. let same : m.0.block ≡ id = grind (arith, nat_tests) in never once same))
+
+-- whether the block at a place is a write-once one
+abbrev once_at : List BlockDesc → ℕ → Bool
+once_at ds n = (unwrap_or (slice_get ds n) (plain_block 0)).once
+
+abbrev started_from : Configuration → List (Instance × Mark) → ℕ → List BlockDesc → List BlockState
+started_from c marks k ds = map (λ x. started_block c marks x.0 x.1) (enumerate_from k ds)
+
+kept_from : (c : Configuration) (marks : List (Instance × Mark)) (m : Instance × Mark) (ds : List BlockDesc) (k : ℕ)
+    → ((n : ℕ) → once_at ds n ≡ true → m.0.block ≡ k + n → ⊥) → started_from c (marks ++ m ∷ []) k ds ≡ started_from c marks k ds
+kept_from c marks m [] k never = refl
+kept_from c marks m (d ∷ ds) k never =
+    let head = kept_one c marks m k d (λ once own. never 0 once (omega (arith, own))) in
+    let rest = kept_from c marks m ds (k + 1) (λ n once own. never (suc n) once (omega (arith, own))) in
+    λ i. head i ∷ rest i
+
+noted_from : (c : Configuration) (marks : List (Instance × Mark)) (m : Instance × Mark) (ds : List BlockDesc) (k n : ℕ) → once_at ds n ≡ true → m.0.block ≡ k + n
+    → started_from c (marks ++ m ∷ []) k ds ≡ slice_set (started_from c marks k ds) n (record (state_at (started_from c marks k ds) n) { protected = true })
+noted_from c marks m [] k n once own = absurd (cc once)
+noted_from c marks m (d ∷ ds) k zero once own =
+    let head = noted_one c marks m k d once (omega (arith, own)) in
+    let rest = kept_from c marks m ds (k + 1) (λ n other there. omega (arith, own, there)) in
+    λ i. head i ∷ rest i
+noted_from c marks m (d ∷ ds) k (suc n) once own =
+    let head = kept_one c marks m k d (λ other there. omega (arith, own, there)) in
+    let rest = noted_from c marks m ds (k + 1) n once (omega (arith, own)) in
+    λ i. head i ∷ rest i
+
+noted_blocks : (c : Configuration) (marks : List (Instance × Mark)) (m : Instance × Mark) (id : ℕ) → (desc_of c id).once ≡ true → m.0.block ≡ id
+    → started_blocks c (marks ++ m ∷ []) ≡ slice_set (started_blocks c marks) id (record (state_at (started_blocks c marks) id) { protected = true })
+noted_blocks c marks m zero once own = absurd (cc once)
+noted_blocks c marks m (suc n) once own = ap (λ xs. no_block ∷ xs) (noted_from c marks m c.blocks 1 n once (omega (arith, own)))
+
+kept_blocks : (c : Configuration) (marks : List (Instance × Mark)) (m : Instance × Mark) (id : ℕ) → (desc_of c id).once ≡ false → m.0.block ≡ id
+    → started_blocks c (marks ++ m ∷ []) ≡ started_blocks c marks
+kept_blocks c marks m zero never own = ap (λ xs. no_block ∷ xs) (kept_from c marks m c.blocks 1 (λ n once there. omega (arith, own, there)))
+kept_blocks c marks m (suc k) never own = ap (λ xs. no_block ∷ xs) (kept_from c marks m c.blocks 1
+    (λ n once there. let same : n ≡ k = omega (arith, own, there) in absurd (cc (never, subst (λ x. once_at c.blocks x ≡ true) same once))))
+
+-- the blocks that a start-up leaves, with one mark more
+pub mark_noted : (c : Configuration) (marks : List (Instance × Mark)) (i : Instance) (mark : Mark) (id : ℕ) (old new : KeptBlocks)
+    → (desc_of c id).once ≡ true → new ≡ changed_at id (λ b. record b { protected = true }) old
+    → old.states ≡ started_blocks c marks → i.block ≡ id → new ≡ record old { states = started_blocks c (marks ++ (i, mark) ∷ []) }
+mark_noted c marks i mark id old new once is was own =
+    is ∙ ap (λ states. record old { states = states })
+    (ap (λ s. slice_set s id (record (state_at s id) { protected = true })) was ∙ sym (noted_blocks c marks (i, mark) id once own))
+
+pub mark_passed : (c : Configuration) (marks : List (Instance × Mark)) (i : Instance) (mark : Mark) (id : ℕ) (old : KeptBlocks) → (desc_of c id).once ≡ false
+    → old.states ≡ started_blocks c marks → i.block ≡ id → old ≡ record old { states = started_blocks c (marks ++ (i, mark) ∷ []) }
+mark_passed c marks i mark id old never was own =
+    ap (λ states. record old { states = states }) (was ∙ sym (kept_blocks c marks (i, mark) id never own))

@@ -62,11 +62,6 @@ abbrev pub started_by : List (Instance × Mark) → ℕ → Option BlockDesc →
 started_by marks id None = no_facts
 started_by marks id (Some d) = started_facts marks id d
 
--- with one mark more, which is of this block or not
-abbrev pub written_by : Bool → Option BlockDesc → BlockFacts → BlockFacts
-written_by own None f = f
-written_by own (Some d) f = if d.once && own then record f { protected = true } else f
-
 -- RAM that the manager keeps holds what was given, where something was
 abbrev pub given_to : Bool → Option (List ℕ) → BlockState → BlockState
 given_to kept given b = record b { ram = if kept then unwrap_or given b.ram else b.ram }

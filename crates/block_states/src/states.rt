@@ -1,5 +1,6 @@
 // The blocks by id.
-ghost use Rattle.std.specs.Prelude.{◌≡◌, ◌≤◌, ◌<◌, ℕ, ◌&&◌, ◌||◌, true, [], length, get_or, IfOk, IfSome, option_copied, if◌then◌else◌};
+ghost use Rattle.std.specs.Prelude.{◌≡◌, ◌≤◌, ◌<◌, ◌++◌, ◌∷◌, ℕ, List, ◌&&◌, ◌||◌, true, [], length, get_or, IfOk, IfSome, option_copied, if◌then◌else◌};
+ghost use Rattle.block_machine.specs.Words.{Instance, Mark};
 ghost use Rattle.block_machine.specs.Blocks.{desc_of, keeps_ram};
 ghost use Rattle.block_machine.specs.Steps.{ended, flagged, protects};
 ghost use Rattle.block_states.specs.States.{rooms_of, state_at, changed_at, started_blocks, facts_of, with_facts, flags_of, with_flags, given_to};
@@ -8,7 +9,7 @@ use crate::BlockFacts;
 use crate::facts::{facts_at, flagged, is_done, no_facts, put_at};
 use crate::start::start_all;
 use block_machine::block_config::{Config, RamKind};
-use block_machine::nv_base::{JobKind, Marks, ReqResult};
+use block_machine::nv_base::{JobKind, ReqResult};
 use ram_blocks::{RamBlocks, RamFlags};
 use std::alloc::{AllocError, Global};
 use std::marker::Model;
@@ -205,15 +206,25 @@ impl BlockStates {
         self.started = false;
     }
 
-    /// A start-up that found these marks: no block is locked, each is protected as it is configured, or a write-once
-    /// block where it was written, and RAM is zeros. It takes no memory.
-    pub fn start_up(&mut self, config: &Config, marks: &Marks)
+    /// A start-up that found no mark so far: no block is locked, each is protected as it is configured, a write-once block isn't, and
+    /// RAM is zeros. It takes no memory.
+    pub fn start_up(&mut self, config: &Config)
         requires { self.old.rooms ≡ rooms_of config.now }
-        ensures { self.new ≡ record self.old { states = started_blocks config.now marks.now } }
+        ensures { self.new ≡ record self.old { states = started_blocks config.now [] } }
     {
         self.started = true;
         self.ram.clear();
-        start_all(&mut self.facts, config, marks);
+        start_all(&mut self.facts, config);
+    }
+
+    /// The start-up found a mark of this block too, behind the others: a write-once block is protected. It takes no memory.
+    pub fn note_mark(&mut self, config: &Config, block: u16)
+        ensures { (marks : List (Instance × Mark)) (i : Instance) (mark : Mark) → self.old.states ≡ started_blocks config.now marks → i.block ≡ block
+            → self.new ≡ record self.old { states = started_blocks config.now (marks ++ (i, mark) ∷ []) } }
+    {
+        if is_once(config, block) {
+            self.set_protected(block, true);
+        }
     }
 }
 
@@ -222,6 +233,13 @@ fn is_kept(config: &Config, id: u16, ram: bool) -> bool
     ensures { result ≡ (ram && keeps_ram config.now id) }
 {
     ram && (id == 1 || matches!(config.block(id), Some(desc) if desc.ram == RamKind::Permanent))
+}
+
+// Whether a block is a write-once block.
+fn is_once(config: &Config, id: u16) -> bool
+    ensures { result ≡ (desc_of config.now id).once }
+{
+    matches!(config.block(id), Some(desc) if desc.once)
 }
 
 // Whether such an end protects a block.

@@ -5,6 +5,7 @@ pub mod Contents
 pub mod Drivers
 pub mod Dropping
 pub mod Entries
+pub mod Founds
 pub mod HandingOut
 pub mod Jobs
 pub mod Lengths

@@ -9,6 +9,7 @@ pub mod Places
 pub mod Rooms
 pub mod Sound
 pub use Rattle.nv_recorder.specs.Event as Event
+pub use Rattle.nv_recorder.specs.FoundMarks as FoundMarks
 pub use Rattle.nv_recorder.specs.Latest as Latest
 pub use Rattle.nv_recorder.specs.Recorder as Recorder
 pub use Rattle.nv_recorder.specs.Request as Request

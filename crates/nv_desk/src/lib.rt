@@ -11,6 +11,7 @@ mod desk;
 mod driver;
 mod drop_jobs;
 mod effect;
+mod found;
 mod in_hand;
 mod incoming;
 mod longest;
@@ -28,5 +29,5 @@ pub use ask::AskFault;
 pub use desk::Desk;
 pub use longest::longest_content;
 pub use nv_recorder::{
-    Buffer, ENDLESS, Event, Last, LentRequest, MarkKind, RequestKind, TakenKind,
+    Buffer, ENDLESS, Event, FoundMarks, FoundPlace, Last, LentRequest, MarkKind, RequestKind, TakenKind,
 };

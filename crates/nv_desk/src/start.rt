@@ -1,15 +1,18 @@
 // Start-ups.
-ghost use Rattle.std.specs.Prelude.{◌≡◌, ◌≤◌, ◌+◌, ◌++◌, ◌∷◌, ◌↔◌, [], length, IsTrue, true, false, IfOk, IsOk, OnOk, OnErr};
+ghost use Rattle.std.specs.Prelude.{◌≡◌, ◌≤◌, ◌+◌, ◌++◌, ◌∷◌, ◌↔◌, [], length, IsTrue, true, false, None, IfOk, IsSomeAnd, IsOk, OnOk, OnErr};
 ghost use Rattle.nv_desk.specs.Desk.{first_desk, state_of};
+ghost use Rattle.block_machine.specs.block_config.Lengths.{lengths_of};
+ghost use Rattle.nv_recorder.specs.FoundMarks.{CanList, found_in, numbers_of};
 ghost use Rattle.nv_recorder.specs.Recorder.{keeps};
 
 use crate::Desk;
 use crate::drop_jobs::drop_jobs;
+use crate::found::note_found;
 use crate::longest::longest_content;
 use crate::memory::take_memory;
 use crate::places::Places;
-use block_machine::nv_base::{Entry, History, Marks};
-use nv_recorder::Recorder;
+use block_machine::nv_base::{Entry, History};
+use nv_recorder::{FoundMarks, Recorder};
 use std::alloc::{AllocError, Global};
 use std::mem;
 
@@ -48,7 +51,8 @@ impl Desk {
     {
         let places = Places::make(alloc, &self.config)?;
         let longest = longest_content(&self.config);
-        let mut history = Recorder::make(alloc, self.history.cap(), longest)?;
+        let lengths = self.config.all_lengths(alloc)?;
+        let mut history = Recorder::make(alloc, self.history.cap(), longest, &lengths)?;
         take_memory(alloc, &mut history, 1)?;
         self.kept.forget();
         self.places = places;
@@ -57,14 +61,20 @@ impl Desk {
     }
 
     /// A start-up found these marks: what was pending is gone, and each content is back in its block's place. It takes no memory, since
-    /// that of its entry was taken with no entry since.
-    pub fn start_up(&mut self, marks: Marks, ops: u64)
+    /// that of its entry was taken with no entry since. Where entries are kept, so is the memory of the marks; else memory for those of a
+    /// further start-up is handed back.
+    pub fn start_up(&mut self, found: FoundMarks, ops: u64) -> Option<FoundMarks>
         requires fits { length self.old.entries + 2 ≤ self.old.cap }
         requires prepared { self.old.prepared ≡ length self.old.entries }
-        ensures { self.new ≡ record self.old { entries = self.old.entries ++ Entry.Found marks ops ∷ [] } }
+        requires numbers { numbers_of found ≡ lengths_of self.old.config }
+        requires listed { keeps self.old.cap ≡ true → CanList found }
+        ensures entry { self.new ≡ record self.old { entries = self.old.entries ++ Entry.Found (found_in found) ops ∷ [] } }
+        ensures kept { keeps self.old.cap ≡ true → result ≡ None }
+        ensures counted { keeps self.old.cap ≡ false → IsSomeAnd result (λ back. numbers_of back ≡ lengths_of self.old.config) }
     {
         drop_jobs(&self.config, &mut self.kept.jobs, &mut self.places);
-        self.kept.start_up(&self.config, &marks);
-        self.history.add(Entry::Found { marks, ops });
+        self.kept.start_up(&self.config);
+        note_found(&mut self.kept, &self.config, &found);
+        self.history.add_found(found, ops)
     }
 }

@@ -146,6 +146,7 @@ impl Front {
                 request: _,
                 reply: _,
             } => None,
+            Last::Found { marks: _, ops: _ } => None,
         }
     }
 }

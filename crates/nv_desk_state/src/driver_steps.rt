@@ -1,5 +1,5 @@
 // What the driver's entries change of what is kept.
-ghost use Rattle.std.specs.Prelude.{◌≡◌, ◌<◌, ◌+◌, ◌^◌, ◌&&◌, ◌∷◌, true, false, ℕ, List, [], length, get_or, Option, Some, None, IfSome, option_copied, option_map};
+ghost use Rattle.std.specs.Prelude.{◌≡◌, ◌<◌, ◌+◌, ◌^◌, ◌&&◌, ◌++◌, ◌∷◌, true, false, ℕ, List, [], length, get_or, Option, Some, None, IfSome, option_copied, option_map};
 ghost use Rattle.std.specs.Option.{option_and_then};
 ghost use Rattle.block_machine.specs.Words.{Configuration, Instance, Mark};
 ghost use Rattle.block_machine.specs.State.{State, Job as MachineJob, Sweep as MachineSweep};
@@ -16,7 +16,7 @@ ghost use Rattle.nv_desk_state.specs.Kept.{Agrees};
 use crate::kept::Kept;
 use crate::sweep::PendingSweep;
 use block_machine::block_config::Config;
-use block_machine::nv_base::{Bytes, Marks, ReqResult};
+use block_machine::nv_base::{Bytes, ReqResult};
 use job_pending::{Take, names_ram};
 
 impl Kept {
@@ -74,16 +74,24 @@ impl Kept {
         self.sweep = None;
     }
 
-    /// A start-up found these marks: nothing is pending.
-    pub fn start_up(&mut self, config: &Config, marks: &Marks)
+    /// A start-up found no mark so far: nothing is pending.
+    pub fn start_up(&mut self, config: &Config)
         requires { self.old.blocks.rooms ≡ rooms_of config.now }
-        ensures { (s : State) → Agrees config.now self.old s → Agrees config.now self.new (started_with config.now s marks.now) }
+        ensures { (s : State) → Agrees config.now self.old s → Agrees config.now self.new (started_with config.now s []) }
     {
         self.started = true;
         self.off = false;
-        self.blocks.start_up(config, marks);
+        self.blocks.start_up(config);
         self.jobs.clear();
         self.sweep = None;
+    }
+
+    /// The start-up found a mark of this block too, behind the others.
+    pub fn note_mark(&mut self, config: &Config, block: u16)
+        ensures { (s : State) (marks : List (Instance × Mark)) (i : Instance) (mark : Mark) → i.block ≡ block → Agrees config.now self.old (started_with config.now s marks)
+            → Agrees config.now self.new (started_with config.now s (marks ++ (i, mark) ∷ [])) }
+    {
+        self.blocks.note_mark(config, block);
     }
 }
 

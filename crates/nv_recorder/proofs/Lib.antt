@@ -1,1 +1,2 @@
+pub mod FoundPlaces
 pub mod Lending

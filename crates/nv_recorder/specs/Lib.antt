@@ -1,4 +1,5 @@
 pub mod Event
+pub mod FoundMarks
 pub mod Latest
 pub mod Recorder
 pub mod Request

@@ -1,16 +1,19 @@
 // The last entry, where no other one is kept.
 ghost use Rattle.std.specs.Prelude.{◌≡◌, ◌≤◌, length, Some, None, IfOk, IfSome, option_copied, option_map, if◌then◌else◌};
 ghost use Rattle.nv_recorder.specs.Event.{entry_of};
+ghost use Rattle.nv_recorder.specs.FoundMarks.{found_in, numbers_of};
 ghost use Rattle.nv_recorder.specs.Latest.{last_of};
 ghost use Rattle.nv_recorder.specs.Request.{request_lent};
 
 use crate::buffer::Buffer;
-use crate::{Event, LentRequest, RequestKind};
-use nv_base::{Entry, Reply};
+use crate::{Event, FoundMarks, LentRequest, RequestKind};
+use nv_base::{Entry, Lengths, Reply};
 use std::alloc::{AllocError, Global};
 use std::marker::Model;
+use std::mem;
 
-/// An entry that is lent: one that was added, or one of a job or of a request, with its content beside it.
+/// An entry that is lent: one that was added, one of a job or of a request, with its content beside it, or one of a start-up, with
+/// what it found.
 pub enum Last<'a> {
     Added(&'a Entry),
     OfJob {
@@ -22,10 +25,14 @@ pub enum Last<'a> {
         request: LentRequest<'a>,
         reply: Reply,
     },
+    Found {
+        marks: &'a FoundMarks,
+        ops: u64,
+    },
 }
 
 /// What stands of the last entry beside a content: one that was added, or one of a job, which may have that content, or of a
-/// request, which has it.
+/// request, which has it; or one of a start-up, which has the marks.
 #[derive(Drop)]
 pub enum Held {
     Nothing,
@@ -39,31 +46,38 @@ pub enum Held {
         kind: RequestKind,
         reply: Reply,
     },
+    Found {
+        ops: u64,
+    },
 }
 
-/// The last entry, with memory for the content of any. Contracts see the entry, and of how many bytes its content may be.
+/// The last entry, with memory for the content of any, and for what a start-up found. Contracts see the entry, of how many bytes
+/// its content may be, and the numbers that a start-up may find.
 #[derive(Drop)]
 pub struct Latest {
     held: Held,
     content: Buffer,
+    found: FoundMarks,
 }
 
 impl Model for Latest {
+    ghost use Rattle.nv_recorder.specs.FoundMarks.{numbers_of};
     ghost use Rattle.nv_recorder.specs.Latest.{Kept, latest_of};
 
     ghost Value = { Kept };
 
-    ghost view = { λ l. record { entry = latest_of l.held l.content.content; room = l.content.room } };
+    ghost view = { λ l. record { entry = latest_of l.held l.content.content l.found; room = l.content.room; numbers = numbers_of l.found } };
 }
 
 impl Latest {
-    /// No entry, and the memory of a content of `room` bytes.
-    pub fn make(alloc: Global, room: usize) -> Result<Latest, AllocError>
-        ensures { IfOk result (λ l. l ≡ record { entry = None; room = room }) }
+    /// No entry, and the memory of a content of `room` bytes, and of a mark of each of these numbers.
+    pub fn make(alloc: Global, room: usize, lengths: &Lengths) -> Result<Latest, AllocError>
+        ensures { IfOk result (λ l. l ≡ record { entry = None; room = room; numbers = lengths.now }) }
     {
         Ok(Latest {
             held: Held::Nothing,
             content: Buffer::make(alloc, room)?,
+            found: FoundMarks::make(alloc, lengths, 0)?,
         })
     }
 
@@ -101,6 +115,15 @@ impl Latest {
         self.content.put(request.content);
     }
 
+    /// The entry of a start-up was, which found these marks: their memory stands here, and that of those before is handed back.
+    pub fn add_found(&mut self, found: FoundMarks, ops: u64) -> FoundMarks
+        ensures latest { self.new ≡ record self.old { entry = Some (Entry.Found (found_in found) ops); numbers = numbers_of found } }
+        ensures back { numbers_of result ≡ self.old.numbers }
+    {
+        self.held = Held::Found { ops };
+        mem::replace(&mut self.found, found)
+    }
+
     /// Lends it.
     pub fn get(&self) -> Option<Last<'_>>
         ensures { option_map last_of result ≡ self.now.entry }
@@ -123,6 +146,10 @@ impl Latest {
                     content: self.content.content(),
                 },
                 reply: *reply,
+            }),
+            Held::Found { ops } => Some(Last::Found {
+                marks: &self.found,
+                ops: *ops,
             }),
         }
     }

@@ -8,6 +8,7 @@
 
 mod buffer;
 mod event;
+mod found_marks;
 mod latest;
 mod recorder;
 mod request;
@@ -16,6 +17,7 @@ mod told;
 
 pub use buffer::Buffer;
 pub use event::{Event, MarkKind, TakenKind};
+pub use found_marks::{FoundMarks, FoundPlace};
 pub use latest::Last;
 pub use recorder::{ENDLESS, Recorder};
 pub use request::{LentRequest, RequestKind};

@@ -2,9 +2,10 @@
 ghost use Rattle.std.specs.Prelude.{◌≡◌, [], ◌∷◌, ◌++◌, List, option_copied};
 ghost use Rattle.nv_base.specs.declared.entry.Entry.{Entry};
 ghost use Rattle.nv_recorder.specs.Event.{entry_of};
+ghost use Rattle.nv_recorder.specs.FoundMarks.{found_in};
 ghost use Rattle.nv_recorder.specs.Request.{request_lent};
 
-use crate::{Event, LentRequest};
+use crate::{Event, FoundMarks, LentRequest};
 use nv_base::{Entry, Reply};
 use std::marker::Model;
 
@@ -52,6 +53,13 @@ impl Told {
         request_behind(self, caller, request, reply)
     }
 
+    /// With the entry of a start-up behind them, which found these marks.
+    pub fn with_found(&self, found: &FoundMarks, ops: u64) -> Told
+        ensures { result.items ≡ self.now.items ++ Entry.Found (found_in found.now) ops ∷ [] }
+    {
+        found_behind(self, found, ops)
+    }
+
     // The entries that a proof picks.
     fn picked() -> Told
         ghost items: { List Entry }
@@ -81,6 +89,14 @@ fn request_behind(told: &Told, caller: u8, request: LentRequest<'_>, reply: Repl
     ghost items: { List Entry }
     requires { items ≡ told.now.items ++ Entry.Ask caller (request_lent request) reply ∷ [] }
     ensures { result.items ≡ told.now.items ++ Entry.Ask caller (request_lent request.entry) reply ∷ [] }
+{
+    Told::picked()
+}
+
+fn found_behind(told: &Told, found: &FoundMarks, ops: u64) -> Told
+    ghost items: { List Entry }
+    requires { items ≡ told.now.items ++ Entry.Found (found_in found.now) ops ∷ [] }
+    ensures { result.items ≡ told.now.items ++ Entry.Found (found_in found.now) ops ∷ [] }
 {
     Told::picked()
 }

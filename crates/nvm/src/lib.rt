@@ -22,7 +22,8 @@ pub use nvm_flash::nv_base::{
     result_code,
 };
 pub use nvm_flash::nv_desk::{
-    AskFault, Buffer, Event, Last, LentRequest, MarkKind, RequestKind, TakenKind, longest_content,
+    AskFault, Buffer, Event, FoundMarks, Last, LentRequest, MarkKind, RequestKind, TakenKind,
+    longest_content,
 };
 pub use nvm_flash::nvm_core::Renewed;
 pub use nvm_flash::nvm_laws::{FoundAnswer, Turned};

@@ -1,5 +1,5 @@
 // The stack of a unit.
-ghost use Rattle.std.specs.Prelude.{◌≡◌, ◌≤◌, ◌<◌, ◌↔◌, ◌++◌, ◌∷◌, [], true, false, ℕ, length, map, get_or, slice_set, IfOk, IsErrOf, OnErr};
+ghost use Rattle.std.specs.Prelude.{◌≡◌, ◌≢◌, ◌≤◌, ◌<◌, ◌↔◌, ◌++◌, ◌∷◌, [], true, false, ℕ, length, map, get_or, slice_set, IfOk, IsErrOf, OnErr};
 ghost use Rattle.nvm_flash.specs.block_machine.Blocks.{asked_block, block_at, desc_of, status_of};
 ghost use Rattle.nvm_flash.specs.block_machine.Legal.{HasStore};
 ghost use Rattle.nvm_flash.specs.block_machine.Reply.{fits, reply_of};
@@ -172,9 +172,11 @@ impl<F: Flash, O: Origin> UnitStack<F, O> {
         turned
     }
 
-    /// A further start-up, at any time: what is pending is lost. At `NoRoom` and `Memory` nothing changed.
+    /// A further start-up, at any time: what is pending is lost. At `NoRoom` and `Memory` nothing changed. Where entries are counted
+    /// it takes no memory, and `Memory` never comes.
     pub fn restart(&mut self, alloc: Global) -> FoundAnswer
         ensures restarts { Restarts told_of result self.old self.new }
+        ensures counted { keeps self.old.desk.cap ≡ false → result ≢ FoundAnswer.Memory }
         ensures keeps { StartsKeep result self.old.desk (told_of self.old.device) (told_clock self.old.device) self.new.desk (told_of self.new.device) (told_clock self.new.device) }
         ensures lasts { Lasts (told_of self.old.device) (told_clock self.old.device) (told_of self.new.device) (told_clock self.new.device) }
         ensures down { StacksComeDown (told_of self.old.device) (told_clock self.old.device) }

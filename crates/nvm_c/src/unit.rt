@@ -5,6 +5,7 @@ ghost use Rattle.nvm.specs.block_machine.Legal.{HasStore};
 ghost use Rattle.nvm.specs.block_machine.Reply.{reply_of};
 ghost use Rattle.nvm.specs.nv_desk.Desk.{state_of};
 ghost use Rattle.nvm.specs.nv_desk.Event.{entry_of};
+ghost use Rattle.nvm.specs.nv_desk.FoundMarks.{found_in};
 ghost use Rattle.nvm.specs.nv_desk.Recorder.{keeps};
 ghost use Rattle.nvm.specs.nv_desk.Request.{request_lent, whole_request};
 ghost use Rattle.nvm_script.specs.Lines.{entry_line};
@@ -16,8 +17,8 @@ use lent_flash::{Lent, LentFlash};
 use nvm::nvm_flash::FlashStack;
 use nvm::nvm_flash::fee_core::Origin;
 use nvm::{
-    AskFault, Buffer, Bytes, Entry, Event, FoundAnswer, Last, LentRequest, Reply, ReqResult,
-    Request, RequestKind, Turned, UnitStack, bytes_of,
+    AskFault, Buffer, Bytes, Entry, Event, FoundAnswer, FoundMarks, Last, LentRequest, Reply,
+    ReqResult, Request, RequestKind, Turned, UnitStack, bytes_of,
 };
 use nvm_script::entry_text;
 use std::alloc::{AllocError, Global};
@@ -222,6 +223,7 @@ impl<O: Origin> LentUnit<O> {
                     reply,
                 },
             ) => Ok(Some(request_line(alloc, caller, request, reply)?)),
+            Some(Last::Found { marks, ops }) => Ok(Some(found_line(alloc, marks, ops)?)),
             None => Ok(None),
         }
     }
@@ -306,6 +308,14 @@ fn request_line(
         reply,
     };
     entry_text(alloc, &entry)
+}
+
+// The line of a start-up, whose marks stand beside it.
+fn found_line(alloc: Global, found: &FoundMarks, ops: u64) -> Result<Bytes, AllocError>
+    ensures { IfOk result (λ line. line ≡ entry_line (Entry.Found (found_in found.now) ops)) }
+{
+    let marks = found.to_marks(alloc)?;
+    entry_text(alloc, &Entry::Found { marks, ops })
 }
 
 // A copy of a content, if there is one.

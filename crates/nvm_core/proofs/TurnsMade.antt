@@ -1,13 +1,13 @@
 -- A stack behind a turn.
 use Rattle.std.specs.Prelude.{IfSome}
-use Rattle.std.proofs.Common.{◌≡◌, ℕ, Bool, true, List, Option, Some, None, refl, ap, subst, sym, inl, inr}
-use Rattle.nvm_laws.specs.nv_base.declared.instance.DeviceNumber.{DeviceNumber}
+use Rattle.std.proofs.Common.{◌≡◌, ℕ, Bool, true, false, List, Option, Some, None, refl, ap, subst, sym, ◌∙◌, inl, inr}
 use Rattle.nvm_laws.specs.memif.Told.{DeviceTold}
 use Rattle.nvm_laws.specs.block_machine.Words.{Entry, Taken, Configuration}
 use Rattle.nvm_laws.specs.block_machine.Results.{Answer}
 use Rattle.nvm_laws.specs.block_machine.Next.{Next, Nothing, PickJob, BeginSweep, PickMember, PostMember, EndSweep, next_of}
 use Rattle.nvm_laws.specs.ram_blocks.Told.{Told}
 use Rattle.nvm_laws.specs.nv_desk.Desk.{DeskState, state_of}
+use Rattle.nvm_laws.specs.nv_desk.FoundMarks.{FoundState}
 use Rattle.nvm_laws.specs.nv_desk_copies.Front.{StagingState, StagesAll, AreSynchronized}
 use Rattle.nvm_laws.specs.nv_desk_copies.Posts.{IsPosted, IsPostedNext}
 use Rattle.nvm_laws.specs.job_progress.Hand.{HandState}
@@ -18,29 +18,33 @@ use Rattle.nvm_laws.specs.declared.turned.Turned.{Turned}
 use Rattle.nvm_laws.specs.declared.turned.Turned.TheVariants as turned
 use Rattle.nvm_laws.specs.declared.turned.Act.{Act}
 use Rattle.nvm_laws.specs.declared.turned.Act.TheVariants.{Ended, Device}
-use Rattle.nvm_core.specs.Stack.{StackState, IsStack, IsRoom, PowersOff}
+use Rattle.nvm_core.specs.Stack.{StackState, IsStack, PowersOff}
 use Rattle.nvm_core.specs.Turns.{IsFirstHalf}
+use Rattle.nvm_core.proofs.Rooms.{rooms_kept}
 
--- the configuration stays
-next_config : (n : Next) (ops : ℕ) (old new : DeskState) (before after : List Told) → IsPostedNext n ops old new before after → new.config ≡ old.config
-next_config (PostMember sw id) ops old new before after is = ap (λ (x : DeskState). x.config) is.adds
-next_config (EndSweep sw) ops old new before after is = ap (λ (x : DeskState). x.config) is.adds
-next_config Nothing ops old new before after is = absurd is
-next_config (PickJob j) ops old new before after is = absurd is
-next_config (BeginSweep sw) ops old new before after is = absurd is
-next_config (PickMember sw id) ops old new before after is = absurd is
+-- the configuration and the cap stay
+abbrev pub HasSame : DeskState → DeskState → Type 0
+HasSame old new = (new.config ≡ old.config) × (new.cap ≡ old.cap)
 
-pub half_config : (act : Act) (Holds : ℕ → Taken → Type 0) (Fits : Type 0) (old new : DeskState) (before after : List Told) (d : DeviceTold)
-    → IsHalf act Holds Fits old new before after d → new.config ≡ old.config
-half_config (Ended turned.Off) Holds Fits old new before after d is = ap (λ (x : DeskState). x.config) is.0.0
-half_config (Ended turned.Picked) Holds Fits old new before after d is = ap (λ (x : DeskState). x.config) is.1.adds
-half_config (Ended turned.Posted) Holds Fits old new before after d is = elim is [
-  | inl held ↦ ap (λ (x : DeskState). x.config) held.is.adds
-  | inr next ↦ next_config (next_of old.config (state_of old)) _ old new before after next.1
+next_same : (n : Next) (ops : ℕ) (old new : DeskState) (before after : List Told) → IsPostedNext n ops old new before after → HasSame old new
+next_same (PostMember sw id) ops old new before after is = (ap (λ (x : DeskState). x.config) is.adds, ap (λ (x : DeskState). x.cap) is.adds)
+next_same (EndSweep sw) ops old new before after is = (ap (λ (x : DeskState). x.config) is.adds, ap (λ (x : DeskState). x.cap) is.adds)
+next_same Nothing ops old new before after is = absurd is
+next_same (PickJob j) ops old new before after is = absurd is
+next_same (BeginSweep sw) ops old new before after is = absurd is
+next_same (PickMember sw id) ops old new before after is = absurd is
+
+pub half_same : (act : Act) (Holds : ℕ → Taken → Type 0) (Fits : Type 0) (old new : DeskState) (before after : List Told) (d : DeviceTold)
+    → IsHalf act Holds Fits old new before after d → HasSame old new
+half_same (Ended turned.Off) Holds Fits old new before after d is = (ap (λ (x : DeskState). x.config) is.0.0, ap (λ (x : DeskState). x.cap) is.0.0)
+half_same (Ended turned.Picked) Holds Fits old new before after d is = (ap (λ (x : DeskState). x.config) is.1.adds, ap (λ (x : DeskState). x.cap) is.1.adds)
+half_same (Ended turned.Posted) Holds Fits old new before after d is = elim is [
+  | inl held ↦ (ap (λ (x : DeskState). x.config) held.is.adds, ap (λ (x : DeskState). x.cap) held.is.adds)
+  | inr next ↦ next_same (next_of old.config (state_of old)) _ old new before after next.1
 ]
-half_config (Ended turned.Idle) Holds Fits old new before after d is = ap (λ (x : DeskState). x.config) is.0.0
-half_config (Ended turned.Worked) Holds Fits old new before after d is = absurd is
-half_config Device Holds Fits old new before after d is = ap (λ (x : DeskState). x.config) is.0.0
+half_same (Ended turned.Idle) Holds Fits old new before after d is = (ap (λ (x : DeskState). x.config) is.0.0, ap (λ (x : DeskState). x.cap) is.0.0)
+half_same (Ended turned.Worked) Holds Fits old new before after d is = absurd is
+half_same Device Holds Fits old new before after d is = (ap (λ (x : DeskState). x.config) is.0.0, ap (λ (x : DeskState). x.cap) is.0.0)
 
 -- so it is of a stack, whatever it has besides
 pub half_of : {D C : Type 0} (told : D → DeviceTold) (copies : C → List Told) (is_store : C → ℕ → ℕ → List ℕ → Type 0) (looked : C → C → ℕ → ℕ → Type 0) (act : Act) (old new : StackState D C) (ready has_room : Bool)
@@ -65,9 +69,9 @@ pub never_worked : (answer : Turned) (Holds : ℕ → Taken → Type 0) (Fits : 
     → answer ≡ turned.Worked → IsHalf (Ended answer) Holds Fits old new before after d → ⊥
 never_worked answer Holds Fits old new before after d is half = subst (λ (x : Turned). IsHalf (Ended x) Holds Fits old new before after d) is half
 
-pub adds_config : (e : Option Entry) (old new : DeskState) → AddsBy e old new → new.config ≡ old.config
-adds_config None old new same = ap (λ (x : DeskState). x.config) same
-adds_config (Some e) old new adds = ap (λ (x : DeskState). x.config) adds.0
+pub adds_same : (e : Option Entry) (old new : DeskState) → AddsBy e old new → HasSame old new
+adds_same None old new same = (ap (λ (x : DeskState). x.config) same, ap (λ (x : DeskState). x.cap) same)
+adds_same (Some e) old new adds = (ap (λ (x : DeskState). x.config) adds.0, ap (λ (x : DeskState). x.cap) adds.0)
 
 -- what was added, whatever holds of what was taken
 posted_by : (Fits : Type 0) (block : ℕ) (ram : Bool) (ended : Answer) (ops : ℕ) (old new : DeskState) (before after : List Told)
@@ -96,14 +100,13 @@ half_adds Device Holds Fits old new before after d is = is
 
 -- the parts that were tied again
 pub turned_stack : (old new : DeskState) (staging staging_new : StagingState) (hand hand_new : Option HandState) (d d_new : DeviceTold) (copies copies_new : List Told)
-    (room : Option (List (DeviceNumber × ℕ))) → IsStack old staging hand d copies room true → new.config ≡ old.config → staging_new.room ≡ staging.room
+    (room : Option FoundState) → IsStack old staging hand d copies room true → new.config ≡ old.config → new.cap ≡ old.cap → staging_new.room ≡ staging.room
     → AreSynchronized old.config copies_new → IsTied new hand_new d_new → PowersOff new d_new → IsStack new staging_new hand_new d_new copies_new room true
-turned_stack old new staging staging_new hand hand_new d d_new copies copies_new room is config stages synchronized tied power = record {
+turned_stack old new staging staging_new hand hand_new d d_new copies copies_new room is config cap stages synchronized tied power = record {
   stages = λ id. subst (λ (c : Configuration). StagesAll c staging_new) (sym config) (λ n. rw stages (is.stages n)) id;
   synchronized = subst (λ (c : Configuration). AreSynchronized c copies_new) (sym config) synchronized;
   numbers = tied.numbers;
-  has_room = subst (λ (x : Option (List (DeviceNumber × ℕ))). IfSome x (IsRoom new)) (sym (is.used refl)) tt;
+  has_room = rooms_kept old new room config cap is.has_room;
   tied = λ ready. tied;
   power = λ ready. power;
-  used = is.used;
 }

@@ -17,7 +17,7 @@ pub record IsListed (old new : DeskState) (device device_new : DeviceTold) : Typ
 
 -- Where the device tells what it holds, then too, the desk's history keeps all, the first start-up before any operation; at a fault
 -- until a start-up answers Ok.
-abbrev pub StartKeeps : {E : Type 0} → Result (Unit {0}) E → DeskState → DeskState → DeviceTold → Clock → DeviceTold → Clock → Type 0
+abbrev pub StartKeeps : {T E : Type 0} → Result T E → DeskState → DeskState → DeviceTold → Clock → DeviceTold → Clock → Type 0
 StartKeeps (Ok _) old new device clock device_new clock_new =
     (before : Part → PartTold) → TellsSlots device_new → HasStarted old.entries ⊎ (device_new.ops ≡ 0)
     → Keeps old.config old.cap old.entries before (down device) clock → Keeps new.config new.cap new.entries before device_new clock_new

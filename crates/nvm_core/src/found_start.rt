@@ -1,37 +1,51 @@
 // A start-up.
-ghost use Rattle.std.specs.Prelude.{◌≡◌, ◌≤◌, ◌+◌, length, IfErr, OnOk, OnErr};
+ghost use Rattle.std.specs.Prelude.{◌≡◌, ◌≤◌, ◌+◌, false, length, is_some, IfErr, IfOk, IfSome, OnOk, OnErr};
+ghost use Rattle.nvm_laws.specs.nv_desk.FoundMarks.{numbers_of};
+ghost use Rattle.nvm_laws.specs.nv_desk.Recorder.{keeps};
 ghost use Rattle.nvm_laws.specs.memif.Calls.{InOrder};
 ghost use Rattle.nvm_laws.specs.memif.Trials.{Lasts};
 ghost use Rattle.nvm_found.specs.Found.{FailsToFind};
 ghost use Rattle.nvm_core.specs.FoundStart.{IsListed, StartKeeps};
+ghost use Rattle.nvm_core.specs.Stack.{IsRoom};
 
-use nvm_found::FoundRoom;
+use nvm_found::{FoundMarks, find};
 use nvm_laws::memif::MemDevice;
 use nvm_laws::nv_desk::Desk;
+use std::alloc::{AllocError, Global};
 
-/// Starts the device up, and adds the entry of what it found. It takes no memory. At Err a fault of the device was counted,
-/// nothing is added, and the memory of the marks is handed back.
+/// Memory for the marks of a start-up, and for a list of them, where entries are kept.
+pub fn room_for(alloc: Global, desk: &Desk) -> Result<FoundMarks, AllocError>
+    ensures { IfOk result (λ room. IsRoom desk.now room) }
+{
+    let lengths = desk.config().all_lengths(alloc)?;
+    let listed = if desk.keeps_entries() { lengths.len() } else { 0 };
+    FoundMarks::make(alloc, &lengths, listed)
+}
+
+/// Starts the device up, and adds the entry of what it found. It takes no memory. Where entries are counted, memory for a further
+/// start-up is handed back. At Err a fault of the device was counted, nothing is added, and the memory is handed back.
 pub fn start_up<D: MemDevice>(
     desk: &mut Desk,
-    room: FoundRoom,
+    room: FoundMarks,
     device: &mut D,
-) -> Result<(), FoundRoom>
+) -> Result<Option<FoundMarks>, FoundMarks>
     requires fits { length desk.old.entries + 2 ≤ desk.old.cap }
     requires prepared { desk.old.prepared ≡ length desk.old.entries }
-    requires numbers { room ≡ (D.told device.old).fixed.numbers }
+    requires room { IsRoom desk.old room }
+    requires numbers { numbers_of room ≡ (D.told device.old).fixed.numbers }
     ensures listed { OnOk result (IsListed desk.old desk.new (D.told device.old) (D.told device.new)) }
+    ensures further { IfOk result (λ back. IfSome back (IsRoom desk.old)) }
+    ensures counted { IfOk result (λ back. keeps desk.old.cap ≡ false → is_some back ≡ true) }
     ensures desk { OnErr result (desk.new ≡ desk.old) }
     ensures failed { OnErr result (FailsToFind (D.told device.old) (D.told device.new)) }
-    ensures room { IfErr result (λ again. again ≡ room) }
+    ensures room { IfErr result (λ again. IsRoom desk.old again) }
     ensures lasts { Lasts (D.told device.old) (D.clock device.old) (D.told device.new) (D.clock device.new) }
     ensures order { InOrder (D.told device.new) (D.clock device.new) }
     ensures keeps { StartKeeps result desk.old desk.new (D.told device.old) (D.clock device.old) (D.told device.new) (D.clock device.new) }
 {
-    match room.find(device) {
-        Ok(marks) => {
-            desk.start_up(marks, device.ops());
-            Ok(())
-        }
-        Err(room) => Err(room),
+    let mut room = room;
+    match find(&mut room, device) {
+        Ok(()) => Ok(desk.start_up(room, device.ops())),
+        Err(_) => Err(room),
     }
 }

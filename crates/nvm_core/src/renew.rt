@@ -1,19 +1,16 @@
 // A new history over the same device.
-ghost use Rattle.std.specs.Prelude.{◌≡◌, ◌↔◌, IsTrue, true, IfOk};
-ghost use Rattle.nvm_laws.specs.block_config.Lengths.{lengths_of};
+ghost use Rattle.std.specs.Prelude.{◌≡◌, ◌↔◌, IsTrue, true};
 ghost use Rattle.nvm_laws.specs.memif.Trials.{Lasts};
 ghost use Rattle.nvm_laws.specs.Halves.{IsAtRest};
 ghost use Rattle.nvm_core.specs.Renewal.{Renews, RenewalKeeps};
 
-use crate::Stack;
+use crate::{Stack, room_for};
 use nv_desk_state::NextEntry;
-use nvm_found::FoundRoom;
 use nvm_laws::FoundAnswer;
-use nvm_laws::block_config::Config;
 use nvm_laws::memif::{MemDevice, MemStatus};
 use nvm_laws::nv_base::History;
 use nvm_laws::ram_blocks::SyncCalls;
-use std::alloc::{AllocError, Global};
+use std::alloc::Global;
 
 /// What became of a new history: it began with its start-up, or that failed by a counted fault, and this is the history so far;
 /// a job is pending or the device is at work; or no memory was found.
@@ -53,28 +50,20 @@ impl<D: MemDevice, C: SyncCalls + Drop> Stack<D, C> {
         if !self.is_at_rest() {
             return Renewed::Busy;
         }
-        let Ok(room) = found_room(alloc, self.front.desk.config()) else {
+        let Ok(room) = room_for(alloc, &self.front.desk) else {
             return Renewed::Memory;
         };
         let Ok(history) = self.front.desk.hand_out(alloc) else {
             return Renewed::Memory;
         };
         self.hand = None;
-        self.room = None;
+        self.room = Some(room);
         self.ready = false;
-        match self.start_in(room) {
+        match self.start_in() {
             FoundAnswer::Ready => Renewed::Ready { history },
             FoundAnswer::Failed | FoundAnswer::NoRoom | FoundAnswer::Memory => {
                 Renewed::Failed { history }
             }
         }
     }
-}
-
-// The memory of a start-up's marks.
-fn found_room(alloc: Global, config: &Config) -> Result<FoundRoom, AllocError>
-    ensures { IfOk result (λ room. room ≡ lengths_of config.now) }
-{
-    let lengths = config.all_lengths(alloc)?;
-    FoundRoom::make(alloc, &lengths)
 }

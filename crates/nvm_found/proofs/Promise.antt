@@ -8,14 +8,16 @@ use Rattle.memif.specs.Told.{DeviceTold, Slot, Held, Fixed, slot_at, is_open}
 use Rattle.block_machine.specs.nv_base.Lengths.{AreLengths}
 use Rattle.memif.specs.Marks.{Keeps as KeepsSlot, IfTold}
 use Rattle.memif.specs.Clock.{Clock}
+use Rattle.memif.specs.declared.answer.StartFault.{StartFault}
 use Rattle.block_machine.specs.Words.{Instance, Mark, Found, Configuration}
 use Rattle.block_machine.specs.Steps.{after}
 use Rattle.block_machine.specs.Legal.{IsAllowed}
-use Rattle.nvm_device_laws.specs.Turn.{Keeps, ListsSettled, StartUpsKeep}
+use Rattle.nvm_device_laws.specs.Turn.{Keeps, ListsSettled, StartUpsKeep, StaysDown}
 use Rattle.nvm_device_laws.proofs.Pushed.{started_push}
-use Rattle.nvm_found.specs.declared.place.Place.{Place}
+use Rattle.nv_recorder.specs.declared.found_marks.FoundPlace.{FoundPlace}
 use Rattle.nvm_found.specs.Found.{IsUp, HasFault, IsListOf, AreHeld, Finds, FindsKeep, ReadAtOnce}
-use Rattle.nvm_found.specs.Places.{LeavesRead, number_at, AreWhole, FirstHeld, marks_at, ReadsOn}
+use Rattle.nv_recorder.specs.FoundMarks.{number_at, AreWhole, marks_at}
+use Rattle.nvm_found.specs.Places.{LeavesRead, FirstHeld, ReadsOn}
 use Rattle.nvm_found.proofs.Lists.{is_list, are_held}
 use Rattle.nvm_found.proofs.Allowed.{found_allowed}
 use Rattle.nvm_found.proofs.Readings.{turn_if}
@@ -57,13 +59,13 @@ any_ok (Err e) p = tt
 
 pub finds_keep : (old : DeviceTold) (clock : Clock) (new : DeviceTold) (clock_new : Clock)
     (marks : List (Instance × Mark)) → StartUpsKeep (Ok tt) old clock new clock_new → Finds marks old new
-    → FindsKeep {E = List (DeviceNumber × ℕ)} (Ok marks) old clock new clock_new
+    → FindsKeep {E = StartFault} (Ok tt) marks old clock new clock_new
 finds_keep old clock new clock_new marks ups finds c cap h before told first fits keeps =
     let (allowed, settled) = found_allowed c cap h before old clock new marks finds told fits keeps in
     (allowed, ups c cap h before marks first allowed settled keeps)
 
 -- the marks of places are what was found
-pub found_of : (old new : DeviceTold) (ps : List Place) (marks : List (Instance × Mark)) → marks ≡ marks_at ps
+pub found_of : (old new : DeviceTold) (ps : List FoundPlace) (marks : List (Instance × Mark)) → marks ≡ marks_at ps
     → map number_at ps ≡ old.fixed.numbers → AreLengths 0 (map number_at ps) → AreWhole ps → IsUp old new → is_open new.stand ≡ false
     → (ReadAtOnce old.fixed → LeavesRead old new) → FirstHeld new (length ps) ps → Finds marks old new
 found_of old new ps marks is same ascend whole up rest left held =
@@ -80,3 +82,15 @@ found_of old new ps marks is same ascend whole up rest left held =
     nothing : LeavesRead old new → (new.left ≡ 0) ⊎ HasFault old new
     nothing (inl few) = inl (let none = ap turn_if rest in omega (arith, few, none))
     nothing (inr fault) = inr fault
+
+-- by what was answered
+pub finds_by : (r : Result (Unit {0}) StartFault) (old new : DeviceTold) (ps : List FoundPlace)
+    → map number_at ps ≡ old.fixed.numbers → AreLengths 0 (map number_at ps) → AreWhole ps → is_open new.stand ≡ false → OnOk r (IsUp old new)
+    → OnOk r (ReadAtOnce old.fixed → LeavesRead old new) → OnOk r (FirstHeld new (length ps) ps) → OnOk r (Finds (marks_at ps) old new)
+finds_by (Ok v) old new ps same ascend whole rest up left held = found_of old new ps (marks_at ps) refl same ascend whole up rest left held
+finds_by (Err fault) old new ps same ascend whole rest up left held = tt
+
+pub finds_keep_by : (r : Result (Unit {0}) StartFault) (old : DeviceTold) (clock : Clock) (new : DeviceTold) (clock_new : Clock) (marks : List (Instance × Mark))
+    → OnOk r (StartUpsKeep (Ok tt) old clock new clock_new) → OnOk r (Finds marks old new) → StaysDown old clock new clock_new → FindsKeep r marks old clock new clock_new
+finds_keep_by (Ok v) old clock new clock_new marks ups finds down = finds_keep old clock new clock_new marks ups finds
+finds_keep_by (Err fault) old clock new clock_new marks ups finds down = down

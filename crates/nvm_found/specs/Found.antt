@@ -98,11 +98,11 @@ FoundMarksKeep =
 
 -- Where the device tells what it holds, then too, and the entry fits with an Off behind it, the Found of these marks is allowed,
 -- and keeps all, the first before any operation. At a fault the history that stands keeps all, until a start-up answers Ok.
-abbrev pub FindsKeep : {E : Type 0} → Result (List (Instance × Mark)) E → DeviceTold → Clock → DeviceTold → Clock → Type 0
-FindsKeep (Ok marks) old clock new clock_new =
+abbrev pub FindsKeep : {E : Type 0} → Result (Unit {0}) E → List (Instance × Mark) → DeviceTold → Clock → DeviceTold → Clock → Type 0
+FindsKeep (Ok _) marks old clock new clock_new =
     (c : Configuration) (cap : ℕ) (h : List Entry) (before : Part → PartTold) → TellsSlots new → HasStarted h ⊎ (new.ops ≡ 0)
     → length h + 2 ≤ cap → Keeps c cap h before (down old) clock
     → IsAllowed c cap (after c h) (Found marks (device.ops_of new)) × Keeps c cap (h ++ Found marks (device.ops_of new) ∷ []) before new clock_new
-FindsKeep (Err fault) old clock new clock_new =
+FindsKeep (Err fault) marks old clock new clock_new =
     (c : Configuration) (cap : ℕ) (h : List Entry) (before : Part → PartTold) → Keeps c cap h before (down old) clock
     → TellsSlots new → Keeps c cap h before (down new) clock_new

@@ -1,4 +1,3 @@
 pub mod Found
 pub mod Places
 pub mod Reading
-pub mod Room

@@ -15,55 +15,30 @@ use Rattle.memif.specs.Clock.{Clock}
 use Rattle.memif.specs.Calls.{ReadsAt, Gives}
 use Rattle.memif.specs.Trials.{Lasts}
 use Rattle.nvm_device_laws.specs.Turn.{Stays, StaysDown}
-use Rattle.nvm_found.specs.declared.place.Place.{Place}
+use Rattle.nv_recorder.specs.declared.found_marks.FoundPlace.{FoundPlace}
+use Rattle.nv_recorder.specs.FoundMarks.{mark_at}
 use Rattle.nvm_found.specs.Found.{IsUp, HasFault, ReadAtOnce}
 
 -- PLACES
--- the number of a place with its length
-abbrev pub number_at : Place → DeviceNumber × ℕ
-number_at p = (p.number, p.length)
-
--- there is memory for a content of that length
-abbrev pub IsWhole : Place → Type 0
-IsWhole p = length p.content ≡ p.length
-
-abbrev pub AreWhole : List Place → Type 0
-AreWhole [] = Unit {0}
-AreWhole (p ∷ ps) = IsWhole p × AreWhole ps
-
--- the mark that was found
-abbrev pub mark_by : PlainMark → List ℕ → Mark
-mark_by Content bytes = mark.Content bytes
-mark_by Invalid bytes = mark.Invalid
-mark_by Erased bytes = mark.Erased
-
-abbrev pub mark_at : Place → Mark
-mark_at p = mark_by p.kind p.content
-
 -- it is what the device holds for certain
-abbrev pub IsHeldIn : List (DeviceNumber × ℕ) → List Slot → Place → Type 0
+abbrev pub IsHeldIn : List (DeviceNumber × ℕ) → List Slot → FoundPlace → Type 0
 IsHeldIn numbers slots p = mark_at p ≡ (slot_at numbers slots p.number.0).settled.mark
 
 -- so is that of each of the first so many
-abbrev pub FirstHeldIn : List (DeviceNumber × ℕ) → List Slot → ℕ → List Place → Type 0
+abbrev pub FirstHeldIn : List (DeviceNumber × ℕ) → List Slot → ℕ → List FoundPlace → Type 0
 FirstHeldIn numbers slots zero ps = Unit {0}
 FirstHeldIn numbers slots (suc i) [] = Unit {0}
 FirstHeldIn numbers slots (suc i) (p ∷ ps) = IsHeldIn numbers slots p × FirstHeldIn numbers slots i ps
 
 -- the same, where the device tells what it holds
-abbrev pub IsHeld : DeviceTold → Place → Type 0
+abbrev pub IsHeld : DeviceTold → FoundPlace → Type 0
 IsHeld d p = IfSome d.slots (λ slots. IsHeldIn d.fixed.numbers slots p)
 
-abbrev pub FirstHeld : DeviceTold → ℕ → List Place → Type 0
+abbrev pub HoldsMark : DeviceTold → ℕ → Mark → Type 0
+HoldsMark d n m = IfSome d.slots (λ slots. m ≡ (slot_at d.fixed.numbers slots n).settled.mark)
+
+abbrev pub FirstHeld : DeviceTold → ℕ → List FoundPlace → Type 0
 FirstHeld d i ps = IfSome d.slots (λ slots. FirstHeldIn d.fixed.numbers slots i ps)
-
--- the mark of a place before others, and the marks of places, as a list
-abbrev pub listed_at : Place → List (Instance × Mark) → List (Instance × Mark)
-listed_at p marks = listed (instance_of p.number) (mark_at p) marks
-
-abbrev pub marks_at : List Place → List (Instance × Mark)
-marks_at [] = []
-marks_at (p ∷ ps) = listed_at p (marks_at ps)
 
 -- READS
 -- a start-up answered Ok, and no job is open

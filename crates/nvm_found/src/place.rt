@@ -1,84 +1,57 @@
 // What is found of one number.
-ghost use Rattle.std.specs.Prelude.{◌≡◌, length, map, IfOk, OnOk, OnErr, Some};
-ghost use Rattle.memif.specs.Told.{length_of};
+ghost use Rattle.std.specs.Prelude.{◌≡◌, ◌<◌, ◌+◌, length, IfOk, OnOk, OnErr, Some};
+ghost use Rattle.memif.specs.Told.{given_by, length_of};
+ghost use Rattle.nv_recorder.specs.Event.{mark_of};
+ghost use Rattle.nv_recorder.specs.FoundMarks.{numbers_of};
 ghost use Rattle.nvm_found.specs.Found.{HasFault, IsUp};
-ghost use Rattle.nvm_found.specs.Places.{AreWhole, IsWhole, IsHeld, IsReady, ReadsOn, number_at};
+ghost use Rattle.nvm_found.specs.Places.{FirstHeld, HoldsMark, IsReady, ReadsOn};
 
 use crate::read::read;
-use block_machine::nv_base::{Bytes, DeviceNumber, Instance, Mark};
+use block_machine::nv_base::DeviceNumber;
 use memif::{JobResult, MemDevice, PlainMark, StartFault};
-use std::alloc::{AllocError, Global};
+use nv_recorder::{FoundMarks, MarkKind};
 
-/// A number with the length of its content, the kind of the mark that was found, and memory for a content.
-#[derive(Drop)]
-pub(crate) struct Place {
-    pub number: DeviceNumber,
-    pub length: u16,
-    pub kind: PlainMark,
-    pub content: Bytes,
+/// Finds the mark of the number at a place, at a device that was started up.
+pub(crate) fn find_at<D: MemDevice>(found: &mut FoundMarks, i: usize, device: &mut D) -> Result<(), StartFault>
+    requires below { i < length found.old.places }
+    requires numbers { numbers_of found.old ≡ (D.told device.old).fixed.numbers }
+    requires ready { IsReady (D.told device.old) }
+    ensures numbers { numbers_of found.new ≡ numbers_of found.old }
+    ensures room { found.new.room ≡ found.old.room }
+    ensures ready { IsReady (D.told device.new) }
+    ensures reads { ReadsOn (D.told device.old) (D.clock device.old) (D.told device.new) (D.clock device.new) }
+    ensures held { OnOk result (FirstHeld (D.told device.old) i found.old.places → FirstHeld (D.told device.new) (i + 1) found.new.places) }
+    ensures fault { OnErr result ((begun : _) → IsUp begun (D.told device.old) → HasFault begun (D.told device.new)) }
+{
+    let _count = found.len();
+    let Some(place) = found.place(i) else {
+        return Ok(());
+    };
+    let (number, size) = (place.number, place.length);
+    let kind = find_kind(device, number, size)?;
+    found.hold(i, kind, device.take_data());
+    Ok(())
 }
 
-// A place for a number with this length.
-fn place_of(alloc: Global, number: DeviceNumber, length: u16) -> Result<Place, AllocError>
-    ensures number { IfOk result (λ p. number_at p ≡ (number, length)) }
-    ensures whole { IfOk result (λ p. IsWhole p) }
+// Finds the kind of a number's mark. Where that is a content, the device gives it.
+fn find_kind<D: MemDevice>(device: &mut D, number: DeviceNumber, size: u16) -> Result<MarkKind, StartFault>
+    requires configured { length_of (D.told device.old).fixed.numbers number.0 ≡ Some size }
+    requires ready { IsReady (D.told device.old) }
+    ensures ready { IsReady (D.told device.new) }
+    ensures reads { ReadsOn (D.told device.old) (D.clock device.old) (D.told device.new) (D.clock device.new) }
+    ensures held { IfOk result (λ kind. HoldsMark (D.told device.new) number.0 (mark_of kind (Some (given_by (D.told device.new).stand)))) }
+    ensures fits { IfOk result (λ kind. kind ≡ MarkKind.Content → length (given_by (D.told device.new).stand) ≡ size) }
+    ensures fault { OnErr result ((begun : _) → IsUp begun (D.told device.old) → HasFault begun (D.told device.new)) }
 {
-    Ok(Place {
-        number,
-        length,
-        kind: PlainMark::Erased,
-        content: Bytes::zeros(alloc, usize::from(length))?,
-    })
-}
-
-/// A place for each of these numbers.
-pub(crate) fn places_of(
-    alloc: Global,
-    numbers: &[(DeviceNumber, u16)],
-) -> Result<Vec<Place>, AllocError>
-    ensures numbers { IfOk result (λ v. map number_at v.items ≡ numbers.now) }
-    ensures whole { IfOk result (λ v. AreWhole v.items) }
-{
-    let mut places = Vec::with_capacity(alloc, numbers.len())?;
-    for item in numbers {
-        places.push(place_of(alloc, item.0, item.1)?)?;
+    match device.mark_kind(number) {
+        Some(PlainMark::Content) => {}
+        Some(PlainMark::Invalid) => return Ok(MarkKind::Invalid),
+        Some(PlainMark::Erased) | None => return Ok(MarkKind::Erased),
     }
-    Ok(places)
-}
-
-impl Place {
-    /// Finds the mark of its number at a device that was started up.
-    pub fn find<D: MemDevice>(&mut self, device: &mut D) -> Result<(), StartFault>
-        requires whole { IsWhole self.old }
-        requires configured { length_of (D.told device.old).fixed.numbers self.old.number.0 ≡ Some self.old.length }
-        requires ready { IsReady (D.told device.old) }
-        ensures number { number_at self.new ≡ number_at self.old }
-        ensures whole { IsWhole self.new }
-        ensures ready { IsReady (D.told device.new) }
-        ensures reads { ReadsOn (D.told device.old) (D.clock device.old) (D.told device.new) (D.clock device.new) }
-        ensures held { OnOk result (IsHeld (D.told device.new) self.new) }
-        ensures fault { OnErr result ((begun : _) → IsUp begun (D.told device.old) → HasFault begun (D.told device.new)) }
-    {
-        match device.mark_kind(self.number) {
-            Some(PlainMark::Content) => {}
-            Some(kind) => {
-                self.kind = kind;
-                return Ok(());
-            }
-            None => {
-                self.kind = PlainMark::Erased;
-                return Ok(());
-            }
-        }
-        self.kind = match read(device, self.number, self.length) {
-            JobResult::JobOk => {
-                self.content.copy_from_slice(device.take_data());
-                PlainMark::Content
-            }
-            JobResult::BlockInvalid => PlainMark::Invalid,
-            JobResult::BlockInconsistent => PlainMark::Erased,
-            _ => return Err(StartFault::Fault),
-        };
-        Ok(())
+    match read(device, number, size) {
+        JobResult::JobOk => Ok(MarkKind::Content),
+        JobResult::BlockInvalid => Ok(MarkKind::Invalid),
+        JobResult::BlockInconsistent => Ok(MarkKind::Erased),
+        _ => Err(StartFault::Fault),
     }
 }

@@ -33,6 +33,7 @@ pub(crate) fn told_last(last: Last<'_>) -> Option<(u32, u8)>
             Reply::Accepted => told_at(ReqResult::Pending, pending_lent(request)?),
             Reply::Refused(_) | Reply::StatusIs(_) | Reply::IndexIs(_) => None,
         },
+        Last::Found { marks: _, ops: _ } => None,
     }
 }
 
@@ -68,6 +69,7 @@ pub(crate) fn picked_last(last: Last<'_>) -> Option<u16>
             request: _,
             reply: _,
         } => None,
+        Last::Found { marks: _, ops: _ } => None,
     }
 }
 

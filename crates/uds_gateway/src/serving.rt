@@ -190,6 +190,11 @@ fn last_posted<D: MemDevice, C: SyncCalls + Drop>(
                 reply: _,
             },
         ) => Ok(negative(room, request, NegativeCode::ConditionsNotCorrect)),
+        Some(Last::Found { marks: _, ops: _ }) => Ok(negative(
+            room,
+            request,
+            NegativeCode::ConditionsNotCorrect,
+        )),
         None => Ok(negative(room, request, NegativeCode::ConditionsNotCorrect)),
     }
 }

@@ -8,7 +8,7 @@ returns-in-Ok-clause-keeps g c =
     let d = c.args.desk.now in
     let new = g.D.MemDevice.told c.find.new.device in
     let clock = (g.D.MemDevice.clock c.find.new.device) in
-    let added = rw c.ops.ensures at c.start_up.ensures in
+    let added = rw c.ops.ensures at c.start_up.ensures.entry in
     λ before told first keeps.
     subst (λ (x : DeskState). Keeps x.config x.cap x.entries before new clock) (sym added)
     (c.in-Ok.ensures.keeps d.config d.cap d.entries before told first c.requires.fits keeps).1

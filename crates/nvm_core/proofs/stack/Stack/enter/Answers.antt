@@ -1,9 +1,9 @@
-use Rattle.std.proofs.Common.{◌≡◌, Bool, true, is_some, ap, sym, subst, ◌∙◌}
+use Rattle.std.proofs.Common.{◌≡◌, Bool, true, ap, sym, subst, ◌∙◌}
 use Rattle.nvm_laws.specs.block_machine.Legal.{HasStore}
 use Rattle.nvm_laws.specs.Keeps.{StaysKept}
 use Rattle.nvm_laws.specs.DueCalls.{KeepsDue}
 use Rattle.nvm_laws.specs.nv_desk.Request.{request_lent}
-use Rattle.nvm_core.specs.Stack.{IsStack, StackState, stack_seen}
+use Rattle.nvm_core.specs.Stack.{IsStack, StackState, stack_seen, is_unused}
 use Rattle.nvm_core.specs.Due.{AcceptsDue, now_of}
 use Rattle.nvm_core.proofs.Asked.{accepted_due, asked_due, asked_keeps, asked_stack}
 use Rattle.nvm_core.proofs.stack.Stack.enter.Goals as goal
@@ -34,7 +34,7 @@ pub returns-clause-accepted : goal.returns-clause-accepted
 returns-clause-accepted g c =
     let inside = c.self.inside in
     let told = g.D.MemDevice.told in
-    let old = stack_seen inside.front.desk inside.hand inside.device inside.copies inside.ready (is_some inside.room) in
+    let old = stack_seen inside.front.desk inside.hand inside.device inside.copies inside.ready (is_unused inside.ready inside.room) in
     subst (λ (s : StackState g.row.D.Denot g.row.C.Denot). AcceptsDue told (request_lent c.args.request) c.enter.result s (record old { desk = c.enter.new.self })) c.self.view_is
     (accepted_due told old c.enter.new.self c.args.caller (request_lent c.args.request) c.enter.result c.enter.ensures.ok)
 
@@ -42,7 +42,7 @@ pub returns-clause-due : goal.returns-clause-due
 returns-clause-due g c =
     let inside = c.self.inside in
     let told = g.D.MemDevice.told in
-    let old = stack_seen inside.front.desk inside.hand inside.device inside.copies inside.ready (is_some inside.room) in
+    let old = stack_seen inside.front.desk inside.hand inside.device inside.copies inside.ready (is_unused inside.ready inside.room) in
     subst (λ (s : StackState g.row.D.Denot g.row.C.Denot). KeepsDue (now_of told s) (now_of told (record old { desk = c.enter.new.self }))) c.self.view_is
     (asked_due told old c.enter.new.self c.args.caller (request_lent c.args.request) c.enter.result c.enter.ensures.reply c.enter.ensures.ok (λ fault is. rw is at c.enter.ensures.err)
     c.desc_in_hand-desc.ensures.next)

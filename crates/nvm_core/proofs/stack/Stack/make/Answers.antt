@@ -11,5 +11,4 @@ invariant_of-result g c = record {
   has_room = search rules;
   tied = search rules;
   power = search rules;
-  used = search rules;
 }

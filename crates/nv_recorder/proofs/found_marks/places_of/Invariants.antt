@@ -1,6 +1,6 @@
 use Rattle.std.proofs.Common.{◌≡◌, map, take}
-use Rattle.nvm_found.specs.Places.{number_at, AreWhole}
-use Rattle.nvm_found.proofs.place.places_of.Given as goal
+use Rattle.nv_recorder.specs.FoundMarks.{number_at, AreWhole}
+use Rattle.nv_recorder.proofs.found_marks.places_of.Given as goal
 
 abbrev pub invariant-loop-item : goal.invariant-loop-item
 invariant-loop-item l = record {

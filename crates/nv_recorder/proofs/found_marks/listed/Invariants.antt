@@ -1,9 +1,9 @@
 use Rattle.std.proofs.Common.{◌≡◌, ◌≤◌, ◌+◌, ◌++◌, ℕ, length, map}
 use Rattle.std.specs.Vec.Iter.{into_iter_items, into_iter_len}
-use Rattle.block_machine.specs.nv_base.Lengths.{AreLengths}
-use Rattle.block_machine.specs.nv_base.Marks.{next_or}
-use Rattle.nvm_found.specs.Places.{number_at, AreWhole, marks_at}
-use Rattle.nvm_found.proofs.found_room.listed.Given as goal
+use Rattle.nv_base.specs.Lengths.{AreLengths}
+use Rattle.nv_base.specs.Marks.{next_or}
+use Rattle.nv_recorder.specs.FoundMarks.{number_at, AreWhole, marks_at}
+use Rattle.nv_recorder.proofs.found_marks.listed.Given as goal
 
 abbrev pub invariant-loop-place : goal.invariant-loop-place
 invariant-loop-place l = record {

@@ -3,7 +3,7 @@ use Rattle.memif.proofs.Turning.{told_before}
 use Rattle.nvm_device_laws.proofs.DeviceCalls.{start_up_keeps}
 use Rattle.nvm_device_laws.proofs.DownCalls.{start_up_down}
 use Rattle.nvm_found.proofs.Promise.{any_ok, ups_more}
-use Rattle.nvm_found.proofs.found_room.find_all.Goals as goal
+use Rattle.nvm_found.proofs.found.find_all.Goals as goal
 
 pub returns-clause-keeps : goal.returns-clause-keeps
 returns-clause-keeps g c = any_ok c.read_all.result

@@ -1,11 +1,11 @@
 use Rattle.std.proofs.Common.{◌≡◌, ◌≤◌, ◌+◌, ◌∷◌, ◌++◌, List, length, map, ap, arith, ◌∙◌, sym, subst}
 use Rattle.std.specs.Vec.Iter.{into_iter_items}
-use Rattle.block_machine.specs.nv_base.Lengths.{AreLengths}
-use Rattle.block_machine.specs.nv_base.Marks.{next_or}
-use Rattle.nvm_found.specs.declared.place.Place.{Place}
-use Rattle.nvm_found.specs.Places.{number_at, AreWhole, marks_at}
-use Rattle.nvm_found.proofs.PlaceLists.{marks_on, next_on}
-use Rattle.nvm_found.proofs.found_room.listed.Goals as goal
+use Rattle.nv_base.specs.Lengths.{AreLengths}
+use Rattle.nv_base.specs.Marks.{next_or}
+use Rattle.nv_recorder.specs.declared.found_marks.FoundPlace.{FoundPlace}
+use Rattle.nv_recorder.specs.FoundMarks.{number_at, AreWhole, marks_at}
+use Rattle.nv_recorder.proofs.FoundPlaces.{marks_on, next_on}
+use Rattle.nv_recorder.proofs.found_marks.listed.Goals as goal
 
 pub loop-place-preserved : goal.loop-place-preserved
 loop-place-preserved c =
@@ -15,8 +15,8 @@ loop-place-preserved c =
     let rest = into_iter_items c.next.new.self in
     let steps : into_iter_items at.place-iterator ≡ p ∷ rest = c.in-Some.ensures.steps.0 in
     let short = ap length steps in
-    let ascend : AreLengths so.ascend.0 (map number_at (p ∷ rest)) = subst (λ (ps : List Place). AreLengths so.ascend.0 (map number_at ps)) steps so.ascend.2 in
-    let whole : AreWhole (p ∷ rest) = subst (λ (ps : List Place). AreWhole ps) steps so.whole in
+    let ascend : AreLengths so.ascend.0 (map number_at (p ∷ rest)) = subst (λ (ps : List FoundPlace). AreLengths so.ascend.0 (map number_at ps)) steps so.ascend.2 in
+    let whole : AreWhole (p ∷ rest) = subst (λ (ps : List FoundPlace). AreWhole ps) steps so.whole in
     let below : next_or 0 at.marks.marks ≤ p.number.0 = (let low = so.ascend.1 in let above = ascend.0 in omega (arith, low, above)) in
     record {
       marks = ap (λ ms. ms ++ marks_at rest) c.add.ensures.marks ∙ marks_on at.marks.marks p rest ∙ ap (λ ps. at.marks.marks ++ marks_at ps) (sym steps) ∙ so.marks;
