@@ -1,5 +1,5 @@
 -- The states of blocks by id, and how one of them changes.
-use Rattle.std.specs.Prelude.{◌≡◌, ℕ, ◌==◌, true, false, Bool, List, ◌∷◌, map, length, get_or, slice_set, ◌&&◌, if◌then◌else◌, unwrap_or, Option, Some, None}
+use Rattle.std.specs.Prelude.{◌≡◌, ℕ, ◌==◌, true, false, Bool, List, ◌∷◌, map, length, get_or, slice_set, if◌then◌else◌, unwrap_or, Option, Some, None}
 use Rattle.std.specs.List.{list_any, enumerate_from}
 use Rattle.ram_blocks.specs.declared.kept.RamFlags.{RamFlags}
 use Rattle.ram_blocks.specs.Kept.{kept_of}

@@ -1,16 +1,13 @@
 -- Marks that a start-up found, one by one.
-use Rattle.std.proofs.Common.{◌≡◌, ◌⊎◌, ℕ, zero, suc, ◌+◌, false, List, [], ◌∷◌, ◌++◌, take, slice_get, Some, refl, sym, ap, ◌∙◌, subst, inl, inr, arith, add-one}
+use Rattle.std.proofs.Common.{◌≡◌, ◌⊎◌, ℕ, zero, suc, ◌+◌, List, [], ◌∷◌, ◌++◌, take, slice_get, Some, refl, sym, ap, ◌∙◌, subst, inl, inr, add-one}
 use Rattle.std.proofs.lemmas.List.{append-nil}
-use Rattle.block_machine.specs.block_config.Lengths.{lengths_of}
-use Rattle.block_machine.specs.Words.{Configuration, Instance, Mark}
+use Rattle.block_machine.specs.Words.{Configuration, Mark}
 use Rattle.block_machine.specs.State.{State}
 use Rattle.block_machine.specs.StartUp.{started_with}
 use Rattle.block_machine.specs.nv_base.Marks.{instance_of}
-use Rattle.nv_recorder.specs.declared.event.MarkKind.{MarkKind}
 use Rattle.nv_recorder.specs.declared.event.MarkKind.TheVariants as mark
 use Rattle.nv_recorder.specs.declared.found_marks.FoundPlace.{FoundPlace}
 use Rattle.nv_recorder.specs.FoundMarks.{marks_at, mark_at, listed_at}
-use Rattle.nv_recorder.specs.Recorder.{Recorded, found_numbers, keeps}
 use Rattle.nv_recorder.proofs.FoundPlaces.{marks_more}
 use Rattle.nv_desk_state.specs.declared.kept.Kept.{Kept}
 use Rattle.nv_desk_state.specs.Kept.{Agrees}
@@ -44,7 +41,3 @@ marked_noted c old new s ps i p is kind adds agrees =
     own : (p.kind ≡ mark.Content) ⊎ (p.kind ≡ mark.Invalid) → listed_at p [] ≡ (instance_of p.number, mark_at p) ∷ []
     own (inl is) = rw is refl
     own (inr is) = rw is refl
-
--- the numbers of a recorder that counts
-pub numbers_counted : (c : Configuration) (h : Recorded) → h.numbers ≡ found_numbers h.cap (lengths_of c) → keeps h.cap ≡ false → h.numbers ≡ lengths_of c
-numbers_counted c h is counts = rw counts at is

@@ -29,5 +29,6 @@ pub use ask::AskFault;
 pub use desk::Desk;
 pub use longest::longest_content;
 pub use nv_recorder::{
-    Buffer, ENDLESS, Event, FoundMarks, FoundPlace, Last, LentRequest, MarkKind, RequestKind, TakenKind,
+    Buffer, ENDLESS, Event, FoundMarks, FoundPlace, Last, LentRequest, MarkKind, RequestKind,
+    TakenKind,
 };

@@ -1,12 +1,12 @@
 -- The memory of start-ups.
 use Rattle.std.specs.Prelude.{IfSome, IsSomeAnd, is_some}
-use Rattle.std.proofs.Common.{◌≡◌, ◌≤◌, ℕ, true, false, List, length, map, Option, Some, None, refl, ap, sym, subst, ◌∙◌, inl, inr, arith}
+use Rattle.std.proofs.Common.{◌≡◌, ◌≤◌, ℕ, true, false, List, length, Option, Some, None, refl, ap, sym, ◌∙◌, inl, inr, arith}
 use Rattle.std.proofs.lemmas.Bool.{cases_Bool}
 use Rattle.std.proofs.lemmas.List.{length-map}
 use Rattle.nvm_laws.specs.nv_base.declared.instance.DeviceNumber.{DeviceNumber}
 use Rattle.nvm_laws.specs.block_config.Lengths.{lengths_of}
 use Rattle.nvm_laws.specs.nv_desk.Desk.{DeskState}
-use Rattle.nvm_laws.specs.nv_desk.FoundMarks.{FoundState, CanList, number_at, numbers_of}
+use Rattle.nvm_laws.specs.nv_desk.FoundMarks.{FoundState, number_at, numbers_of}
 use Rattle.nvm_laws.specs.nv_desk.Recorder.{keeps}
 use Rattle.nvm_core.specs.Stack.{IsRoom, HasRooms}
 

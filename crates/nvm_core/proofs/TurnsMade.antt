@@ -1,6 +1,5 @@
 -- A stack behind a turn.
-use Rattle.std.specs.Prelude.{IfSome}
-use Rattle.std.proofs.Common.{◌≡◌, ℕ, Bool, true, false, List, Option, Some, None, refl, ap, subst, sym, ◌∙◌, inl, inr}
+use Rattle.std.proofs.Common.{◌≡◌, ℕ, Bool, true, List, Option, Some, None, refl, ap, subst, sym, inl, inr}
 use Rattle.nvm_laws.specs.memif.Told.{DeviceTold}
 use Rattle.nvm_laws.specs.block_machine.Words.{Entry, Taken, Configuration}
 use Rattle.nvm_laws.specs.block_machine.Results.{Answer}

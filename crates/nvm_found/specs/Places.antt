@@ -1,12 +1,7 @@
 -- What was found of a number, and what a read comes to.
-use Rattle.std.specs.Prelude.{◌≡◌, ◌≤◌, ◌⊎◌, if◌then◌else◌, ℕ, zero, suc, true, false, length, List, [], ◌∷◌, IfSome, Some}
-use Rattle.block_machine.specs.nv_base.Marks.{instance_of, listed}
-use Rattle.block_machine.specs.nv_base.declared.instance.Instance.{Instance}
+use Rattle.std.specs.Prelude.{◌≡◌, ◌≤◌, ◌⊎◌, if◌then◌else◌, ℕ, zero, suc, true, false, List, [], ◌∷◌, IfSome, Some}
 use Rattle.block_machine.specs.nv_base.declared.instance.DeviceNumber.{DeviceNumber}
 use Rattle.block_machine.specs.nv_base.declared.mark.Mark.{Mark}
-use Rattle.block_machine.specs.nv_base.declared.mark.Mark.TheVariants as mark
-use Rattle.memif.specs.declared.answer.PlainMark.{PlainMark}
-use Rattle.memif.specs.declared.answer.PlainMark.TheVariants.{Content, Invalid, Erased}
 use Rattle.memif.specs.declared.answer.JobResult.{JobResult}
 use Rattle.memif.specs.declared.answer.JobResult.TheVariants.{JobFailed}
 use Rattle.memif.specs.Told.{DeviceTold, Slot, is_open, slot_at}

@@ -12,7 +12,11 @@ use memif::{JobResult, MemDevice, PlainMark, StartFault};
 use nv_recorder::{FoundMarks, MarkKind};
 
 /// Finds the mark of the number at a place, at a device that was started up.
-pub(crate) fn find_at<D: MemDevice>(found: &mut FoundMarks, i: usize, device: &mut D) -> Result<(), StartFault>
+pub(crate) fn find_at<D: MemDevice>(
+    found: &mut FoundMarks,
+    i: usize,
+    device: &mut D,
+) -> Result<(), StartFault>
     requires below { i < length found.old.places }
     requires numbers { numbers_of found.old ≡ (D.told device.old).fixed.numbers }
     requires ready { IsReady (D.told device.old) }
@@ -34,7 +38,11 @@ pub(crate) fn find_at<D: MemDevice>(found: &mut FoundMarks, i: usize, device: &m
 }
 
 // Finds the kind of a number's mark. Where that is a content, the device gives it.
-fn find_kind<D: MemDevice>(device: &mut D, number: DeviceNumber, size: u16) -> Result<MarkKind, StartFault>
+fn find_kind<D: MemDevice>(
+    device: &mut D,
+    number: DeviceNumber,
+    size: u16,
+) -> Result<MarkKind, StartFault>
     requires configured { length_of (D.told device.old).fixed.numbers number.0 ≡ Some size }
     requires ready { IsReady (D.told device.old) }
     ensures ready { IsReady (D.told device.new) }

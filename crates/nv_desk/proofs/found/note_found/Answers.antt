@@ -1,4 +1,4 @@
-use Rattle.std.proofs.Common.{◌∙◌, arith, List, subst}
+use Rattle.std.proofs.Common.{arith, List, subst}
 use Rattle.std.proofs.lemmas.List.{take_all}
 use Rattle.block_machine.specs.StartUp.{started_with}
 use Rattle.nv_recorder.specs.declared.found_marks.FoundPlace.{FoundPlace}

@@ -1,7 +1,7 @@
-use Rattle.std.proofs.Common.{◌≡◌, ◌<◌, ◌+◌, ◌∙◌, ℕ, List, length, Some, set, get_or, sym, ap, subst}
+use Rattle.std.proofs.Common.{◌+◌, ◌∙◌, ℕ, List, length, Some, sym, ap, subst}
 use Rattle.nv_recorder.specs.declared.found_marks.FoundPlace.{FoundPlace}
 use Rattle.nv_recorder.specs.Event.{mark_of}
-use Rattle.nv_recorder.specs.FoundMarks.{FoundState, numbers_of, with_mark}
+use Rattle.nv_recorder.specs.FoundMarks.{FoundState, numbers_of}
 use Rattle.nvm_found.specs.Places.{FirstHeld, HoldsMark}
 use Rattle.nvm_found.proofs.PlaceLists.{first_found, found_numbers, place_configured, place_got}
 use Rattle.nvm_found.proofs.place.find_at.Goals as goal

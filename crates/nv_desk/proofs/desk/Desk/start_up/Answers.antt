@@ -1,11 +1,9 @@
-use Rattle.std.proofs.Common.{[], refl, arith, sym, subst, ap, ◌∙◌, None}
+use Rattle.std.proofs.Common.{[], refl, arith, sym, ◌∙◌, None}
 use Rattle.block_machine.specs.Words.{Found}
-use Rattle.block_machine.specs.block_config.Lengths.{lengths_of}
 use Rattle.block_machine.specs.Steps.{after}
 use Rattle.nv_recorder.specs.FoundMarks.{found_in}
 use Rattle.nv_desk.proofs.Entries.{pushed, entry_kept}
 use Rattle.nv_desk.proofs.Dropping.{all_back, held_in, without_jobs}
-use Rattle.nv_desk.proofs.Founds.{numbers_counted}
 use Rattle.nv_desk.proofs.Ready.{all_ready}
 use Rattle.nv_desk.proofs.SoundDriver.{sound_found}
 use Rattle.nv_desk.proofs.desk.Desk.start_up.Goals as goal

@@ -22,7 +22,7 @@ invariant_of-self c =
     let at : p ≡ get_or ps c.args.i p = c.index_mut.ensures.value in
     let whole : IsWhole p = subst IsWhole (sym at) (whole_at ps c.args.i p below c.self.invariant.whole) in
     let same : number_at c.hold.new.self ≡ number_at (get_or ps c.args.i p) =
-        ap number_at c.hold.ensures ∙ held_number c.args.kind c.args.content.now p ∙ ap number_at at in
+    ap number_at c.hold.ensures ∙ held_number c.args.kind c.args.content.now p ∙ ap number_at at in
     record {
       numbers = subst (λ (ns : List (DeviceNumber × ℕ)). AreLengths 0 ns) (sym (numbers_set ps c.args.i c.hold.new.self p below same)) c.self.invariant.numbers;
       whole = whole_set ps c.args.i c.hold.new.self c.self.invariant.whole (subst IsWhole (sym c.hold.ensures) (held_whole c.args.kind c.args.content.now p
