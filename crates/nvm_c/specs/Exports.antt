@@ -40,11 +40,13 @@ pub record AsksBy (v : Service) (block number : ℕ) (content : List ℕ) (code 
   pub code_is : code ≡ answer_code answer
   pub value_is : value ≡ answer_value answer
 
--- of a service's number: it was asked, or there was no memory for the request, or the last start-up failed, or no service has it
+-- of a service's number: it was asked, or there was no memory for the request, or the last start-up failed, or no service has it; these
+-- tell no value
 abbrev pub IsAsked : (service block number : ℕ) → List ℕ → (code value : ℕ) → UnitState → UnitState → Type 0
 IsAsked service block number content code value s t =
     ((v : Service) × (number_of v ≡ service) × AsksBy v block number content code value s t)
-    ⊎ (((code ≡ 4) × (t ≡ s)) ⊎ (((code ≡ 5) × StaysDown s t) ⊎ ((code ≡ 6) × (t ≡ s) × ((v : Service) → number_of v ≢ service))))
+    ⊎ ((value ≡ 0)
+    × (((code ≡ 4) × (t ≡ s)) ⊎ (((code ≡ 5) × StaysDown s t) ⊎ ((code ≡ 6) × (t ≡ s) × ((v : Service) → number_of v ≢ service)))))
 
 -- TURNS
 abbrev pub turned_code : Turned → ℕ
@@ -113,13 +115,13 @@ pub record IsFilled (content : List ℕ) (size : ℕ) (old new : List ℕ) : Typ
 
 -- of a block's RAM, or there was no memory
 abbrev pub IsRam : (block code size : ℕ) → List ℕ → List ℕ → UnitState → Type 0
-IsRam block code size old new s = ((code ≡ 0) × IsFilled (block_at (state_of s.desk) block).ram size old new) ⊎ ((code ≡ 4) × (new ≡ old))
+IsRam block code size old new s = ((code ≡ 0) × IsFilled (block_at (state_of s.desk) block).ram size old new) ⊎ ((code ≡ 4) × (size ≡ 0) × (new ≡ old))
 
 -- of a content that there may be, or there was no memory
 abbrev pub IsShown : Option (List ℕ) → (code size : ℕ) → List ℕ → List ℕ → Type 0
 IsShown shown code size old new =
     ((content : List ℕ) × (shown ≡ Some content) × (code ≡ 0) × IsFilled content size old new)
-    ⊎ (((shown ≡ None) × (code ≡ 1) × (new ≡ old)) ⊎ ((code ≡ 4) × (new ≡ old)))
+    ⊎ (((shown ≡ None) × (code ≡ 1) × (size ≡ 0) × (new ≡ old)) ⊎ ((code ≡ 4) × (size ≡ 0) × (new ≡ old)))
 
 -- of what the last entry gave, if it gave something
 abbrev pub IsGiven : (code size : ℕ) → List ℕ → List ℕ → UnitState → Type 0

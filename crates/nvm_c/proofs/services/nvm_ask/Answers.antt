@@ -9,12 +9,12 @@ use Rattle.nvm_c.proofs.services.nvm_ask.Goals as goal
 pub returns-in_default : goal.returns-in_default
 returns-in_default c = record {
   asked = goes_same c.args.handle.now.kept (IsAsked c.args.service c.args.block c.args.number c.args.content.now 6 0) c.requires.open
-      (λ s. inr (inr (inr (refl, refl, c.service_of.ensures.none c.in_default.is))));
+      (λ s. inr (refl, inr (inr (refl, refl, c.service_of.ensures.none c.in_default.is))));
 }
 
 pub returns-in_default-task_of : goal.returns-in_default-task_of
 returns-in_default-task_of c = record {
-  asked = rw c.task_of.ensures.same (goes_same c.args.handle.now.kept (IsAsked c.args.service c.args.block c.args.number c.args.content.now 4 0) c.requires.open (λ s. inr (inl (refl, refl))));
+  asked = rw c.task_of.ensures.same (goes_same c.args.handle.now.kept (IsAsked c.args.service c.args.block c.args.number c.args.content.now 4 0) c.requires.open (λ s. inr (refl, inl (refl, refl))));
 }
 
 pub work_on-requires : goal.work_on-requires
