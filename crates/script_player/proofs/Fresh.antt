@@ -1,9 +1,7 @@
 -- A stack is fresh behind its first start-up.
-use Rattle.script_player.proofs.Common.{◌≡◌, List, [], ◌∷◌, ◌++◌, refl, sym, ap, ◌∙◌, Found, DeviceTold, ops_of, is_off, PlainBlock, told_of, store_of, plain_blocks_of, StackState, told_by, to_refuse_in, IsFresh}
+use Rattle.script_player.proofs.Common.{◌≡◌, List, [], ◌∷◌, ◌++◌, refl, sym, ap, ◌∙◌, Found, DeviceTold, ops_of, is_off, PlainBlock, told_of, store_of, plain_blocks_of, StackState, told_by, to_refuse_in, IsFresh, StartsUp, none_to_refuse}
 use Rattle.std.proofs.Common.{map}
-use Rattle.uds_gateway.specs.nvm_core.StartUps.{StartsUp}
 use Rattle.script_player.proofs.PlainPlans.{from_none}
-use Rattle.uds_gateway.proofs.FreshCopies.{none_to_refuse}
 
 pub is_fresh : {D : Type 0} (told : D → DeviceTold) (m s : StackState D (List PlainBlock)) → m.desk.entries ≡ [] → m.copies ≡ plain_blocks_of m.desk.config → StartsUp told m s → (fresh : IsFresh (told_by told s)) × (fresh.ops ≡ (told_by told s).ops)
 is_fresh told m s empty first starts = (

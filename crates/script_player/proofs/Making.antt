@@ -1,15 +1,9 @@
 -- Each kind of step is made.
-use Rattle.script_player.proofs.Common.{◌≡◌, ◌<◌, ◌≤◌, ◌+◌, ◌^◌, ℕ, zero, suc, Bool, true, false, IsTrue, List, [], ◌∷◌, ◌++◌, length, get_or, refl, sym, ap, ◌∙◌, subst, arith, Option, append-nil, length-set, not, slice_set, Instance, Mark, Request, Reply, Entry, Ask, Found, Configuration, State, desc_of, is_synchronized, next_of, fits, step, after, next_number, Step, StepKind, AskStep, Store, Turn, Drain, Restart, Cut, Refuse, HasNoRoom, DueCut, plan_after, is_drain, stores_of, request_after, CanBePlayed, AreNewest, JobsTookStored, is_store, histories_step, starts_keep_stored, StackTold, state_of, moment_of, Arms, Stores, Refuses, StaysCalm, HasTurned, AreMade, MakesTurns, Drains, PlansCuts, cuts_in, IsMade, Makes, IsAsked, IsExplained, Moment, Move, Planned, planned_by, AreMovesOf, FindsWork, Seen, MovesBy, AskMoves, asked_by, Rose, HasLastStores}
-use Rattle.std.specs.Prelude.{Result, Ok, Err, OnOk, IfErr}
-use Rattle.std.proofs.Math.Nat.{min-eq_left}
-use Rattle.uds_gateway.specs.script_walks.Walk.{copies_by, TakesStore, IsPieceBy}
-use Rattle.uds_gateway.proofs.NewestStores.{others_keep_newest, stores_are_newest, stores_are_few}
-use Rattle.uds_gateway.proofs.WalkedJobs.{steps_keep_stored, asks_keep_stored}
-use Rattle.script_player.specs.Calls.{StartsAgain}
+use Rattle.script_player.proofs.Common.{◌≡◌, ◌<◌, ◌≤◌, ◌+◌, ◌^◌, ℕ, zero, suc, Bool, true, false, IsTrue, List, [], ◌∷◌, ◌++◌, length, get_or, refl, sym, ap, ◌∙◌, subst, arith, Option, append-nil, length-set, not, slice_set, Instance, Mark, Request, Reply, Entry, Ask, Found, Configuration, State, desc_of, is_synchronized, next_of, fits, step, after, next_number, Step, StepKind, AskStep, Store, Turn, Drain, Restart, Cut, Refuse, HasNoRoom, DueCut, plan_after, is_drain, stores_of, request_after, CanBePlayed, AreNewest, JobsTookStored, is_store, histories_step, starts_keep_stored, StackTold, state_of, moment_of, Arms, Stores, Refuses, StaysCalm, HasTurned, AreMade, MakesTurns, Drains, PlansCuts, cuts_in, IsMade, Makes, IsAsked, IsExplained, Moment, Move, Planned, planned_by, AreMovesOf, FindsWork, Seen, MovesBy, AskMoves, asked_by, Rose, HasLastStores, OnOk, IfErr, min-eq_left, copies_by, TakesStore, IsPieceBy, others_keep_newest, stores_are_newest, stores_are_few, steps_keep_stored, asks_keep_stored, StartsAgain, StartsAnew}
+use Rattle.std.specs.Prelude.{Result, Ok, Err}
 use Rattle.script_player.specs.Kept.{IsKept}
 use Rattle.script_player.proofs.Coming.{pending_same, refuse_cuts, ask_cuts, turns_cuts}
 use Rattle.script_player.proofs.Moves.{move_to}
-use Rattle.script_player.specs.Paying.{StartsAnew}
 use Rattle.script_player.proofs.Explained.{by_cut, by_entries, by_nothing, by_refuse, by_restart}
 use Rattle.script_player.proofs.InHand.{power_on}
 use Rattle.script_player.proofs.Table.{same_table}

@@ -1,22 +1,6 @@
 -- What moves by the one law came to, and what calls that make none keep.
-use Rattle.script_player.proofs.Common.{None, ◌≡◌, ◌≤◌, ◌++◌, ℕ, Bool, List, take, refl, ap, subst, inl, inr, arith, DeviceTold, Clock, Lasts, Entry, Configuration, after, DeskState, Moment, Move, entries_of, Seen, MovesBy, LastsOn}
+use Rattle.script_player.proofs.Common.{None, ◌≡◌, ◌≤◌, ◌++◌, ℕ, Bool, List, take, refl, ap, subst, inl, inr, arith, DeviceTold, Clock, Lasts, Entry, Configuration, after, DeskState, Moment, Move, entries_of, Seen, MovesBy, LastsOn, Past, Seals, TakesKept, same_clock, same_told, HadPages, HasMovesTo, MayGoOn, worn_by, write_pages, costs_of, making_of, turns_beside, counted_by, since_too, taken_by, urgent_by, worked_by, BeginsMoves, moment_seen, moves_came, CameBy}
 use Rattle.std.specs.Prelude.{false}
-use Rattle.uds_gateway.specs.memif.Clock.{Past, Seals, TakesKept}
-use Rattle.uds_gateway.proofs.Turning.{same_clock, same_told}
-use Rattle.uds_gateway.specs.promise_run.DeviceTurns.{HadPages, HasMovesTo, MayGoOn, worn_by}
-use Rattle.uds_gateway.specs.promise_run.JobTurns.{write_pages}
-use Rattle.uds_gateway.specs.promise_run.Operations.{costs_of}
-use Rattle.uds_gateway.specs.promise_run.Promise.{making_of}
-use Rattle.uds_gateway.specs.promise_run.Turns.{turns_beside}
-use Rattle.uds_gateway.proofs.Counted.{counted_by}
-use Rattle.uds_gateway.proofs.Paid.{since_too}
-use Rattle.uds_gateway.proofs.TakenPages.{taken_by}
-use Rattle.uds_gateway.proofs.UrgentPosts.{urgent_by}
-use Rattle.uds_gateway.proofs.WorkedBy.{worked_by}
-use Rattle.uds_gateway.specs.nvm_moves.Beginning.{BeginsMoves}
-use Rattle.uds_gateway.specs.nvm_moves.Seen.{moment_seen}
-use Rattle.uds_gateway.proofs.Beginning.{moves_came}
-use Rattle.script_player.specs.Paying.{CameBy}
 
 -- nothing more is told
 pub none_last : (s : Seen) → LastsOn s s

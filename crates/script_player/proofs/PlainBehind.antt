@@ -1,21 +1,8 @@
 -- A turn of the device behind the first half.
-use Rattle.script_player.proofs.Common.{map, not, ◌≡◌, ◌⊎◌, ℕ, Bool, true, false, List, [], ◌∷◌, ◌++◌, Option, Some, None, refl, sym, ap, ◌∙◌, subst, inl, inr, DeviceTold, Stand, Open, ops_of, is_off, Clock, Instance, Mark, Entry, Wrote, Off, State, Job, PlainBlock, Told, told_of, store_of, DeskState, IsPaired, HandState, Turned, StackState, PowersOff, IsFirstHalf, Added, copy_told, is_due, is_at_rest, AreCut, Turns, IsAnswer, Lowers, told_by, to_refuse_in, plan_in, came_in, at_rest, due_rest, rests_next, some_none}
+use Rattle.script_player.proofs.Common.{map, not, ◌≡◌, ◌⊎◌, ℕ, Bool, true, false, List, [], ◌∷◌, ◌++◌, Option, Some, None, refl, sym, ap, ◌∙◌, subst, inl, inr, DeviceTold, Stand, Open, ops_of, is_off, Clock, Instance, Mark, Entry, Wrote, Off, State, Job, PlainBlock, Told, told_of, store_of, DeskState, IsPaired, HandState, Turned, StackState, PowersOff, IsFirstHalf, Added, copy_told, is_due, is_at_rest, AreCut, Turns, IsAnswer, Lowers, told_by, to_refuse_in, plan_in, came_in, at_rest, due_rest, rests_next, some_none, list_any, instance_of, ops_told, JobOk, JobFailed, JobPending, JobCanceled, BlockInconsistent, BlockInvalid, At, nothing_open, MayWrite, settled_by, wrote_by, GoesOn, AddsBy, Device, IsSecondHalf, IsOfTurn, due_hand}
 use Rattle.std.specs.Prelude.{IsTrue}
-use Rattle.std.specs.List.{list_any}
-use Rattle.uds_gateway.specs.nv_base.Marks.{instance_of}
-use Rattle.uds_gateway.specs.nv_base.Entry.{ops_of as ops_told}
-use Rattle.uds_gateway.specs.memif.declared.answer.JobResult.TheVariants.{JobOk, JobFailed, JobPending, JobCanceled, BlockInconsistent, BlockInvalid}
-use Rattle.uds_gateway.specs.memif.Told.{Ended as At, nothing_open}
-use Rattle.uds_gateway.specs.block_machine.Legal.{MayWrite}
 use Rattle.uds_gateway.specs.nv_desk.Desk.{state_of}
-use Rattle.uds_gateway.specs.nvm_device_laws.Turn.{settled_by, wrote_by}
-use Rattle.uds_gateway.specs.nvm_laws.AtDevice.{GoesOn}
-use Rattle.uds_gateway.specs.nvm_laws.Turns.{AddsBy}
 use Rattle.uds_gateway.specs.nvm_laws.declared.turned.Turned.TheVariants as turned
-use Rattle.uds_gateway.specs.nvm_laws.declared.turned.Act.TheVariants.{Device}
-use Rattle.uds_gateway.specs.nvm_core.Turns.{IsSecondHalf}
-use Rattle.uds_gateway.specs.script_walks.Turn.{IsOfTurn}
-use Rattle.uds_gateway.proofs.Resting.{due_hand}
 use Rattle.script_player.proofs.PlainDevices.{Goes, goes_from, came_same, turn_goes, turn_fixed, worked_came, off_cut, cut_from}
 use Rattle.script_player.proofs.PlainRefused.{silent_asked}
 use Rattle.script_player.proofs.PlainTurning.{same_stores, grown, none_more, one_more, explained, makes_one, misses_none, no_off, one_off, begins_late}

@@ -1,10 +1,6 @@
 -- A turn of the device: what becomes of its plans of power cuts.
-use Rattle.script_player.proofs.Common.{◌||◌, min, ◌≡◌, ◌<◌, ◌≤◌, ◌+◌, ◌⊎◌, ℕ, Bool, true, false, List, [], ◌∷◌, ◌++◌, length, Option, Some, None, refl, sym, ap, ◌∙◌, subst, inl, inr, arith, append-nil, leb_tells, last_count, next_count, WereCounted, DeviceTold, PartTold, Part, Fixed, Stand, Open, ops_of, faults_of, is_off, Clock, PartTurns, Off, Turned, DueCut, Added, CutsAre, IsNoEarlier, plan_from, plan_in, takes_in, came_in, ops_in}
-use Rattle.uds_gateway.specs.memif.Told.{First, Second, Ended, part_at, with_part}
-use Rattle.uds_gateway.specs.memif.Calls.{IsOf, Works, IsCut}
-use Rattle.uds_gateway.specs.nvm_core.BehindDevice.{TurnsDevice}
+use Rattle.script_player.proofs.Common.{◌||◌, min, ◌≡◌, ◌<◌, ◌≤◌, ◌+◌, ◌⊎◌, ℕ, Bool, true, false, List, [], ◌∷◌, ◌++◌, length, Option, Some, None, refl, sym, ap, ◌∙◌, subst, inl, inr, arith, append-nil, leb_tells, last_count, next_count, WereCounted, DeviceTold, PartTold, Part, Fixed, Stand, Open, ops_of, faults_of, is_off, Clock, PartTurns, Off, Turned, DueCut, Added, CutsAre, IsNoEarlier, plan_from, plan_in, takes_in, came_in, ops_in, First, Second, Ended, part_at, with_part, IsOf, Works, IsCut, TurnsDevice, unplanned_in}
 use Rattle.uds_gateway.specs.nvm_laws.declared.turned.Turned.TheVariants as turned
-use Rattle.script_player.specs.PlainTold.{unplanned_in}
 use Rattle.script_player.proofs.Offs.{no_earlier_same}
 use Rattle.script_player.proofs.PlainPlans.{from_off, from_on, stands_on, none_earlier, plan_waits}
 use Rattle.script_player.proofs.PlainParts.{part_unplanned, part_takes, part_came, part_longer, part_plan, part_comes, part_off, other_off}

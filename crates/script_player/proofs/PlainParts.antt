@@ -1,7 +1,5 @@
 -- A turn of the device, by its parts.
-use Rattle.script_player.proofs.Common.{◌-◌, option_map, ◌≡◌, ◌<◌, ◌≤◌, ◌+◌, ◌⊎◌, ℕ, Bool, true, false, List, [], ◌∷◌, ◌++◌, length, Option, Some, None, refl, sym, ap, ◌∙◌, subst, inl, inr, arith, append-nil, length-append, leb_tells, last_count, next_count, Rose, WereCounted, Planning, Plan, PartTold, PartTurns, Off, DueCut, Added, CutsAre, IsNoEarlier, due_cut, plan_from}
-use Rattle.uds_gateway.specs.nv_base.Plan.{nearer, IsDue}
-use Rattle.uds_gateway.specs.memif.Calls.{PlanStays}
+use Rattle.script_player.proofs.Common.{◌-◌, option_map, ◌≡◌, ◌<◌, ◌≤◌, ◌+◌, ◌⊎◌, ℕ, Bool, true, false, List, [], ◌∷◌, ◌++◌, length, Option, Some, None, refl, sym, ap, ◌∙◌, subst, inl, inr, arith, append-nil, length-append, leb_tells, last_count, next_count, Rose, WereCounted, Planning, Plan, PartTold, PartTurns, Off, DueCut, Added, CutsAre, IsNoEarlier, due_cut, plan_from, nearer, IsDue, PlanStays}
 use Rattle.script_player.proofs.PlainPlans.{plan_waits}
 
 -- THE COUNTS OF ITS PLANS

@@ -1,10 +1,6 @@
 -- The calls of a stack whose application stores in memory, as it is seen.
-use Rattle.script_player.proofs.Common.{◌||◌, not, ◌≡◌, ℕ, Bool, true, false, List, [], ◌∷◌, ◌++◌, Option, Some, None, refl, sym, ap, ◌∙◌, subst, append_cancel_left, DeviceTold, Part, PartTold, is_off, Clock, Lasts, Entry, PlainBlock, DeskState, HandState, TellsSlots, FoundAnswer, StackState, Restarts, Move, MovesBy, IsSeen, LastsOn, IsKept, seen_by, told_by}
-use Rattle.uds_gateway.specs.memif.Marks.{ComesFrom}
-use Rattle.uds_gateway.proofs.Turning.{told_before}
-use Rattle.uds_gateway.specs.nvm_laws.Keeps.{StaysKept}
+use Rattle.script_player.proofs.Common.{◌||◌, not, ◌≡◌, ℕ, Bool, true, false, List, [], ◌∷◌, ◌++◌, Option, Some, None, refl, sym, ap, ◌∙◌, subst, append_cancel_left, DeviceTold, Part, PartTold, is_off, Clock, Lasts, Entry, PlainBlock, DeskState, HandState, TellsSlots, FoundAnswer, StackState, Restarts, Move, MovesBy, IsSeen, LastsOn, IsKept, seen_by, told_by, ComesFrom, told_before, StaysKept, seen_as, seen_in}
 use Rattle.uds_gateway.specs.nvm_laws.declared.turned.FoundAnswer.TheVariants as found
-use Rattle.uds_gateway.specs.nvm_moves.Seen.{seen_as, seen_in}
 use Rattle.script_player.proofs.Paying.{none_last}
 use Rattle.script_player.proofs.PlainTurning.{not_two}
 
@@ -29,6 +25,7 @@ module _ {D : Type 0} (device : D → DeviceTold) (clock : D → Clock) where
   pub is_seen : (s : StackState D (List PlainBlock)) → IsSeen (told_by device s) (seen_by device clock s)
   is_seen s = record {
     between = refl;
+    config = refl;
     state = refl;
     moment = refl;
     uncut = λ one on. record { one = not_two (device s.device).fixed.two one; power = λ off. absurd (let no_ : false ≡ true = first_on (device s.device).first.off (device s.device).second.off on off in cc no_) };

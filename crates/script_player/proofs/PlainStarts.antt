@@ -1,13 +1,7 @@
 -- Each start-up that a player makes has its Found.
-use Rattle.script_player.proofs.Common.{rules, ◌≡◌, ◌+◌, ℕ, Bool, true, false, List, [], ◌∷◌, ◌++◌, refl, sym, ap, ◌∙◌, subst, inl, inr, arith, append-nil, DeviceTold, Clock, Entry, Ask, Pick, Wrote, Post, Off, Found, Configuration, State, PlainBlock, Told, DeskState, Turned, FoundAnswer, StackState, Restarts, HistoriesStep, SumsGrow, histories_go_on, histories_step, sums_grow, told_by, AreStartsFound}
-use Rattle.uds_gateway.specs.promise_blocks.Operations.{founds}
+use Rattle.script_player.proofs.Common.{rules, ◌≡◌, ◌+◌, ℕ, Bool, true, false, List, [], ◌∷◌, ◌++◌, refl, sym, ap, ◌∙◌, subst, inl, inr, arith, append-nil, DeviceTold, Clock, Entry, Ask, Pick, Wrote, Post, Off, Found, Configuration, State, PlainBlock, Told, DeskState, Turned, FoundAnswer, StackState, Restarts, HistoriesStep, SumsGrow, histories_go_on, histories_step, sums_grow, told_by, AreStartsFound, founds, IsOneOrNone, device_starts, founds_add, EntriesAreCounted, HistoriesGoOn, entries_are_counted}
 use Rattle.uds_gateway.specs.nvm_laws.declared.turned.FoundAnswer.TheVariants as found
 use Rattle.uds_gateway.specs.nvm_core.Turns as core
-use Rattle.uds_gateway.specs.script_walks.Turn.{IsOneOrNone}
-use Rattle.uds_gateway.proofs.StackMoves.{device_starts}
-use Rattle.uds_gateway.proofs.StartUps.{founds_add}
-use Rattle.uds_gateway.specs.block_laws.Laws.{EntriesAreCounted, HistoriesGoOn}
-use Rattle.uds_gateway.proofs.HistoryLaws.{entries_are_counted}
 use Rattle.script_player.specs.Calls as calls
 
 -- where none was made and the entries tell none

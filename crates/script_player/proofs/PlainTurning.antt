@@ -1,12 +1,7 @@
 -- A turn: what it adds, and how that is explained.
-use Rattle.script_player.proofs.Common.{◌||◌, not, map, ◌≡◌, ◌+◌, ℕ, suc, Bool, true, false, List, [], ◌∷◌, ◌++◌, length, get_or, Option, None, refl, sym, ap, ◌∙◌, subst, inl, inr, arith, append-nil, length-map, DeviceTold, Fixed, is_off, Entry, Off, State, step, PlainBlock, told_of, store_of, DeskState, DueCut, Added, CutsAre, AreAsAsked, StackState, PowersOff, histories_step, IsGrown, IsNoEarlier, AreCut, plan_behind, AreExplained, AllTell, is_due, told_by, to_refuse_in, plan_in, came_in, ops_in}
+use Rattle.script_player.proofs.Common.{◌||◌, not, map, ◌≡◌, ◌+◌, ℕ, suc, Bool, true, false, List, [], ◌∷◌, ◌++◌, length, get_or, Option, None, refl, sym, ap, ◌∙◌, subst, inl, inr, arith, append-nil, length-map, DeviceTold, Fixed, is_off, Entry, Off, State, step, PlainBlock, told_of, store_of, DeskState, DueCut, Added, CutsAre, AreAsAsked, StackState, PowersOff, histories_step, IsGrown, IsNoEarlier, AreCut, plan_behind, AreExplained, AllTell, is_due, told_by, to_refuse_in, plan_in, came_in, ops_in, ext_get_or, sizes_of, MissesNone, MakesOne, begins_with_pick_or_post}
 use Rattle.std.specs.Prelude.{IsTrue}
-use Rattle.std.proofs.lemmas.List.{ext_get_or}
-use Rattle.uds_gateway.specs.ram_blocks.Told.{sizes_of}
 use Rattle.uds_gateway.specs.nv_desk.Desk.{state_of}
-use Rattle.script_player.specs.Coming.{MissesNone}
-use Rattle.script_player.specs.Calls.{MakesOne}
-use Rattle.uds_gateway.specs.script_walks.Walk.{begins_with_pick_or_post}
 use Rattle.script_player.proofs.PlainPlans.{none_earlier}
 use Rattle.script_player.proofs.PlainDevices.{Goes, DeviceCut}
 

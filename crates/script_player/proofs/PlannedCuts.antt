@@ -1,6 +1,5 @@
 -- The power cuts that steps plan.
-use Rattle.script_player.proofs.Common.{slice_get, ◌≡◌, ◌≤◌, ◌+◌, ℕ, List, take, Some, ap, ◌∙◌, arith, take_more, sum_by_push, cuts_in, cuts_of}
-use Rattle.std.proofs.lemmas.Option.{slice_get_within, get_or_from_slice_get}
+use Rattle.script_player.proofs.Common.{slice_get, ◌≡◌, ◌≤◌, ◌+◌, ℕ, List, take, Some, ap, ◌∙◌, arith, take_more, sum_by_push, cuts_in, cuts_of, slice_get_within, get_or_from_slice_get}
 use Rattle.nvm_script.specs.declared.step.Step.{Step}
 use Rattle.nvm_script.specs.declared.step.StepKind.{StepKind}
 use Rattle.nvm_script.specs.declared.step.StepKind.TheVariants.{Cut}

@@ -1,20 +1,10 @@
 -- Requests of a UDS gateway, one after another.
-use Rattle.script_player.proofs.Common.{not, ◌≡◌, ◌≢◌, ◌<◌, ◌≤◌, ◌+◌, length-append, ℕ, true, false, IsTrue, List, [], ◌∷◌, ◌++◌, length, take, drop, get_or, zero, suc, None, Result, Ok, Err, refl, sym, ap, ◌∙◌, subst, inl, inr, arith, append-nil, append_assoc, map-append, take_more, list_all-append, DeskState, Turned, Instance, Mark, Request, Reply, Entry, Ask, Post, Off, Found, Configuration, State, Job, fits, after, step, histories_step, ServeStop, HasOne, Goes, is_on_way, Step, AskStep, Turn, request_after, is_at_rest, joined, CanBePlayed, StackTold, state_of, desk_of, AddsAsk, Turns, MakesTurns, IsAsked, IsFresh, HasWalked, Seen, none_moves, AskMoves, IsSeen, LastsOn, TurnMoves, EndsRequest, AreServedSoFar, HasServed}
+use Rattle.script_player.proofs.Common.{not, ◌≡◌, ◌≢◌, ◌<◌, ◌≤◌, ◌+◌, length-append, ℕ, true, false, IsTrue, List, [], ◌∷◌, ◌++◌, length, take, drop, get_or, zero, suc, None, Result, Ok, Err, refl, sym, ap, ◌∙◌, subst, inl, inr, arith, append-nil, append_assoc, map-append, take_more, list_all-append, DeskState, Turned, Instance, Mark, Request, Reply, Entry, Ask, Post, Off, Found, Configuration, State, Job, fits, after, step, histories_step, ServeStop, HasOne, Goes, is_on_way, Step, AskStep, Turn, request_after, is_at_rest, joined, CanBePlayed, StackTold, state_of, desk_of, AddsAsk, Turns, MakesTurns, IsAsked, IsFresh, HasWalked, Seen, none_moves, AskMoves, IsSeen, LastsOn, TurnMoves, EndsRequest, AreServedSoFar, HasServed, Accepted, Refused, StatusIs, IndexIs, asked_block, HasStore, reply_of, NegativeCode, HasNone, IsOwn, ComesToPost, ComesToOff, served_more, accepted_one, refused_none, own_cases, own_reply, IsYesOrNo, is_of_request, AreOfRequests, no_stores, IsServing, ServesNoMore, EndsJob}
 use Rattle.std.proofs.Common.{◌-◌}
 use Rattle.uds_gateway.specs.nvm_laws.declared.turned.Turned.TheVariants as turned
-use Rattle.uds_gateway.specs.block_machine.Words.{Accepted, Refused, StatusIs, IndexIs}
-use Rattle.uds_gateway.specs.block_machine.Blocks.{asked_block}
-use Rattle.uds_gateway.specs.block_machine.Legal.{HasStore}
-use Rattle.uds_gateway.specs.block_machine.Reply.{reply_of}
-use Rattle.uds_gateway.specs.declared.code.NegativeCode.{NegativeCode}
 use Rattle.uds_gateway.specs.declared.stop.ServeStop.TheVariants as stop
 use Rattle.uds_gateway.specs.Services.{asked_by}
-use Rattle.uds_gateway.specs.Jobs.{HasNone, IsOwn}
-use Rattle.uds_gateway.specs.Turning.{ComesToPost, ComesToOff}
-use Rattle.uds_gateway.proofs.Served.{served_more}
-use Rattle.uds_gateway.proofs.Jobs.{accepted_one, refused_none, own_cases, own_reply, IsYesOrNo}
 use Rattle.script_player.specs.Kept.{IsKept}
-use Rattle.script_player.specs.Requests.{is_of_request, AreOfRequests, no_stores, IsServing, ServesNoMore, EndsJob}
 use Rattle.script_player.proofs.Causes.{joined_more}
 use Rattle.script_player.proofs.Making.{ask_made, turns_made}
 use Rattle.script_player.proofs.Offs.{none_counted}

@@ -1,6 +1,5 @@
 -- A stack in which nothing fails.
-use Rattle.script_player.proofs.Common.{list_all, ◌≡◌, ◌≤◌, IsTrue, List, ◌++◌, sym, ◌∙◌, subst, and_parts, list_all-append, Entry, rose_since, is_calm_entry, StackTold, StaysCalm}
-use Rattle.uds_gateway.proofs.Turning.{rose_before}
+use Rattle.script_player.proofs.Common.{list_all, ◌≡◌, ◌≤◌, IsTrue, List, ◌++◌, sym, ◌∙◌, subst, and_parts, list_all-append, Entry, rose_since, is_calm_entry, StackTold, StaysCalm, rose_before}
 
 -- what stays calm in all is calm up to a moment, and from it on
 pub calm_until : (old mid new : StackTold) (more : List Entry) → new.entries ≡ mid.entries ++ more → mid.faults ≤ new.faults → StaysCalm old new → StaysCalm old mid

@@ -1,16 +1,11 @@
 -- The table of last stores from step to step.
-use Rattle.script_player.proofs.Common.{slice_set, slice_get, ◌≡◌, ◌≢◌, ◌<◌, ◌≤◌, ◌+◌, ◌*◌, ◌⊎◌, ℕ, zero, suc, Bool, true, false, List, [], ◌∷◌, ◌++◌, length, get_or, replicate, refl, sym, ap, ◌∙◌, subst, inl, inr, arith, Option, Some, None, get_or-set_other, length-set, cases_Bool, plain_block, block_of, length_where_sync, sync_length_of, desc_of, is_synchronized, Step, Store, stores_of, is_store, HasLastStores}
+use Rattle.script_player.proofs.Common.{slice_set, slice_get, ◌≡◌, ◌≢◌, ◌<◌, ◌≤◌, ◌+◌, ◌*◌, ◌⊎◌, ℕ, zero, suc, Bool, true, false, List, [], ◌∷◌, ◌++◌, length, get_or, replicate, refl, sym, ap, ◌∙◌, subst, inl, inr, arith, Option, Some, None, get_or-set_other, length-set, cases_Bool, plain_block, block_of, length_where_sync, sync_length_of, desc_of, is_synchronized, Step, Store, stores_of, is_store, HasLastStores, get_or-set_same, length-replicate, eqb-true, eq-eqb, last_store, last_stores_grow, place_of, store_asked, HoldsSynchronized}
 use Rattle.std.specs.Option.{option_and_then, unwrap_or}
-use Rattle.std.proofs.Common.{◌==◌, ◌&&◌, if◌then◌else◌, get_or-set_same}
-use Rattle.std.proofs.lemmas.List.{length-replicate}
-use Rattle.std.proofs.lemmas.Bool.{eqb-true, eq-eqb}
+use Rattle.std.proofs.Common.{◌==◌, ◌&&◌, if◌then◌else◌}
 use Rattle.uds_gateway.specs.block_config.Config.{Configuration}
 use Rattle.uds_gateway.specs.block_config.declared.block.BlockDesc.{BlockDesc}
 use Rattle.uds_gateway.specs.block_config.declared.block.RamKind.TheVariants as ram
 use Rattle.uds_gateway.specs.block_config.declared.block.RamKind.{RamKind}
-use Rattle.uds_gateway.specs.script_walks.Walk.{last_store}
-use Rattle.uds_gateway.proofs.NewestStores.{last_stores_grow}
-use Rattle.script_player.specs.Table.{place_of, store_asked, HoldsSynchronized}
 
 -- SYNCHRONIZED BLOCKS
 

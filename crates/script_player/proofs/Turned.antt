@@ -1,14 +1,9 @@
 -- Turn after turn.
-use Rattle.script_player.proofs.Common.{list_all, ◌≡◌, ◌<◌, ◌≤◌, ◌+◌, ℕ, zero, suc, Bool, true, false, IsTrue, List, [], ◌∷◌, ◌++◌, length, Option, Some, None, refl, sym, ap, ◌∙◌, subst, inl, inr, arith, append-nil, length-append, not, cases_Bool, Rose, Turned, Entry, Configuration, State, Job, after, after_from, Step, is_at_rest, IsTurn, JobsTookStored, StackTold, state_of, moment_of, IsGrown, MakesTurn, Turns, HasTurned, AreMade, AllFindWork, MakesTurns, Drains, TurnMoves, Seen, moves_more, Moment, Move, FindsWork, entry_list, entries_of, moment_behind, from_more, rests_next}
+use Rattle.script_player.proofs.Common.{list_all, ◌≡◌, ◌<◌, ◌≤◌, ◌+◌, ℕ, zero, suc, Bool, true, false, IsTrue, List, [], ◌∷◌, ◌++◌, length, Option, Some, None, refl, sym, ap, ◌∙◌, subst, inl, inr, arith, append-nil, length-append, not, cases_Bool, Rose, Turned, Entry, Configuration, State, Job, after, after_from, Step, is_at_rest, IsTurn, JobsTookStored, StackTold, state_of, moment_of, IsGrown, MakesTurn, Turns, HasTurned, AreMade, AllFindWork, MakesTurns, Drains, TurnMoves, Seen, moves_more, Moment, Move, FindsWork, entry_list, entries_of, moment_behind, from_more, rests_next, or_left, or_right, is_played, AreTurns, KeepsStored, turns_keep_stored, keeping_goes_on, turns_grow, is_last, has_work}
 use Rattle.std.specs.Option.{is_some}
 use Rattle.std.proofs.Common.{◌||◌}
-use Rattle.std.proofs.lemmas.Bool.{or_left, or_right}
 use Rattle.uds_gateway.specs.nvm_laws.declared.turned.Turned.TheVariants as turned
-use Rattle.uds_gateway.specs.script_walks.Walk.{is_played, AreTurns}
-use Rattle.uds_gateway.specs.script_walks.StoreLaws.{KeepsStored}
-use Rattle.uds_gateway.proofs.WalkedTurns.{turns_keep_stored, keeping_goes_on, turns_grow}
-use Rattle.script_player.specs.Calls.{is_last}
-use Rattle.script_player.specs.Kept.{IsKept, has_work}
+use Rattle.script_player.specs.Kept.{IsKept}
 use Rattle.script_player.proofs.Explained.{explained_more, none_explained}
 use Rattle.script_player.proofs.Grown.{state_more, state_grown, grown_more}
 use Rattle.script_player.proofs.Moves.{made_more, move_to, turn_moved}

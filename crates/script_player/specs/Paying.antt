@@ -17,6 +17,7 @@ use Rattle.script_player.specs.Told.{StackTold, state_of, moment_of}
 -- a stack is seen as it is told
 pub record IsSeen (t : StackTold) (s : Seen) : Type 0 where
   pub between : s.begun ≡ None
+  pub config : s.desk.config ≡ t.configuration
   pub state : state_at s.desk ≡ state_of t
   pub moment : moment_seen s ≡ moment_of t
   pub uncut : t.one ≡ true → t.causes.off ≡ false → s.uncut

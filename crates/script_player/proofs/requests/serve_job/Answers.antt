@@ -1,5 +1,4 @@
-use Rattle.script_player.proofs.Common.{Result, Err, sym, ap, ◌∙◌, subst, AskFault, Reply, Ask, AddsAsk}
-use Rattle.script_player.specs.Calls.{Asks}
+use Rattle.script_player.proofs.Common.{Result, Err, sym, ap, ◌∙◌, subst, AskFault, Reply, Ask, AddsAsk, Asks}
 use Rattle.script_player.proofs.Served.{asked_job, job_off, job_posted, job_refused, no_more, went_off}
 use Rattle.script_player.proofs.requests.serve_job.Goals as goal
 

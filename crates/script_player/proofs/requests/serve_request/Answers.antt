@@ -1,7 +1,5 @@
-use Rattle.script_player.proofs.Common.{subst}
-use Rattle.uds_gateway.specs.declared.asked.AskedFault.{AskedFault}
+use Rattle.script_player.proofs.Common.{subst, AskedFault, IsWhy}
 use Rattle.uds_gateway.specs.Services.{asked_by}
-use Rattle.uds_gateway.specs.Answers.{IsWhy}
 use Rattle.script_player.proofs.Served.{request_asks, request_refused, stays}
 use Rattle.script_player.proofs.requests.serve_request.Goals as goal
 

@@ -1,7 +1,6 @@
 use Rattle.std.specs.Prelude.{Result}
-use Rattle.script_player.proofs.Common.{◌≡◌, ◌+◌, ℕ, List, [], ◌∷◌, ◌++◌, length, take, drop, Err, Ok, sym, ap, ◌∙◌, subst, arith, ServeStop, EndsRequest, AreServedSoFar, HasServed}
+use Rattle.script_player.proofs.Common.{◌≡◌, ◌+◌, ℕ, List, [], ◌∷◌, ◌++◌, length, take, drop, Err, Ok, sym, ap, ◌∙◌, subst, arith, ServeStop, EndsRequest, AreServedSoFar, HasServed, take_all, take-append-drop}
 use Rattle.std.proofs.Common.{◌-◌}
-use Rattle.std.proofs.lemmas.List.{take_all, take-append-drop}
 use Rattle.uds_gateway.specs.block_config.Config.{Configuration}
 use Rattle.uds_gateway.specs.declared.stop.ServeStop.TheVariants as stop
 use Rattle.script_player.proofs.Served.{serves_none, serves_one, serves_all, serves_first, serves_some, next_request, one_more}

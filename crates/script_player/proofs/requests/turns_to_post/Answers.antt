@@ -1,5 +1,4 @@
-use Rattle.script_player.proofs.Common.{sym, ◌∙◌, is_on_way, desk_of}
-use Rattle.uds_gateway.proofs.JobTurns.{goes_more, on_way, turns_fall}
+use Rattle.script_player.proofs.Common.{sym, ◌∙◌, is_on_way, desk_of, goes_more, on_way, turns_fall}
 use Rattle.script_player.proofs.Grown.{ready_grown}
 use Rattle.script_player.proofs.Served.{first_turn, more_turns, turn_nears}
 use Rattle.script_player.proofs.requests.turns_to_post.Goals as goal

@@ -1,5 +1,4 @@
-use Rattle.script_player.proofs.Common.{◌≡◌, ◌++◌, ◌∷◌, [], List, length, sym, ap, ◌∙◌, subst, append_assoc, append-nil, arith, rules, into_iter_items, ArePlayed}
-use Rattle.std.proofs.lemmas.List.{nil_from_length}
+use Rattle.script_player.proofs.Common.{◌≡◌, ◌++◌, ◌∷◌, [], List, length, sym, ap, ◌∙◌, subst, append_assoc, append-nil, arith, rules, into_iter_items, ArePlayed, nil_from_length}
 use Rattle.uds_gateway.specs.block_config.Config.{Configuration}
 use Rattle.nvm_script.specs.declared.step.Step.{Step}
 use Rattle.script_player.proofs.Table.{holds_synchronized}

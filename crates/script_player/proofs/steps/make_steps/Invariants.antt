@@ -1,5 +1,4 @@
-use Rattle.script_player.proofs.Common.{◌≡◌, ◌++◌, length, into_iter_items, Part, PartTold, AreUnderWay}
-use Rattle.std.specs.Vec.Iter.{into_iter_len}
+use Rattle.script_player.proofs.Common.{◌≡◌, ◌++◌, length, into_iter_items, Part, PartTold, AreUnderWay, into_iter_len}
 use Rattle.script_player.proofs.steps.make_steps.Given as goal
 
 -- the steps that the loop has given are made

@@ -1,5 +1,4 @@
-use Rattle.script_player.proofs.Common.{◌≡◌, false, List, [], sym, subst, ap, ◌∙◌, armed, Part, PartTold, DeviceTold, PlainBlock, StackState, IsKept, AreStartsFound, StackTold, Arms, MovesBy, seen_by, told_by, shown}
-use Rattle.uds_gateway.proofs.StackMoves.{stack_arms}
+use Rattle.script_player.proofs.Common.{◌≡◌, false, List, [], sym, subst, ap, ◌∙◌, armed, Part, PartTold, DeviceTold, PlainBlock, StackState, IsKept, AreStartsFound, StackTold, Arms, MovesBy, seen_by, told_by, shown, stack_arms}
 use Rattle.script_player.proofs.PlainPaying.{keeps_by}
 use Rattle.script_player.proofs.PlainSteps.{arms}
 use Rattle.script_player.proofs.PlainStarts.{stands_on}

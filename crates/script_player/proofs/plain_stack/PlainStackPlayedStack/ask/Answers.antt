@@ -1,9 +1,6 @@
-use Rattle.script_player.proofs.Common.{IsErrOf, ◌↔◌, rules, ◌≡◌, Bool, true, false, IsTrue, Result, Ok, Some, List, [], ◌∷◌, ◌++◌, refl, sym, ap, ◌∙◌, subst, Part, PartTold, InOrder, AskFault, Reply, Entry, Ask, fits, HistoriesStep, SumsGrow, histories_step, sums_grow, PlainBlock, StackState, MovesBy, moment_of, IsKept, AreStartsFound, seen_by, told_by}
-use Rattle.std.specs.Prelude.{IfOk}
-use Rattle.uds_gateway.specs.memif.Calls.{FreesReady}
+use Rattle.script_player.proofs.Common.{IsErrOf, ◌↔◌, rules, ◌≡◌, Bool, true, false, IsTrue, Result, Ok, Some, List, [], ◌∷◌, ◌++◌, refl, sym, ap, ◌∙◌, subst, Part, PartTold, InOrder, AskFault, Reply, Entry, Ask, fits, HistoriesStep, SumsGrow, histories_step, sums_grow, PlainBlock, StackState, MovesBy, moment_of, IsKept, AreStartsFound, seen_by, told_by, IfOk, FreesReady, stack_asks}
 use Rattle.uds_gateway.specs.nv_desk.declared.ask.AskFault.TheVariants as fault
 use Rattle.uds_gateway.specs.nv_desk.Desk.{state_of}
-use Rattle.uds_gateway.proofs.StackMoves.{stack_asks}
 use Rattle.script_player.proofs.PlainPaying.{keeps_by, same_entry}
 use Rattle.script_player.proofs.PlainStarts.{ask_starts}
 use Rattle.script_player.proofs.plain_stack.PlainStackPlayedStack.ask.Goals as goal

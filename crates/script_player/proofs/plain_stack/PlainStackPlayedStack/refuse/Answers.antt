@@ -1,5 +1,4 @@
-use Rattle.script_player.proofs.Common.{map, ◌≡◌, ℕ, false, List, [], sym, subst, Option, Some, None, refl, Configuration, PlainBlock, Told, IsSynchronized, told_of, AreSynchronized, sync_length_of, StackState, Part, PartTold, MovesBy, stack_stays, IsKept, seen_by, Refuses, told_by}
-use Rattle.std.specs.Prelude.{IsSome}
+use Rattle.script_player.proofs.Common.{map, ◌≡◌, ℕ, false, List, [], sym, subst, Option, Some, None, refl, Configuration, PlainBlock, Told, IsSynchronized, told_of, AreSynchronized, sync_length_of, StackState, Part, PartTold, MovesBy, stack_stays, IsKept, seen_by, Refuses, told_by, IsSome}
 use Rattle.script_player.proofs.PlainCopies.{may_store}
 use Rattle.script_player.proofs.PlainSteps.{refuses}
 use Rattle.script_player.proofs.plain_stack.PlainStackPlayedStack.refuse.Goals as goal

@@ -1,11 +1,6 @@
-use Rattle.script_player.proofs.Common.{◌≡◌, Bool, true, false, List, [], ◌∷◌, Option, Some, sym, ap, subst, inl, ◌∙◌, DeviceTold, Part, PartTold, ops_of, Lasts, Entry, Found, Clock, InOrder, HandState, DeskState, PlainBlock, TellsSlots, FoundAnswer, StackState, PowersOff, Restarts, MovesBy, moment_of, told_by, IsKept, AreStartsFound, seen_by}
-use Rattle.uds_gateway.specs.promise_blocks.OverDevice.{HasStarted}
-use Rattle.uds_gateway.specs.nvm_laws.Keeps.{StackKeepsAsTold}
+use Rattle.script_player.proofs.Common.{◌≡◌, Bool, true, false, List, [], ◌∷◌, Option, Some, sym, ap, subst, inl, ◌∙◌, DeviceTold, Part, PartTold, ops_of, Lasts, Entry, Found, Clock, InOrder, HandState, DeskState, PlainBlock, TellsSlots, FoundAnswer, StackState, PowersOff, Restarts, MovesBy, moment_of, told_by, IsKept, AreStartsFound, seen_by, HasStarted, StackKeepsAsTold, DownKeepsAsTold, StartsKeep, stack_starts, StartMoves}
 use Rattle.uds_gateway.specs.nvm_laws.declared.turned.FoundAnswer.TheVariants as found
-use Rattle.uds_gateway.specs.nvm_core.StartUps.{DownKeepsAsTold, StartsKeep}
 use Rattle.script_player.specs.Calls as calls
-use Rattle.uds_gateway.proofs.StackMoves.{stack_starts}
-use Rattle.script_player.specs.Paying.{StartMoves}
 use Rattle.script_player.proofs.PlainPaying.{fails_last, restart_tells, same_entry, same_last}
 use Rattle.script_player.proofs.PlainStarts.{restart_starts, restarts_told}
 use Rattle.script_player.proofs.plain_stack.PlainStackPlayedStack.restart.Goals as goal

@@ -1,7 +1,5 @@
-use Rattle.script_player.proofs.Common.{◌≡◌, true, List, sym, subst, ap, ◌∙◌, inl, inr, Request, PlainBlock, Part, PartTold, InOrder, StackState, IsKept, AreStartsFound, Turns, TurnMoves, state_of, desk_of, StackTold, HasOne, Goes, seen_by, told_by}
-use Rattle.uds_gateway.proofs.JobTurns.{turn_goes}
+use Rattle.script_player.proofs.Common.{◌≡◌, true, List, sym, subst, ap, ◌∙◌, inl, inr, Request, PlainBlock, Part, PartTold, InOrder, StackState, IsKept, AreStartsFound, Turns, TurnMoves, state_of, desk_of, StackTold, HasOne, Goes, seen_by, told_by, turn_goes, stack_turns, turned_ready}
 use Rattle.script_player.proofs.Served.{goes_told}
-use Rattle.uds_gateway.proofs.StackMoves.{stack_turns, turned_ready}
 use Rattle.script_player.proofs.PlainPaying.{keeps_by, up_moves}
 use Rattle.script_player.proofs.PlainHalves.{IsBehind, ended}
 use Rattle.script_player.proofs.PlainBehind.{behind_device}
