@@ -1,27 +1,7 @@
 -- What any number of a driver's turns adds.
-use Rattle.std.specs.Prelude.{option_to_list}
-use Rattle.std.specs.List.{list_all}
-use Rattle.std.proofs.Common.{◌≡◌, ◌+◌, ℕ, zero, suc, not, Bool, true, false, List, [], ◌∷◌, ◌++◌, Option, Some, None, IfSome, refl, sym, ap, ◌∙◌, subst, inl, inr, arith, append_assoc}
-use Rattle.std.proofs.lemmas.Bool.{cases_Bool}
-use Rattle.std.proofs.lemmas.List.{append-nil}
-use Rattle.driver_moves.specs.nv_base.Count.{WereCounted}
-use Rattle.driver_moves.specs.memif.Told.{DeviceTold}
-use Rattle.driver_moves.specs.memif.Clock.{Clock}
-use Rattle.driver_moves.specs.block_machine.Words.{Entry, Ask, Pick, Wrote, Post, Off, Found}
-use Rattle.driver_moves.specs.block_machine.Steps.{after}
-use Rattle.driver_moves.specs.ram_blocks.Told.{Told}
-use Rattle.driver_moves.specs.nv_desk.Desk.{DeskState}
-use Rattle.driver_moves.specs.nv_desk_copies.Front.{AreSynchronized}
-use Rattle.driver_moves.specs.nvm_laws.declared.turned.Turned.{Turned}
-use Rattle.script_walks.specs.Runs.{is_found}
-use Rattle.driver_moves.specs.nvm_shared.declared.terms.Terms.{Terms}
-use Rattle.driver_moves.specs.nvm_shared.Behind.{AreAsks}
-use Rattle.driver_moves.specs.nvm_shared.Driving.{DriverState}
-use Rattle.driver_moves.specs.promise_run.RunHalves.{offs_in, tells_no_refusal}
-use Rattle.nvm_callers.specs.Driven.{DrivesBy, DrivesOn, SeesOn}
-use Rattle.nvm_callers.specs.Added.{HasAdded, DrivingAdds}
+use Rattle.nvm_callers.proofs.Common.{option_to_list, list_all, ◌≡◌, ◌+◌, ℕ, zero, suc, not, Bool, true, false, List, [], ◌∷◌, ◌++◌, Option, Some, None, refl, sym, ap, ◌∙◌, subst, inl, inr, arith, append_assoc, cases_Bool, append-nil, WereCounted, DeviceTold, Clock, Entry, Ask, Pick, Wrote, Post, Off, Found, after, Told, DeskState, AreSynchronized, Turned, is_found, Terms, AreAsks, DriverState, offs_in, tells_no_refusal, DrivesBy, DrivesOn, SeesOn, asks_power, HasAdded, DrivingAdds}
+use Rattle.std.proofs.Common.{IfSome}
 use Rattle.nvm_callers.proofs.Keeping.{driving_keeps}
-use Rattle.driver_moves.proofs.Uncut.{asks_power}
 use Rattle.nvm_callers.proofs.Turning.{TurnAdds, turn_adds}
 
 -- LISTS

@@ -1,40 +1,7 @@
 -- A run of callers at its beginning.
-use Rattle.std.specs.Prelude.{map}
-use Rattle.std.specs.List.{All, range_with_len}
-use Rattle.std.proofs.Common.{◌≡◌, ◌^◌, ◌≤◌, length, ℕ, true, false, List, [], get_or, sym, ap, ◌∙◌, subst, arith}
-use Rattle.std.proofs.lemmas.List.Elements.{All-filter, All-map}
-use Rattle.std.proofs.lemmas.List.FromFn.{get_or-range_with_len, length-range_with_len}
-use Rattle.driver_moves.specs.memif.Told.{DeviceTold}
-use Rattle.driver_moves.specs.memif.Clock.{Clock}
-use Rattle.driver_moves.specs.block_machine.Words.{Entry, Configuration}
-use Rattle.driver_moves.specs.ram_blocks.Told.{Told}
-use Rattle.driver_moves.specs.ram_blocks.declared.plain_block.PlainBlock.{PlainBlock}
-use Rattle.driver_moves.specs.nv_desk.Desk.{DeskState, state_of}
-use Rattle.driver_moves.specs.nv_desk_copies.Front.{AreSynchronized}
-use Rattle.driver_moves.specs.nvm_laws.Ties.{IsTied}
-use Rattle.driver_moves.specs.nvm_laws.DueLaws.{NextIsPending}
-use Rattle.driver_moves.specs.nvm_core.Stack.{StackState}
-use Rattle.turn_gate.specs.declared.pass.View.{View}
-use Rattle.turn_gate.specs.Pass.{Has, beginner, knows}
-use Rattle.driver_moves.specs.nvm_shared.declared.terms.Terms.{Terms}
-use Rattle.driver_moves.specs.nvm_shared.Behind.{HandIsPending}
-use Rattle.driver_moves.specs.nvm_shared.Locked.{desk_with}
-use Rattle.driver_moves.specs.nvm_shared.Opening.{IsFirst, IsShared, terms_at}
-use Rattle.driver_moves.specs.nvm_shared.Passes.{PassValue, SharedState, IsDriven}
-use Rattle.driver_moves.specs.nvm_shared.Driving.{DriverState, IsDriverOf, driver_of, stack_of}
-use Rattle.script_walks.specs.Words.{Step}
-use Rattle.script_walks.specs.Callers.{program_of}
-use Rattle.script_callers.specs.declared.deed.Deed.{Deed}
+use Rattle.nvm_callers.proofs.Common.{map, ◌≡◌, ◌^◌, ◌≤◌, length, ℕ, true, false, List, [], get_or, sym, ap, ◌∙◌, subst, arith, DeviceTold, Clock, Entry, Configuration, Told, PlainBlock, DeskState, state_of, AreSynchronized, View, Has, knows, Terms, desk_with, IsFirst, PassValue, SharedState, IsDriven, DriverState, IsDriverOf, driver_of, stack_of, Step, program_of, Deed, MayDo, deeds_of, program_by, programs_of, AreRun, MayRun, deeds_may_be_done, Ending, IsBegun, WasRun, range_with_len, All-filter, All-map, get_or-range_with_len, length-range_with_len, IsTied, NextIsPending, StackState, beginner, HandIsPending, IsShared, terms_at, does_something, MayMake}
+use Rattle.std.specs.List.{All}
 use Rattle.script_callers.specs.declared.deed.Deed.TheVariants as deed_of
-use Rattle.script_callers.specs.Deeds.{MayDo, deeds_of}
-use Rattle.script_callers.specs.Programs.{does_something, program_by, programs_of}
-use Rattle.script_callers.specs.RunScripts.{AreRun}
-use Rattle.nvm_callers.specs.Callers.{MayRun}
-use Rattle.nvm_callers.specs.Calls.{MayMake}
-use Rattle.script_callers.proofs.Growing.{deeds_may_be_done}
-use Rattle.nvm_callers.specs.declared.ending.Ending.{Ending}
-use Rattle.nvm_callers.specs.Begun.{IsBegun}
-use Rattle.nvm_callers.specs.Ran.{WasRun}
 
 -- WHAT IS SHARED
 module _ {D : Type 0} (told : D → DeviceTold) (clock : D → Clock) (copies : List PlainBlock → List Told) (s : StackState D (List PlainBlock)) (shared : SharedState) (p : PassValue) (r : DriverState D (List PlainBlock)) (is : IsShared told copies s false shared p r) where

@@ -1,42 +1,11 @@
 -- A run of callers over mirrors.
-use Rattle.std.specs.Prelude.{map, IsTrue, All}
-use Rattle.std.proofs.Common.{◌≡◌, ℕ, List, [], ◌∷◌, sym, ap, subst}
-use Rattle.driver_moves.specs.memif.Told.{DeviceTold}
-use Rattle.driver_moves.specs.memif.Clock.{Clock}
-use Rattle.driver_moves.specs.block_machine.Words.{Entry, Ask, Found, Instance, Mark}
-use Rattle.driver_moves.specs.ram_blocks.declared.plain_block.PlainBlock.{PlainBlock}
-use Rattle.ram_mirrors_sync.specs.Blocks.{AreClosed, AreMade, EndList, EndsGoOn, HasCameWith, HasLooked, IsOver, IsStore, Pairs, SideList, SyncValue, told_by}
-use Rattle.driver_moves.specs.nv_desk.Desk.{DeskState}
-use Rattle.driver_moves.specs.nv_desk_copies.Front.{AreSynchronized}
-use Rattle.turn_gate.specs.declared.pass.View.{View}
-use Rattle.turn_gate.specs.Pass.{knows}
-use Rattle.script_walks.specs.Words.{Step}
-use Rattle.script_walks.specs.Looks.{CopiesAreShown}
-use Rattle.script_walks.specs.Runs.{has_ended}
-use Rattle.script_callers.specs.declared.program.Program.{Program}
-use Rattle.driver_moves.specs.nvm_shared.declared.terms.Terms.{Terms}
-use Rattle.driver_moves.specs.nvm_shared.Locked.{desk_with}
-use Rattle.driver_moves.specs.nvm_shared.Passes.{IsEntry, PassValue, SharedState}
-use Rattle.driver_moves.specs.nvm_shared.Noted.{StandsIn}
-use Rattle.driver_moves.specs.nvm_shared.Opening.{IsFirst}
-use Rattle.driver_moves.specs.nvm_shared.Driving.{DriverState, IsDriverOf, driver_of, stack_of}
-use Rattle.nvm_callers.specs.Driven.{HasDriven}
-use Rattle.nvm_callers.specs.Looked.{HasLooked as LooksAre, IsLookOf, LooksAreOrdered}
-use Rattle.nvm_callers.specs.Dealt.{AllDealt, AllGathered}
-use Rattle.nvm_callers.specs.KeptSteps.{IsClosedBy}
-use Rattle.nvm_callers.specs.Shares.{BeginsUnasked}
-use Rattle.nvm_callers.specs.Stores.{Along, SidesValue, bytes_at, stores_at}
-use Rattle.nvm_callers.specs.Callers.{HaveRun, MayRun}
-use Rattle.nvm_callers.specs.declared.ending.Ending.{Ending}
-use Rattle.ram_mirrors_sync.proofs.Copies.{looks_go_on}
-use Rattle.nvm_callers.specs.Begun.{AreProgramsOf, IsBegun}
-use Rattle.nvm_callers.specs.Ran.{KeepsOrder, WasRun}
+use Rattle.nvm_callers.proofs.Common.{map, IsTrue, All, ◌≡◌, ℕ, List, [], ◌∷◌, sym, ap, subst, DeviceTold, Clock, Entry, Ask, Found, Instance, Mark, PlainBlock, AreClosed, AreMade, EndList, EndsGoOn, HasCameWith, HasLooked, IsOver, IsStore, Pairs, SideList, SyncValue, told_by, DeskState, AreSynchronized, View, knows, Step, CopiesAreShown, has_ended, Program, Terms, desk_with, PassValue, SharedState, StandsIn, IsFirst, DriverState, IsDriverOf, driver_of, stack_of, HasDriven, IsLookOf, LooksAreOrdered, AllDealt, AllGathered, IsClosedBy, BeginsUnasked, Along, SidesValue, bytes_at, stores_at, HaveRun, MayRun, Ending, AreProgramsOf, IsBegun, KeepsOrder, WasRun, programs_of, LooksAre, looks_go_on}
+use Rattle.driver_moves.specs.nvm_shared.Passes.{IsEntry}
 use Rattle.nvm_callers.proofs.Beginning.{may_drive, may_run}
 use Rattle.nvm_callers.proofs.Finishing.{keeps_order_of, refuse_none, was_run}
 use Rattle.nvm_callers.proofs.Keeping.{driving_keeps}
 use Rattle.nvm_callers.proofs.Owned.{sides_in, still_bytes, were_stored}
 use Rattle.nvm_callers.proofs.StoresTaken.{WereStored, stores_are_taken}
-use Rattle.script_callers.specs.Programs.{programs_of}
 
 -- what mirrors showed stays in order
 shown_in_order : {N : Type 0} → LooksAreOrdered (λ (old new : SyncValue N). HasLooked old.ends new.ends) (λ (first now : SyncValue N). IsOver first now)

@@ -1,13 +1,6 @@
 -- Sides that were dealt to callers, and come back from them.
-use Rattle.std.specs.Prelude.{◌==◌, slice_get, is_some, map, IfSome}
-use Rattle.std.proofs.Common.{◌≡◌, ◌⊎◌, inl, inr, ◌≤◌, ◌<◌, ◌+◌, ℕ, zero, suc, Bool, true, false, List, [], ◌∷◌, ◌++◌, length, Option, Some, None, refl, sym, ap, ◌∙◌, subst, arith, append_assoc}
-use Rattle.std.proofs.lemmas.Bool.{cases_lt}
-use Rattle.std.proofs.lemmas.List.{append-nil}
-use Rattle.std.proofs.lemmas.Bool.Decides.{eqb_tells}
-use Rattle.ram_mirrors_sync.specs.Blocks.{SideList, SideValue, side_at}
-use Rattle.script_callers.specs.declared.program.Program.{Program}
-use Rattle.nvm_callers.specs.Stores.{Along, SidesValue, bytes_at, bytes_by}
-use Rattle.nvm_callers.specs.Dealt.{AllDealt, AllGathered, AreApart, AreBelow, GoesOver, HasPlaces, IsDealt, IsFree, IsGathered, NoneIn, either_side, kept, moved, store_into}
+use Rattle.nvm_callers.proofs.Common.{slice_get, is_some, map, IfSome, ◌≡◌, ◌⊎◌, inl, inr, ◌≤◌, ◌<◌, ◌+◌, ℕ, zero, suc, Bool, true, false, List, [], ◌∷◌, ◌++◌, length, Option, Some, None, refl, sym, ap, ◌∙◌, subst, arith, append_assoc, cases_lt, append-nil, eqb_tells, SideList, SideValue, side_at, Program, Along, SidesValue, bytes_at, bytes_by, AllDealt, AllGathered, AreApart, AreBelow, GoesOver, HasPlaces, IsDealt, IsFree, IsGathered, kept, moved, store_into, NoneIn, either_side}
+use Rattle.std.specs.Prelude.{◌==◌}
 
 -- DEALT
 module _ {N : Type 0} where
@@ -15,16 +8,14 @@ module _ {N : Type 0} where
   pub dealt_one_more : (ps : List Program) (p : Program) (os : List (SideList N)) (o first between left : SideList N) → AllDealt ps first os between → IsDealt p.deeds between o left
       → AllDealt (ps ++ p ∷ []) first (os ++ o ∷ []) left
   dealt_one_more [] p [] o first between left all one = (left, subst (λ (l : SideList N). IsDealt p.deeds l o left) all one, refl)
-  dealt_one_more [] p (x ∷ os) o first between left all one = absurd all
-  dealt_one_more (q ∷ ps) p [] o first between left all one = absurd all
   dealt_one_more (q ∷ ps) p (x ∷ os) o first between left (next, is, rest) one = (next, is, dealt_one_more ps p os o next between left rest one)
+  dealt_one_more ps p os o first between left all one = absurd all
 
   -- as many places are left
   pub dealt_places : (ps : List Program) (os : List (SideList N)) (first left : SideList N) → AllDealt ps first os left → length left ≡ length first
   dealt_places [] [] first left all = ap length all
-  dealt_places [] (x ∷ os) first left all = absurd all
-  dealt_places (p ∷ ps) [] first left all = absurd all
   dealt_places (p ∷ ps) (x ∷ os) first left (between, is, rest) = dealt_places ps os between left rest ∙ is.places
+  dealt_places ps os first left all = absurd all
 
   -- what is left was there
   left_was : (block : ℕ) (b : Bool) (first between : Option (SideValue N)) (s : SideValue N) → between ≡ kept b first → between ≡ Some s → first ≡ Some s
@@ -124,10 +115,9 @@ none_still old None same none = refl
 none_still old (Some s) same none = let no_ : Some s.up.size ≡ None = same ∙ ap bytes_by none in absurd (cc no_)
 
 some_still : (old new : Option (SideValue Along)) → bytes_by new ≡ bytes_by old → is_some new ≡ is_some old
-some_still (Some o) (Some n) same = refl
-some_still None None same = refl
 some_still (Some o) None same = absurd (cc same)
 some_still None (Some n) same = absurd (cc same)
+some_still old new same = refl
 
 pub there_still : (old new : SideList Along) (block : ℕ) → bytes_at new block ≡ bytes_at old block → is_some (side_at new block) ≡ is_some (side_at old block)
 there_still old new block same = some_still (side_at old block) (side_at new block) same

@@ -1,21 +1,5 @@
 -- What a caller knows of what it did.
-use Rattle.std.proofs.Common.{◌≡◌, ℕ, zero, suc, ◌+◌, ◌<◌, ◌≤◌, ◌∙◌, List, [], ◌∷◌, ◌++◌, length, take, drop, refl, sym, ap, subst, arith, length-take}
-use Rattle.std.proofs.lemmas.List.{append-nil, drop_all, take-append-le, drop-append-le}
-use mathlib.Core.Option.{some, some-ne-none, some-injective}
-use lib.ListN.{get_elem?}
-use Rattle.atomic_table.proofs.Lists.{at_last, at_longer}
-use Rattle.driver_moves.specs.block_machine.Words.{Request, Reply, Entry, Ask, Configuration}
-use Rattle.driver_moves.specs.block_laws.Consistent.{Each, Ascend}
-use Rattle.turn_gate.specs.Entries.{Note, StartsWith, AllAgree}
-use Rattle.turn_gate.specs.Pass.{Has}
-use Rattle.script_walks.specs.Callers.{WaitedFor, asks_of}
-use Rattle.driver_moves.specs.nvm_shared.StatusWords.{gives}
-use Rattle.driver_moves.specs.nvm_shared.Numbers.{IsEntry, AreAt, AreAll}
-use Rattle.driver_moves.proofs.nvm_shared.Numbering.{asks_by_number}
-use Rattle.script_callers.specs.declared.deed.Deed.{Deed}
-use Rattle.script_callers.specs.declared.deed.Deed.TheVariants.{Ask as AskDeed, Store as StoreDeed, Await}
-use Rattle.script_callers.specs.Deeds.{requests_in}
-use Rattle.nvm_callers.specs.Deeds.{HasWaited, HasWaitedAll, NoneIsDone, AsksAreDone, StoresAreDone, WaitsAreDone, DeedsLast, WereOver, DeedsHold}
+use Rattle.nvm_callers.proofs.Common.{◌≡◌, ℕ, zero, suc, ◌+◌, ◌<◌, ◌≤◌, ◌∙◌, List, [], ◌∷◌, ◌++◌, length, take, drop, refl, sym, ap, subst, arith, length-take, append-nil, take-append-le, drop-append-le, some, some-ne-none, some-injective, get_elem?, at_last, at_longer, Request, Reply, Entry, Ask, Configuration, Each, Ascend, Note, StartsWith, AllAgree, Has, WaitedFor, asks_of, gives, IsEntry, AreAt, AreAll, asks_by_number, Deed, AskDeed, StoreDeed, Await, requests_in, HasWaitedAll, WereOver, drop_all, HasWaited, NoneIsDone, AsksAreDone, StoresAreDone, WaitsAreDone, DeedsLast, DeedsHold}
 use Rattle.nvm_callers.proofs.Waiting.{agree_before, at_take, inside_length, of_take, starts_again, waited_on}
 
 -- NUMBERS
@@ -34,18 +18,16 @@ module _ (P : ℕ → Type 0) where
   each_at (x ∷ xs) (suc i) k each at = each_at xs i k each.1 at
 
   pub each_take : (n : ℕ) (ks : List ℕ) → Each P ks → Each P (take n ks)
-  each_take zero ks each = tt
-  each_take (suc n) [] each = tt
   each_take (suc n) (k ∷ ks) each = (each.0, each_take n ks each.1)
+  each_take n ks each = tt
 
 ascend_last : (ks : List ℕ) (n : ℕ) → Ascend ks → Each (λ k. k < n) ks → Ascend (ks ++ n ∷ [])
 ascend_last [] n ascend below = (tt, tt)
 ascend_last (k ∷ ks) n ascend below = (each_last (λ m. k < m) ks n ascend.0 below.0, ascend_last ks n ascend.1 below.1)
 
 pub ascend_take : (n : ℕ) (ks : List ℕ) → Ascend ks → Ascend (take n ks)
-ascend_take zero ks ascend = tt
-ascend_take (suc n) [] ascend = tt
 ascend_take (suc n) (k ∷ ks) ascend = (each_take (λ m. k < m) n ks ascend.0, ascend_take n ks ascend.1)
+ascend_take n ks ascend = tt
 
 -- a number below the later ones is among the first
 pub has_first : (n end : ℕ) (ks : List ℕ) (j : ℕ) → Each (λ k. end ≤ k) (drop n ks) → j < end → Has ks j → Has (take n ks) j
@@ -84,21 +66,18 @@ module _ (caller : ℕ) where
   pub are_below : (seen : List Entry) (ks : List ℕ) (rs : List Request) → AreAt seen caller ks rs → Each (λ k. k < length seen) ks
   are_below seen [] [] are = tt
   are_below seen (k ∷ ks) (r ∷ rs) are = (inside_length seen k (Ask caller r are.0.0) are.0.1, are_below seen ks rs are.1)
-  are_below seen [] (r ∷ rs) are = absurd are
-  are_below seen (k ∷ ks) [] are = absurd are
+  are_below seen ks rs are = absurd are
 
   are_last : (h : List Entry) (ks : List ℕ) (rs : List Request) (n : ℕ) (r : Request) (reply : Reply) → AreAt h caller ks rs → IsEntry h n (Ask caller r reply)
       → AreAt h caller (ks ++ n ∷ []) (rs ++ r ∷ [])
   are_last h [] [] n r reply are at = ((reply, at), tt)
   are_last h (k ∷ ks) (q ∷ rs) n r reply are at = (are.0, are_last h ks rs n r reply are.1 at)
-  are_last h [] (q ∷ rs) n r reply are at = absurd are
-  are_last h (k ∷ ks) [] n r reply are at = absurd are
+  are_last h ks rs n r reply are at = absurd are
 
   pub are_as_many : (h : List Entry) (ks : List ℕ) (rs : List Request) → AreAt h caller ks rs → length ks ≡ length rs
   are_as_many h [] [] are = refl
   are_as_many h (k ∷ ks) (r ∷ rs) are = let rest = are_as_many h ks rs are.1 in omega (arith, rest)
-  are_as_many h [] (r ∷ rs) are = absurd are
-  are_as_many h (k ∷ ks) [] are = absurd are
+  are_as_many h ks rs are = absurd are
 
   pub are_first : (n end : ℕ) (h : List Entry) (ks : List ℕ) (rs : List Request) → AreAt h caller ks rs → Each (λ k. k < end) (take n ks)
       → AreAt (take end h) caller (take n ks) (take n rs)

@@ -1,20 +1,7 @@
 -- What the driver did beside the callers, call by call.
-use Rattle.std.proofs.Common.{◌≡◌, inl, inr, ℕ, true, List, refl, ◌∙◌}
-use Rattle.driver_moves.specs.memif.Told.{DeviceTold}
-use Rattle.driver_moves.specs.memif.Clock.{Clock}
-use Rattle.driver_moves.specs.block_machine.Words.{Entry}
-use Rattle.driver_moves.specs.block_machine.Legal.{IsLegal}
-use Rattle.driver_moves.specs.ram_blocks.Told.{Told}
-use Rattle.turn_gate.specs.declared.pass.View.{View}
-use Rattle.turn_gate.specs.Pass.{knows}
-use Rattle.driver_moves.specs.nvm_shared.declared.terms.Terms.{Terms}
-use Rattle.driver_moves.specs.nvm_shared.Locked.{desk_with}
-use Rattle.driver_moves.specs.nvm_shared.Passes.{PassValue, SharedState, LearnsMore, LearnsTurn}
-use Rattle.driver_moves.specs.nvm_shared.Driving.{DriverState, Drives, IsDriverOf, SeesRequests}
-use Rattle.nvm_callers.specs.Driven.{StaysKeptOver, TurnsOn}
+use Rattle.nvm_callers.proofs.Common.{◌≡◌, inl, inr, ℕ, true, List, refl, ◌∙◌, DeviceTold, Clock, Entry, Told, View, knows, Terms, desk_with, PassValue, SharedState, LearnsMore, DriverState, Drives, IsDriverOf, TurnsOn, HasSteered, IsLegal, LearnsTurn, SeesRequests, StaysKeptOver, TellsAlways}
 use Rattle.nvm_callers.proofs.Following.{drives_follow}
 use Rattle.nvm_callers.proofs.JoinedPasses.{turns_collect}
-use Rattle.nvm_callers.specs.Steering.{HasSteered, TellsAlways}
 
 abbrev V : Type 0
 V = View Entry Terms

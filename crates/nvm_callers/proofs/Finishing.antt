@@ -1,49 +1,20 @@
 -- A run of callers at its end.
-use Rattle.std.specs.Prelude.{map, IsTrue, drop}
-use Rattle.std.specs.List.{list_all}
-use Rattle.std.proofs.Common.{◌≡◌, ℕ, zero, suc, not, List, [], ◌∷◌, Option, Some, None, refl, sym, ap, ◌∙◌, subst}
-use Rattle.driver_moves.specs.memif.Told.{DeviceTold}
-use Rattle.driver_moves.specs.memif.Clock.{Clock}
-use Rattle.driver_moves.specs.block_machine.Words.{Entry, Ask, Found, Instance, Mark}
-use Rattle.driver_moves.specs.ram_blocks.Told.{Told}
-use Rattle.driver_moves.specs.ram_blocks.declared.plain_block.PlainBlock.{PlainBlock}
-use Rattle.ram_mirrors_sync.specs.Blocks.{EndList, Pairs, told_by}
-use Rattle.driver_moves.specs.nv_desk.Desk.{DeskState}
-use Rattle.driver_moves.specs.nv_desk_copies.Front.{AreSynchronized}
-use Rattle.turn_gate.specs.declared.pass.View.{View}
-use Rattle.script_walks.specs.Words.{Step}
-use Rattle.script_walks.specs.Callers.{IsInOrder, program_of}
-use Rattle.script_walks.specs.Looks.{CopiesAreShown}
-use Rattle.script_walks.specs.Runs.{IsRun, has_ended, is_found}
-use Rattle.script_callers.specs.Programs.{programs_of}
-use Rattle.script_callers.specs.RunScripts.{AreRun}
-use Rattle.driver_moves.specs.nvm_shared.declared.terms.Terms.{Terms}
-use Rattle.driver_moves.specs.nvm_shared.Locked.{desk_with}
+use Rattle.nvm_callers.proofs.Common.{map, IsTrue, list_all, ◌≡◌, ℕ, zero, suc, not, List, [], ◌∷◌, Option, Some, refl, sym, ap, ◌∙◌, subst, DeviceTold, Clock, Entry, Ask, Found, Instance, Mark, Told, PlainBlock, EndList, Pairs, told_by, DeskState, AreSynchronized, View, Step, IsInOrder, program_of, CopiesAreShown, has_ended, is_found, programs_of, AreRun, Terms, desk_with, DriverState, driver_of, stack_of, HasDriven, RefusesNone, LooksAreOrdered, BeginsUnasked, Stored, HaveRun, EndSo, IsClosedBy, Ending, KeepsOrder, WasRun, IsRun, RunsBy, end_of}
+use Rattle.std.specs.Prelude.{drop}
 use Rattle.driver_moves.specs.nvm_shared.Passes.{IsEntry}
-use Rattle.driver_moves.specs.nvm_shared.Driving.{DriverState, driver_of, stack_of}
-use Rattle.nvm_callers.specs.Driven.{HasDriven}
-use Rattle.nvm_callers.specs.Added.{RefusesNone}
-use Rattle.nvm_callers.specs.Looked.{HasLooked, LooksAreOrdered}
-use Rattle.nvm_callers.specs.Shares.{BeginsUnasked}
-use Rattle.driver_moves.specs.promise_run.Run.{RunsBy}
-use Rattle.nvm_callers.specs.Stored.{Stored}
-use Rattle.nvm_callers.specs.Callers.{HaveRun}
-use Rattle.nvm_callers.specs.KeptSteps.{EndSo, IsClosedBy}
-use Rattle.nvm_callers.specs.declared.ending.Ending.{Ending}
+use Rattle.nvm_callers.specs.Looked.{HasLooked}
 use Rattle.nvm_callers.specs.declared.ending.Ending.TheVariants as ending
 use Rattle.nvm_callers.proofs.Keeping.{driving_keeps}
 use Rattle.nvm_callers.proofs.Adding.{driving_adds}
 use Rattle.nvm_callers.proofs.Moved.{driving_moves}
 use Rattle.nvm_callers.proofs.Looking.{driving_looks}
 use Rattle.nvm_callers.proofs.KeptSteps.{callers_keep_steps}
-use Rattle.nvm_callers.specs.Ran.{KeepsOrder, WasRun, end_of}
 
 -- mirrors refuse no copy
 pub refuse_none : {N : Type 0} (es : EndList N) → RefusesNone (map told_by es)
-refuse_none [] block = tt
-refuse_none (None ∷ es) zero = tt
 refuse_none (Some e ∷ es) zero = refl
 refuse_none (e ∷ es) (suc block) = refuse_none es block
+refuse_none es block = tt
 
 module _ {D C : Type 0} (told : D → DeviceTold) (clock : D → Clock) (copies : C → List Told) (is_store : C → ℕ → ℕ → List ℕ → Type 0) (looked : C → C → ℕ → ℕ → Type 0) (over : C → C → Type 0) (stands : C → ℕ → ℕ → List Entry → Type 0) (t : Terms) where
   -- WHAT WAS KEPT

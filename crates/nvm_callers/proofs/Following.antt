@@ -1,12 +1,5 @@
 -- What a driver's turns did, one behind another.
-use Rattle.std.proofs.Common.{ℕ, zero, suc, List, sym, subst}
-use Rattle.driver_moves.specs.memif.Told.{DeviceTold}
-use Rattle.driver_moves.specs.memif.Clock.{Clock}
-use Rattle.driver_moves.specs.block_machine.Words.{Entry}
-use Rattle.driver_moves.specs.ram_blocks.Told.{Told}
-use Rattle.driver_moves.specs.nvm_shared.declared.terms.Terms.{Terms}
-use Rattle.driver_moves.specs.nvm_shared.Driving.{DriverState}
-use Rattle.nvm_callers.specs.Driven.{DrivesBy, DrivesFollow, HasDriven}
+use Rattle.nvm_callers.proofs.Common.{ℕ, zero, suc, List, sym, subst, DeviceTold, Clock, Entry, Told, Terms, DriverState, DrivesBy, HasDriven, DrivesFollow}
 
 module _ {D C : Type 0} (told : D → DeviceTold) (clock : D → Clock) (copies : C → List Told) (is_store : C → ℕ → ℕ → List ℕ → Type 0) (looked : C → C → ℕ → ℕ → Type 0) (over : C → C → Type 0) (stands : C → ℕ → ℕ → List Entry → Type 0) (t : Terms) where
   follow : (n : ℕ) (seen seen_between seen_new : List Entry) (old between new : DriverState D C) → HasDriven told clock copies is_store looked over stands t seen seen_between old between

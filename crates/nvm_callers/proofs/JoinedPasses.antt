@@ -1,17 +1,7 @@
 -- What a pass that took in others knows of what they knew.
-use Rattle.std.proofs.Common.{◌≡◌, ◌⊎◌, inl, inr, ℕ, zero, suc, List, [], ◌∷◌, ◌++◌, Contains, refl, sym, subst, arith}
-use Rattle.std.proofs.lemmas.List.{append-nil}
-use mathlib.Core.Option.{some, some-ne-none}
-use lib.ListN.{get_elem?}
-use Rattle.atomic_table.proofs.Lists.{at_longer}
-use Rattle.driver_moves.specs.block_machine.Words.{Entry}
-use Rattle.turn_gate.specs.Entries.{Note, StartsWith, AllAgree, AllHeard}
-use Rattle.turn_gate.specs.Pass.{Has}
-use Rattle.driver_moves.specs.nvm_shared.StatusWords.{gives}
-use Rattle.driver_moves.specs.nvm_shared.Passes.{IsDriven}
-use Rattle.nvm_callers.specs.Shares.{Share}
-use Rattle.nvm_callers.specs.Joins.{NoneIsJoined, TurnsCollect, JoinsCollect, NothingIsCollected, CollectedAreAll}
-use Rattle.nvm_callers.proofs.Waiting.{starts_again}
+use Rattle.nvm_callers.proofs.Common.{◌≡◌, ◌⊎◌, inl, inr, ℕ, zero, suc, List, [], ◌∷◌, ◌++◌, refl, sym, subst, arith, append-nil, some, some-ne-none, get_elem?, at_longer, Entry, Note, StartsWith, AllAgree, Has, gives, IsDriven, Share, AllHeard, NoneIsJoined, TurnsCollect, JoinsCollect, NothingIsCollected, CollectedAreAll}
+use Rattle.std.proofs.Common.{Contains}
+use Rattle.nvm_callers.proofs.Waiting.{agree_before, starts_again}
 
 module _ {A : Type 0} where
   either : (l m : List A) (i : ℕ) (a : A) → get_elem? (l ++ m) i ≡ some a → (get_elem? l i ≡ some a) ⊎ ((j : ℕ) × (get_elem? m j ≡ some a))
@@ -29,9 +19,6 @@ module _ {A : Type 0} where
   last_of : (l : List A) (a b : A) → (j : ℕ) × (get_elem? (l ++ a ∷ b ∷ []) j ≡ some b)
   last_of l a b = back l (a ∷ b ∷ []) 1 b refl
 
-first_told : (h : List Entry) (notes more : List Note) → AllAgree gives h (notes ++ more) → AllAgree gives h notes
-first_told h notes more agree i n at = agree i n (at_longer notes more i n at)
-
 more_told : (h : List Entry) (notes more : List Note) → AllAgree gives h (notes ++ more) → AllAgree gives h more
 more_told h notes more agree i n at = let there = back notes more i n at in agree there.0 n there.1
 
@@ -43,7 +30,7 @@ heard_then : (h : List Entry) (heard heard_new : List (List Entry)) → StartsWi
 heard_then h heard heard_new starts all = first_heard h heard starts.0 (subst (λ (l : List (List Entry)). AllHeard h l) starts.1 all)
 
 told_then : (h : List Entry) (notes notes_new : List Note) → StartsWith notes_new notes → AllAgree gives h notes_new → AllAgree gives h notes
-told_then h notes notes_new starts agree = first_told h notes starts.0 (subst (AllAgree gives h) starts.1 agree)
+told_then h notes notes_new starts agree = agree_before h notes starts.0 (subst (AllAgree gives h) starts.1 agree)
 
 last_heard : (h : List Entry) (heard more : List (List Entry)) (a b : List Entry) → AllHeard h (heard ++ (more ++ a ∷ b ∷ [])) → StartsWith h b
 last_heard h heard more a b all =
@@ -106,7 +93,7 @@ joins_collect shares v w s own seen notes collects = record {
   ];
   told = λ t within h agree. elim (share_of s t shares within) [
     | inl same ↦ subst (λ (x : Share). AllAgree gives h x.notes) same (subst (AllAgree gives h) (sym notes) (more_told h v.notes w.notes agree))
-    | inr old ↦ collects.told t old h (first_told h v.notes w.notes agree)
+    | inr old ↦ collects.told t old h (agree_before h v.notes w.notes agree)
   ];
   began = λ t within h heard. elim (share_of s t shares within) [
     | inl same ↦ subst (λ (x : Share). StartsWith h x.seen) same (subst (StartsWith h) (sym seen) (last_heard h v.heard w.heard v.seen w.seen heard))

@@ -1,20 +1,5 @@
 -- What any number of a driver's turns keeps.
-use Rattle.std.proofs.Common.{ℕ, zero, suc, List, refl, sym, subst, inl, inr}
-use Rattle.driver_moves.specs.memif.Told.{DeviceTold}
-use Rattle.driver_moves.specs.memif.Clock.{Clock}
-use Rattle.driver_moves.specs.memif.Trials.{Lasts}
-use Rattle.driver_moves.specs.block_machine.Words.{Entry}
-use Rattle.driver_moves.specs.ram_blocks.Told.{Told}
-use Rattle.driver_moves.specs.nv_desk_copies.Front.{AreSynchronized}
-use Rattle.driver_moves.specs.nvm_shared.declared.terms.Terms.{Terms}
-use Rattle.driver_moves.specs.nvm_shared.Locked.{desk_with}
-use Rattle.driver_moves.specs.nvm_shared.Driving.{DriverState}
-use Rattle.driver_moves.proofs.nvm_moves.Turning.{lasts_more, same_clock}
-use Rattle.driver_moves.proofs.nvm_moves.Sizes.{still_synchronized}
-use Rattle.driver_moves.proofs.nvm_moves.Keeping.{stays_more, stays_still}
-use Rattle.driver_moves.proofs.nvm_moves.Paying.{half_lasts}
-use Rattle.nvm_callers.specs.Driven.{DrivesBy, DrivesOn, TurnsOn, SeesOn}
-use Rattle.nvm_callers.specs.Kept.{HasKept, DrivingKeeps}
+use Rattle.nvm_callers.proofs.Common.{ℕ, zero, suc, List, refl, sym, subst, inl, inr, DeviceTold, Clock, Entry, Told, AreSynchronized, Terms, desk_with, DriverState, DrivesBy, DrivesOn, TurnsOn, SeesOn, Lasts, lasts_more, same_clock, still_synchronized, stays_more, stays_still, half_lasts, HasKept, DrivingKeeps}
 
 module _ {D C : Type 0} (told : D → DeviceTold) (clock : D → Clock) (copies : C → List Told) (is_store : C → ℕ → ℕ → List ℕ → Type 0) (looked : C → C → ℕ → ℕ → Type 0) (over : C → C → Type 0) (stands : C → ℕ → ℕ → List Entry → Type 0) (t : Terms) where
   abbrev Kept : (seen seen_new : List Entry) → (old new : DriverState D C) → Type 0

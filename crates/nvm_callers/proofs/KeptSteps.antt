@@ -1,37 +1,10 @@
 -- What a history tells of callers that ran.
-use Rattle.std.specs.Prelude.{slice_get, slice_index_or, All, Contains, AllPairs}
-use Rattle.std.proofs.Common.{◌≡◌, ◌⊎◌, inl, inr, ℕ, zero, suc, ◌<◌, List, [], ◌∷◌, ◌++◌, length, take, drop, Option, Some, refl, sym, ap, subst, arith, ◌∙◌}
-use Rattle.std.proofs.lemmas.List.{take-append-drop}
-use Rattle.std.proofs.lemmas.List.Elements.{All-contains, All-take}
-use Rattle.turn_gate.specs.declared.pass.View.{View}
-use Rattle.driver_moves.specs.block_machine.Words.{Entry, Configuration}
-use Rattle.script_walks.specs.Words.{Step}
-use Rattle.script_walks.specs.Callers.{IsInOrder, asks_of, program_of}
-use Rattle.script_walks.specs.Runs.{AskedAll, HadNoRoom}
-use Rattle.driver_moves.specs.nvm_shared.declared.terms.Terms.{Terms}
-use Rattle.script_callers.specs.declared.deed.Deed.{Deed}
+use Rattle.nvm_callers.proofs.Common.{slice_get, slice_index_or, All, Contains, ◌≡◌, ◌⊎◌, inl, inr, ℕ, zero, suc, ◌<◌, List, [], ◌∷◌, ◌++◌, length, take, drop, Option, Some, refl, sym, ap, subst, arith, ◌∙◌, cases_lt, take-append-drop, take_all, All-contains, dite, ℕ_discrete, View, Entry, Configuration, Step, IsInOrder, asks_of, program_of, HadNoRoom, Terms, Deed, Program, deeds_of, requests_in, program_by, programs_of, AreRun, programs_are_apart, BeginsUnasked, IsOfShares, Share, HasDone, Shows, Stored, MayStore, HasStoredIn, Pairs, AllMade, EndsAt, HasMade, HaveRun, worse, EndSo, IsClosedBy, Ending, EndsAll, NoRoom, Memory, AllPairs, All-take, AskedAll, ArePrograms, deeds_have_the_requests, worst, CallersKeepSteps}
 use Rattle.script_callers.specs.declared.deed.Deed.TheVariants.{Ask}
-use Rattle.script_callers.specs.declared.program.Program.{Program}
-use Rattle.script_callers.specs.Deeds.{deeds_of, requests_in}
-use Rattle.script_callers.specs.Programs.{program_by, programs_of}
-use Rattle.script_callers.specs.RunScripts.{AreRun}
-use Rattle.script_callers.specs.Laws.{ArePrograms}
-use Rattle.script_callers.proofs.Apart.{programs_are_apart}
-use Rattle.script_callers.proofs.Growing.{deeds_have_the_requests}
-use Rattle.nvm_callers.specs.Shares.{BeginsUnasked, IsOfShares, Share}
-use Rattle.nvm_callers.specs.Deeds.{HasDone, Shows}
 use Rattle.nvm_callers.proofs.Waiting.{starts_again}
 use Rattle.nvm_callers.proofs.JoinedPasses.{collected_are_all}
 use Rattle.nvm_callers.proofs.Ordering.{beginnings_keep_order, no_room_is_had}
 use Rattle.nvm_callers.proofs.Sharing.{nobody_else_asks, shares_ask, shares_have_all, shares_hold}
-use Rattle.nvm_callers.specs.Stored.{Stored}
-use Rattle.nvm_callers.specs.Calls.{MayStore}
-use Rattle.nvm_callers.specs.Shown.{HasStoredIn}
-use Rattle.ram_mirrors_sync.specs.Blocks.{Pairs}
-use Rattle.nvm_callers.specs.Callers.{AllMade, EndsAt, HasMade, HaveRun, worse, worst}
-use Rattle.nvm_callers.specs.KeptSteps.{CallersKeepSteps, EndSo, IsClosedBy}
-use Rattle.nvm_callers.specs.declared.ending.Ending.{Ending}
-use Rattle.nvm_callers.specs.declared.ending.Ending.TheVariants.{All as EndsAll, NoRoom, Memory}
 
 -- PLACES
 module _ {A : Type 0} where
@@ -55,37 +28,15 @@ module _ {A : Type 0} where
   split_at (x ∷ xs) zero a at = cc at
   split_at (x ∷ xs) (suc i) a at = ap (λ (l : List A). x ∷ l) (split_at xs i a at)
 
-  all_taken : (l : List A) (n : ℕ) → n ≡ length l → take n l ≡ l
-  all_taken [] zero is = refl
-  all_taken [] (suc n) is = refl
-  all_taken (x ∷ xs) zero is = absurd (omega (arith, is))
-  all_taken (x ∷ xs) (suc n) is = ap (λ (l : List A). x ∷ l) (all_taken xs n (omega (arith, is)))
-
--- the one is before the other, they are the same, or it is behind
-order : (i j : ℕ) → (i < j) ⊎ ((i ≡ j) ⊎ (j < i))
-order zero zero = inr (inl refl)
-order zero (suc j) = inl (omega arith)
-order (suc i) zero = inr (inr (omega arith))
-order (suc i) (suc j) = elim (order i j) [
-  | inl before ↦ inl (omega (arith, before))
-  | inr other ↦ elim other [
-    | inl same ↦ inr (inl (omega (arith, same)))
-    | inr behind ↦ inr (inr (omega (arith, behind)))
-  ]
-]
-
 -- ENDINGS
 worse_all : (a b : Ending) → worse a b ≡ EndsAll → (a ≡ EndsAll) × (b ≡ EndsAll)
 worse_all EndsAll b is = (refl, is)
-worse_all NoRoom EndsAll is = cc is
-worse_all NoRoom NoRoom is = cc is
 worse_all NoRoom Memory is = cc is
-worse_all Memory b is = cc is
+worse_all a b is = cc is
 
 worse_memory : (a : Ending) → worse a Memory ≡ Memory
 worse_memory EndsAll = refl
-worse_memory NoRoom = refl
-worse_memory Memory = refl
+worse_memory a = refl
 
 worse_room : (a b : Ending) → worse a b ≡ NoRoom → (a ≡ NoRoom) ⊎ (b ≡ NoRoom)
 worse_room EndsAll b is = inr is
@@ -117,11 +68,11 @@ pub same_place : (ps : List Program) (i j : ℕ) (p q : Program) → IsApart ps 
 same_place ps i j p q apart at there same =
     let first = index_of ps i p p at in
     let other = index_of ps j q p there in
-    elim (order i j) [
+    elim (cases_lt i j) [
       | inl before ↦ absurd (let less = apart i j p before other.0 in omega (arith, less, ap (λ (x : Program). x.caller) first.1, ap (λ (x : Program). x.caller) other.1, same))
-      | inr less_not ↦ elim less_not [
-        | inl is ↦ is
-        | inr behind ↦ absurd (let less = apart j i p behind first.0 in omega (arith, less, ap (λ (x : Program). x.caller) first.1, ap (λ (x : Program). x.caller) other.1, same))
+      | inr late ↦ elim (cases_lt j i) [
+        | inl behind ↦ absurd (let less = apart j i p behind first.0 in omega (arith, less, ap (λ (x : Program). x.caller) first.1, ap (λ (x : Program). x.caller) other.1, same))
+        | inr soon ↦ omega (arith, late, soon)
       ]
     ]
 
@@ -138,20 +89,14 @@ module _ {S : Type 0} (bytes : S → ℕ → Option ℕ) (stored : S → ℕ →
   share_for [] ss es fs ns i p made at = absurd (cc at)
   share_for (q ∷ ps) (s ∷ ss) (e ∷ es) (f ∷ fs) (n ∷ ns) zero p made at = (s, e, f, n, refl, refl, subst (λ (x : Program). Made x s e f n) (cc at) made.0)
   share_for (q ∷ ps) (s ∷ ss) (e ∷ es) (f ∷ fs) (n ∷ ns) (suc i) p made at = share_for ps ss es fs ns i p made.1 at
-  share_for (q ∷ ps) [] es fs ns i p made at = absurd made
-  share_for (q ∷ ps) (s ∷ ss) [] fs ns i p made at = absurd made
-  share_for (q ∷ ps) (s ∷ ss) (e ∷ es) [] ns i p made at = absurd made
-  share_for (q ∷ ps) (s ∷ ss) (e ∷ es) (f ∷ fs) [] i p made at = absurd made
+  share_for (q ∷ ps) ss es fs ns i p made at = absurd made
 
   program_for : (ps : List Program) (ss : List Share) (es : List Ending) (fs ns : List S) (i : ℕ) (s : Share) → AllAre ps ss es fs ns → slice_get ss i ≡ Some s
       → (p : Program) × (e : Ending) × (f : S) × (n : S) × (slice_get ps i ≡ Some p) × (slice_get es i ≡ Some e) × Made p s e f n
   program_for ps [] es fs ns i s made at = absurd (cc at)
   program_for (p ∷ ps) (x ∷ ss) (e ∷ es) (f ∷ fs) (n ∷ ns) zero s made at = (p, e, f, n, refl, refl, subst (λ (y : Share). Made p y e f n) (cc at) made.0)
   program_for (p ∷ ps) (x ∷ ss) (e ∷ es) (f ∷ fs) (n ∷ ns) (suc i) s made at = program_for ps ss es fs ns i s made.1 at
-  program_for [] (x ∷ ss) es fs ns i s made at = absurd made
-  program_for (p ∷ ps) (x ∷ ss) [] fs ns i s made at = absurd made
-  program_for (p ∷ ps) (x ∷ ss) (e ∷ es) [] ns i s made at = absurd made
-  program_for (p ∷ ps) (x ∷ ss) (e ∷ es) (f ∷ fs) [] i s made at = absurd made
+  program_for ps (x ∷ ss) es fs ns i s made at = absurd made
 
   ended_for : (ps : List Program) (ss : List Share) (es : List Ending) (fs ns : List S) (i : ℕ) (e : Ending) → AllAre ps ss es fs ns → slice_get es i ≡ Some e
       → (p : Program) × (s : Share) × (f : S) × (n : S) × (slice_get ps i ≡ Some p) × (slice_get ss i ≡ Some s) × Made p s e f n
@@ -159,10 +104,7 @@ module _ {S : Type 0} (bytes : S → ℕ → Option ℕ) (stored : S → ℕ →
   ended_for (p ∷ ps) (s ∷ ss) (x ∷ es) (f ∷ fs) (n ∷ ns) zero e made at = (p, s, f, n, refl, refl, subst (λ (y : Ending). Made p s y f n) (cc at) made.0)
   ended_for (p ∷ ps) (s ∷ ss) (x ∷ es) (f ∷ fs) (n ∷ ns) (suc i) e made at = ended_for ps ss es fs ns i e made.1 at
   ended_for [] [] (x ∷ es) fs ns i e made at = absurd made
-  ended_for [] (s ∷ ss) (x ∷ es) fs ns i e made at = absurd made
-  ended_for (p ∷ ps) [] (x ∷ es) fs ns i e made at = absurd made
-  ended_for (p ∷ ps) (s ∷ ss) (x ∷ es) [] ns i e made at = absurd made
-  ended_for (p ∷ ps) (s ∷ ss) (x ∷ es) (f ∷ fs) [] i e made at = absurd made
+  ended_for ps ss (x ∷ es) fs ns i e made at = absurd made
 
   -- the stores at a place are those of the program there
   pub made_at : (ps : List Program) (ss : List Share) (es : List Ending) (fs ns : List S) (i : ℕ) (n : S) → AllAre ps ss es fs ns → slice_get ns i ≡ Some n
@@ -171,12 +113,7 @@ module _ {S : Type 0} (bytes : S → ℕ → Option ℕ) (stored : S → ℕ →
   made_at (p ∷ ps) (s ∷ ss) (e ∷ es) (f ∷ fs) (x ∷ ns) zero n made at = (p, s, e, f, refl, refl, refl, subst (λ (y : S). Made p s e f y) (cc at) made.0)
   made_at (p ∷ ps) (s ∷ ss) (e ∷ es) (f ∷ fs) (x ∷ ns) (suc i) n made at = made_at ps ss es fs ns i n made.1 at
   made_at [] [] [] [] (x ∷ ns) i n made at = absurd made
-  made_at [] [] [] (f ∷ fs) (x ∷ ns) i n made at = absurd made
-  made_at [] [] (e ∷ es) fs (x ∷ ns) i n made at = absurd made
-  made_at [] (s ∷ ss) es fs (x ∷ ns) i n made at = absurd made
-  made_at (p ∷ ps) [] es fs (x ∷ ns) i n made at = absurd made
-  made_at (p ∷ ps) (s ∷ ss) [] fs (x ∷ ns) i n made at = absurd made
-  made_at (p ∷ ps) (s ∷ ss) (e ∷ es) [] (x ∷ ns) i n made at = absurd made
+  made_at ps ss es fs (x ∷ ns) i n made at = absurd made
 
   shares_apart : (ps : List Program) (ss : List Share) (es : List Ending) (fs ns : List S) (x y : Share) → AllAre ps ss es fs ns → IsApart ps → Contains ss x → Contains ss y → x.caller ≡ y.caller → x ≡ y
   shares_apart ps ss es fs ns x y made apart one other same =
@@ -200,13 +137,7 @@ program_of_caller : (ps : List Program) (caller : ℕ) → ((i : ℕ) × (p : Pr
 program_of_caller [] caller = inr (λ p within. let at = placed [] p within in absurd (cc at.1))
 program_of_caller (p ∷ ps) caller = elim (program_of_caller ps caller) [
   | inl (i, q, at, is) ↦ inl (suc i, q, at, is)
-  | inr none ↦ elim (order p.caller caller) [
-    | inl less ↦ inr (others none (λ is. omega (arith, is, less)))
-    | inr not_less ↦ elim not_less [
-      | inl same ↦ inl (0, p, refl, same)
-      | inr more ↦ inr (others none (λ is. omega (arith, is, more)))
-    ]
-  ]
+  | inr none ↦ dite (ℕ_discrete p.caller caller) (λ same. inl (0, p, refl, same)) (λ other. inr (others none other))
 ]
   where
     others : ((q : Program) → Contains ps q → q.caller ≡ caller → ⊥) → (p.caller ≡ caller → ⊥) → (q : Program) → Contains (p ∷ ps) q → q.caller ≡ caller → ⊥
@@ -262,7 +193,7 @@ module _ {S : Type 0} (bytes : S → ℕ → Option ℕ) (stored : S → ℕ →
       → AskedAll c steps h caller
   all_of caller i p s e f n at is made all within =
       let ends : EndsAt t p.deeds made.made s EndsAll = subst (EndsAt t p.deeds made.made s) all made.ends in
-      asks_by caller s within (made.caller ∙ is) ∙ ap requests_in (made.deeds ∙ all_taken p.deeds made.made ends ∙ sym (begins caller i p s e f n at is made))
+      asks_by caller s within (made.caller ∙ is) ∙ ap requests_in (made.deeds ∙ take_all made.made p.deeds (omega (arith, ends)) ∙ sym (begins caller i p s e f n at is made))
       ∙ deeds_have_the_requests c (program_of caller steps)
 
   none_of : (caller : ℕ) → ((p : Program) → Contains programs p → p.caller ≡ caller → ⊥) → AskedAll c steps h caller

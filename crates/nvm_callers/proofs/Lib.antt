@@ -1,3 +1,4 @@
+mod Common
 mod Refusing
 pub mod Moved
 mod Turning

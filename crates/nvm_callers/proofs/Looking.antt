@@ -1,25 +1,9 @@
 -- What a driver's looks showed in any number of its turns.
-use Rattle.std.specs.Prelude.{option_to_list, slice_get, take, Contains}
-use Rattle.std.proofs.Common.{◌≡◌, ◌+◌, ◌≤◌, ◌⊎◌, ℕ, zero, suc, Bool, true, false, List, [], ◌∷◌, ◌++◌, length, Option, Some, None, IfSome, refl, sym, ap, ◌∙◌, subst, inl, inr, arith, append_assoc, length-append}
-use Rattle.std.proofs.lemmas.List.{append-nil, take-append-le}
-use Rattle.std.proofs.lemmas.List.Elements.{Contains-append_left, Contains-append_right, Contains-append_cases}
-use Rattle.std.proofs.Math.Seq.{take-append_seam}
-use Rattle.driver_moves.specs.memif.Told.{DeviceTold}
-use Rattle.driver_moves.specs.memif.Clock.{Clock}
-use Rattle.driver_moves.specs.block_machine.Words.{JobKind, Taken, TookNothing, TookContent, TookRefused, TookStale, Entry, Ask, Pick, Wrote, Post, Off, Found, Configuration}
-use Rattle.driver_moves.specs.block_machine.Next.{next_of}
-use Rattle.driver_moves.specs.block_machine.Steps.{after}
-use Rattle.driver_moves.specs.ram_blocks.Told.{Told}
-use Rattle.driver_moves.specs.nv_desk.Desk.{DeskState}
+use Rattle.nvm_callers.proofs.Common.{option_to_list, slice_get, Contains, ◌≡◌, ◌+◌, ◌≤◌, ◌⊎◌, ℕ, zero, suc, Bool, true, false, List, [], ◌∷◌, ◌++◌, length, Option, Some, None, refl, sym, ap, ◌∙◌, subst, inl, inr, arith, append_assoc, length-append, append-nil, take-append-le, take-append_seam, DeviceTold, Clock, JobKind, Taken, TookNothing, TookContent, TookRefused, TookStale, Entry, Ask, Pick, Wrote, Post, Off, Found, Configuration, next_of, after, Told, DeskState, Look, copies_next, Terms, AreAsks, DriverState, DrivesBy, DrivesOn, TurnsOn, SeesOn, LooksAreOrdered, look_behind, TookShown, AllTookShown, IsLookOf, Contains-append_left, Contains-append_right, Contains-append_cases, AreInOrder, IsPickShown, DrivingLooks}
+use Rattle.std.specs.Prelude.{take}
+use Rattle.std.proofs.Common.{IfSome}
 use Rattle.driver_moves.specs.nvm_laws.declared.turned.Turned.TheVariants as turned
-use Rattle.script_walks.specs.Looks.{Look, AreInOrder}
-use Rattle.script_walks.specs.Walk.{copies_next}
-use Rattle.driver_moves.specs.nvm_shared.declared.terms.Terms.{Terms}
-use Rattle.driver_moves.specs.nvm_shared.Behind.{AreAsks}
-use Rattle.driver_moves.specs.nvm_shared.Driving.{DriverState}
-use Rattle.driver_moves.specs.nvm_shared.Noted.{IsPickShown}
-use Rattle.nvm_callers.specs.Driven.{DrivesBy, DrivesOn, TurnsOn, SeesOn}
-use Rattle.nvm_callers.specs.Looked.{LooksAreOrdered, look_behind, TookShown, AllTookShown, IsLookOf, HasLooked, DrivingLooks}
+use Rattle.nvm_callers.specs.Looked.{HasLooked}
 use Rattle.nvm_callers.proofs.Keeping.{driving_keeps}
 use Rattle.nvm_callers.proofs.Turning.{IsPick, turn_adds}
 
@@ -28,14 +12,7 @@ module _ (looks more : List Look) (P Q : (block number : ℕ) → List ℕ → T
   took_on : (before : List Entry) (e : Entry) (copies : Bool) → TookShown looks P before e copies → TookShown (looks ++ more) Q before e copies
   took_on before (Pick block kind (TookStale asked got count) ops) copies took = absurd took
   took_on before (Pick block kind (TookContent bytes number) ops) true took = (Contains-append_left looks more (look_behind before block number) took.0, so block number bytes took.1)
-  took_on before (Pick block kind (TookContent bytes number) ops) false took = tt
-  took_on before (Pick block kind (TookRefused count) ops) copies took = tt
-  took_on before (Pick block kind TookNothing ops) copies took = tt
-  took_on before (Ask caller r reply) copies took = tt
-  took_on before (Wrote i mark ops) copies took = tt
-  took_on before (Post block r given refused ops) copies took = tt
-  took_on before (Off ops) copies took = tt
-  took_on before (Found marks ops) copies took = tt
+  took_on before e copies took = tt
 
   all_took_on : (c : Configuration) (before es : List Entry) → AllTookShown looks P c before es → AllTookShown (looks ++ more) Q c before es
   all_took_on c before [] took = tt

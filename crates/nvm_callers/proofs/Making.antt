@@ -1,24 +1,11 @@
 -- What a caller's calls tell of what it did.
-use Rattle.std.proofs.Common.{◌≡◌, ◌≢◌, ◌≤◌, ◌<◌, ℕ, List, [], ◌∷◌, ◌++◌, length, All, slice_get, Option, Some, sym, ap, subst, refl, ◌∙◌}
-use Rattle.std.proofs.lemmas.List.{append-nil, append_assoc}
-use Rattle.std.proofs.lemmas.List.Elements.{All-pop}
-use Rattle.turn_gate.specs.declared.pass.View.{View}
-use Rattle.turn_gate.specs.Entries.{Note, NotBelow, StartsWith}
-use Rattle.turn_gate.specs.Pass.{copied, noted}
-use Rattle.driver_moves.specs.nv_base.Result.{code_of}
-use Rattle.driver_moves.specs.block_machine.Words.{Pending, Request, Reply, Entry, Ask}
-use Rattle.driver_moves.specs.nvm_shared.StatusWords.{gives, off_word}
-use Rattle.driver_moves.specs.nvm_shared.declared.terms.Terms.{Terms}
-use Rattle.driver_moves.specs.nvm_shared.Passes.{Asked}
-use Rattle.script_callers.specs.declared.deed.Deed.{Deed}
-use Rattle.script_callers.specs.declared.deed.Deed.TheVariants.{Ask as AskDeed, Store as StoreDeed, Await}
-use Rattle.nvm_callers.specs.Deeds.{HasDone}
-use Rattle.nvm_callers.specs.Stored.{Stored, HasStored, AreAsMany, StoredOne}
+use Rattle.nvm_callers.proofs.Common.{◌≡◌, ◌≢◌, ◌≤◌, ◌<◌, ℕ, List, [], ◌∷◌, ◌++◌, length, Option, Some, sym, ap, subst, refl, ◌∙◌, append-nil, All-pop, View, Note, NotBelow, StartsWith, code_of, Pending, Request, Reply, Entry, Ask, gives, off_word, Terms, Deed, AskDeed, StoreDeed, Await, HasDone, Stored, AreAsMany, StoredOne, Did, HasPolled, KeepsPass, MayStore, copied, noted, Asked, HasStored, IsAsk, IsAwait, FindsNoRoom, WaitsNext}
+use Rattle.std.proofs.Common.{All, slice_get}
+use Rattle.std.proofs.lemmas.List.{append_assoc}
 use Rattle.nvm_callers.proofs.Doing.{asks_are_done, deeds_last, none_is_done, stores_are_done, waits_are_done}
 use Rattle.nvm_callers.proofs.Storing.{asks_stay_stored, none_as_many, none_is_stored, one_as_many, stores_are_stored, stores_last}
 use Rattle.nvm_callers.proofs.Waiting.{off_ends_waits, polls_end_waits}
-use Rattle.nvm_callers.specs.Calls.{Did, HasPolled, IsAsk, IsAwait, IsOver, KeepsPass, MayStore}
-use Rattle.nvm_callers.specs.Endings.{FindsNoRoom, WaitsNext}
+use Rattle.nvm_callers.specs.Calls.{IsOver}
 
 -- POLLS
 pub poll_ends : (t : Terms) (block : ℕ) (v w : View Entry Terms) (entry status : ℕ) → block ≤ length t.config.blocks → block < off_word → status ≢ code_of Pending
@@ -141,11 +128,9 @@ keeps_more v u w one two = record {
 pub found_full : (t : Terms) (w : View Entry Terms) (ds : List Deed) (place : ℕ) (d : Deed) → FindsNoRoom t w → IsAsk d → slice_get ds place ≡ Some d
     → FindsNoRoom t w × ((line : ℕ) × (r : Request) × (slice_get ds place ≡ Some (AskDeed line r)))
 found_full t w ds place (AskDeed line r) full is at = (full, (line, r, at))
-found_full t w ds place (StoreDeed line block number content) full is at = elim is [ ]
-found_full t w ds place (Await line block) full is at = elim is [ ]
+found_full t w ds place d full is at = elim is [ ]
 
 -- a wait that goes on is the deed at its place
 pub found_wait : (ds : List Deed) (place : ℕ) (d : Deed) → IsAwait d → slice_get ds place ≡ Some d → WaitsNext ds place
 found_wait ds place (Await line block) is at = (line, block, at)
-found_wait ds place (AskDeed line r) is at = elim is [ ]
-found_wait ds place (StoreDeed line block number content) is at = elim is [ ]
+found_wait ds place d is at = elim is [ ]

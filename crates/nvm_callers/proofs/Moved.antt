@@ -1,18 +1,5 @@
 -- What a driver's turns did, with the requests between, as moves.
-use Rattle.std.proofs.Common.{inl, inr, ℕ, zero, suc, true, List, sym, subst}
-use Rattle.driver_moves.specs.memif.Told.{DeviceTold}
-use Rattle.driver_moves.specs.memif.Clock.{Clock}
-use Rattle.driver_moves.specs.block_machine.Words.{Entry}
-use Rattle.driver_moves.specs.ram_blocks.Told.{Told}
-use Rattle.driver_moves.specs.nvm_laws.Keeps.{StaysKept}
-use Rattle.driver_moves.specs.nvm_shared.declared.terms.Terms.{Terms}
-use Rattle.driver_moves.specs.nvm_shared.Locked.{desk_with}
-use Rattle.driver_moves.specs.nvm_shared.Driving.{DriverState}
-use Rattle.driver_moves.specs.nvm_moves.Moved.{HasMoved}
-use Rattle.driver_moves.proofs.nvm_moves.Moved.{has_moved_more}
-use Rattle.driver_moves.specs.Driving.{seen_of}
-use Rattle.driver_moves.proofs.Driving.{driver_moved, none_moved, sees_moved}
-use Rattle.nvm_callers.specs.Driven.{DrivesBy, DrivesOn, HasDriven}
+use Rattle.nvm_callers.proofs.Common.{inl, inr, ℕ, zero, suc, true, List, sym, subst, DeviceTold, Clock, Entry, Told, Terms, desk_with, DriverState, DrivesBy, DrivesOn, HasDriven, StaysKept, HasMoved, has_moved_more, seen_of, driver_moved, none_moved, sees_moved}
 
 module _ {D C : Type 0} (told : D → DeviceTold) (clock : D → Clock) (copies : C → List Told) (is_store : C → ℕ → ℕ → List ℕ → Type 0) (looked : C → C → ℕ → ℕ → Type 0) (over : C → C → Type 0) (stands : C → ℕ → ℕ → List Entry → Type 0) (t : Terms) where
   abbrev Moves : (seen seen_new : List Entry) → (old new : DriverState D C) → Type 0

@@ -1,13 +1,7 @@
 -- Sides go over to callers.
-use Rattle.std.specs.Prelude.{◌==◌, ◌||◌}
-use Rattle.std.proofs.Common.{◌≡◌, ◌≢◌, ◌<◌, ℕ, Bool, true, false, List, [], ◌∷◌, ◌++◌, length, set, Option, Some, None, IfSome, refl, sym, ap, ◌∙◌, subst, inl, inr, arith}
-use Rattle.std.proofs.lemmas.Bool.Decides.{eqb_tells}
-use Rattle.std.proofs.lemmas.Bool.{cases_lt}
-use Rattle.std.proofs.lemmas.List.{get_or-set_same, get_or-set_other, get_or_past, length-set}
-use Rattle.ram_mirrors_sync.specs.Blocks.{SideList, SideValue, side_at}
-use Rattle.script_callers.specs.declared.deed.Deed.{Deed}
-use Rattle.script_callers.specs.declared.deed.Deed.TheVariants.{Store}
-use Rattle.nvm_callers.specs.Dealt.{is_store_into, store_into, moved, kept, IsDealt, HasPlaces, IsFree, GoesOver}
+use Rattle.nvm_callers.proofs.Common.{◌||◌, ◌≡◌, ◌≢◌, ◌<◌, ℕ, Bool, true, false, List, [], ◌∷◌, ◌++◌, length, Option, Some, None, refl, sym, ap, ◌∙◌, subst, inl, inr, arith, eqb_tells, cases_lt, get_or_past, length-set, SideList, SideValue, side_at, Deed, Store, is_store_into, store_into, moved, kept, IsDealt, HasPlaces, IsFree, GoesOver, set, get_or-set_same, get_or-set_other}
+use Rattle.std.specs.Prelude.{◌==◌}
+use Rattle.std.proofs.Common.{IfSome}
 
 not_same : (b block : ℕ) → (b == block) ≡ false → b ≢ block
 not_same b block is same = elim (eqb_tells b block) [

@@ -1,27 +1,7 @@
 -- What a caller did, against its program.
-use Rattle.std.specs.Prelude.{slice_get, IsTrue, not}
-use Rattle.std.proofs.Common.{◌≡◌, ◌⊎◌, inl, inr, ℕ, zero, suc, ◌+◌, ◌<◌, ◌≤◌, ◌∙◌, true, false, Bool, List, [], ◌∷◌, ◌++◌, length, take, Some, refl, sym, ap, subst, arith, length-append, append_assoc}
-use Rattle.std.proofs.lemmas.List.{append-nil}
-use Rattle.std.proofs.Math.Seq.{take-append_seam}
-use mathlib.Core.Option.{some}
-use lib.ListN.{get_elem?}
-use Rattle.atomic_table.proofs.Lists.{at_longer}
-use Rattle.driver_moves.specs.block_machine.Words.{Request, Entry, Ask, Configuration}
-use Rattle.driver_moves.specs.block_machine.Reply.{fits}
-use Rattle.driver_moves.specs.block_machine.Steps.{after}
-use Rattle.turn_gate.specs.Entries.{Note, StartsWith, AllAgree}
-use Rattle.script_walks.specs.Words.{Step, StepKind, AskStep, Store, Turn, Drain, Restart, Cut, Refuse, Await as AwaitStep}
-use Rattle.script_walks.specs.Walk.{request_after}
-use Rattle.script_walks.specs.Callers.{WaitedFor, asks_of, program_of, request_of_step, requests_from, requests_of}
-use Rattle.script_walks.specs.Looks.{CanBeMade}
-use Rattle.script_walks.specs.Runs.{HadNoRoom, IsNextAsk}
-use Rattle.driver_moves.specs.nvm_shared.StatusWords.{gives}
-use Rattle.driver_moves.specs.nvm_shared.Numbers.{IsEntry, AreAll}
-use Rattle.script_callers.specs.declared.deed.Deed.{Deed}
-use Rattle.script_callers.specs.declared.deed.Deed.TheVariants.{Ask as AskDeed, Store as StoreDeed, Await}
-use Rattle.script_callers.specs.Deeds.{requests_in, deeds_by, deeds_from, deeds_of}
-use Rattle.nvm_callers.specs.Deeds.{Shows, WereOver}
-use Rattle.nvm_callers.specs.Order.{BeginningsAsk, BeginningsKeepOrder, DeedsCanBeMade, AllIsAsked, FoundNoRoom, NoRoomIsHad}
+use Rattle.nvm_callers.proofs.Common.{slice_get, IsTrue, ◌≡◌, ◌⊎◌, inl, inr, ℕ, zero, suc, ◌+◌, ◌<◌, ◌≤◌, ◌∙◌, true, false, Bool, List, [], ◌∷◌, ◌++◌, length, take, Some, refl, sym, ap, subst, arith, length-append, append_assoc, append-nil, take-append_seam, some, get_elem?, at_longer, Request, Entry, Ask, Configuration, after, Note, StartsWith, AllAgree, Step, StepKind, AskStep, AwaitStep, WaitedFor, asks_of, program_of, CanBeMade, HadNoRoom, gives, IsEntry, AreAll, Deed, AskDeed, StoreDeed, Await, requests_in, deeds_by, deeds_from, deeds_of, Shows, WereOver, fits, request_after, request_of_step, requests_from, requests_of, IsNextAsk, BeginningsAsk, BeginningsKeepOrder, DeedsCanBeMade, AllIsAsked, FoundNoRoom, NoRoomIsHad}
+use Rattle.std.specs.Prelude.{not}
+use Rattle.script_walks.specs.Words.{Store}
 use Rattle.nvm_callers.proofs.Doing.{deeds_hold}
 
 -- THE REQUESTS
@@ -34,13 +14,7 @@ in_both (Await line block ∷ ds) es = in_both ds es
 module _ (c : Configuration) where
   in_step : (before : List Step) (line who : ℕ) (kind : StepKind) → requests_in (deeds_by c before line who kind) ≡ request_of_step c before who kind
   in_step before line who (AskStep r) = refl
-  in_step before line who (Store block content) = refl
-  in_step before line who (Turn count) = refl
-  in_step before line who Drain = refl
-  in_step before line who Restart = refl
-  in_step before line who (Cut nth keep) = refl
-  in_step before line who (Refuse block count) = refl
-  in_step before line who (AwaitStep block) = refl
+  in_step before line who kind = refl
 
   in_steps : (before xs : List Step) → requests_in (deeds_from c before xs) ≡ requests_from c before xs
   in_steps before [] = refl
@@ -78,13 +52,7 @@ module _ (c : Configuration) where
       where
         on_block : (b : ℕ) → b ≡ block → WaitedFor caller b k h → WaitedFor caller block k h
         on_block b at waited = subst (λ (m : ℕ). WaitedFor caller m k h) at waited
-    first before line who k block (AskStep r) ds done rest is same over reaches = cc is
-    first before line who k block (Store b content) ds done rest is same over reaches = cc is
-    first before line who k block (Turn count) ds done rest is same over reaches = cc is
-    first before line who k block Drain ds done rest is same over reaches = cc is
-    first before line who k block Restart ds done rest is same over reaches = cc is
-    first before line who k block (Cut nth keep) ds done rest is same over reaches = cc is
-    first before line who k block (Refuse b count) ds done rest is same over reaches = cc is
+    first before line who k block kind ds done rest is same over reaches = cc is
 
     -- behind a request
     ask_by : (k line : ℕ) (r : Request) (ds done rest : List Deed) (count : ℕ) → AskDeed line r ∷ ds ≡ done ++ rest → WereOver caller h k done → Reaches (suc count) done rest
@@ -144,11 +112,7 @@ module _ (c : Configuration) where
     later before mid line who k block n (AwaitStep b) xs done rest y follows is over at await reaches =
         let behind = other_by k _ (deeds_from c mid xs) done rest (length (requests_from c mid (take n xs))) refl is over reaches in
         follows k block behind.0 rest y behind.1 behind.2 at await behind.3
-    later before mid line who k block n (Turn count) xs done rest y follows is over at await reaches = follows k block done rest y is over at await reaches
-    later before mid line who k block n Drain xs done rest y follows is over at await reaches = follows k block done rest y is over at await reaches
-    later before mid line who k block n Restart xs done rest y follows is over at await reaches = follows k block done rest y is over at await reaches
-    later before mid line who k block n (Cut nth keep) xs done rest y follows is over at await reaches = follows k block done rest y is over at await reaches
-    later before mid line who k block n (Refuse b count) xs done rest y follows is over at await reaches = follows k block done rest y is over at await reaches
+    later before mid line who k block n kind xs done rest y follows is over at await reaches = follows k block done rest y is over at await reaches
 
     follow : (xs before : List Step) (n : ℕ) → Follows before xs n
     follow [] before n k block done rest y is over at await reaches = cc at
@@ -215,7 +179,7 @@ done_more caller k line h r (AskDeed l q ∷ ds) over = done_more caller (k + 1)
 done_more caller k line h r (StoreDeed l block number content ∷ ds) over = done_more caller k line h r ds over
 done_more caller k line h r (Await l block ∷ ds) over = (over.0, done_more caller k line h r ds over.1)
 
-at_length : {A : Type 0} (l : List A) (a : A) (more : List A) → slice_get (l ++ a ∷ more) (length l) ≡ Some a
+pub at_length : {A : Type 0} (l : List A) (a : A) (more : List A) → slice_get (l ++ a ∷ more) (length l) ≡ Some a
 at_length [] a more = refl
 at_length (x ∷ l) a more = at_length l a more
 

@@ -1,17 +1,6 @@
 -- What a wait that is over tells of the machine's state.
-use Rattle.std.specs.Prelude.{◌||◌}
-use Rattle.std.proofs.Common.{◌≡◌, ◌⊎◌, inl, inr, ℕ, zero, suc, ◌≤◌, ◌∙◌, not, Bool, true, false, IsTrue, List, [], ◌∷◌, Option, Some, None, refl, sym, ap, subst, arith}
-use mathlib.Core.Option.{some-ne-none, some-injective}
-use Rattle.driver_moves.specs.nv_base.Result.{code_of}
-use Rattle.driver_moves.specs.block_machine.Words.{ReqResult, Fine, NotOk, Pending, IntegrityFailed, BlockSkipped, Invalidated, Canceled, RedundancyFailed, Restored, Entry, Found}
-use Rattle.driver_moves.specs.block_machine.Blocks.{status_of, is_pending}
-use Rattle.driver_moves.specs.block_machine.Steps.{after}
-use Rattle.turn_gate.specs.Entries.{Gave}
-use Rattle.script_walks.specs.Callers.{tells_status, tells_off, told_last}
-use Rattle.driver_moves.specs.nvm_shared.StatusWords.{gives, off_word}
-use Rattle.driver_moves.specs.nvm_shared.Statuses.{IsLast}
-use Rattle.driver_moves.proofs.nvm_shared.Words.{the_off_word_tells, words_tell_statuses}
-use Rattle.nvm_callers.specs.Waits.{OverIsNotPending}
+use Rattle.nvm_callers.proofs.Common.{◌||◌, ◌≡◌, ◌⊎◌, inl, inr, ℕ, zero, suc, ◌≤◌, ◌∙◌, not, Bool, true, false, List, [], ◌∷◌, Option, Some, None, refl, sym, ap, subst, arith, some-ne-none, some-injective, code_of, ReqResult, Fine, Pending, Entry, Found, is_pending, after, Gave, tells_status, tells_off, told_last, gives, off_word, IsLast, status_of, the_off_word_tells, words_tell_statuses, OverIsNotPending}
+use Rattle.std.proofs.Common.{IsTrue}
 use Rattle.nvm_callers.proofs.Waiting.{off_number_told, status_told}
 
 -- the last entry that gives a word a number
@@ -59,22 +48,8 @@ module _ (word : ℕ) where
 
 by_parts : (r s : ReqResult) (a b : Bool) → code_of r ≡ code_of s → (a ≡ true → b ≡ true) → IsTrue (not (is_pending r) || a) → IsTrue (not (is_pending s) || b)
 by_parts Pending Pending a b same off over = off over
-by_parts Fine Pending a b same off over = absurd (omega (arith, same))
-by_parts NotOk Pending a b same off over = absurd (omega (arith, same))
-by_parts IntegrityFailed Pending a b same off over = absurd (omega (arith, same))
-by_parts BlockSkipped Pending a b same off over = absurd (omega (arith, same))
-by_parts Invalidated Pending a b same off over = absurd (omega (arith, same))
-by_parts Canceled Pending a b same off over = absurd (omega (arith, same))
-by_parts RedundancyFailed Pending a b same off over = absurd (omega (arith, same))
-by_parts Restored Pending a b same off over = absurd (omega (arith, same))
-by_parts r Fine a b same off over = refl
-by_parts r NotOk a b same off over = refl
-by_parts r IntegrityFailed a b same off over = refl
-by_parts r BlockSkipped a b same off over = refl
-by_parts r Invalidated a b same off over = refl
-by_parts r Canceled a b same off over = refl
-by_parts r RedundancyFailed a b same off over = refl
-by_parts r Restored a b same off over = refl
+by_parts r Pending a b same off over = absurd (omega (arith, same))
+by_parts r s a b same off over = refl
 
 pub over_is_not_pending : OverIsNotPending
 over_is_not_pending c cap marks ops more block legal few low over =

@@ -1,41 +1,9 @@
 -- What was stored into each block, whose side one caller had.
-use Rattle.std.specs.Prelude.{slice_get, is_some, map, replicate, unwrap_or, All, IfSome}
-use Rattle.std.specs.Option.{option_and_then}
-use Rattle.std.proofs.Common.{◌≡◌, ◌⊎◌, ◌==◌, ◌||◌, inl, inr, ◌<◌, ◌≤◌, ◌+◌, ℕ, zero, suc, Bool, true, false, List, [], ◌∷◌, ◌++◌, length, get_or, Option, Some, None, refl, sym, ap, ◌∙◌, subst, arith}
-use Rattle.std.proofs.lemmas.Bool.{cases_Bool, cases_lt, eqb-true, eq-eqb}
-use Rattle.std.proofs.lemmas.List.{get_or_past}
-use Rattle.std.proofs.lemmas.List.Elements.{All-contains, All-cons, All-nil}
-use Rattle.turn_gate.specs.declared.pass.View.{View}
+use Rattle.nvm_callers.proofs.Common.{slice_get, is_some, map, unwrap_or, All, IfSome, option_and_then, ◌≡◌, ◌⊎◌, ◌==◌, inl, inr, ◌<◌, ◌≤◌, ◌+◌, ℕ, zero, suc, Bool, true, false, List, [], ◌∷◌, ◌++◌, length, get_or, Option, Some, None, refl, sym, ap, ◌∙◌, subst, arith, cases_Bool, cases_lt, eqb-true, eq-eqb, get_or_past, All-contains, View, Entry, Configuration, is_synchronized, EndValue, AreClosed, AreMade, EndGoesOn, EndList, EndsGoOn, Pairs, SideList, SideValue, end_at, side_at, owner_of, ram_block_of, sync_length_of, Step, StepKind, store_content, program_of, Deed, Store, Await, Program, MayDo, deeds_of, program_by, programs_of, AreRun, CanBeRun, programs_are_apart, deeds_may_be_done, Terms, MayStore, AllMade, HaveRun, AllDealt, AllGathered, AreApart, AreBelow, HasPlaces, is_store_into, store_into, IsClosedBy, BeginsUnasked, Share, Along, SidesValue, bytes_at, bytes_by, stores_at, Ending, replicate, All-cons, All-nil, RamKind, block_of, plain_block, PairValue, AreIn, IsClosed, IsMade, pair_at, length_where_sync, stores_by}
+use Rattle.std.proofs.Common.{◌||◌}
 use Rattle.driver_moves.specs.block_config.declared.block.BlockDesc.{BlockDesc}
-use Rattle.driver_moves.specs.block_config.declared.block.RamKind.{RamKind}
 use Rattle.driver_moves.specs.block_config.declared.block.RamKind.TheVariants as ram
-use Rattle.driver_moves.specs.block_config.Config.{block_of}
-use Rattle.driver_moves.specs.block_machine.Words.{Entry, Configuration}
-use Rattle.driver_moves.specs.block_machine.Blocks.{is_synchronized}
-use Rattle.driver_moves.specs.block_config.Block.{plain_block}
-use Rattle.ram_mirrors_sync.specs.Ends.{EndValue, PairValue}
-use Rattle.ram_mirrors_sync.specs.Blocks.{AreClosed, AreIn, AreMade, EndGoesOn, EndList, EndsGoOn, IsClosed, IsMade, Pairs, SideList, SideValue, end_at, pair_at, side_at}
-use Rattle.nvm_script.specs.Owners.{owner_of, ram_block_of}
-use Rattle.nvm_script.specs.Rules.{length_where_sync, sync_length_of}
-use Rattle.script_walks.specs.Words.{Step, StepKind}
-use Rattle.script_walks.specs.Walk.{store_content}
-use Rattle.script_walks.specs.Callers.{program_of}
-use Rattle.script_callers.specs.declared.deed.Deed.{Deed}
-use Rattle.script_callers.specs.declared.deed.Deed.TheVariants.{Ask, Store, Await}
-use Rattle.script_callers.specs.declared.program.Program.{Program}
-use Rattle.script_callers.specs.Deeds.{MayDo, deeds_of}
-use Rattle.script_callers.specs.Programs.{program_by, programs_of}
-use Rattle.script_callers.specs.RunScripts.{AreRun, CanBeRun}
-use Rattle.script_callers.proofs.Apart.{programs_are_apart}
-use Rattle.script_callers.proofs.Growing.{deeds_may_be_done}
-use Rattle.driver_moves.specs.nvm_shared.declared.terms.Terms.{Terms}
-use Rattle.nvm_callers.specs.Calls.{MayStore}
-use Rattle.nvm_callers.specs.Callers.{AllMade, HaveRun}
-use Rattle.nvm_callers.specs.Dealt.{AllDealt, AllGathered, AreApart, AreBelow, HasPlaces, is_store_into, store_into}
-use Rattle.nvm_callers.specs.KeptSteps.{IsClosedBy}
-use Rattle.nvm_callers.specs.Shares.{BeginsUnasked, Share}
-use Rattle.nvm_callers.specs.Stores.{Along, SidesValue, bytes_at, bytes_by, stores_at, stores_by}
-use Rattle.nvm_callers.specs.declared.ending.Ending.{Ending}
+use Rattle.script_callers.specs.declared.deed.Deed.TheVariants.{Ask}
 use Rattle.nvm_callers.proofs.DealtSides.{HaveBytes, dealt_apart, dealt_left, dealt_own, dealt_places, dealt_was, gathered_bytes, gathered_was, none_still, there_still}
 use Rattle.nvm_callers.proofs.KeptSteps.{contained, made_at, same_place, stored_by}
 use Rattle.nvm_callers.proofs.Shown.{deeds_are_steps}
@@ -113,9 +81,8 @@ module _ (c : Configuration) (mirrors : Pairs) (ends : EndList Along) (sides : S
       by : (p : Option PairValue) (e : Option (EndValue Along)) (s : Option (SideValue Along)) → IsMade block (block_of c block) p e s → stores_by s ≡ []
       by (Some p) (Some e) (Some s) is = is.new.stores
       by p e None is = refl
-      by (Some p) None (Some s) is = absurd is
-      by None (Some e) (Some s) is = absurd is
       by None None (Some s) is = absurd is
+      by p e (Some s) is = absurd is
 
   -- a store is of the block's length
   synchronized_bytes : (block n : ℕ) → sync_length_of c block ≡ Some n → bytes_at sides block ≡ Some n
@@ -126,8 +93,7 @@ module _ (c : Configuration) (mirrors : Pairs) (ends : EndList Along) (sides : S
         where
           of : (kind : RamKind) (m : ℕ) → length_where_sync kind m ≡ Some n → (is_synchronized kind ≡ true) × (m ≡ n)
           of ram.Sync m same = (refl, cc same)
-          of ram.None m same = absurd (cc same)
-          of ram.Permanent m same = absurd (cc same)
+          of kind m same = absurd (cc same)
 
       by : (p : Option PairValue) (e : Option (EndValue Along)) (s : Option (SideValue Along)) (d : Option BlockDesc) → IsMade block d p e s
           → option_and_then (λ b. length_where_sync b.ram b.length) d ≡ Some n → bytes_by s ≡ Some n
@@ -137,10 +103,7 @@ module _ (c : Configuration) (mirrors : Pairs) (ends : EndList Along) (sides : S
           ap (λ (m : ℕ). Some m) (is.new.length_side ∙ (length_of desc found).1)
       by None None None (Some d) is there = let no_ : true ≡ false = sym (length_of d there).0 ∙ is in absurd (cc no_)
       by None None None None is there = absurd (cc there)
-      by (Some p) (Some e) None d is there = absurd is
-      by (Some p) None s d is there = absurd is
-      by None (Some e) s d is there = absurd is
-      by None None (Some s) d is there = absurd is
+      by p e s d is there = absurd is
 
   -- no block past the last one has a side
   none_past : (block : ℕ) → length c.blocks < block → side_at sides block ≡ None
@@ -155,9 +118,8 @@ module _ (c : Configuration) (mirrors : Pairs) (ends : EndList Along) (sides : S
       by : (p : Option PairValue) (e : Option (EndValue Along)) (s : Option (SideValue Along)) → IsMade (suc i) (block_of c (suc i)) p e s → s ≡ None
       by (Some p) (Some e) (Some s) is = let no_ : None ≡ Some is.desc = sym (no_block c.blocks i (omega (arith, past))) ∙ is.is in absurd (cc no_)
       by p e None is = refl
-      by (Some p) None (Some s) is = absurd is
-      by None (Some e) (Some s) is = absurd is
       by None None (Some s) is = absurd is
+      by p e (Some s) is = absurd is
 
   -- and before the first store the application has what the script has
   first_content : (steps : List Step) (news : EndList Along) (block : ℕ) (e : EndValue Along) → EndGoesOn (end_at ends block) (Some e) → store_content c steps block 0 ≡ Some e.first
@@ -167,9 +129,8 @@ module _ (c : Configuration) (mirrors : Pairs) (ends : EndList Along) (sides : S
       by (Some p) (Some o) (Some s) is goes =
           ap (λ (d : Option BlockDesc). Some (unwrap_or (unwrap_or d (plain_block 0)).defaults (replicate (unwrap_or d (plain_block 0)).length 0))) is.is
           ∙ ap (λ (l : List ℕ). Some l) (sym (goes.first ∙ is.new.first))
-      by (Some p) (Some o) None is goes = absurd is
-      by None (Some o) s is goes = absurd is
       by p None s is goes = absurd goes
+      by p (Some o) s is goes = absurd is
 
 -- BEHIND A RUN
 -- what the stores of each were
@@ -195,14 +156,7 @@ pub made_bytes : (t : Terms) (ps : List Program) (ss : List Share) (es : List En
     → AllMade (λ (s : SidesValue). bytes_at s.sides) (λ (s : SidesValue). stores_at s.sides) (λ (s : SidesValue). s.mirrors) t ps ss es fs ns → HaveBytes (map sides_in fs) (map sides_in ns)
 made_bytes t [] [] [] [] [] made = tt
 made_bytes t (p ∷ ps) (s ∷ ss) (e ∷ es) (f ∷ fs) (n ∷ ns) made = (made.0.same_bytes, made_bytes t ps ss es fs ns made.1)
-made_bytes t [] [] [] [] (n ∷ ns) made = absurd made
-made_bytes t [] [] [] (f ∷ fs) ns made = absurd made
-made_bytes t [] [] (e ∷ es) fs ns made = absurd made
-made_bytes t [] (s ∷ ss) es fs ns made = absurd made
-made_bytes t (p ∷ ps) [] es fs ns made = absurd made
-made_bytes t (p ∷ ps) (s ∷ ss) [] fs ns made = absurd made
-made_bytes t (p ∷ ps) (s ∷ ss) (e ∷ es) [] ns made = absurd made
-made_bytes t (p ∷ ps) (s ∷ ss) (e ∷ es) (f ∷ fs) [] made = absurd made
+made_bytes t ps ss es fs ns made = absurd made
 
 -- what comes back from the callers
 module _ (t : Terms) (programs : List Program) (mirrors : Pairs) (ends : EndList Along) (sides left : SideList Along) (made : AreMade t.config mirrors ends sides) (firsts nows : List SidesValue) (ending : Ending) (v : View Entry Terms)
@@ -295,9 +249,8 @@ module _ (t : Terms) (steps : List Step) (run : AreRun t.config steps) (mirrors 
 
       has_side : (p : Option PairValue) (o : Option (EndValue Along)) (s : Option (SideValue Along)) (e : EndValue Along) → IsMade block (block_of c block) p o s → EndGoesOn o (Some e) → is_some s ≡ true
       has_side (Some p) (Some o) (Some s) e is goes = refl
-      has_side (Some p) (Some o) None e is goes = absurd is
-      has_side None (Some o) s e is goes = absurd is
       has_side p None s e is goes = absurd goes
+      has_side p (Some o) s e is goes = absurd is
 
       of_side : (e : EndValue Along) (s : SideValue Along) → side_at all block ≡ Some s → EndGoesOn (end_at ends block) (Some e) → IsClosed e s → WasStored c t.cap h steps block e
       of_side e s is goes took = record {

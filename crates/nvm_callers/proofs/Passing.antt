@@ -1,29 +1,9 @@
 -- What the driver's pass knows with the callers' passes taken in.
-use Rattle.std.specs.Prelude.{slice_get, slice_index_or, Some, cond, ◌||◌}
-use Rattle.std.proofs.Common.{◌≡◌, Option, ℕ, zero, suc, ◌<◌, ◌≤◌, true, false, Bool, List, [], ◌∷◌, length, drop, refl, sym, ap, subst, arith, ◌∙◌}
-use Rattle.std.proofs.lemmas.Bool.{le-ltb}
-use Rattle.driver_moves.specs.memif.Told.{DeviceTold}
-use Rattle.driver_moves.specs.memif.Clock.{Clock}
-use Rattle.driver_moves.specs.block_machine.Words.{Entry}
-use Rattle.driver_moves.specs.ram_blocks.Told.{Told}
-use Rattle.turn_gate.specs.declared.pass.View.{View}
-use Rattle.turn_gate.specs.Pass.{both, knows, longer}
-use Rattle.driver_moves.specs.nvm_shared.declared.terms.Terms.{Terms}
-use Rattle.driver_moves.specs.nvm_shared.Locked.{desk_with}
-use Rattle.driver_moves.specs.nvm_shared.Passes.{IsUserOf, PassValue, SharedState}
-use Rattle.driver_moves.specs.nvm_shared.Driving.{DriverState, Drives, IsDriverOf}
-use Rattle.script_callers.specs.declared.program.Program.{Program}
-use Rattle.nvm_callers.specs.Shares.{Share}
-use Rattle.nvm_callers.specs.Joins.{Collects}
+use Rattle.nvm_callers.proofs.Common.{slice_get, slice_index_or, ◌||◌, ◌≡◌, Option, ℕ, zero, suc, ◌<◌, ◌≤◌, true, false, Bool, List, [], ◌∷◌, length, drop, refl, sym, ap, subst, arith, ◌∙◌, DeviceTold, Clock, Entry, Told, View, both, knows, Terms, desk_with, IsUserOf, PassValue, SharedState, DriverState, Drives, IsDriverOf, Program, Share, Collects, AllMade, HasMade, HaveRun, share_of, worse, Stored, Pairs, Ending, EndsAll, Memory, cond, le-ltb, longer, KeepsShares}
+use Rattle.std.specs.Prelude.{Some}
 use Rattle.nvm_callers.proofs.JoinedPasses.{joins_collect, nothing_is_collected}
 use Rattle.nvm_callers.proofs.Doing.{none_is_done}
-use Rattle.nvm_callers.specs.Callers.{AllMade, HasMade, HaveRun, share_of, worse}
-use Rattle.nvm_callers.specs.Steering.{KeepsShares}
-use Rattle.nvm_callers.specs.Stored.{Stored}
 use Rattle.nvm_callers.proofs.Storing.{none_is_stored}
-use Rattle.ram_mirrors_sync.specs.Blocks.{Pairs}
-use Rattle.nvm_callers.specs.declared.ending.Ending.{Ending}
-use Rattle.nvm_callers.specs.declared.ending.Ending.TheVariants.{All as EndsAll, Memory}
 
 abbrev V : Type 0
 V = View Entry Terms

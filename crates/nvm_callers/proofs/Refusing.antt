@@ -1,22 +1,7 @@
 -- No copy is refused where none is to be.
-use Rattle.std.specs.Prelude.{◌&&◌, ◌-◌, nat_le, is_some}
-use Rattle.std.proofs.Common.{◌≡◌, ◌+◌, ◌⊎◌, ℕ, Bool, true, false, List, Option, Some, None, option_map, IfSome, refl, sym, ap, ◌∙◌, subst, inl, inr, arith}
-use Rattle.std.proofs.lemmas.Bool.Decides.{eqb_tells, leb_tells}
-use Rattle.driver_moves.specs.block_machine.Words.{JobKind, WriteJob, Taken, TookNothing, TookContent, TookRefused, TookStale, Pick, Post, BlockDesc, Configuration}
-use Rattle.driver_moves.specs.block_machine.State.{State, BlockState, Job}
-use Rattle.driver_moves.specs.block_machine.Blocks.{desc_of, block_at, is_synchronized, job_block, kind_of}
-use Rattle.driver_moves.specs.block_machine.Sweeps.{member_job}
-use Rattle.driver_moves.specs.block_machine.Results.{Answer}
-use Rattle.driver_moves.specs.block_machine.Legal.{TakesForWrite, TakesBy, MayPick}
-use Rattle.driver_moves.specs.block_machine.Next.{Next, Nothing, PickJob, BeginSweep, PickMember, PostMember, EndSweep}
-use Rattle.driver_moves.specs.ram_blocks.Told.{Told, Synchronized, told_at, to_refuse_by, to_refuse_of}
-use Rattle.driver_moves.specs.ram_blocks.Tries.{Spends, OthersStay}
-use Rattle.driver_moves.specs.nv_desk.Desk.{DeskState}
-use Rattle.driver_moves.specs.nv_desk_copies.Front.{AreSynchronized}
-use Rattle.driver_moves.specs.nv_desk_copies.Takes.{took_refused, copies_out_by, copies_out_next, IsCopied}
-use Rattle.driver_moves.specs.nv_desk_copies.Posts.{goes_over, IsHandedOver, IsPosted}
-use Rattle.driver_moves.specs.promise_run.RunHalves.{tells_no_refusal}
-use Rattle.nvm_callers.specs.Added.{RefusesNone}
+use Rattle.nvm_callers.proofs.Common.{is_some, ◌≡◌, ◌+◌, ◌⊎◌, ℕ, Bool, true, false, List, Option, Some, None, refl, sym, ap, ◌∙◌, subst, inl, inr, arith, eqb_tells, JobKind, WriteJob, Taken, TookRefused, Pick, Post, BlockDesc, Configuration, State, BlockState, Job, desc_of, block_at, is_synchronized, job_block, kind_of, member_job, Answer, TakesForWrite, TakesBy, MayPick, Next, PickJob, BeginSweep, PickMember, Told, DeskState, AreSynchronized, IsPosted, tells_no_refusal, RefusesNone, ◌&&◌, nat_le, option_map, leb_tells, Synchronized, told_at, to_refuse_by, to_refuse_of, Spends, OthersStay, took_refused, copies_out_by, copies_out_next, IsCopied, goes_over, IsHandedOver}
+use Rattle.std.specs.Prelude.{◌-◌}
+use Rattle.std.proofs.Common.{IfSome}
 
 -- ONE BLOCK
 abbrev IsNone : Told → Type 0
@@ -86,15 +71,11 @@ module _ (c : Configuration) (block : ℕ) (before after : List Told) where
         by_kind (desc_of c (job_block j)) (block_at s (job_block j)) j (kind_of j) t is may.takes
         (λ synchronized. subst (λ (id : ℕ). to_refuse_of before id ≡ Some 0) (sym may.same_block) (none (job_block j) synchronized))
     by_next s kind t (BeginSweep sw) is may none = (ap took_refused may.takes_nothing, inl is)
-    by_next s kind t (PostMember sw id) is may none = absurd may
-    by_next s kind t (EndSweep sw) is may none = absurd may
-    by_next s kind t Nothing is may none = absurd may
+    by_next s kind t n is may none = absurd may
 
     not_refused : (kind : JobKind) (t : Taken) (ops : ℕ) → took_refused t ≡ false → tells_no_refusal (Pick block kind t ops) ≡ true
     not_refused kind (TookRefused count) ops none = absurd (cc none)
-    not_refused kind (TookContent bytes number) ops none = refl
-    not_refused kind (TookStale wanted got count) ops none = refl
-    not_refused kind TookNothing ops none = refl
+    not_refused kind t ops none = refl
 
     pub pick_refuses_none : (s : State) (kind : JobKind) (t : Taken) (n : Next) (ops : ℕ) → AreSynchronized c before → RefusesNone before
         → IsCopied P c block before after (copies_out_next c n) t → MayPick c s block kind t n
@@ -113,8 +94,7 @@ module _ (c : Configuration) (block : ℕ) (before after : List Told) where
 
   over_synchronized : (ram synchronized given : Bool) → ((ram && synchronized) && given) ≡ true → synchronized ≡ true
   over_synchronized true true given is = refl
-  over_synchronized true false given is = cc is
-  over_synchronized false synchronized given is = cc is
+  over_synchronized ram synchronized given is = cc is
 
 -- of the block that is posted
 pub post_refuses_none : (Premise : Type 0) (block : ℕ) (ram : Bool) (ended : Answer) (ops : ℕ) (old new : DeskState) (before after : List Told)

@@ -1,16 +1,5 @@
 -- What rounds leave of the workers.
-use Rattle.std.specs.Prelude.{slice_get, slice_index_or, All, IsSome}
-use Rattle.std.proofs.Common.{◌≡◌, ◌<◌, ℕ, List, length, Option, Some, None, true, false, refl, arith, ◌∙◌}
-use Rattle.std.proofs.lemmas.List.{get_or_default}
-use Rattle.turn_gate.specs.Pass.{knows}
-use Rattle.driver_moves.specs.nvm_shared.Passes.{PassValue, SharedState}
-use Rattle.ram_mirrors_sync.specs.Blocks.{Pairs}
-use Rattle.script_callers.specs.declared.program.Program.{Program}
-use Rattle.nvm_callers.specs.Stored.{Stored}
-use Rattle.nvm_callers.specs.Placed.{AllChanged, AllPlaced}
-use Rattle.nvm_callers.specs.Callers.{GoesOn, HasMade, HasWorked, IsFresh, MayGoOn, share_of}
-use Rattle.nvm_callers.specs.declared.threads.WorkerOf.{WorkerOf as Worker}
-use Rattle.nvm_callers.specs.declared.ending.Ending.{Ending}
+use Rattle.nvm_callers.proofs.Common.{slice_get, slice_index_or, All, IsSome, ◌≡◌, ◌<◌, ℕ, List, length, Option, Some, None, true, false, refl, arith, ◌∙◌, knows, PassValue, SharedState, Pairs, Program, Stored, AllChanged, AllPlaced, GoesOn, HasMade, HasWorked, IsFresh, MayGoOn, share_of, Worker, Ending, get_or_default}
 use Rattle.nvm_callers.proofs.Passing.{program_before}
 use Rattle.nvm_callers.proofs.Working.{begun_ended, none_begun}
 

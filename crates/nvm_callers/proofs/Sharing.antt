@@ -1,14 +1,6 @@
 -- What the callers of a run did, once their passes are joined.
-use Rattle.std.proofs.Common.{◌≡◌, inl, inr, ℕ, zero, suc, ◌∙◌, true, false, List, [], ◌∷◌, Contains, sym, ap, subst, arith}
-use mathlib.Core.Option.{some-ne-none, some-injective}
-use Rattle.atomic_table.proofs.Lists.{at_longer}
-use Rattle.driver_moves.specs.block_machine.Words.{Request, Reply, Entry, Ask, Configuration}
-use Rattle.turn_gate.specs.Pass.{Has}
-use Rattle.driver_moves.specs.nvm_shared.StatusWords.{is_ask}
-use Rattle.driver_moves.specs.nvm_shared.Numbers.{IsEntry, AreAt, AreAll}
-use Rattle.driver_moves.proofs.nvm_shared.Numbering.{asks_by_number}
-use Rattle.script_callers.specs.Deeds.{requests_in}
-use Rattle.nvm_callers.specs.Shares.{Share, IsOfShares, SharesAsk, SharesHaveAll, SharesHold, NobodyElseAsks}
+use Rattle.nvm_callers.proofs.Common.{◌≡◌, inl, inr, ℕ, zero, suc, ◌∙◌, true, false, List, [], ◌∷◌, sym, ap, subst, arith, some-ne-none, some-injective, at_longer, Request, Reply, Entry, Ask, Configuration, Has, IsEntry, AreAt, AreAll, asks_by_number, requests_in, Share, IsOfShares, is_ask, SharesAsk, SharesHaveAll, SharesHold, NobodyElseAsks}
+use Rattle.std.proofs.Common.{Contains}
 use Rattle.nvm_callers.proofs.Waiting.{inside_length}
 use Rattle.nvm_callers.proofs.Doing.{are_longer, deeds_hold}
 

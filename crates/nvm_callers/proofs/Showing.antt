@@ -1,15 +1,6 @@
 -- Each copy was shown.
-use Rattle.std.specs.Prelude.{take, Contains}
-use Rattle.std.proofs.Common.{◌≡◌, ℕ, Bool, true, false, List, [], ◌∷◌, ◌++◌, Some, refl, sym, ap, ◌∙◌, subst, append_assoc}
-use Rattle.std.proofs.Math.Seq.{take-append_seam}
-use Rattle.driver_moves.specs.block_machine.Words.{TookNothing, TookContent, TookRefused, TookStale, Entry, Ask, Pick, Wrote, Post, Off, Found, Configuration}
-use Rattle.driver_moves.specs.block_machine.Next.{next_of}
-use Rattle.driver_moves.specs.block_machine.Steps.{after}
-use Rattle.script_walks.specs.Words.{Step}
-use Rattle.script_walks.specs.Looks.{Look, CanBeStored, CopyIsShown, CopiesAreShown}
-use Rattle.script_walks.specs.Walk.{copies_next, store_content}
-use Rattle.nvm_callers.specs.Looked.{TookShown, AllTookShown, look_behind}
-use Rattle.nvm_callers.specs.TakenCopies.{CopiesHaveLooks}
+use Rattle.nvm_callers.proofs.Common.{Contains, ◌≡◌, ℕ, Bool, true, List, [], ◌∷◌, ◌++◌, Some, refl, sym, ap, ◌∙◌, subst, append_assoc, take-append_seam, TookContent, TookStale, Entry, Pick, Found, Configuration, next_of, after, Step, Look, CanBeStored, CopyIsShown, CopiesAreShown, copies_next, store_content, TookShown, AllTookShown, look_behind, CopiesHaveLooks}
+use Rattle.std.specs.Prelude.{take}
 
 module _ (c : Configuration) (steps : List Step) (looks : List Look) (IsStore : (block number : ℕ) → List ℕ → Type 0) (stores : (block number : ℕ) (x : List ℕ) → IsStore block number x → store_content c steps block number ≡ Some x) where
   -- a look in the Pick behind these entries showed what can have been stored by then
@@ -19,14 +10,7 @@ module _ (c : Configuration) (steps : List Step) (looks : List Look) (IsStore : 
   one : (before : List Entry) (e : Entry) (copies : Bool) → Made before → TookShown looks IsStore before e copies → CopyIsShown c steps looks before e copies
   one before (Pick block kind (TookStale asked got count) ops) copies made took = absurd took
   one before (Pick block kind (TookContent bytes number) ops) true made took = (record { seen = took.0; made = made block number took.0 }, stores block number bytes took.1)
-  one before (Pick block kind (TookContent bytes number) ops) false made took = tt
-  one before (Pick block kind (TookRefused count) ops) copies made took = tt
-  one before (Pick block kind TookNothing ops) copies made took = tt
-  one before (Ask caller r reply) copies made took = tt
-  one before (Wrote i mark ops) copies made took = tt
-  one before (Post block r given refused ops) copies made took = tt
-  one before (Off ops) copies made took = tt
-  one before (Found marks ops) copies made took = tt
+  one before e copies made took = tt
 
   all : (h before more : List Entry) → h ≡ before ++ more → ((l : Look) → Contains looks l → CanBeStored c steps l.block l.shown (take l.entry h))
       → AllTookShown looks IsStore c before more → CopiesAreShown c steps looks before more

@@ -1,25 +1,6 @@
 -- What the driver may conclude from what came along with a store.
-use Rattle.std.specs.Prelude.{slice_get, if◌then◌else◌}
-use Rattle.std.proofs.Common.{◌≡◌, ◌⊎◌, ◌==◌, inl, inr, ℕ, zero, suc, ◌+◌, ◌<◌, ◌≤◌, ◌∙◌, Bool, true, false, List, [], ◌∷◌, ◌++◌, length, take, drop, Some, refl, sym, ap, subst, arith, length-take, lt_of_not-le}
-use Rattle.std.proofs.lemmas.Bool.{eqb-true}
-use Rattle.std.proofs.Math.Seq.{take-append_seam}
-use mathlib.Core.Logic.{dite}
-use mathlib.Core.Option.{some}
-use native.Mathlib.Decide.{dec_le}
-use lib.ListN.{get_elem?}
-use Rattle.atomic_table.proofs.Lists.{at_longer}
-use Rattle.driver_moves.specs.block_machine.Words.{Request, Entry, Ask, Configuration}
-use Rattle.driver_moves.specs.block_laws.Consistent.{Each, Ascend}
-use Rattle.turn_gate.specs.Entries.{Note}
-use Rattle.driver_moves.specs.nvm_shared.Numbers.{AreAt, AreAll}
-use Rattle.driver_moves.proofs.nvm_shared.Numbering.{asks_by_number}
-use Rattle.script_walks.specs.Words.{Step, StepKind, AskStep, Store as StoreStep, Turn, Drain, Restart, Cut, Refuse, Await as AwaitStep}
-use Rattle.script_walks.specs.Callers.{program_of, asks_of}
-use Rattle.script_callers.specs.declared.deed.Deed.{Deed}
-use Rattle.script_callers.specs.declared.deed.Deed.TheVariants.{Ask as AskDeed, Store as StoreDeed, Await}
-use Rattle.script_callers.specs.Deeds.{requests_in, deeds_by, deeds_from, deeds_of}
-use Rattle.nvm_callers.specs.Deeds.{HasWaitedAll}
-use Rattle.nvm_callers.specs.Shown.{NotesTellMade, DeedsAreSteps}
+use Rattle.nvm_callers.proofs.Common.{slice_get, ◌≡◌, ◌⊎◌, ◌==◌, inl, inr, ℕ, zero, suc, ◌+◌, ◌<◌, ◌≤◌, ◌∙◌, Bool, true, false, List, [], ◌∷◌, ◌++◌, length, take, drop, Some, refl, sym, ap, subst, arith, length-take, eqb-true, take-append_seam, dite, some, get_elem?, at_longer, Request, Entry, Ask, Configuration, Each, Ascend, Note, AreAt, AreAll, asks_by_number, Step, StepKind, AskStep, StoreStep, AwaitStep, program_of, asks_of, Deed, AskDeed, StoreDeed, Await, requests_in, deeds_by, deeds_from, deeds_of, HasWaitedAll, lt_of_not-le, dec_le, NotesTellMade, DeedsAreSteps}
+use Rattle.std.specs.Prelude.{if◌then◌else◌}
 use Rattle.nvm_callers.proofs.Waiting.{inside_length}
 use Rattle.nvm_callers.proofs.Doing.{each_on, each_take, ascend_take, has_first, are_longer, are_below, are_as_many, are_first, were_over}
 use Rattle.nvm_callers.proofs.Ordering.{deeds_made_by}
@@ -41,16 +22,13 @@ few_first (suc most) (suc m) n (k ∷ ks) low high within = let rest = few_first
 
 module _ (P : ℕ → Type 0) where
   each_take_take : (k m : ℕ) (ks : List ℕ) → Each P (take k ks) → Each P (take k (take m ks))
-  each_take_take zero m ks each = tt
-  each_take_take (suc k) zero ks each = tt
-  each_take_take (suc k) (suc m) [] each = tt
   each_take_take (suc k) (suc m) (x ∷ xs) each = (each.0, each_take_take k m xs each.1)
+  each_take_take k m ks each = tt
 
   each_drop_take : (k m : ℕ) (ks : List ℕ) → Each P (drop k ks) → Each P (drop k (take m ks))
   each_drop_take zero m ks each = each_take P m ks each
-  each_drop_take (suc k) zero ks each = tt
-  each_drop_take (suc k) (suc m) [] each = tt
   each_drop_take (suc k) (suc m) (x ∷ xs) each = each_drop_take k m xs each
+  each_drop_take (suc k) m ks each = tt
 
 -- the waits of fewer requests
 waits_within : (c : Configuration) (cap : ℕ) (own : List ℕ) (seen : List Entry) (notes : List Note) (m k : ℕ) (ds : List Deed) → HasWaitedAll c cap own seen notes k ds
@@ -162,11 +140,7 @@ module _ (c : Configuration) (block number line : ℕ) (content : List ℕ) (aft
 
       same_store : (b : ℕ) (bytes : List ℕ) {l n : ℕ} → StoreDeed l b n bytes ≡ StoreDeed line block number content → StoreStep b bytes ≡ StoreStep block content
       same_store b bytes own = ap (λ (d : Deed). StoreStep (block_in d) (content_in d)) own
-  by_kind acc x xs before (Turn count) same next is = goes_on acc x xs before before (ap (λ (k : StepKind). deeds_by c acc x.line x.caller k ++ before) same) (next before is)
-  by_kind acc x xs before Drain same next is = goes_on acc x xs before before (ap (λ (k : StepKind). deeds_by c acc x.line x.caller k ++ before) same) (next before is)
-  by_kind acc x xs before Restart same next is = goes_on acc x xs before before (ap (λ (k : StepKind). deeds_by c acc x.line x.caller k ++ before) same) (next before is)
-  by_kind acc x xs before (Cut nth keep) same next is = goes_on acc x xs before before (ap (λ (k : StepKind). deeds_by c acc x.line x.caller k ++ before) same) (next before is)
-  by_kind acc x xs before (Refuse b count) same next is = goes_on acc x xs before before (ap (λ (k : StepKind). deeds_by c acc x.line x.caller k ++ before) same) (next before is)
+  by_kind acc x xs before kind same next is = goes_on acc x xs before before (ap (λ (k : StepKind). deeds_by c acc x.line x.caller k ++ before) same) (next before is)
 
   in_program : (acc program : List Step) (before : List Deed) → deeds_from c acc program ≡ before ++ StoreDeed line block number content ∷ after → IsIn c acc program before block content
   in_program acc [] before is = absurd (no_deed before after (StoreDeed line block number content) is)

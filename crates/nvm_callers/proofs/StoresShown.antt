@@ -1,34 +1,8 @@
 -- Which stores the driver was shown, and what it took.
-use Rattle.std.specs.Prelude.{slice_get, is_some, IsSome, unwrap_or, option_map, filter_map}
-use Rattle.std.proofs.Common.{◌≡◌, ◌⊎◌, ◌==◌, inl, inr, ℕ, zero, suc, ◌+◌, ◌<◌, ◌≤◌, ◌^◌, ◌∙◌, true, false, List, [], ◌∷◌, ◌++◌, length, map, take, get_or, Option, Some, None, refl, sym, ap, subst, arith, append_assoc, length-append, length-take}
-use Rattle.std.proofs.lemmas.Bool.{cases_Bool, eqb-true, eq-eqb}
-use Rattle.std.proofs.lemmas.List.Elements.{filter_map-append}
-use Rattle.std.proofs.lemmas.Option.{get_or_from_slice_get, slice_get_within}
-use mathlib.Core.Option.{some}
-use lib.ListN.{get_elem?}
-use Rattle.nvm_script.specs.Owners.{owner_of, ram_block_of}
-use Rattle.nvm_script.specs.Rules.{sync_length_of}
-use Rattle.driver_moves.specs.block_machine.Words.{Entry, Configuration}
-use Rattle.turn_gate.specs.declared.pass.View.{View}
-use Rattle.turn_gate.specs.Entries.{StartsWith}
-use Rattle.turn_gate.specs.Pass.{IsWithin}
-use Rattle.driver_moves.specs.nvm_shared.declared.terms.Terms.{Terms}
-use Rattle.driver_moves.specs.nvm_shared.StatusWords.{gives}
-use Rattle.driver_moves.specs.nvm_shared.Noted.{StandsIn}
-use Rattle.ram_mirrors.specs.Stores.{store_number, store_of}
-use Rattle.script_walks.specs.Words.{Step, StepKind, AskStep, Store as StoreStep, Turn, Drain, Restart, Cut, Refuse, Await as AwaitStep}
-use Rattle.script_walks.specs.Walk.{store_by, store_content, stores_of}
-use Rattle.script_walks.specs.Callers.{program_of}
-use Rattle.script_walks.specs.Looks.{CanBeMade, CanBeStored}
-use Rattle.script_callers.specs.declared.deed.Deed.{Deed}
-use Rattle.script_callers.specs.declared.deed.Deed.TheVariants.{Store as StoreDeed}
-use Rattle.script_callers.specs.Deeds.{deeds_by, deeds_from}
-use Rattle.script_callers.specs.RunScripts.{AreRun, CanBeRun}
-use Rattle.script_callers.proofs.Owning.{stores_are_of_one}
-use Rattle.look_laws.specs.Shown.{HasOneOwner, IsStoreAt}
-use Rattle.look_laws.proofs.Shown.{shown_can_be_stored}
-use Rattle.nvm_callers.specs.Stored.{Stored, TellsDone, IsStoreOf, stores_in}
-use Rattle.nvm_callers.specs.Shown.{HasStoredIn, IsStoreStep, ShownAreStored, TakenAreStored}
+use Rattle.nvm_callers.proofs.Common.{slice_get, is_some, IsSome, unwrap_or, ◌≡◌, ◌⊎◌, ◌==◌, inl, inr, ℕ, zero, suc, ◌+◌, ◌<◌, ◌≤◌, ◌^◌, ◌∙◌, true, false, List, [], ◌∷◌, ◌++◌, length, take, get_or, Option, Some, None, refl, sym, ap, subst, arith, append_assoc, length-append, length-take, cases_Bool, eqb-true, eq-eqb, some, get_elem?, owner_of, ram_block_of, sync_length_of, Entry, Configuration, View, StartsWith, Terms, gives, StandsIn, store_of, Step, StepKind, StoreStep, store_content, program_of, CanBeMade, CanBeStored, Deed, StoreDeed, deeds_by, deeds_from, AreRun, CanBeRun, Stored, TellsDone, IsStoreOf, stores_in, HasStoredIn, filter_map, length-map, map-append, filter_map-append, get_or_from_slice_get, slice_get_within, IsWithin, store_number, store_by, stores_of, stores_are_of_one, HasOneOwner, IsStoreAt, shown_can_be_stored, IsStoreStep, ShownAreStored, TakenAreStored}
+use Rattle.std.specs.Prelude.{option_map}
+use Rattle.std.proofs.Common.{map}
+use Rattle.nvm_callers.proofs.Ordering.{at_length}
 use Rattle.nvm_callers.proofs.Shown.{notes_tell_made, deeds_are_steps}
 
 -- THE STORES OF A PROGRAM
@@ -37,32 +11,18 @@ module _ (block : ℕ) where
   of_step : (c : Configuration) (acc : List Step) (line caller : ℕ) (kind : StepKind) (ds : List Deed)
       → stores_in block (deeds_by c acc line caller kind ++ ds) ≡ map (λ (p : ℕ × List ℕ). p.1) (stores_of block (record { line = line; caller = caller; kind = kind } ∷ [])) ++ stores_in block ds
   of_step c acc line caller (StoreStep b content) ds = elim (cases_Bool (b == block)) [ inl own ↦ rw own refl | inr other ↦ rw other refl ]
-  of_step c acc line caller (AskStep r) ds = refl
-  of_step c acc line caller (AwaitStep b) ds = refl
-  of_step c acc line caller (Turn count) ds = refl
-  of_step c acc line caller Drain ds = refl
-  of_step c acc line caller Restart ds = refl
-  of_step c acc line caller (Cut nth keep) ds = refl
-  of_step c acc line caller (Refuse b count) ds = refl
+  of_step c acc line caller kind ds = refl
 
   one_more : (x : Step) (xs : List Step) → stores_of block (x ∷ xs) ≡ stores_of block (x ∷ []) ++ stores_of block xs
   one_more x xs = filter_map-append (λ y. store_by block y.caller y.kind) (x ∷ []) xs
-
-  map_both : (xs ys : List (ℕ × List ℕ)) → map (λ (p : ℕ × List ℕ). p.1) (xs ++ ys) ≡ map (λ (p : ℕ × List ℕ). p.1) xs ++ map (λ (p : ℕ × List ℕ). p.1) ys
-  map_both [] ys = refl
-  map_both (x ∷ xs) ys = ap (λ (l : List (List ℕ)). x.1 ∷ l) (map_both xs ys)
 
   of_program : (c : Configuration) (acc program : List Step) → stores_in block (deeds_from c acc program) ≡ map (λ (p : ℕ × List ℕ). p.1) (stores_of block program)
   of_program c acc [] = refl
   of_program c acc (x ∷ xs) =
       of_step c acc x.line x.caller x.kind (deeds_from c (acc ++ x ∷ []) xs)
       ∙ ap (λ (l : List (List ℕ)). map (λ (p : ℕ × List ℕ). p.1) (stores_of block (x ∷ [])) ++ l) (of_program c (acc ++ x ∷ []) xs)
-      ∙ sym (map_both (stores_of block (x ∷ [])) (stores_of block xs))
+      ∙ sym (map-append (λ (p : ℕ × List ℕ). p.1) (stores_of block (x ∷ [])) (stores_of block xs))
       ∙ ap (map (λ (p : ℕ × List ℕ). p.1)) (sym (one_more x xs))
-
-length_map : (xs : List (ℕ × List ℕ)) → length (map (λ (p : ℕ × List ℕ). p.1) xs) ≡ length xs
-length_map [] = refl
-length_map (x ∷ xs) = ap suc (length_map xs)
 
 -- ONE OWNER
 pub kind_at : (c : Configuration) (steps : List Step) (place : ℕ) (x : Step) → AreRun c steps → slice_get steps place ≡ Some x → CanBeRun c x.kind
@@ -78,13 +38,7 @@ stored_by block caller (StoreStep b content) it = elim (cases_Bool (b == block))
   where
     none : (b == block) ≡ false → IsSome (store_by block caller (StoreStep b content)) → ⊥
     none other it = let no : is_some (store_by block caller (StoreStep b content)) ≡ false = rw other refl in cc
-stored_by block caller (AskStep r) it = cc
-stored_by block caller (AwaitStep b) it = cc
-stored_by block caller (Turn count) it = cc
-stored_by block caller Drain it = cc
-stored_by block caller Restart it = cc
-stored_by block caller (Cut nth keep) it = cc
-stored_by block caller (Refuse b count) it = cc
+stored_by block caller kind it = cc
 
 owner : (c : Configuration) (steps : List Step) (block place : ℕ) (x : Step) → AreRun c steps → IsStoreAt steps block place x → owner_of steps block ≡ Some x.caller
 owner c steps block place x run is =
@@ -132,10 +86,6 @@ few_stores block (x ∷ xs) =
     let both = ap (λ (l : List (ℕ × List ℕ)). length l) (one_more block x xs) ∙ length-append (stores_of block (x ∷ [])) (stores_of block xs) in
     omega (arith, one, rest, both)
 
-at_length : {A : Type 0} (l : List A) (a : A) (more : List A) → slice_get (l ++ a ∷ more) (length l) ≡ Some a
-at_length [] a more = refl
-at_length (x ∷ l) a more = at_length l a more
-
 -- what one of the stores tells
 module _ (c : Configuration) (cap : ℕ) (all : List Entry) (steps : List Step) (caller block k : ℕ) (made : ℕ → List Stored) (x : Stored) (run : AreRun c steps) (has : HasStoredIn c cap all steps caller made)
     (at : get_elem? (made block) k ≡ some x) where
@@ -155,7 +105,7 @@ module _ (c : Configuration) (cap : ℕ) (all : List Entry) (steps : List Step) 
   count =
       let one = (stores_are_of_one c steps step_of.place step_of.step block x.content run step_of.at step_of.kind).1 in
       ap (λ (l : List (ℕ × List ℕ)). length l) (sym one) ∙ ap (λ (who : ℕ). length (stores_of block (program_of who first_steps))) step_of.of
-      ∙ sym (length_map (stores_of block (program_of caller first_steps))) ∙ ap (λ (l : List (List ℕ)). length l) (sym (of_program block c [] (program_of caller first_steps)))
+      ∙ sym (length-map (stores_of block (program_of caller first_steps)) (λ (p : ℕ × List ℕ). p.1)) ∙ ap (λ (l : List (List ℕ)). length l) (sym (of_program block c [] (program_of caller first_steps)))
       ∙ ap (λ (ds : List Deed). length (stores_in block ds)) step_of.earlier ∙ sym this.place
 
   pub can_be : (number : ℕ) (h : List Entry) → number ≤ store_number (k + 1) → StartsWith all h → StandsIn h x.note → CanBeStored c steps block number h

@@ -1,28 +1,7 @@
 -- What was taken of synchronized RAM was stored by then.
-use Rattle.std.specs.Prelude.{map, take, drop, is_some, Contains, IfSome}
-use Rattle.std.proofs.Common.{◌≡◌, ◌⊎◌, inl, inr, ℕ, ◌<◌, ◌^◌, Bool, true, false, List, [], ◌∷◌, ◌++◌, length, Option, Some, None, refl, sym, ap, subst, arith, ◌∙◌}
-use Rattle.std.proofs.lemmas.List.{take-append-drop}
-use mathlib.Core.Option.{some, some-ne-none}
-use lib.ListN.{get_elem?}
-use Rattle.driver_moves.specs.memif.Told.{DeviceTold}
-use Rattle.driver_moves.specs.memif.Clock.{Clock}
-use Rattle.driver_moves.specs.block_machine.Words.{TookNothing, TookContent, TookRefused, TookStale, Entry, Ask, Pick, Wrote, Post, Off, Found, Instance, Mark, Configuration}
-use Rattle.driver_moves.specs.block_machine.Next.{next_of}
-use Rattle.driver_moves.specs.block_machine.Steps.{after}
-use Rattle.turn_gate.specs.Entries.{StartsWith}
-use Rattle.ram_mirrors.specs.Stores.{AllStored}
-use Rattle.ram_mirrors_sync.specs.Ends.{EndValue, GoesOn, IsTaken}
-use Rattle.ram_mirrors_sync.specs.Blocks.{CameWith, EndGoesOn, EndList, HasCameWith, HasLooked, IsOver, IsStore, SyncValue, WasShown, end_at, told_by}
-use Rattle.script_walks.specs.Words.{Step}
-use Rattle.script_walks.specs.Walk.{store_content, copies_next}
-use Rattle.script_walks.specs.Looks.{CanBeStored, CopiesAreShown, Look}
-use Rattle.script_callers.specs.RunScripts.{AreRun}
-use Rattle.driver_moves.specs.nvm_shared.declared.terms.Terms.{Terms}
-use Rattle.driver_moves.specs.nvm_shared.Noted.{StandsIn}
-use Rattle.nvm_callers.specs.Stored.{Stored}
-use Rattle.nvm_callers.specs.Stores.{Along}
-use Rattle.nvm_callers.specs.Shown.{HasStoredIn}
-use Rattle.nvm_callers.specs.Looked.{AllTookShown, IsLookOf, TookShown, look_behind}
+use Rattle.nvm_callers.proofs.Common.{map, is_some, Contains, IfSome, ◌≡◌, ◌⊎◌, inl, inr, ℕ, ◌<◌, ◌^◌, Bool, true, List, [], ◌∷◌, ◌++◌, length, Option, Some, None, refl, sym, ap, subst, arith, ◌∙◌, take-append-drop, some, some-ne-none, get_elem?, DeviceTold, Clock, TookContent, TookStale, Entry, Pick, Found, Instance, Mark, Configuration, next_of, after, StartsWith, EndValue, EndGoesOn, EndList, HasCameWith, HasLooked, IsOver, IsStore, SyncValue, end_at, told_by, Step, store_content, copies_next, CanBeStored, CopiesAreShown, Look, AreRun, Terms, StandsIn, Stored, Along, HasStoredIn, AllTookShown, IsLookOf, TookShown, look_behind, AllStored, IsTaken, CameWith, WasShown}
+use Rattle.std.specs.Prelude.{take, drop}
+use Rattle.ram_mirrors_sync.specs.Ends.{GoesOn}
 use Rattle.nvm_callers.proofs.Showing.{copies_have_looks}
 use Rattle.nvm_callers.proofs.StoresShown.{shown_are_stored, taken_are_stored}
 
@@ -46,14 +25,7 @@ module _ (looks : List Look) (ends : EndList Along) (there : (l : Look) → Cont
   one_there : (before : List Entry) (e : Entry) (copies : Bool) → TookShown looks (IsStore ends) before e copies → TookShown looks (IsStoreThere ends) before e copies
   one_there before (Pick block kind (TookStale asked got count) ops) copies took = took
   one_there before (Pick block kind (TookContent bytes number) ops) true took = (took.0, (took.1, there (look_behind before block number) took.0))
-  one_there before (Pick block kind (TookContent bytes number) ops) false took = tt
-  one_there before (Pick block kind (TookRefused count) ops) copies took = tt
-  one_there before (Pick block kind TookNothing ops) copies took = tt
-  one_there before (Ask caller r reply) copies took = tt
-  one_there before (Wrote i mark ops) copies took = tt
-  one_there before (Post block r given refused ops) copies took = tt
-  one_there before (Off ops) copies took = tt
-  one_there before (Found marks ops) copies took = tt
+  one_there before e copies took = tt
 
   all_there : (c : Configuration) (before more : List Entry) → AllTookShown looks (IsStore ends) c before more → AllTookShown looks (IsStoreThere ends) c before more
   all_there c before [] took = tt
@@ -61,8 +33,7 @@ module _ (looks : List Look) (ends : EndList Along) (there : (l : Look) → Cont
 
 was_there : (a e : Option (EndValue Along)) (n : ℕ) → WasShown a e n → is_some e ≡ true
 was_there (Some a) (Some e) n shown = refl
-was_there (Some a) None n shown = absurd shown
-was_there None e n shown = absurd shown
+was_there a e n shown = absurd shown
 
 -- nothing is taken of none
 none_got : (stores : List Stored) (k : ℕ) (x : Stored) (X : Type 0) → stores ≡ [] → get_elem? stores k ≡ some x → X
@@ -116,8 +87,7 @@ module _ (c : Configuration) (cap : ℕ) (h : List Entry) (steps : List Step) (r
           → IfSome e (WasStored c cap h steps block) → CanBeStored c steps block number (take entry h)
       by (Some a) (Some b) (Some e) shown goes with was = of_shown block number e entry was (came_later (StandsIn (take entry h)) b e number goes with)
       by (Some a) None (Some e) shown goes with was = absurd goes
-      by (Some a) b None shown goes with was = absurd shown
-      by None b e shown goes with was = absurd shown
+      by a b e shown goes with was = absurd shown
 
 -- ALL OF THEM
 module _ {D : Type 0} (told : D → DeviceTold) (clock : D → Clock) (t : Terms) (steps : List Step) (run : AreRun t.config steps) (few : length steps < 2 ^ 60) (marks : List (Instance × Mark)) (ops : ℕ) (more : List Entry)

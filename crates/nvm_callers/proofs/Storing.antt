@@ -1,24 +1,6 @@
 -- What a caller stored, as it goes on.
-use Rattle.std.proofs.Common.{◌≡◌, ◌≢◌, ◌⊎◌, ◌==◌, ℕ, zero, suc, ◌+◌, ◌<◌, ◌≤◌, ◌∙◌, Bool, true, false, List, [], ◌∷◌, ◌++◌, length, take, drop, if◌then◌else◌, Some, inl, inr, refl, sym, ap, subst, arith, length-append}
-use Rattle.std.proofs.lemmas.Bool.{eq-eqb, ne_eqb}
-use Rattle.std.proofs.lemmas.List.{append-nil, append_assoc, take-append-le, drop-append-le, take_all}
-use mathlib.Core.Option.{some, some-ne-none, some-injective}
-use mathlib.Core.Logic.{dite}
-use native.Mathlib.Decide.{ℕ_discrete}
-use lib.ListN.{get_elem?}
-use Rattle.driver_moves.specs.block_machine.Words.{Entry, Configuration}
-use Rattle.driver_moves.specs.nvm_shared.declared.terms.Terms.{Terms}
-use Rattle.ram_mirrors.specs.Stores.{store_of}
-use Rattle.driver_moves.specs.nvm_shared.StatusWords.{gives}
-use Rattle.driver_moves.specs.nvm_shared.Numbers.{AreAt}
-use Rattle.driver_moves.specs.block_laws.Consistent.{Each}
-use Rattle.turn_gate.specs.declared.pass.View.{View}
-use Rattle.turn_gate.specs.Entries.{Note, StartsWith, AllAgree}
-use Rattle.script_callers.specs.declared.deed.Deed.{Deed}
-use Rattle.script_callers.specs.declared.deed.Deed.TheVariants.{Ask as AskDeed, Store as StoreDeed, Await}
-use Rattle.script_callers.specs.Deeds.{requests_in}
-use Rattle.nvm_callers.specs.Deeds.{HasDone}
-use Rattle.nvm_callers.specs.Stored.{Stored, TellsDone, IsStoreOf, AreAsMany, StoredOne, stores_in, NoneIsStored, AsksStayStored, StoresLast, StoresAreStored}
+use Rattle.nvm_callers.proofs.Common.{◌≡◌, ◌≢◌, ◌⊎◌, ◌==◌, ℕ, zero, suc, ◌+◌, ◌<◌, ◌≤◌, ◌∙◌, Bool, true, false, List, [], ◌∷◌, ◌++◌, length, take, drop, if◌then◌else◌, Some, inl, inr, refl, sym, ap, subst, arith, length-append, eq-eqb, ne_eqb, append-nil, take-append-le, drop-append-le, take_all, some, some-ne-none, some-injective, dite, ℕ_discrete, get_elem?, Entry, Configuration, Terms, store_of, gives, AreAt, Each, View, Note, StartsWith, AllAgree, Deed, AskDeed, StoreDeed, Await, requests_in, HasDone, Stored, TellsDone, IsStoreOf, AreAsMany, StoredOne, stores_in, NoneIsStored, AsksStayStored, StoresLast, StoresAreStored}
+use Rattle.std.proofs.lemmas.List.{append_assoc}
 use Rattle.nvm_callers.proofs.Waiting.{agree_before}
 use Rattle.nvm_callers.proofs.Doing.{are_as_many, each_last, waits_on}
 

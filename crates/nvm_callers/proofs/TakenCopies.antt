@@ -1,26 +1,7 @@
 -- What the jobs of a history took of synchronized RAM.
-use Rattle.std.specs.Prelude.{option_to_list}
+use Rattle.nvm_callers.proofs.Common.{option_to_list, ◌≡◌, ◌==◌, ℕ, not, Bool, true, false, List, [], ◌∷◌, ◌++◌, refl, sym, ap, ◌∙◌, subst, inl, inr, Option, Some, None, if◌then◌else◌, cases_Bool, Request, Reply, Accepted, ReqResult, JobKind, WriteJob, Taken, TookNothing, TookContent, TookStale, Instance, Mark, Entry, Ask, Pick, Wrote, Post, Off, Found, BlockDesc, Configuration, State, BlockState, Job, desc_of, block_at, is_synchronized, job_block, kind_of, member_job, Next, PickJob, BeginSweep, PickMember, PostMember, next_of, after, TakesForWrite, TakesBy, MayPick, Each, Step, store_content, copies_next, Look, CopyIsShown, CopiesAreShown, histories_step, TookShown, AllTookShown, Read, Write, Restore, Erase, Invalidate, Sweep, jobs_of, names_ram, is_picked, next_in, next_by, next_member, at_first, step, job_at, without_job, interrupted, content_after, picked_job, picked, in_hand, with_member, wrote, posted, posted_next, IsAllowed, IsLegalFrom, copies_by, TakesStore, TakesStores, CopiesOf, IsStored, next_is_waiting, each_append, each_right, each_kept, hand_stored, waiting_stored, picks, CopiesAreStores}
 use Rattle.std.specs.Option.{is_some}
-use Rattle.std.proofs.Common.{◌≡◌, ◌==◌, ◌&&◌, ℕ, not, Bool, true, false, List, [], ◌∷◌, ◌++◌, refl, sym, ap, ◌∙◌, subst, inl, inr, Option, Some, None, if◌then◌else◌}
-use Rattle.std.proofs.lemmas.Bool.{cases_Bool}
-use Rattle.driver_moves.specs.block_machine.Words.{Request, Read, Write, Restore, Erase, Invalidate, SetIndex, GetIndex, SetProtection, SetLock, SetRam, PutRam, Status, ReadAll, WriteAll, CancelWriteAll, Reply, Accepted, Refused, StatusIs, IndexIs, ReqResult, JobKind, WriteJob, Taken, TookNothing, TookContent, TookRefused, TookStale, Instance, Mark, Entry, Ask, Pick, Wrote, Post, Off, Found, BlockDesc, Configuration}
-use Rattle.driver_moves.specs.block_machine.State.{State, BlockState, Job, Sweep, jobs_of}
-use Rattle.driver_moves.specs.block_machine.Blocks.{desc_of, block_at, is_synchronized, names_ram, job_block, kind_of}
-use Rattle.driver_moves.specs.block_machine.Sweeps.{member_job, is_picked}
-use Rattle.driver_moves.specs.block_machine.Next.{Next, Nothing, PickJob, BeginSweep, PickMember, PostMember, EndSweep, next_of, next_in, next_by, next_member}
-use Rattle.driver_moves.specs.block_machine.StartUp.{at_first}
-use Rattle.driver_moves.specs.block_machine.Steps.{step, after, job_at, without_job, interrupted, content_after, picked_job, picked, in_hand, with_member, wrote, posted, posted_next}
-use Rattle.driver_moves.specs.block_machine.Legal.{TakesForWrite, TakesBy, MayPick, IsAllowed, IsLegalFrom}
-use Rattle.driver_moves.specs.block_laws.Consistent.{Each}
-use Rattle.script_walks.specs.Words.{Step}
-use Rattle.script_walks.specs.Walk.{store_content, copies_by, TakesStore, TakesStores, copies_next}
-use Rattle.script_walks.specs.Stores.{CopiesOf, IsStored}
-use Rattle.script_walks.specs.Looks.{Look, CopyIsShown, CopiesAreShown}
-use Rattle.driver_moves.proofs.nvm_moves.HistoryLaws.{histories_step}
-use Rattle.driver_moves.proofs.nvm_moves.NextLaws.{next_is_waiting}
-use Rattle.script_walks.proofs.Jobs.{each_append, each_right, each_kept, hand_stored, waiting_stored}
-use Rattle.nvm_callers.specs.Looked.{TookShown, AllTookShown}
-use Rattle.nvm_callers.specs.TakenCopies.{CopiesAreStores}
+use Rattle.std.proofs.Common.{◌&&◌}
 
 -- A JOB
 module _ (c : Configuration) (steps : List Step) where
@@ -40,9 +21,7 @@ module _ (c : Configuration) (steps : List Step) where
     copied : (before : List Entry) (block : ℕ) (kind : JobKind) (t : Taken) (ops : ℕ) → TookShown looks IsStore before (Pick block kind t ops) true → IsTaken block t
     unfolding IsTaken
     copied before block kind (TookContent bytes number) ops took = stores block number bytes took.1
-    copied before block kind (TookStale asked got count) ops took = tt
-    copied before block kind (TookRefused count) ops took = tt
-    copied before block kind TookNothing ops took = tt
+    copied before block kind t ops took = tt
 
     by_content : (before : List Entry) (d : BlockDesc) (b : BlockState) (j : Job) (block id : ℕ) (kind : JobKind) (content : Option (List ℕ × ℕ)) (both synchronized : Bool) (t : Taken) (ops : ℕ)
         → block ≡ id → (both ≡ true → IsStored c steps id content) → TakesForWrite d b j content synchronized t
@@ -77,9 +56,7 @@ module _ (c : Configuration) (steps : List Step) where
     where
       behind : (t : Taken) → IsTaken (job_block j) t → IsStored c steps (job_block j) j.content → IsStored c steps (job_block j) (content_after j.content t)
       behind (TookContent bytes number) is was = is
-      behind TookNothing is was = was
-      behind (TookRefused count) is was = was
-      behind (TookStale asked got count) is was = was
+      behind t is was = was
 
   interrupted_took : (h : Option Job) (jobs : List Job) → Each Took (option_to_list h) → Each Took jobs → Each Took (interrupted h jobs)
   interrupted_took None jobs hand waiting = waiting
@@ -98,26 +75,14 @@ module _ (c : Configuration) (steps : List Step) where
       each_append Took (option_to_list s.hand) (s.waiting ++ j ∷ []) (hand_stored Took s.hand s.waiting all)
       (each_append Took s.waiting (j ∷ []) (waiting_stored Took s.hand s.waiting all) (took, tt))
 
-  asked : (s : State) (caller : ℕ) (r : Request) (reply : Reply) → JobsTook s → JobsTook (step c s (Ask caller r reply))
-  asked s caller (Read block ram) Accepted all = accepted s (job_at c s.count (Read block ram)) all (λ copies. tt)
-  asked s caller (Write block None store) Accepted all = accepted s (job_at c s.count (Write block None store)) all (λ copies. tt)
-  asked s caller (Write block (Some content) store) Accepted all = accepted s (job_at c s.count (Write block (Some content) store)) all (λ copies. absurd (cc copies))
-  asked s caller (Restore block ram) Accepted all = accepted s (job_at c s.count (Restore block ram)) all (λ copies. tt)
-  asked s caller (Erase block) Accepted all = accepted s (job_at c s.count (Erase block)) all (λ copies. tt)
-  asked s caller (Invalidate block) Accepted all = accepted s (job_at c s.count (Invalidate block)) all (λ copies. tt)
-  asked s caller (SetIndex block index) Accepted all = all
-  asked s caller (GetIndex block) Accepted all = all
-  asked s caller (SetProtection block on) Accepted all = all
-  asked s caller (SetLock block on) Accepted all = all
-  asked s caller (SetRam block on) Accepted all = all
-  asked s caller (PutRam block content) Accepted all = all
-  asked s caller (Status block) Accepted all = all
-  asked s caller ReadAll Accepted all = all
-  asked s caller WriteAll Accepted all = all
-  asked s caller CancelWriteAll Accepted all = all
-  asked s caller r (Refused refusal) all = all
-  asked s caller r (StatusIs status) all = all
-  asked s caller r (IndexIs index) all = all
+  asked : (s : State) (caller : ℕ) (reply : Reply) (r : Request) → JobsTook s → JobsTook (step c s (Ask caller r reply))
+  asked s caller Accepted (Read block ram) all = accepted s (job_at c s.count (Read block ram)) all (λ copies. tt)
+  asked s caller Accepted (Write block None store) all = accepted s (job_at c s.count (Write block None store)) all (λ copies. tt)
+  asked s caller Accepted (Write block (Some content) store) all = accepted s (job_at c s.count (Write block (Some content) store)) all (λ copies. absurd (cc copies))
+  asked s caller Accepted (Restore block ram) all = accepted s (job_at c s.count (Restore block ram)) all (λ copies. tt)
+  asked s caller Accepted (Erase block) all = accepted s (job_at c s.count (Erase block)) all (λ copies. tt)
+  asked s caller Accepted (Invalidate block) all = accepted s (job_at c s.count (Invalidate block)) all (λ copies. tt)
+  asked s caller reply r all = all
 
   written : (s : State) (i : Instance) (mark : Mark) (h : Option Job) → s.hand ≡ h → JobsTook s → JobsTook (wrote s i mark h)
   written s i mark None is all = all
@@ -127,11 +92,7 @@ module _ (c : Configuration) (steps : List Step) where
 
   ended_next : (s : State) (r : ReqResult) (given : Option (List ℕ)) (n : Next) → JobsTook s → JobsTook (posted_next c s r given n)
   ended_next s r given (PostMember sw id) all = all
-  ended_next s r given (EndSweep sw) all = all
-  ended_next s r given Nothing all = all
-  ended_next s r given (PickJob j) all = all
-  ended_next s r given (BeginSweep sw) all = all
-  ended_next s r given (PickMember sw id) all = all
+  ended_next s r given n all = all
 
   ended : (s : State) (r : ReqResult) (given : Option (List ℕ)) (h : Option Job) → JobsTook s → JobsTook (posted c s r given h)
   ended s r given None all = ended_next s r given (next_of c s) all
@@ -151,9 +112,7 @@ module _ (c : Configuration) (steps : List Step) where
       in_sweep : (b : Bool) → (if b then next_member c s sw (if sw.canceled then [] else sw.left) else BeginSweep sw) ≡ PickJob j → ⊥
       in_sweep true is = member (if sw.canceled then [] else sw.left) is
       in_sweep false is = cc
-  next_by_job s None None None j is = cc
-  next_by_job s None (Some h) (Some sw) j is = cc
-  next_by_job s None (Some h) None j is = cc
+  next_by_job s None h sweep j is = cc
 
   next_took : (s : State) (j : Job) → next_of c s ≡ PickJob j → JobsTook s → Took j
   next_took s j is all =
@@ -167,11 +126,13 @@ module _ (c : Configuration) (steps : List Step) where
 
   takes_by : (copies : Bool) (block : ℕ) (kind : JobKind) (t : Taken) (ops : ℕ) → (copies ≡ true → IsTaken block t) → TakesStore c steps copies (Pick block kind t ops)
   unfolding IsTaken
-  takes_by false block kind t ops is = tt
   takes_by true block kind (TookContent bytes number) ops is = is refl
-  takes_by true block kind TookNothing ops is = tt
-  takes_by true block kind (TookRefused count) ops is = tt
-  takes_by true block kind (TookStale asked got count) ops is = tt
+  takes_by copies block kind t ops is = tt
+
+  -- nor does another entry
+  takes_none : (copies : Bool) (e : Entry) → picks (Some e) ≡ false → TakesStore c steps copies e
+  takes_none true (Pick block kind t ops) none = absurd (cc none)
+  takes_none copies e none = tt
 
   module _ (looks : List Look) (IsStore : (block number : ℕ) → List ℕ → Type 0) (stores : (block number : ℕ) (x : List ℕ) → IsStore block number x → store_content c steps block number ≡ Some x) where
     pick : (before : List Entry) (s : State) (block : ℕ) (kind : JobKind) (t : Taken) (ops : ℕ) (n : Next) → next_of c s ≡ n → JobsTook s → MayPick c s block kind t n
@@ -192,38 +153,16 @@ module _ (c : Configuration) (steps : List Step) where
           in_hand_took (with_member s sw id) j t all (λ copies. tt) taken,
         )
     pick before s block kind t ops (BeginSweep sw) is all may took = (tt, all)
-    pick before s block kind t ops (PostMember sw id) is all may took = absurd may
-    pick before s block kind t ops (EndSweep sw) is all may took = absurd may
-    pick before s block kind t ops Nothing is all may took = absurd may
+    pick before s block kind t ops n is all may took = absurd may
 
     entry : (cap : ℕ) (before : List Entry) (s : State) (e : Entry) → IsAllowed c cap s e → JobsTook s → TookShown looks IsStore before e (copies_next c (next_of c s))
         → TakesStore c steps (copies_by c (next_of c s)) e × JobsTook (step c s e)
-    entry cap before s (Ask caller r reply) allowed all took = (by (copies_by c (next_of c s)), asked s caller r reply all)
-      where
-        by : (b : Bool) → TakesStore c steps b (Ask caller r reply)
-        by true = tt
-        by false = tt
+    entry cap before s (Ask caller r reply) allowed all took = (takes_none (copies_by c (next_of c s)) _ refl, asked s caller reply r all)
     entry cap before s (Pick block kind t ops) allowed all took = pick before s block kind t ops (next_of c s) refl all allowed.1 took
-    entry cap before s (Wrote i mark ops) allowed all took = (by (copies_by c (next_of c s)), written s i mark s.hand refl all)
-      where
-        by : (b : Bool) → TakesStore c steps b (Wrote i mark ops)
-        by true = tt
-        by false = tt
-    entry cap before s (Post block r given refused ops) allowed all took = (by (copies_by c (next_of c s)), ended s r given s.hand all)
-      where
-        by : (b : Bool) → TakesStore c steps b (Post block r given refused ops)
-        by true = tt
-        by false = tt
-    entry cap before s (Off ops) allowed all took = (by (copies_by c (next_of c s)), all)
-      where
-        by : (b : Bool) → TakesStore c steps b (Off ops)
-        by true = tt
-        by false = tt
-    entry cap before s (Found marks ops) allowed all took = (by (copies_by c (next_of c s)), tt)
-      where
-        by : (b : Bool) → TakesStore c steps b (Found marks ops)
-        by true = tt
-        by false = tt
+    entry cap before s (Wrote i mark ops) allowed all took = (takes_none (copies_by c (next_of c s)) _ refl, written s i mark s.hand refl all)
+    entry cap before s (Post block r given refused ops) allowed all took = (takes_none (copies_by c (next_of c s)) _ refl, ended s r given s.hand all)
+    entry cap before s (Off ops) allowed all took = (takes_none (copies_by c (next_of c s)) _ refl, all)
+    entry cap before s (Found marks ops) allowed all took = (takes_none (copies_by c (next_of c s)) _ refl, tt)
 
     all_entries : (cap : ℕ) (before more : List Entry) (s : State) → after c before ≡ s → IsLegalFrom c cap s more → JobsTook s → AllTookShown looks IsStore c before more → TakesStores c steps s more
     all_entries cap before [] s at legal all took = tt
@@ -236,14 +175,7 @@ shown_took : (c : Configuration) (steps : List Step) (looks : List Look) (before
     → TookShown looks (λ block number x. store_content c steps block number ≡ Some x) before e copies
 shown_took c steps looks before (Pick block kind (TookStale asked got count) ops) copies is = is
 shown_took c steps looks before (Pick block kind (TookContent bytes number) ops) true is = (is.0.seen, is.1)
-shown_took c steps looks before (Pick block kind (TookContent bytes number) ops) false is = tt
-shown_took c steps looks before (Pick block kind (TookRefused count) ops) copies is = tt
-shown_took c steps looks before (Pick block kind TookNothing ops) copies is = tt
-shown_took c steps looks before (Ask caller r reply) copies is = tt
-shown_took c steps looks before (Wrote i mark ops) copies is = tt
-shown_took c steps looks before (Post block r given refused ops) copies is = tt
-shown_took c steps looks before (Off ops) copies is = tt
-shown_took c steps looks before (Found marks ops) copies is = tt
+shown_took c steps looks before e copies is = tt
 
 all_took : (c : Configuration) (steps : List Step) (looks : List Look) (before more : List Entry) → CopiesAreShown c steps looks before more
     → AllTookShown looks (λ block number x. store_content c steps block number ≡ Some x) c before more

@@ -1,43 +1,8 @@
 -- What one turn of a driver adds.
-use Rattle.std.specs.Prelude.{option_to_list}
-use Rattle.std.proofs.Common.{◌≡◌, ℕ, Bool, true, false, List, [], ◌∷◌, ◌++◌, Option, Some, None, IfSome, refl, sym, ap, ◌∙◌, subst, inl, inr, arith, append_assoc}
-use Rattle.std.proofs.lemmas.Bool.{cases_Bool}
-use Rattle.std.proofs.lemmas.List.{append-nil}
-use Rattle.driver_moves.specs.nv_base.Count.{WereCounted}
+use Rattle.nvm_callers.proofs.Common.{option_to_list, ◌≡◌, ℕ, Bool, true, false, List, [], ◌∷◌, ◌++◌, Option, Some, None, refl, sym, ap, ◌∙◌, subst, inl, inr, arith, append_assoc, cases_Bool, append-nil, WereCounted, DeviceTold, Clock, Entry, Pick, Post, Off, Configuration, State, Next, PostMember, EndSweep, next_of, Answer, after, Told, DeskState, state_of, AreSynchronized, IsPosted, Turned, is_found, Terms, AreAsks, desk_with, DriverState, histories_step, asks_power, offs_in, tells_no_refusal, RefusesNone, Fixed, PartTold, Stand, Open, Closed, ops_of, JobOk, IsPostedNext, is_of_jobs, settled_by, wrote_by, AddsBy, Ended, Device, asked_by, LeavesDevice, with_more, BeginsTurn, EndsTurn, TurnsBehind, IsUnplanned, StaysUnplanned, offs_by, jobs_keep_power, fixed_stays, device_starts, turns_stay_unplanned, IsUncut}
+use Rattle.std.proofs.Common.{IfSome}
 use Rattle.driver_moves.specs.nv_base.declared.mark.Mark.{Mark}
-use Rattle.driver_moves.specs.memif.Told.{DeviceTold, Fixed, PartTold, Stand, Open, Ended as Closed, ops_of}
-use Rattle.driver_moves.specs.memif.Clock.{Clock}
-use Rattle.driver_moves.specs.memif.declared.answer.JobResult.TheVariants.{JobOk}
-use Rattle.driver_moves.specs.block_machine.Words.{Entry, Pick, Post, Off, Configuration}
-use Rattle.driver_moves.specs.block_machine.State.{State}
-use Rattle.driver_moves.specs.block_machine.Next.{Next, Nothing, PickJob, BeginSweep, PickMember, PostMember, EndSweep, next_of}
-use Rattle.driver_moves.specs.block_machine.Results.{Answer}
-use Rattle.driver_moves.specs.block_machine.Steps.{after}
-use Rattle.driver_moves.specs.ram_blocks.Told.{Told}
-use Rattle.driver_moves.specs.nv_desk.Desk.{DeskState, state_of}
-use Rattle.driver_moves.specs.nv_desk_copies.Front.{AreSynchronized}
-use Rattle.driver_moves.specs.nv_desk_copies.Posts.{IsPosted, IsPostedNext}
-use Rattle.driver_moves.specs.job_progress.Asks.{is_of_jobs}
-use Rattle.driver_moves.specs.nvm_device_laws.Turn.{settled_by, wrote_by}
-use Rattle.driver_moves.specs.nvm_laws.Turns.{AddsBy}
-use Rattle.driver_moves.specs.nvm_laws.declared.turned.Turned.{Turned}
 use Rattle.driver_moves.specs.nvm_laws.declared.turned.Turned.TheVariants as turned
-use Rattle.driver_moves.specs.nvm_laws.declared.turned.Act.TheVariants.{Ended, Device}
-use Rattle.driver_moves.specs.nvm_core.BehindDevice.{asked_by}
-use Rattle.driver_moves.specs.nvm_core.OperationStart.{LeavesDevice}
-use Rattle.script_walks.specs.Runs.{is_found}
-use Rattle.driver_moves.specs.nvm_shared.declared.terms.Terms.{Terms}
-use Rattle.driver_moves.specs.nvm_shared.Behind.{AreAsks, with_more}
-use Rattle.driver_moves.specs.nvm_shared.Locked.{desk_with}
-use Rattle.driver_moves.specs.nvm_shared.Driving.{DriverState, BeginsTurn, EndsTurn, TurnsBehind}
-use Rattle.driver_moves.specs.nvm_shared.Unplanned.{IsUnplanned, StaysUnplanned, offs_by}
-use Rattle.driver_moves.proofs.nvm_moves.HistoryLaws.{histories_step}
-use Rattle.driver_moves.proofs.nvm_moves.Powering.{jobs_keep_power}
-use Rattle.driver_moves.proofs.Uncut.{asks_power, fixed_stays}
-use Rattle.driver_moves.proofs.nvm_moves.StackMoves.{device_starts}
-use Rattle.driver_moves.proofs.nvm_shared.Unplanned.{turns_stay_unplanned}
-use Rattle.driver_moves.specs.promise_run.RunHalves.{offs_in, tells_no_refusal}
-use Rattle.nvm_callers.specs.Added.{RefusesNone, IsUncut}
 use Rattle.nvm_callers.proofs.Refusing.{pick_refuses_none, post_refuses_none}
 
 -- REQUESTS
@@ -187,10 +152,7 @@ module _ {D C : Type 0} (told : D → DeviceTold) (clock : D → Clock) (copies 
     post_next : (n : Next) (ops : ℕ) → IsPostedNext n ops (with_more (desk_with t seen) asks) (desk_with t seen_new) (copies old.copies) (copies new.copies) → TurnAdds answer seen seen_new old new
     post_next (PostMember sw id) ops is = post (Unit {0}) id true _ ops is
     post_next (EndSweep sw) ops is = post (Unit {0}) 0 false _ ops is
-    post_next (PickJob j) ops is = absurd is
-    post_next (BeginSweep sw) ops is = absurd is
-    post_next (PickMember sw id) ops is = absurd is
-    post_next Nothing ops is = absurd is
+    post_next n ops is = absurd is
 
   ended : (answer : Turned) (seen seen_new : List Entry) (old new : DriverState D C)
       → BeginsTurn told clock copies is_store looked (Ended answer) (desk_with t seen) (desk_with t seen_new) old new → TurnAdds answer seen seen_new old new

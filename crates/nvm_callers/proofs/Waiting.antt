@@ -1,19 +1,8 @@
 -- What a poll tells of a wait.
-use Rattle.std.specs.Prelude.{nat_lt, unwrap_or, if◌then◌else◌, ◌==◌}
-use Rattle.std.specs.Option.{option_and_then, option_map_or}
-use Rattle.std.proofs.Common.{Option, Some, None, ltb-true, eqb-true, ◌≡◌, ◌≢◌, ◌⊎◌, inl, inr, ℕ, zero, suc, ◌<◌, ◌≤◌, ◌+◌, ◌∙◌, max, not, ◌||◌, Bool, true, false, IsTrue, List, [], ◌∷◌, ◌++◌, length, take, refl, sym, ap, subst, arith, length-append, append_assoc}
-use Rattle.std.proofs.lemmas.Bool.{cases_Bool, lt-ltb, ne_eqb}
-use mathlib.Core.Option.{some, some-ne-none, some-injective}
-use lib.ListN.{get_elem?}
-use Rattle.atomic_table.proofs.Lists.{at_last, at_longer}
-use Rattle.driver_moves.specs.nv_base.Result.{code_of}
-use Rattle.driver_moves.specs.block_machine.Words.{ReqResult, Fine, NotOk, Pending, IntegrityFailed, BlockSkipped, Invalidated, Canceled, RedundancyFailed, Restored, Accepted, Refused, StatusIs, IndexIs, Entry, Ask, Pick, Wrote, Post, Off, Found, Configuration}
-use Rattle.driver_moves.specs.block_machine.Blocks.{is_pending}
-use Rattle.turn_gate.specs.Entries.{Note, note, StartsWith, AllAgree, Gave, NotBelow}
-use Rattle.script_walks.specs.Callers.{pending_block, tells_status, tells_off, told_last}
-use Rattle.driver_moves.specs.nvm_shared.StatusWords.{gives, gives_by, off_word, told_at}
-use Rattle.driver_moves.specs.nvm_shared.Statuses.{IsLast}
-use Rattle.nvm_callers.specs.Waits.{Waited, OffEndsWaits, PollsEndWaits, WaitsLast}
+use Rattle.nvm_callers.proofs.Common.{unwrap_or, option_and_then, Option, Some, None, ◌≡◌, ◌≢◌, ◌⊎◌, inl, inr, ℕ, zero, suc, ◌<◌, ◌≤◌, ◌+◌, ◌∙◌, not, Bool, true, false, List, [], ◌∷◌, ◌++◌, length, take, refl, sym, ap, subst, arith, length-append, append_assoc, cases_Bool, ne_eqb, some, some-ne-none, some-injective, get_elem?, at_last, at_longer, code_of, ReqResult, Fine, Pending, Accepted, Entry, Ask, Pick, Wrote, Post, Off, Found, Configuration, is_pending, Note, StartsWith, AllAgree, Gave, NotBelow, tells_status, tells_off, told_last, gives, off_word, IsLast, nat_lt, option_map_or, ltb-true, max, lt-ltb, note, pending_block, gives_by, Waited, OffEndsWaits, PollsEndWaits, WaitsLast}
+use Rattle.std.specs.Prelude.{if◌then◌else◌, ◌==◌}
+use Rattle.std.proofs.Common.{eqb-true, ◌||◌, IsTrue}
+use Rattle.driver_moves.specs.nvm_shared.StatusWords.{told_at}
 
 -- PLACES
 below_or : (j n : ℕ) → (j < n) ⊎ (n ≤ j)
@@ -37,10 +26,9 @@ module _ {A : Type 0} where
   at_take (suc m) (x ∷ xs) (suc j) a less e = at_take m xs j a (omega (arith, less)) e
 
   pub of_take : (m : ℕ) (l : List A) (j : ℕ) (a : A) → get_elem? (take m l) j ≡ some a → (j < m) × (get_elem? l j ≡ some a)
-  of_take zero l j a e = absurd (some-ne-none a (sym e))
-  of_take (suc m) [] j a e = absurd (some-ne-none a (sym e))
   of_take (suc m) (x ∷ xs) zero a e = (omega arith, e)
   of_take (suc m) (x ∷ xs) (suc j) a e = let rest = of_take m xs j a e in (omega (arith, rest.0), rest.1)
+  of_take m l j a e = absurd (some-ne-none a (sym e))
 
   pub at_front : (l more : List A) (j : ℕ) (a : A) → j < length l → get_elem? (l ++ more) j ≡ some a → get_elem? l j ≡ some a
   at_front [] more j a less e = absurd (omega (arith, less))
@@ -59,19 +47,11 @@ agree_before h notes more agree i n at = agree i n (at_longer notes more i n at)
 -- A STATUS
 over_by : (r : ReqResult) (off : Bool) → code_of r ≢ 2 → IsTrue (not (is_pending r) || off)
 over_by Pending off is = absurd (is refl)
-over_by Fine off is = refl
-over_by NotOk off is = refl
-over_by IntegrityFailed off is = refl
-over_by BlockSkipped off is = refl
-over_by Invalidated off is = refl
-over_by Canceled off is = refl
-over_by RedundancyFailed off is = refl
-over_by Restored off is = refl
+over_by r off is = refl
 
 over_off : (b off : Bool) → off ≡ true → IsTrue (b || off)
-over_off true off is = refl
-over_off false true is = refl
 over_off false false is = cc
+over_off b off is = refl
 
 -- A WORD
 -- what entries tell of a thing goes by the numbers that they give its word
@@ -120,9 +100,7 @@ module _ (block : ℕ) (low : block < off_word) where
 
   alike : (e : Entry) → Alike (tells_status block e) (gives e block)
   alike (Ask caller r Accepted) = subst (Alike (tells_status block (Ask caller r Accepted))) (sym (by_request (pending_block r))) (if_told (option_map_or (λ id. id == block) (pending_block r) false) Pending)
-  alike (Ask caller r (Refused why)) = (λ is. refl, λ x is. absurd (cc is))
-  alike (Ask caller r (StatusIs status)) = (λ is. refl, λ x is. absurd (cc is))
-  alike (Ask caller r (IndexIs index)) = (λ is. refl, λ x is. absurd (cc is))
+  alike (Ask caller r reply) = (λ is. refl, λ x is. absurd (cc is))
   alike (Pick id kind t ops) = subst (Alike (tells_status block (Pick id kind t ops))) (sym (given_by (code_of Pending) id)) (if_told (id == block) Pending)
   alike (Post id r given refused ops) = subst (Alike (tells_status block (Post id r given refused ops))) (sym (given_by (code_of r) id)) (if_told (id == block) r)
   alike (Wrote i mark ops) = (λ is. refl, λ x is. absurd (cc is))
@@ -156,9 +134,7 @@ quiet_off given none = (λ is. refl, λ x is. absurd (let no_ : None ≡ Some x 
 
 alike_off : (e : Entry) → AlikeOff (tells_off e) (gives e off_word)
 alike_off (Ask caller r Accepted) = quiet_off _ (request_off (pending_block r))
-alike_off (Ask caller r (Refused why)) = quiet_off _ refl
-alike_off (Ask caller r (StatusIs status)) = quiet_off _ refl
-alike_off (Ask caller r (IndexIs index)) = quiet_off _ refl
+alike_off (Ask caller r reply) = quiet_off _ refl
 alike_off (Pick id kind t ops) = quiet_off _ (below_off (code_of Pending) id)
 alike_off (Post id r given refused ops) = quiet_off _ (below_off (code_of r) id)
 alike_off (Wrote i mark ops) = quiet_off _ refl

@@ -1,21 +1,5 @@
 -- What a worker made of its program.
-use Rattle.std.proofs.Common.{◌≡◌, ℕ, List, [], length, take, Option, Some, None, refl, sym, subst, ◌∙◌}
-use Rattle.std.specs.Prelude.{IfSome}
-use Rattle.turn_gate.specs.declared.pass.View.{View}
-use Rattle.turn_gate.specs.Entries.{Note, AllAgree}
-use Rattle.driver_moves.specs.block_machine.Words.{Entry}
-use Rattle.driver_moves.specs.nvm_shared.declared.terms.Terms.{Terms}
-use Rattle.driver_moves.specs.nvm_shared.StatusWords.{gives}
-use Rattle.driver_moves.specs.nvm_shared.Passes.{LearnsMore}
-use Rattle.ram_mirrors_sync.specs.Blocks.{Pairs}
-use Rattle.script_callers.specs.declared.program.Program.{Program}
-use Rattle.nvm_callers.specs.Deeds.{HasDone}
-use Rattle.nvm_callers.specs.Stored.{Stored}
-use Rattle.nvm_callers.specs.Calls.{Did}
-use Rattle.nvm_callers.specs.Endings.{EndsBy, StopsBy}
-use Rattle.nvm_callers.specs.Callers.{EndsAt, HasBegun, HasMade, share_of}
-use Rattle.nvm_callers.specs.declared.ending.Ending.{Ending}
-use Rattle.nvm_callers.specs.declared.ending.Ending.TheVariants.{All as EndsAll, NoRoom, Memory}
+use Rattle.nvm_callers.proofs.Common.{◌≡◌, ℕ, List, [], length, take, Option, Some, None, refl, sym, subst, ◌∙◌, IfSome, View, Note, AllAgree, Entry, Terms, gives, LearnsMore, Pairs, Program, HasDone, Stored, Did, StopsBy, EndsAt, HasMade, share_of, Ending, EndsAll, NoRoom, Memory, EndsBy, HasBegun}
 use Rattle.nvm_callers.proofs.Making.{did_none, did_see}
 
 module _ (t : Terms) (p : Program) (made : ℕ) (v w : View Entry Terms) (bytes : ℕ → Option ℕ) (began stored : ℕ → List Stored) (did : Did t p.caller (take made p.deeds) v bytes began stored) (more : LearnsMore v w) where

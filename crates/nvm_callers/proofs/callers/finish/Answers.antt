@@ -1,8 +1,4 @@
-use Rattle.std.proofs.Common.{sym, subst}
-use Rattle.std.proofs.Common.{List}
-use Rattle.turn_gate.specs.Pass.{knows}
-use Rattle.driver_moves.specs.block_machine.Words.{Entry}
-use Rattle.nvm_callers.specs.Driven.{HasDriven}
+use Rattle.nvm_callers.proofs.Common.{sym, subst, List, knows, Entry, HasDriven}
 use Rattle.nvm_callers.proofs.Following.{drives_follow}
 use Rattle.nvm_callers.proofs.Passing.{have_run_on}
 use Rattle.nvm_callers.proofs.callers.finish.Goals as goal

@@ -1,5 +1,4 @@
-use Rattle.std.proofs.Common.{◌<◌, ℕ}
-use Rattle.std.specs.Prelude.{slice_index_or, IsSome}
+use Rattle.nvm_callers.proofs.Common.{◌<◌, ℕ, slice_index_or, IsSome}
 use Rattle.nvm_callers.proofs.callers.have_ended.Given as goal
 
 abbrev pub invariant-loop-worker : goal.invariant-loop-worker

@@ -1,6 +1,4 @@
-use Rattle.std.proofs.Common.{◌∙◌, refl}
-use Rattle.turn_gate.specs.Pass.{knows}
-use Rattle.nvm_callers.specs.Callers.{GoesOn}
+use Rattle.nvm_callers.proofs.Common.{◌∙◌, refl, knows, GoesOn}
 use Rattle.nvm_callers.proofs.Driving.{none_steered, steered_more}
 use Rattle.nvm_callers.proofs.Rounds.{changed_more, none_changed}
 use Rattle.nvm_callers.proofs.callers.make_rounds.Goals as goal

@@ -1,9 +1,4 @@
-use Rattle.std.proofs.Common.{◌≡◌, length}
-use Rattle.turn_gate.specs.Pass.{knows}
-use Rattle.driver_moves.specs.nvm_shared.Driving.{IsDriverOf}
-use Rattle.nvm_callers.specs.Callers.{GoesOn, MayGoOn}
-use Rattle.nvm_callers.specs.Placed.{AllChanged, AllPlaced}
-use Rattle.nvm_callers.specs.Steering.{HasSteered}
+use Rattle.nvm_callers.proofs.Common.{◌≡◌, length, knows, IsDriverOf, GoesOn, MayGoOn, AllChanged, AllPlaced, HasSteered}
 use Rattle.nvm_callers.proofs.callers.make_rounds.Given as goal
 
 abbrev pub invariant-loop : goal.invariant-loop

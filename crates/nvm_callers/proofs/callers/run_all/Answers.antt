@@ -1,16 +1,4 @@
-use Rattle.std.specs.Prelude.{slice_index_or}
-use Rattle.std.proofs.Common.{◌≡◌, List, [], length, sym, ap, subst, arith, ◌∙◌}
-use Rattle.std.proofs.lemmas.List.{with_items_is}
-use Rattle.turn_gate.specs.declared.pass.View.{View}
-use Rattle.turn_gate.specs.Pass.{knows}
-use Rattle.driver_moves.specs.block_machine.Words.{Entry}
-use Rattle.driver_moves.specs.nvm_shared.declared.terms.Terms.{Terms}
-use Rattle.driver_moves.specs.nvm_shared.Passes.{PassValue}
-use Rattle.nvm_callers.specs.Driven.{HasDriven}
-use Rattle.nvm_callers.specs.Joins.{Collects}
-use Rattle.nvm_callers.specs.Callers.{GoesOn, HasWorked}
-use Rattle.nvm_callers.specs.Placed.{AllChanged, AllPlaced}
-use Rattle.nvm_callers.specs.declared.threads.WorkerOf.{WorkerOf as Worker}
+use Rattle.nvm_callers.proofs.Common.{slice_index_or, ◌≡◌, List, [], length, sym, ap, subst, arith, ◌∙◌, View, knows, Entry, Terms, PassValue, HasDriven, Collects, GoesOn, HasWorked, AllChanged, AllPlaced, Worker, with_items_is}
 use Rattle.nvm_callers.proofs.Following.{drives_follow}
 use Rattle.nvm_callers.proofs.JoinedPasses.{none_is_joined}
 use Rattle.nvm_callers.proofs.Rounds.{all_worked}

@@ -1,5 +1,4 @@
-use Rattle.std.proofs.Common.{◌≡◌, ◌<◌, ℕ, zero, suc, true, false, [], length, refl, arith}
-use Rattle.turn_gate.specs.Pass.{knows}
+use Rattle.nvm_callers.proofs.Common.{◌≡◌, ◌<◌, ℕ, zero, suc, true, false, [], length, refl, arith, knows}
 use Rattle.nvm_callers.proofs.Driving.{legal_where_told}
 use Rattle.nvm_callers.proofs.JoinedPasses.{none_is_joined}
 use Rattle.nvm_callers.proofs.Passing.{memory_is_wanting}

@@ -1,10 +1,5 @@
-use Rattle.std.specs.Prelude.{map, take}
-use Rattle.std.proofs.Common.{◌≡◌, ◌+◌, ◌++◌, ◌∷◌, [], ℕ, List, length, add-one, sym, ap, subst, length-append, ◌∙◌}
-use Rattle.std.proofs.Math.Seq.{take-suc}
-use Rattle.std.proofs.lemmas.List.Elements.{All-push, All-same}
-use Rattle.script_callers.specs.declared.deed.Deed.{Deed}
-use Rattle.script_callers.specs.declared.program.Program.{Program}
-use Rattle.nvm_callers.specs.Dealt.{AllDealt, IsDealt}
+use Rattle.nvm_callers.proofs.Common.{map, ◌≡◌, ◌+◌, ◌++◌, ◌∷◌, [], ℕ, List, length, add-one, sym, ap, subst, length-append, ◌∙◌, take-suc, Deed, Program, AllDealt, IsDealt, All-push, All-same}
+use Rattle.std.specs.Prelude.{take}
 use Rattle.nvm_callers.proofs.DealtSides.{dealt_one_more, map_push}
 use Rattle.nvm_callers.proofs.dealing.deal.Goals as goal
 

@@ -1,7 +1,5 @@
-use Rattle.std.specs.Prelude.{map, take, All}
-use Rattle.std.proofs.Common.{◌≡◌, length}
-use Rattle.ram_mirrors_sync.specs.Blocks.{AreSidesOf}
-use Rattle.nvm_callers.specs.Dealt.{AllDealt}
+use Rattle.nvm_callers.proofs.Common.{map, All, ◌≡◌, length, AreSidesOf, AllDealt}
+use Rattle.std.specs.Prelude.{take}
 use Rattle.nvm_callers.proofs.dealing.deal.Given as goal
 
 abbrev pub invariant-loop-place : goal.invariant-loop-place

@@ -1,7 +1,5 @@
-use Rattle.std.proofs.Common.{◌∷◌, ◌++◌, [], refl, sym, subst}
-use Rattle.script_callers.specs.declared.deed.Deed.{Deed}
-use Rattle.script_callers.specs.declared.deed.Deed.TheVariants.{Ask, Await}
-use Rattle.nvm_callers.specs.Dealt.{IsDealt}
+use Rattle.nvm_callers.proofs.Common.{◌∷◌, ◌++◌, [], refl, sym, subst, Deed, Await, IsDealt}
+use Rattle.script_callers.specs.declared.deed.Deed.TheVariants.{Ask}
 use Rattle.nvm_callers.proofs.Moving.{dealt_more, dealt_same, places_stay}
 use Rattle.nvm_callers.proofs.dealing.deal_by.Goals as goal
 

@@ -1,8 +1,5 @@
 use Rattle.std.specs.Prelude.{take}
-use Rattle.std.proofs.Common.{◌∷◌, ◌++◌, [], ◌≡◌, ◌+◌, ℕ, List, add-one, sym, ap, subst, ◌∙◌}
-use Rattle.std.proofs.Math.Seq.{take-suc}
-use Rattle.script_callers.specs.declared.deed.Deed.{Deed}
-use Rattle.nvm_callers.specs.Dealt.{IsDealt}
+use Rattle.nvm_callers.proofs.Common.{◌∷◌, ◌++◌, [], ◌≡◌, ◌+◌, ℕ, List, add-one, sym, ap, subst, ◌∙◌, take-suc, Deed, IsDealt}
 use Rattle.nvm_callers.proofs.Moving.{free_at}
 use Rattle.nvm_callers.proofs.dealing.deal_one.Goals as goal
 

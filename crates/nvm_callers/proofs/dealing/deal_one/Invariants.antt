@@ -1,6 +1,5 @@
 use Rattle.std.specs.Prelude.{take}
-use Rattle.ram_mirrors_sync.specs.Blocks.{AreSidesOf, Pairs}
-use Rattle.nvm_callers.specs.Dealt.{HasPlaces, IsDealt}
+use Rattle.nvm_callers.proofs.Common.{AreSidesOf, Pairs, HasPlaces, IsDealt}
 use Rattle.nvm_callers.proofs.dealing.deal_one.Given as goal
 
 abbrev pub invariant-loop-place : goal.invariant-loop-place

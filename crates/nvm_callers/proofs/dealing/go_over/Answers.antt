@@ -1,7 +1,4 @@
-use Rattle.std.specs.Prelude.{IfSome}
-use Rattle.std.proofs.Common.{◌<◌, Option, None, length, sym, subst, ap, arith}
-use Rattle.std.proofs.lemmas.List.{length-set}
-use Rattle.ram_mirrors_sync.specs.Blocks.{SideValue}
+use Rattle.nvm_callers.proofs.Common.{IfSome, ◌<◌, Option, None, length, sym, subst, ap, arith, length-set, SideValue}
 use Rattle.nvm_callers.proofs.Moving.{goes_over}
 use Rattle.nvm_callers.proofs.dealing.go_over.Goals as goal
 

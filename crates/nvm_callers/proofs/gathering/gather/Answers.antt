@@ -1,8 +1,5 @@
 use Rattle.std.specs.Prelude.{Some}
-use Rattle.std.proofs.Common.{◌≡◌, sym, subst, arith}
-use Rattle.std.proofs.lemmas.List.Elements.{All-pop}
-use Rattle.ram_mirrors_sync.specs.Blocks.{AreSidesOf}
-use Rattle.nvm_callers.specs.Dealt.{AreBelow, HasPlaces, IsFree, IsGathered}
+use Rattle.nvm_callers.proofs.Common.{◌≡◌, sym, subst, arith, All-pop, AreSidesOf, AreBelow, HasPlaces, IsFree, IsGathered}
 use Rattle.nvm_callers.proofs.DealtSides.{last_came_back, last_has_places, last_is_free, none_came_back}
 use Rattle.nvm_callers.proofs.gathering.gather.Goals as goal
 

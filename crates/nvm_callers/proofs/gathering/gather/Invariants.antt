@@ -1,7 +1,4 @@
-use Rattle.std.specs.Prelude.{All, vec_len}
-use Rattle.std.proofs.Common.{◌≡◌, ◌+◌}
-use Rattle.ram_mirrors_sync.specs.Blocks.{AreSidesOf, Pairs}
-use Rattle.nvm_callers.specs.Dealt.{AreBelow, HasPlaces}
+use Rattle.nvm_callers.proofs.Common.{All, vec_len, ◌≡◌, ◌+◌, AreSidesOf, Pairs, AreBelow, HasPlaces}
 use Rattle.nvm_callers.proofs.DealtSides.{HaveComeBack}
 use Rattle.nvm_callers.proofs.gathering.gather.Given as goal
 

@@ -1,4 +1,4 @@
-use Rattle.ram_mirrors_sync.specs.Blocks.{AreSidesOf, Pairs}
+use Rattle.nvm_callers.proofs.Common.{AreSidesOf, Pairs}
 use Rattle.nvm_callers.proofs.DealtSides.{AreBack}
 use Rattle.nvm_callers.proofs.gathering.gather_one.Given as goal
 

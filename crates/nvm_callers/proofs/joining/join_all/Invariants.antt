@@ -1,9 +1,4 @@
-use Rattle.std.proofs.Common.{◌≡◌, ◌≤◌, ◌+◌, ◌^◌, length, drop}
-use Rattle.std.specs.Prelude.{All, slice_index_or, vec_len, vec_capacity}
-use Rattle.turn_gate.specs.Pass.{knows}
-use Rattle.driver_moves.specs.nvm_shared.Driving.{IsDriverOf}
-use Rattle.nvm_callers.specs.Placed.{AllPlaced}
-use Rattle.nvm_callers.specs.Callers.{HaveRun, HasWorked}
+use Rattle.nvm_callers.proofs.Common.{◌≡◌, ◌≤◌, ◌+◌, ◌^◌, length, drop, All, slice_index_or, vec_len, vec_capacity, knows, IsDriverOf, AllPlaced, HaveRun, HasWorked}
 use Rattle.nvm_callers.proofs.joining.join_all.Given as goal
 
 abbrev pub invariant-loop-joined : goal.invariant-loop-joined

@@ -1,12 +1,5 @@
-use Rattle.std.specs.Prelude.{slice_index_or, Some, IfSome, vec_len}
-use Rattle.std.proofs.Common.{◌≡◌, ◌+◌, ◌-◌, ℕ, suc, List, ◌∷◌, drop, length, Option, sym, ap, subst, arith, ◌∙◌}
-use Rattle.turn_gate.specs.declared.pass.View.{View}
-use Rattle.turn_gate.specs.Pass.{both, knows}
-use Rattle.driver_moves.specs.block_machine.Words.{Entry}
-use Rattle.driver_moves.specs.nvm_shared.declared.terms.Terms.{Terms}
-use Rattle.script_callers.specs.declared.program.Program.{Program}
-use Rattle.nvm_callers.specs.Callers.{HasWorked, HaveRun, worse}
-use Rattle.nvm_callers.specs.declared.ending.Ending.{Ending}
+use Rattle.nvm_callers.proofs.Common.{slice_index_or, IfSome, vec_len, ◌≡◌, ◌+◌, ◌-◌, ℕ, suc, List, ◌∷◌, drop, length, Option, sym, ap, subst, arith, ◌∙◌, View, both, knows, Entry, Terms, Program, HasWorked, HaveRun, worse, Ending}
+use Rattle.std.specs.Prelude.{Some}
 use Rattle.nvm_callers.proofs.Passing.{have_run_more, program_before, first_before}
 use Rattle.nvm_callers.proofs.joining.join_last.Goals as goal
 

@@ -1,5 +1,4 @@
-use Rattle.std.proofs.Common.{◌<◌, ◌≤◌, ℕ}
-use Rattle.std.specs.Prelude.{slice_index_or}
+use Rattle.nvm_callers.proofs.Common.{◌<◌, ◌≤◌, ℕ, slice_index_or}
 use Rattle.nvm_callers.proofs.joining.most_seen.Given as goal
 
 abbrev pub invariant-loop-place : goal.invariant-loop-place

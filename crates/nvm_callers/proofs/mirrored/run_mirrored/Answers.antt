@@ -1,7 +1,4 @@
-use Rattle.std.proofs.Common.{ap, subst, ◌∙◌}
-use Rattle.turn_gate.specs.Pass.{knows}
-use Rattle.ram_mirrors_sync.specs.Blocks.{AreEndsOf, AreClosed, EndList, EndsGoOn, Pairs}
-use Rattle.nvm_callers.specs.Stores.{Along}
+use Rattle.nvm_callers.proofs.Common.{ap, subst, ◌∙◌, knows, AreClosed, EndList, EndsGoOn, Pairs, Along, AreEndsOf}
 use Rattle.nvm_callers.proofs.Closing.{keeps_order_on, may_drive_on, may_run_all, still_over, was_run_on}
 use Rattle.nvm_callers.proofs.Owned.{all_in, back_apart, back_below, back_into, back_places}
 use Rattle.nvm_callers.proofs.mirrored.run_mirrored.Goals as goal

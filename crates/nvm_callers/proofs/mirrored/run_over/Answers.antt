@@ -1,9 +1,5 @@
+use Rattle.nvm_callers.proofs.Common.{List, subst, Configuration, Step, AreProgramsOf, KeepsOrder}
 use Rattle.std.specs.Prelude.{IfOk}
-use Rattle.std.proofs.Common.{List, subst}
-use Rattle.driver_moves.specs.block_machine.Words.{Configuration}
-use Rattle.script_walks.specs.Words.{Step}
-use Rattle.nvm_callers.specs.Begun.{AreProgramsOf}
-use Rattle.nvm_callers.specs.Ran.{KeepsOrder}
 use Rattle.nvm_callers.proofs.mirrored.run_over.Goals as goal
 
 -- src/mirrored.rt:27:1

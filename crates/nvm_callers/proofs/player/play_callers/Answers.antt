@@ -1,5 +1,4 @@
-use Rattle.std.proofs.Common.{◌∙◌, arith}
-use Rattle.std.proofs.lemmas.Result.{IfOk-weaker}
+use Rattle.nvm_callers.proofs.Common.{◌∙◌, arith, IfOk-weaker}
 use Rattle.nvm_callers.proofs.player.play_callers.Goals as goal
 
 -- src/player.rt:48:1

@@ -1,4 +1,4 @@
-use Rattle.std.proofs.Common.{false}
+use Rattle.nvm_callers.proofs.Common.{false}
 use Rattle.nvm_callers.proofs.player.play_callers.Given as goal
 
 abbrev pub ghost-share : goal.ghost-share

@@ -1,8 +1,4 @@
-use Rattle.std.proofs.Common.{List, take, sym, subst}
-use Rattle.turn_gate.specs.Pass.{knows}
-use Rattle.script_callers.specs.declared.deed.Deed.{Deed}
-use Rattle.nvm_callers.specs.Calls.{Did}
-use Rattle.nvm_callers.specs.Endings.{StopsBy}
+use Rattle.nvm_callers.proofs.Common.{List, take, sym, subst, knows, Deed, Did, StopsBy}
 use Rattle.nvm_callers.proofs.Working.{more_begun}
 use Rattle.nvm_callers.proofs.programs.make_program.Goals as goal
 

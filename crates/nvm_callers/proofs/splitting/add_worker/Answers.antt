@@ -1,7 +1,4 @@
-use Rattle.std.proofs.Common.{ap, refl}
-use Rattle.turn_gate.specs.declared.pass.View.{View}
-use Rattle.driver_moves.specs.block_machine.Words.{Entry}
-use Rattle.driver_moves.specs.nvm_shared.declared.terms.Terms.{Terms}
+use Rattle.nvm_callers.proofs.Common.{ap, refl, View, Entry, Terms}
 use Rattle.nvm_callers.proofs.splitting.add_worker.Goals as goal
 
 pub returns-clause-one : goal.returns-clause-one

@@ -1,9 +1,4 @@
-use Rattle.std.proofs.Common.{◌≡◌, ◌≤◌, ◌+◌, ◌-◌, ◌^◌, length, drop}
-use Rattle.std.specs.Prelude.{slice_index_or, vec_len, vec_capacity}
-use Rattle.turn_gate.specs.Pass.{knows}
-use Rattle.driver_moves.specs.nvm_shared.Passes.{IsUserOf}
-use Rattle.nvm_callers.specs.Callers.{IsFresh, with_parts}
-use Rattle.nvm_callers.specs.Placed.{AllPlaced}
+use Rattle.nvm_callers.proofs.Common.{◌≡◌, ◌≤◌, ◌+◌, ◌-◌, ◌^◌, length, drop, slice_index_or, vec_len, vec_capacity, knows, IsUserOf, IsFresh, AllPlaced, with_parts}
 use Rattle.nvm_callers.proofs.splitting.split_all.Given as goal
 
 abbrev pub invariant-loop-made : goal.invariant-loop-made

@@ -1,5 +1,4 @@
-use Rattle.std.proofs.Common.{◌∙◌}
-use Rattle.turn_gate.specs.Pass.{knows}
+use Rattle.nvm_callers.proofs.Common.{◌∙◌, knows}
 use Rattle.nvm_callers.proofs.Driving.{steered_more}
 use Rattle.nvm_callers.proofs.steering.come_to_rest.Goals as goal
 

@@ -1,4 +1,4 @@
-use Rattle.turn_gate.specs.Pass.{knows}
+use Rattle.nvm_callers.proofs.Common.{knows}
 use Rattle.nvm_callers.proofs.Driving.{turn_steers}
 use Rattle.nvm_callers.proofs.steering.make_turn.Goals as goal
 

@@ -1,4 +1,4 @@
-use Rattle.turn_gate.specs.Pass.{knows}
+use Rattle.nvm_callers.proofs.Common.{knows}
 use Rattle.nvm_callers.proofs.Driving.{count_steers, steered_more}
 use Rattle.nvm_callers.proofs.steering.see.Goals as goal
 

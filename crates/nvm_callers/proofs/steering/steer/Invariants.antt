@@ -1,6 +1,4 @@
-use Rattle.turn_gate.specs.Pass.{knows}
-use Rattle.driver_moves.specs.nvm_shared.Driving.{IsDriverOf}
-use Rattle.nvm_callers.specs.Steering.{HasSteered}
+use Rattle.nvm_callers.proofs.Common.{knows, IsDriverOf, HasSteered}
 use Rattle.nvm_callers.proofs.steering.steer.Given as goal
 
 abbrev pub invariant-loop : goal.invariant-loop

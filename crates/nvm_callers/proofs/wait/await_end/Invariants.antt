@@ -1,6 +1,4 @@
-use Rattle.turn_gate.specs.Pass.{knows}
-use Rattle.driver_moves.specs.nvm_shared.Passes.{IsUserOf}
-use Rattle.nvm_callers.specs.Calls.{HasPolled}
+use Rattle.nvm_callers.proofs.Common.{knows, IsUserOf, HasPolled}
 use Rattle.nvm_callers.proofs.wait.await_end.Given as goal
 
 abbrev pub invariant-loop : goal.invariant-loop

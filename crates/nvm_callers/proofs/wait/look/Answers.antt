@@ -1,6 +1,4 @@
-use Rattle.std.proofs.Common.{◌∙◌, sym, arith}
-use Rattle.std.proofs.lemmas.Bool.{eqb-true}
-use Rattle.turn_gate.specs.Pass.{knows}
+use Rattle.nvm_callers.proofs.Common.{◌∙◌, sym, arith, eqb-true, knows}
 use Rattle.nvm_callers.proofs.Making.{off_ends, poll_ends}
 use Rattle.nvm_callers.proofs.wait.look.Goals as goal
 

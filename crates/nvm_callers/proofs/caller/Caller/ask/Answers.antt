@@ -1,8 +1,5 @@
-use Rattle.std.proofs.Common.{[], ◌∷◌, ◌++◌, subst}
-use Rattle.turn_gate.specs.Pass.{knows}
-use Rattle.driver_moves.specs.block_machine.Words.{Request}
+use Rattle.nvm_callers.proofs.Common.{[], ◌∷◌, ◌++◌, subst, knows, Request, Did}
 use Rattle.script_callers.specs.declared.deed.Deed.TheVariants.{Ask}
-use Rattle.nvm_callers.specs.Calls.{Did}
 use Rattle.nvm_callers.proofs.Making.{did_ask, did_see}
 use Rattle.nvm_callers.proofs.caller.Caller.ask.Goals as goal
 

@@ -1,8 +1,4 @@
-use Rattle.std.proofs.Common.{[], ◌∷◌, ◌++◌, List, ℕ, subst, sym}
-use Rattle.turn_gate.specs.Pass.{knows}
-use Rattle.script_callers.specs.declared.deed.Deed.{Deed}
-use Rattle.script_callers.specs.declared.deed.Deed.TheVariants.{Store}
-use Rattle.nvm_callers.specs.Calls.{Did}
+use Rattle.nvm_callers.proofs.Common.{[], ◌∷◌, ◌++◌, List, ℕ, subst, sym, knows, Deed, Store, Did}
 use Rattle.nvm_callers.proofs.caller.Caller.make.Goals as goal
 
 pub returns-in-Store-clause-done : goal.returns-in-Store-clause-done

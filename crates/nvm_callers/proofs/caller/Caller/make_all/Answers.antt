@@ -1,10 +1,4 @@
-use Rattle.std.proofs.Common.{◌≡◌, ◌+◌, [], ◌∷◌, ◌++◌, List, ℕ, Err, length, take, ap, subst, sym, refl, arith, ◌∙◌}
-use Rattle.std.proofs.lemmas.List.{take_more}
-use Rattle.std.proofs.lemmas.Option.{slice_get_read}
-use Rattle.turn_gate.specs.Pass.{knows}
-use Rattle.script_callers.specs.declared.deed.Deed.{Deed}
-use Rattle.nvm_callers.specs.Calls.{Did}
-use Rattle.nvm_callers.specs.declared.caller.Stop.{Stop}
+use Rattle.nvm_callers.proofs.Common.{◌≡◌, ◌+◌, [], ◌∷◌, ◌++◌, List, ℕ, length, take, ap, subst, sym, refl, arith, ◌∙◌, knows, Deed, Did, Err, take_more, slice_get_read, Stop}
 use Rattle.nvm_callers.proofs.Making.{found_full, found_wait, keeps_more}
 use Rattle.nvm_callers.proofs.caller.Caller.make_all.Goals as goal
 

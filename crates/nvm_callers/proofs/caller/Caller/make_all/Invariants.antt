@@ -1,8 +1,4 @@
-use Rattle.std.proofs.Common.{◌≡◌, ◌≤◌, ℕ, List, Option, take}
-use Rattle.turn_gate.specs.Pass.{knows}
-use Rattle.driver_moves.specs.nvm_shared.Passes.{IsUserOf}
-use Rattle.nvm_callers.specs.Stored.{Stored}
-use Rattle.nvm_callers.specs.Calls.{Did, KeepsPass}
+use Rattle.nvm_callers.proofs.Common.{◌≡◌, ◌≤◌, ℕ, List, Option, take, knows, IsUserOf, Stored, Did, KeepsPass}
 use Rattle.nvm_callers.proofs.caller.Caller.make_all.Given as goal
 
 abbrev pub invariant-loop-place : goal.invariant-loop-place

@@ -1,4 +1,4 @@
-use Rattle.turn_gate.specs.Pass.{knows}
+use Rattle.nvm_callers.proofs.Common.{knows}
 use Rattle.nvm_callers.proofs.Making.{did_store}
 use Rattle.nvm_callers.proofs.caller.Caller.store.Goals as goal
 

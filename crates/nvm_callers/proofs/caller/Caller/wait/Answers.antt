@@ -1,4 +1,4 @@
-use Rattle.turn_gate.specs.Pass.{knows}
+use Rattle.nvm_callers.proofs.Common.{knows}
 use Rattle.nvm_callers.proofs.Making.{did_poll, did_wait}
 use Rattle.nvm_callers.proofs.caller.Caller.wait.Goals as goal
 
