@@ -9,7 +9,7 @@ ghost use Rattle.nvm_top.specs.Reading.{IsEarly, IsScriptStop, IsStepsStop};
 use crate::script::{Script, script_of};
 use nvm_flash::block_config::Config;
 use nvm_lines::nv_streams::Source;
-use nvm_lines::{LIMIT, Stop, read_config, read_input};
+use nvm_lines::{LIMIT, Stop, read_input};
 use nvm_script::{Mode, StepList};
 use std::alloc::Global;
 
@@ -44,7 +44,7 @@ fn callers_of(alloc: Global, input: &[u8]) -> Result<Callers, Stop>
     ensures err { IfErr result (IsScriptStop Mode.Run input.now) }
     ensures early { IfErr result IsEarly }
 {
-    let own = read_config(alloc, input)?;
     let Script { config, steps } = script_of(alloc, Mode::Run, input)?;
+    let own = config.copied(alloc)?;
     Ok(Callers { config, own, steps })
 }

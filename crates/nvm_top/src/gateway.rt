@@ -44,7 +44,7 @@ fn gateway_of(alloc: Global, input: &[u8]) -> Result<Gateway, Stop>
     ensures early { IfErr result IsEarly }
 {
     let config = read_config(alloc, input)?;
-    let own = read_config(alloc, input)?;
+    let own = config.copied(alloc)?;
     let requests = requests_of(alloc, input)?;
     Ok(Gateway {
         config,
