@@ -1,4 +1,4 @@
-use Rattle.std.proofs.Common.{◌≡◌, false, subst, sym}
+use Rattle.std.proofs.Common.{false, subst, sym}
 use Rattle.serde_json.specs.View.{view, members_view}
 use Rattle.block_config.specs.declared.values.Values.{Values}
 use Rattle.block_config.specs.Values.{AreValues}
