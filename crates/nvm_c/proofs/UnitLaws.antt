@@ -34,7 +34,7 @@ use Rattle.script_player.proofs.uds_gateway.HistoryLaws.{histories_step, sums_gr
 use Rattle.script_player.proofs.PlainHalves.{IsBehind, ended}
 use Rattle.script_player.proofs.PlainStarts.{restarts_told}
 use Rattle.script_player.proofs.PlainBehind.{behind_device}
-use Rattle.nvm_c.specs.Unit.{UnitState, CameBack, Closes, IsLent, IsPlanCall, IsStartCall, Opens, unit_told}
+use Rattle.nvm_c.specs.Unit.{UnitState, CameBack, Closes, IsLent, IsPlanCall, IsSameAt, IsStartCall, Opens, unit_told}
 use Rattle.nvm_c.specs.Work.{PlansCut}
 
 -- THE FIRST START-UP
@@ -107,8 +107,13 @@ restarts_frame s t found.Failed fails =
 restarts_frame s t found.NoRoom stays = ap (λ (x : UnitState). frame_in false x.desk.config (told_of x.device).fixed) stays.0
 restarts_frame s t found.Memory stays = ap (λ (x : UnitState). frame_in false x.desk.config (told_of x.device).fixed) stays
 
+restarts_none : (s t : UnitState) (answer : FoundAnswer) → Restarts told_of answer s t → IsSameAt answer s t
+restarts_none s t found.NoRoom stays = stays.0
+restarts_none s t found.Memory stays = stays
+restarts_none s t answer restarts = tt
+
 pub start_call : (s t : UnitState) (answer : FoundAnswer) → Restarts told_of answer s t → IsStartCall answer s t
-start_call s t answer restarts = record { told = restarts_told told_of s t answer restarts; frame = restarts_frame s t answer restarts }
+start_call s t answer restarts = record { told = restarts_told told_of s t answer restarts; frame = restarts_frame s t answer restarts; none = restarts_none s t answer restarts }
 
 -- and whether it stands
 abbrev pub up_behind : FoundAnswer → Bool → Bool

@@ -1,5 +1,5 @@
 -- A unit: a stack over memory that is lent, behind its first start-up.
-use Rattle.std.specs.Prelude.{◌≡◌, ◌≤◌, ◌-◌, ℕ, Bool, false, List, length, Option, Some, IsSomeAnd, Result, option_map, slice_get}
+use Rattle.std.specs.Prelude.{◌≡◌, ◌≤◌, ◌-◌, ℕ, Bool, false, List, length, Option, Some, IsSomeAnd, OnErr, Result, option_map, slice_get}
 use Rattle.nvm.specs.block_config.Config.{Configuration}
 use Rattle.nvm.specs.block_machine.Words.{Reply, Request}
 use Rattle.nvm.specs.fls_devices.Cutter.{cutting, told_cutting}
@@ -15,6 +15,7 @@ use Rattle.nvm.specs.Unit.{takes_of}
 use Rattle.nvm.specs.nvm_flash.fee_laws.Made.{part_at}
 use Rattle.nvm.specs.nvm_flash.fee_told.Device.{told_of, clock_of}
 use Rattle.nvm.specs.nvm_flash.nvm_laws.declared.turned.FoundAnswer.{FoundAnswer}
+use Rattle.nvm.specs.nvm_flash.nvm_laws.declared.turned.FoundAnswer.TheVariants as found
 use Rattle.nvm.specs.nvm_flash.nvm_laws.declared.turned.Turned.{Turned}
 use Rattle.nvm.specs.nvm_flash.promise_device.Making.{Making}
 use Rattle.nvm.specs.nvm_moves.Seen.{frame_of}
@@ -40,20 +41,28 @@ pub record Opens (c : Configuration) (making : Making) (entry : Told) (s : UnitS
   pub starts : StartsUp told_of made s
 
 -- CALLS
--- a request of the one caller
+-- a request of the one caller; where it isn't answered nothing changed
 pub record IsAskCall (request : Request) (answer : Result Reply AskFault) (s t : UnitState) : Type 0 where
   pub told : Asks 0 request answer (unit_told s) (unit_told t)
   pub moved : AsksMove 0 request answer s t
+  pub none : OnErr answer (t ≡ s)
 
 -- a turn
 pub record IsTurnCall (answer : Turned) (s t : UnitState) : Type 0 where
   pub told : Turns answer (unit_told s) (unit_told t)
   pub moved : TurnsMove s t
 
+-- for want of room or memory nothing changed
+abbrev pub IsSameAt : FoundAnswer → UnitState → UnitState → Type 0
+IsSameAt found.NoRoom s t = t ≡ s
+IsSameAt found.Memory s t = t ≡ s
+IsSameAt answer s t = Unit {0}
+
 -- a further start-up, behind which jobs have as many turns as before
 pub record IsStartCall (answer : FoundAnswer) (s t : UnitState) : Type 0 where
   pub told : Restarts answer (unit_told s) (unit_told t)
   pub frame : frame_of false (unit_seen t) ≡ frame_of false (unit_seen s)
+  pub none : IsSameAt answer s t
 
 -- a plan of a power cut
 pub record IsPlanCall (nth keep : ℕ) (s t : UnitState) : Type 0 where

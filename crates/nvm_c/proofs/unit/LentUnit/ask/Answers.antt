@@ -14,5 +14,6 @@ returns-clause-asks g c =
     let new : Tells t = subst Tells c.stack-after.ensures (record { tied = c.device-behind.ensures.tied; power = c.device-behind.ensures.power }) in
     subst (λ (x : UnitState). IsAskCall c.args.request (Ok reply) x t) c.self.view_is (record {
       told = asks_told s t c.args.request c.ask.result reply c.in_ok-reply.was c.ask.ensures.no_room c.ask.ensures.ok ready old new;
+      none = tt;
       moved = subst (λ (r : Result Reply AskFault). AsksMove 0 c.args.request r s t) c.in_ok-reply.was c.ask.ensures.moved;
     })

@@ -15,5 +15,6 @@ returns-clause-asks g c =
     let new : Tells t = subst Tells c.stack-after.ensures (record { tied = c.device-behind.ensures.tied; power = c.device-behind.ensures.power }) in
     subst (λ (x : UnitState). IsAskCall (whole_request c.args.kind c.args.content.now) (Ok reply) x t) c.self.view_is (record {
       told = asks_told s t (whole_request c.args.kind c.args.content.now) c.enter.result reply c.in_ok-reply.was c.enter.ensures.no_room c.enter.ensures.ok ready old new;
+      none = tt;
       moved = subst (λ (r : Result Reply AskFault). AsksMove 0 (whole_request c.args.kind c.args.content.now) r s t) c.in_ok-reply.was c.enter.ensures.moved;
     })
