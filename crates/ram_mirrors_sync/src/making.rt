@@ -23,9 +23,10 @@ pub fn make<N: Drop>(
     ensures sides { IfOk result (λ r. AreSidesOf r.0 r.2 × AreIn r.0 r.2) }
     ensures synchronized { IfOk result (λ r. (id : ℕ) → is_synchronized (desc_of config.now id).ram ≡ true → IsSynchronized (map told_by r.1) id (desc_of config.now id).length) }
 {
-    let mut pairs = Vec::new(alloc);
-    let mut ends = Vec::new(alloc);
-    let mut sides = Vec::new(alloc);
+    let many = usize::from(config.blocks()) + 1;
+    let mut pairs = Vec::with_capacity(alloc, many)?;
+    let mut ends = Vec::with_capacity(alloc, many)?;
+    let mut sides = Vec::with_capacity(alloc, many)?;
     push_block(None, &mut pairs, &mut ends, &mut sides)?;
     for i in 0..config.blocks() {
         let made = block_of(alloc, i + 1, config.block(i + 1))?;
