@@ -12,14 +12,15 @@ use Rattle.nvm.specs.nvm_flash.declared.device.MakeFault.{MakeFault}
 use Rattle.lent_flash.specs.Flash.{flash_over}
 use Rattle.lent_flash.specs.declared.lent.Lent.{Lent}
 use Rattle.nvm_c.specs.Exports.{Goes, IsAsked, IsNotOpened, IsOpened, IsOpenedOver, IsStopped, fault_code}
-use Rattle.nvm_c.specs.Held.{CanRun, Kept, Ran, kept_as, origin_of}
+use Rattle.nvm_c.specs.Held.{CanRun, IsHandedOn, Kept, Ran, kept_as, origin_of}
 use Rattle.nvm_c.specs.Services.{answer_code, answer_value, brings_content, number_of, request_of}
 use Rattle.nvm_c.specs.Unit.{UnitState, CameBack, ClosesWith}
-use Rattle.nvm_c.specs.Work.{CanDo, Does, IsTaken, IsTaskOf, Serves}
+use Rattle.nvm_c.specs.Work.{CanDo, Does, IsTaken, IsTaskOf, Serves, StaysDown}
 use Rattle.nvm_c.specs.declared.services.Service.{Service}
 use Rattle.nvm_c.specs.declared.services.Service.TheVariants as service
 use Rattle.nvm_c.specs.declared.work.Task.{Task}
-use Rattle.nvm_c.specs.declared.work.Outcome.TheVariants.{Asked, Closed, NotOpened}
+use Rattle.nvm_c.specs.declared.work.Outcome.{Outcome}
+use Rattle.nvm_c.specs.declared.work.Outcome.TheVariants.{Asked, Closed, Down, NotOpened}
 use Rattle.nvm_c.specs.declared.work.Task.TheVariants.{Ask, Call, Enter}
 use Rattle.nvm_c.specs.declared.work.Work.TheVariants.{Open, Serve, Close}
 
@@ -113,6 +114,31 @@ pub asked : (kept behind : Option Kept) (v : Service) (service block number : �
 asked None behind v service block number content task answer code value is_open is_number is_task is_code is_value ran = cc is_open
 asked (Some k) behind v service block number content task answer code value is_open is_number is_task is_code is_value ran =
     asked_by k behind v service block number content task answer code value is_number is_task is_code is_value ran.0 ran.1 ran.2
+
+-- one that wasn't answered had a unit whose last start-up failed
+down_by : (r : Request) (task : Task) (y : Outcome) (s t : UnitState) → IsTaskOf r task → Does task y s t → ((answer : Result Reply AskFault) → y ≡ Asked answer → ⊥) → StaysDown s t
+down_by r (Ask request) (Asked answer) s t is does other = absurd (other answer refl)
+down_by r (Ask request) Down s t is does other = does
+down_by r (Ask request) y s t is does other = absurd does
+down_by r (Call kind) (Asked answer) s t is does other = absurd (other answer refl)
+down_by r (Call kind) Down s t is does other = does
+down_by r (Call kind) y s t is does other = absurd does
+down_by r (Enter kind buffer) (Asked answer) s t is does other = absurd (other answer refl)
+down_by r (Enter kind buffer) Down s t is does other = does
+down_by r (Enter kind buffer) y s t is does other = absurd does
+down_by r task y s t is does other = absurd is
+
+stayed_by : (k : Kept) (behind : Option Kept) (r : Request) (service block number : ℕ) (content : List ℕ) (task : Task) (y : Outcome) → IsTaskOf r task → ((answer : Result Reply AskFault) → y ≡ Asked answer → ⊥)
+    → (s : Option UnitState) → behind ≡ kept_as (Some k) (Serve task) s → Serves (origin_of k).making (origin_of k).entry (Serve task) y (Some k.state) s → Goes (Some k) behind (IsAsked service block number content 5 0)
+stayed_by k behind r service block number content task y is_task other None is does = absurd does
+stayed_by k behind r service block number content task y is_task other (Some t) is does = (t, is, inr (inr (inl (refl, down_by r task y k.state t is_task does other))))
+
+-- a request wasn't answered
+pub stayed_down : (kept behind : Option Kept) (v : Service) (service block number : ℕ) (content : List ℕ) (y : Outcome) → IsSome kept → IsHandedOn (request_of v block number content) kept y behind
+    → ((answer : Result Reply AskFault) → y ≡ Asked answer → ⊥) → Goes kept behind (IsAsked service block number content 5 0)
+stayed_down None behind v service block number content y is_open handed other = cc is_open
+stayed_down (Some k) behind v service block number content y is_open handed other =
+    stayed_by k behind (request_of v block number content) service block number content handed.0 y handed.1 other handed.2.0 handed.2.1 handed.2.2
 
 closed_over : (k : Kept) (bytes : Option (List ℕ)) → CameBack (origin_of k).entry k.state bytes → IsSomeAnd bytes (ClosesWith k.flash k.state)
 closed_over k None came = came

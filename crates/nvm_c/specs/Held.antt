@@ -10,6 +10,7 @@ use Rattle.std.specs.contracts.marker.Brand as Brand
 use Rattle.std.specs.declared.marker.Brand.{Brand as Marker}
 use Rattle.nvm.specs.block_config.Config.{Configuration}
 use Rattle.nvm.specs.block_config.contracts.config.Config as ConfigRow
+use Rattle.nvm.specs.block_machine.Words.{Request}
 use Rattle.nvm.specs.fls_devices.Cutter.{cutting, told_cutting}
 use Rattle.nvm.specs.fls_model.Told.{Told}
 use Rattle.nvm.specs.nvm_flash.fee_core.declared.origin.Origin.{Ghosts}
@@ -17,9 +18,10 @@ use Rattle.nvm.specs.nvm_flash.fee_core.Origin.{no_making, no_flash}
 use Rattle.nvm.specs.nvm_flash.promise_run.Promise.{making_of}
 use Rattle.nvm_c.specs.Room.{heap_block}
 use Rattle.nvm_c.specs.Unit.{UnitState}
-use Rattle.nvm_c.specs.Work.{CanDo, Serves}
+use Rattle.nvm_c.specs.Work.{CanDo, IsTaskOf, Serves}
 use Rattle.lent_flash.specs.contracts.flash.LentFlash as FlashRow
 use Rattle.nvm_c.specs.contracts.unit.LentUnit as UnitRow
+use Rattle.nvm_c.specs.declared.work.Task.{Task}
 use Rattle.nvm_c.specs.declared.work.Work.{Work}
 use Rattle.nvm_c.specs.declared.work.Work.TheVariants as work
 use Rattle.nvm_c.specs.declared.work.Outcome.{Outcome}
@@ -78,3 +80,7 @@ CanRun before (work.Serve x) = IsSomeAnd before (λ k. CanDo x k.state)
 abbrev pub Ran : Option Kept → Work → Outcome → Option Kept → Type 0
 Ran before w y behind =
     (s : Option UnitState) × (behind ≡ kept_as before w s) × Serves (origin_for before w).making (origin_for before w).entry w y (state_in before) s
+
+-- the unit was asked this by some task, and this came of it
+abbrev pub IsHandedOn : Request → Option Kept → Outcome → Option Kept → Type 0
+IsHandedOn r before y behind = (task : Task) × IsTaskOf r task × Ran before (work.Serve task) y behind

@@ -31,6 +31,7 @@ impl Handle {
     }
 
     // The unit is of a type that its own flash picks, so what is done with it is done at that type.
+    #[inline(always)]
     fn run(self, alloc: Global, work: Work) -> (Handle, Outcome)
         requires { CanRun self.kept work }
         ensures { Ran self.kept work result.1 result.0.kept }
@@ -45,7 +46,9 @@ impl Handle {
     }
 }
 
-/// Does work with the unit of a handle.
+/// Does work with the unit of a handle. Who calls it knows which work, and it is a part of its caller: so no work is handed on but what that
+/// one needs.
+#[inline(always)]
 pub(crate) fn work_on(alloc: Global, handle: &mut Handle, work: Work) -> Outcome
     requires { CanRun handle.old.kept work }
     ensures { Ran handle.old.kept work result handle.new.kept }

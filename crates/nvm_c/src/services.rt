@@ -1,9 +1,9 @@
 // The services.
-ghost use Rattle.std.specs.Prelude.{◌≡◌, ◌≢◌, ◌≤◌, ℕ, List, length, None, IfOk, IfSome, IsSome};
+ghost use Rattle.std.specs.Prelude.{◌≡◌, ◌≢◌, ◌≤◌, ℕ, List, length, None, IfOk, IfSome, IsSome, OnErr};
 ghost use Rattle.nvm.specs.nv_desk.Request.{whole_request};
 ghost use Rattle.nvm_c.specs.Services.{answer_code, answer_value, brings_content, number_of, request_of};
 ghost use Rattle.nvm_c.specs.Exports.{Goes, IsAsked};
-ghost use Rattle.nvm_c.specs.Work.{IsTaskOf};
+ghost use Rattle.nvm_c.specs.Held.{IsHandedOn};
 
 use crate::handle::{Handle, work_on};
 use crate::work::{Outcome, Task, Work};
@@ -95,31 +95,36 @@ fn kind_of(service: Service, block: u16, number: u8) -> RequestKind
     }
 }
 
-// The task of a service: its content stands in the unit's buffer, or in memory of its own where that has no room for it.
-fn task_of(
+// Asks the unit for a service: its content stands in the unit's buffer, or in memory of its own where that has no room for it. Each way is a
+// call of its own, of a task that is known where it is made.
+fn ask_unit(
     alloc: Global,
     handle: &mut Handle,
     service: Service,
     block: u16,
     number: u8,
     content: &[u8],
-) -> Result<Task, AllocError>
+) -> Result<Outcome, AllocError>
     requires open { IsSome handle.old.kept }
-    ensures same { handle.new.kept ≡ handle.old.kept }
-    ensures task { IfOk result (λ task. IsTaskOf (request_of service block number content.now) task) }
+    ensures asked { IfOk result (λ y. IsHandedOn (request_of service block number content.now) handle.old.kept y handle.new.kept) }
+    ensures same { OnErr result (handle.new.kept ≡ handle.old.kept) }
 {
     let kind = kind_of(service, block, number);
     if !brings_content(service) {
-        return Ok(Task::Call { kind });
+        let task = Task::Call { kind };
+        return Ok(work_on(alloc, handle, Work::Serve { task }));
     }
     match lent_buffer(alloc, handle, content.len()) {
-        Some(buffer) => Ok(Task::Enter {
-            kind,
-            buffer: filled(buffer, content),
-        }),
-        None => Ok(Task::Ask {
-            request: kind.whole(bytes_of(alloc, content)?),
-        }),
+        Some(buffer) => {
+            let buffer = filled(buffer, content);
+            let task = Task::Enter { kind, buffer };
+            Ok(work_on(alloc, handle, Work::Serve { task }))
+        }
+        None => {
+            let request = kind.whole(bytes_of(alloc, content)?);
+            let task = Task::Ask { request };
+            Ok(work_on(alloc, handle, Work::Serve { task }))
+        }
     }
 }
 
@@ -181,10 +186,10 @@ pub extern "C" fn nvm_ask(
     let Some(service) = service_of(service) else {
         return 6;
     };
-    let Ok(task) = task_of(alloc, handle, service, block, number, content) else {
+    let Ok(outcome) = ask_unit(alloc, handle, service, block, number, content) else {
         return 4;
     };
-    match work_on(alloc, handle, Work::Serve { task }) {
+    match outcome {
         Outcome::Asked { answer } => {
             let (code, told) = answer_of(answer);
             *value = told;

@@ -81,6 +81,7 @@ pub enum Outcome {
 pub type UnitRoom<O> = Room<LentUnit<O>>;
 
 /// Serves it.
+#[inline(always)]
 pub fn serve<O: Origin>(alloc: Global, room: UnitRoom<O>, work: Work) -> (UnitRoom<O>, Outcome)
     requires { CanServe O.making O.entry work room.value }
     ensures { Serves O.making O.entry work result.1 room.value result.0.value }
@@ -164,6 +165,7 @@ fn boxed<O: Origin>(
 }
 
 // Does a task of a unit. While its last start-up stands it takes requests, makes turns, and plans cuts.
+#[inline(always)]
 fn do_task<O: Origin>(alloc: Global, unit: &mut LentUnit<O>, task: Task) -> Outcome
     requires { CanDo task unit.old }
     ensures { Does task result unit.old unit.new }
@@ -233,6 +235,7 @@ fn ask<O: Origin>(alloc: Global, unit: &mut LentUnit<O>, request: Request) -> Ou
     }
 }
 
+#[inline(always)]
 fn call<O: Origin>(alloc: Global, unit: &mut LentUnit<O>, kind: RequestKind) -> Outcome
     requires { CanDo (Task.Call kind) unit.old }
     ensures { Does (Task.Call kind) result unit.old unit.new }
@@ -245,6 +248,7 @@ fn call<O: Origin>(alloc: Global, unit: &mut LentUnit<O>, kind: RequestKind) -> 
     }
 }
 
+#[inline(always)]
 fn enter<O: Origin>(
     alloc: Global,
     unit: &mut LentUnit<O>,

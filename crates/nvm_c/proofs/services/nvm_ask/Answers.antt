@@ -3,7 +3,7 @@ use Rattle.nvm_c.specs.Exports.{IsAsked}
 use Rattle.nvm_c.specs.Held.{Ran}
 use Rattle.nvm_c.specs.declared.work.Outcome.{Outcome}
 use Rattle.nvm_c.specs.declared.work.Work.TheVariants.{Serve}
-use Rattle.nvm_c.proofs.CallLaws.{asked, can_ask, goes_same}
+use Rattle.nvm_c.proofs.CallLaws.{asked, goes_same, stayed_down}
 use Rattle.nvm_c.proofs.services.nvm_ask.Goals as goal
 
 pub returns-in_default : goal.returns-in_default
@@ -12,17 +12,20 @@ returns-in_default c = record {
       (λ s. inr (refl, inr (inr (refl, refl, c.service_of.ensures.none c.in_default.is))));
 }
 
-pub returns-in_default-task_of : goal.returns-in_default-task_of
-returns-in_default-task_of c = record {
-  asked = rw c.task_of.ensures.same (goes_same c.args.handle.now.kept (IsAsked c.args.service c.args.block c.args.number c.args.content.now 4 0) c.requires.open (λ s. inr (refl, inl (refl, refl))));
+pub returns-in_default-ask_unit : goal.returns-in_default-ask_unit
+returns-in_default-ask_unit c = record {
+  asked = rw c.in_default-ask_unit.ensures.same (goes_same c.args.handle.now.kept (IsAsked c.args.service c.args.block c.args.number c.args.content.now 4 0) c.requires.open (λ s. inr (inl (refl, refl))));
 }
 
-pub work_on-requires : goal.work_on-requires
-work_on-requires c = rw c.task_of.ensures.same (can_ask c.args.handle.now.kept c.in-Some.service c.args.block c.args.number c.args.content.now c.in-Ok.task c.requires.open c.in-Ok.ensures.task)
-
 pub returns-in-Asked : goal.returns-in-Asked
-returns-in-Asked c = record {
-  asked = asked c.args.handle.now.kept c.work_on.new.handle.kept c.in-Some.service c.args.service c.args.block c.args.number c.args.content.now c.in-Ok.task c.in-Asked.answer
-      c.answer_of-code.result.0 c.answer_of-code.result.1 c.requires.open c.in-Some.ensures.some c.in-Ok.ensures.task c.answer_of-code.ensures.code c.answer_of-code.ensures.value
-      (subst (λ (y : Outcome). Ran c.args.handle.now.kept (Serve c.in-Ok.task) y c.work_on.new.handle.kept) c.in-Asked.is (rw c.task_of.ensures.same at c.work_on.ensures));
+returns-in-Asked c =
+    let handed = c.in-Ok.ensures.asked in record {
+      asked = asked c.args.handle.now.kept c.ask_unit.new.handle.kept c.in-Some.service c.args.service c.args.block c.args.number c.args.content.now handed.0 c.in-Asked.answer
+          c.answer_of-code.result.0 c.answer_of-code.result.1 c.requires.open c.in-Some.ensures.some handed.1 c.answer_of-code.ensures.code c.answer_of-code.ensures.value
+          (subst (λ (y : Outcome). Ran c.args.handle.now.kept (Serve handed.0) y c.ask_unit.new.handle.kept) c.in-Asked.is handed.2);
+    }
+
+pub returns-in_default-outcome : goal.returns-in_default-outcome
+returns-in_default-outcome c = record {
+  asked = stayed_down c.args.handle.now.kept c.ask_unit.new.handle.kept c.in-Some.service c.args.service c.args.block c.args.number c.args.content.now c.in-Ok.outcome c.requires.open c.in-Ok.ensures.asked c.in_default-outcome.not-Asked;
 }
