@@ -1,21 +1,18 @@
 -- How often the numbers were written has room in 32 bits.
-use Rattle.std.specs.Prelude.{if◌then◌else◌, slice_get, ◌^◌, ◌&&◌}
-use Rattle.std.proofs.Common.{◌≡◌, ℕ, zero, suc, ◌<◌, ◌+◌, Bool, true, false, List, [], ◌∷◌, Option, Some, None, refl, sym, subst, arith}
+use Rattle.std.specs.Prelude.{if◌then◌else◌, slice_get, ◌^◌}
+use Rattle.std.proofs.Common.{◌≡◌, ℕ, zero, suc, ◌<◌, Bool, true, false, List, [], ◌∷◌, Option, Some, None, refl, sym, subst, arith}
 use Rattle.nv_base.specs.Held.{more_writes}
 use Rattle.nv_base.specs.Lengths.{place_of}
 use Rattle.nv_base.specs.declared.instance.DeviceNumber.{DeviceNumber}
 use Rattle.fee_format.specs.declared.rec_head.RecHead.{RecHead}
 use Rattle.fee_format.specs.declared.rec_head.RecordKind.{RecordKind}
 use Rattle.fee_format.specs.declared.rec_head.RecordKind.TheVariants as kind
-use Rattle.fee_image.specs.Bank.{Bank}
-use Rattle.fee_image.specs.Found.{fits, last_from, last_record}
-use Rattle.fee_image.specs.RecordList.{Rec, Walks, pages_of_head, records_of, end_of}
+use Rattle.fee_image.specs.Found.{fits}
 use Rattle.fee_image.specs.declared.place.Place.{Place}
 use Rattle.fee_image.specs.declared.place.Place.TheVariants.{Unwritten}
-use Rattle.fee_image.specs.Places.{count_at, place_of_kind, place_at, place_shown, noted, erased_places, places_of}
+use Rattle.fee_image.specs.Places.{count_at, place_of_kind, place_at, noted, erased_places}
 use Rattle.fee_log.specs.Index.{AreCounted, at_index, or_else, place_in}
 use Rattle.fee_log.specs.Laws.{PlacesAreCounted, NextIsCounted}
-use Rattle.fee_image.proofs.Records.{logs_compute}
 
 pub erased_counted : (ns : List (DeviceNumber × ℕ)) → AreCounted (erased_places ns)
 erased_counted [] = tt
@@ -39,41 +36,6 @@ noted_counted [] places at h small all = all
 noted_counted (n ∷ ns) [] at h small all = all
 noted_counted (n ∷ ns) (place ∷ places) at h small all =
     (pick_counted (fits n.0.0 n.1 h) (place_at at h) place (place_counted at h small) all.0, noted_counted ns places at h small all.1)
-
--- RECORDS
--- those of a bank have legal headers
-abbrev AreSmall : List Rec → Type 0
-AreSmall [] = Unit {0}
-AreSmall (r ∷ rs) = (r.head.count < 2 ^ 32) × AreSmall rs
-
-walked : (b : Bank) (bytes : List ℕ) (q e : ℕ) (records : List Rec) → Walks b bytes q records e → AreSmall records
-walked b bytes q e [] walks = tt
-walked b bytes q e (r ∷ rs) walks = (walks.0.head.page.legal.count, walked b bytes (q + pages_of_head b.page r.head) e rs walks.1)
-
-abbrev IsSmall : Option Rec → Type 0
-IsSmall None = Unit {0}
-IsSmall (Some r) = r.head.count < 2 ^ 32
-
-pick_small : (b : Bool) (x y : Option Rec) → IsSmall x → IsSmall y → IsSmall (if b then x else y)
-pick_small true x y one two = one
-pick_small false x y one two = two
-
-last_small : (number length : ℕ) (o : Option Rec) (records : List Rec) → IsSmall o → AreSmall records → IsSmall (last_from number length o records)
-last_small number length o [] small all = small
-last_small number length o (r ∷ rs) small all =
-    last_small number length (if r.committed && fits number length r.head then Some r else o) rs (pick_small (r.committed && fits number length r.head) (Some r) o all.0 small) all.1
-
-shown_counted : (o : Option Rec) → IsSmall o → count_at (place_shown o) < 2 ^ 32
-shown_counted None small = omega arith
-shown_counted (Some r) small = place_counted r.at r.head small
-
-places_counted : (ns : List (DeviceNumber × ℕ)) (records : List Rec) → AreSmall records → AreCounted (places_of ns records)
-places_counted [] records all = tt
-places_counted (n ∷ ns) records all = (shown_counted (last_record n.0.0 n.1 records) (last_small n.0.0 n.1 None records tt all), places_counted ns records all)
-
-pub loaded_counted : (b : Bank) (bytes : List ℕ) (ns : List (DeviceNumber × ℕ)) → AreCounted (places_of ns (records_of b bytes))
-loaded_counted b bytes ns =
-    places_counted ns (records_of b bytes) (walked b bytes 2 (end_of b bytes) (records_of b bytes) ((logs_compute b bytes (records_of b bytes) (end_of b bytes)).1 (refl, refl)).walk)
 
 -- ONE PLACE
 at_counted : (places : List Place) (i : ℕ) (place : Place) → AreCounted places → slice_get places i ≡ Some place → count_at place < 2 ^ 32

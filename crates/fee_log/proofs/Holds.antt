@@ -1,55 +1,44 @@
 -- What the bytes hold.
-use Rattle.std.proofs.Common.{◌≡◌, ℕ, zero, suc, ◌<◌, ◌≤◌, ◌*◌, List, length, Some, None, refl, sym, ◌∙◌, subst, arith}
+use Rattle.std.proofs.Common.{◌≡◌, ℕ, zero, suc, ◌≤◌, List, length, Some, None, refl, sym, ◌∙◌, subst, arith}
 use Rattle.nv_base.specs.Pages.{record_pages_of}
 use Rattle.fee_format.specs.declared.rec_head.RecHead.{RecHead}
-use Rattle.fee_image.specs.Bank.{Bank, page_of, moved}
+use Rattle.fee_image.specs.Bank.{Bank}
 use Rattle.fee_format.specs.Formats.{new_format}
 use Rattle.fee_format.specs.RecHead.{IsLegalRecHead}
 use Rattle.fee_image.specs.Image.{layout_of, bank_in}
-use Rattle.fee_view.specs.View.{View, bank_of as viewed_bank}
-use Rattle.fee_image.specs.LogLaws.{loaded_log}
 use Rattle.fee_image.specs.Log.{Log, HoldsLog}
 use Rattle.fee_image.specs.May.{May, MayCommit, exactly}
 use Rattle.fee_image.specs.Step.{IsRecord}
 use Rattle.fee_log.specs.declared.tail.Tail.{Tail}
 use Rattle.fee_log.specs.declared.tail.Tail.TheVariants.{Open, Writes, Owes, Closed}
-use Rattle.fee_log.specs.Laws.{HoldsState, MayFollow, LoadsHold, ErasedHolds, BeginsHold, GivenUpHolds, FlagsHold}
-use Rattle.fee_log.specs.Log.{LogState, IsLogState, HasFormat, IsTailSeen, bank_of, pages_in, free_behind, log_of, tail_with, work_in, tail_begun}
+use Rattle.fee_log.specs.Laws.{MayFollow, LoadsHold, ErasedHolds, BeginsHold, GivenUpHolds, FlagsHold}
+use Rattle.fee_log.specs.Load.{IsTailOf}
+use Rattle.fee_log.specs.Log.{LogState, IsLogState, HasFormat, bank_of, pages_in, free_behind, log_of, tail_with, work_in, tail_begun}
 use Rattle.fee_log.specs.Step.{given_up}
 use Rattle.fee_log.proofs.Soundness.{legal_for}
-use Rattle.fee_image.proofs.Logs.{erased_logs_hold, loaded_logs_hold, logs_stay, records_begin}
+use Rattle.fee_image.proofs.Logs.{erased_logs_hold, loaded_logs_hold, records_begin}
 use Rattle.fee_image.proofs.Steps.{given_up_holds as logs_given_up}
 use Rattle.fee_log.proofs.Follows.{given_up_follows}
 use Rattle.fee_log.proofs.Loads.{loads_are_loaded}
 
 -- STARTS
 -- no record waits behind a load
-seen_follows : (may : May) (v : View) (body : List ℕ) (tail : Tail) → IsTailSeen v tail → MayFollow may tail body
-seen_follows may v body Open seen = tt
-seen_follows may v body (Writes h k) seen = tt
-seen_follows may v body (Owes h next) seen = absurd seen
-seen_follows may v body Closed seen = tt
-
-bank_is : (format p n p' n' at : ℕ) → p ≡ p' → n ≡ n'
-    → (let b : Bank = record { page = p; pages = n; format = format; at = at } in b) ≡ record { page = p'; pages = n'; format = format; at = at }
-bank_is format p n p' n' at one two = λ i. record { page = one i; pages = two i; format = format; at = at }
+loaded_follows : (may : May) (b : Bank) (bytes body : List ℕ) (tail : Tail) → IsTailOf b bytes tail → MayFollow may tail body
+loaded_follows may b bytes body Open is = tt
+loaded_follows may b bytes body (Writes h k) is = tt
+loaded_follows may b bytes body (Owes h next) is = absurd is
+loaded_follows may b bytes body Closed is = tt
 
 pub loads_hold : LoadsHold
-loads_hold v old new body bytes sound view of is size same =
-    let b = viewed_bank v in
-    let may = exactly b v.bytes in
-    let at = old.bank * pages_in old in
-    let tail = tail_with new.tail body in
-    let log = loaded_log b old.numbers v.bytes tail in
-    let image : Bank = bank_of (record old { format = v.head.format }) in
-    let same_bank : moved b at ≡ image = bank_is v.head.format v.page v.pages old.geometry.page (pages_in old) at of.page of.pages in
-    let pages : (q : ℕ) → 2 ≤ q → q < v.pages → page_of (moved b at) bytes q ≡ page_of b v.bytes q = λ q low lt.
-    subst (λ (c : Bank). page_of c bytes q ≡ page_of b v.bytes q) (sym same_bank) (same q low (subst (λ (n : ℕ). q < n) of.pages lt)) in
-    let in_view : HoldsLog b old.numbers v.bytes may log = loaded_logs_hold b old.numbers v.bytes tail view.page.low view.two (loads_are_loaded v old new body is).1 in
-    let in_image : HoldsLog image old.numbers bytes may log = subst
-    (λ (c : Bank). HoldsLog c old.numbers bytes may log) same_bank (logs_stay b old.numbers v.bytes bytes at may log view.page.low pages in_view) in
-    subst (λ (s : LogState). HoldsState s body bytes may) (sym is.same)
-    (record { size = size; holds = in_image; follows = seen_follows may v body new.tail is.tail })
+loads_hold s body bytes sound is size =
+    let b = bank_of s in
+    let loaded = loads_are_loaded b bytes s body is in
+    let two : 2 ≤ pages_in s = omega (arith, sound.end_low, sound.end_high) in
+    record {
+      size = size;
+      holds = subst (HoldsLog b s.numbers bytes (exactly b bytes)) (sym loaded.0) (loaded_logs_hold b s.numbers bytes (tail_with s.tail body) sound.geometry.page_low two loaded.1);
+      follows = loaded_follows (exactly b bytes) b bytes body s.tail is.tail;
+    }
 
 pub erased_holds : ErasedHolds
 erased_holds g banks bank numbers body bytes may sound size blank each = record {

@@ -1,5 +1,5 @@
 -- What each change of a log keeps.
-use Rattle.std.proofs.Common.{◌≡◌, ℕ, ◌<◌, ◌≤◌, ◌+◌, ◌-◌, false, List, Option, Some, None, inr, refl, ◌∙◌, ap, subst, arith}
+use Rattle.std.proofs.Common.{◌≡◌, ℕ, ◌<◌, ◌≤◌, ◌+◌, ◌-◌, false, List, Option, Some, None, refl, ◌∙◌, ap, subst, arith}
 use Rattle.std.proofs.lemmas.Option.{slice_get-get_or}
 use Rattle.nv_base.specs.declared.instance.DeviceNumber.{DeviceNumber}
 use Rattle.nv_base.specs.declared.geometry.Geometry.{Geometry}
@@ -11,20 +11,16 @@ use Rattle.fee_format.specs.declared.rec_head.RecordKind.{RecordKind}
 use Rattle.fee_format.specs.declared.rec_head.RecordKind.TheVariants as kind
 use Rattle.fee_format.specs.Formats.{new_format}
 use Rattle.fee_format.specs.RecHead.{IsLengthOfKind, IsLegalRecHead}
-use Rattle.fee_image.specs.RecordList.{pages_of_head, records_of, end_of}
-use Rattle.fee_view.specs.View.{View, IsView, bank_of as viewed_bank}
-use Rattle.fee_image.specs.Log.{Closed as LogClosed}
+use Rattle.fee_image.specs.RecordList.{pages_of_head}
 use Rattle.fee_image.specs.declared.place.Place.{Place}
-use Rattle.fee_image.specs.May.{exactly}
-use Rattle.fee_image.specs.Places.{noted, places_of}
+use Rattle.fee_image.specs.Places.{noted}
 use Rattle.fee_log.specs.declared.tail.Tail.{Tail}
 use Rattle.fee_log.specs.declared.tail.Tail.TheVariants.{Open, Writes, Owes, Closed}
-use Rattle.fee_log.specs.Index.{clear_flags, AreCounted, AreWithin}
-use Rattle.fee_log.specs.Log.{LogState, IsLogState, HasFormat, IsTail, IsTailSeen, IsViewOf, IsLengthFor, IsFor, pages_in, free_in, free_behind, work_in, tail_begun, begun, erased_state}
-use Rattle.fee_log.proofs.Counts.{erased_counted, loaded_counted, noted_counted}
+use Rattle.fee_log.specs.Index.{AreCounted, AreWithin}
+use Rattle.fee_log.specs.Log.{LogState, IsLogState, HasFormat, IsTail, IsLengthFor, IsFor, pages_in, free_in, free_behind, work_in, tail_begun, begun, erased_state}
+use Rattle.fee_log.proofs.Counts.{erased_counted, noted_counted}
 use Rattle.fee_log.proofs.Changes.{clear_length, flag_length}
-use Rattle.fee_log.proofs.Within.{erased_within, placed_within, further, noted_within}
-use Rattle.fee_image.proofs.Logs.{loaded_logs_hold}
+use Rattle.fee_log.proofs.Within.{erased_within, further, noted_within}
 use Rattle.nv_base.proofs.Places.{numbers_are_in_bounds}
 
 -- what holds of a log's tail
@@ -40,7 +36,7 @@ owes_format : (s : LogState) (h : RecHead) (next : Option RecHead) → IsLogStat
 owes_format s h next sound is = subst (HasFormat s.format) is sound.format
 
 -- the records reach further, whatever comes next
-moved_sound : (s : LogState) (places : List Place) (end : ℕ) (tail : Tail) → IsLogState s → HasFormat s.format tail → AreWithin s.geometry.page end s.numbers places → AreCounted places
+pub moved_sound : (s : LogState) (places : List Place) (end : ℕ) (tail : Tail) → IsLogState s → HasFormat s.format tail → AreWithin s.geometry.page end s.numbers places → AreCounted places
     → s.end ≤ end → end ≤ pages_in s → IsTail s.geometry.page (pages_in s) end tail → IsLogState (record s { places = places; end = end; tail = tail })
 moved_sound s places end tail sound format within counted more high is = record {
   geometry = sound.geometry;
@@ -161,45 +157,3 @@ erased_sound g banks bank numbers legal shared lt two all = record {
   end_high = two;
   tail = tt;
 }
-
-seen_tail : (p pages end : ℕ) (v : View) (tail : Tail) → IsTailSeen v tail → IsTail p pages end tail
-seen_tail p pages end v Open seen = tt
-seen_tail p pages end v (Writes head done) seen = absurd seen
-seen_tail p pages end v (Owes head next) seen = absurd seen
-seen_tail p pages end v Closed seen = tt
-
-seen_format : (s : LogState) (v : View) (tail : Tail) → IsView v → IsTailSeen v tail → HasFormat v.head.format tail
-seen_format s v Open view seen = seen.0
-seen_format s v (Writes head done) view seen = absurd seen
-seen_format s v (Owes head next) view seen = absurd seen
-seen_format s v Closed view seen = view.stands.head.legal.format
-
-pub loaded_sound : (s : LogState) (v : View) (tail : Tail) → IsLogState s → IsView v → IsViewOf s v
-    → IsTailSeen v tail
-    → let b = viewed_bank v in let end = end_of b v.bytes in 2 ≤ end → end ≤ v.pages
-    → IsLogState (record s {
-      format = v.head.format;
-      places = places_of s.numbers (records_of b v.bytes);
-      flags = clear_flags s.numbers;
-      end = end;
-      tail = tail;
-    })
-loaded_sound s v tail sound view is seen low high =
-    let b = viewed_bank v in
-    let end = end_of b v.bytes in
-    let places = places_of s.numbers (records_of b v.bytes) in
-    let holds = loaded_logs_hold b s.numbers v.bytes LogClosed view.page.low view.two (inr refl) in
-    record {
-      geometry = sound.geometry;
-      shared = sound.shared;
-      bank = sound.bank;
-      format = seen_format s v tail view seen;
-      numbers = sound.numbers;
-      places =
-          subst (λ (p : ℕ). AreWithin p end s.numbers places) is.page (placed_within b v.bytes (exactly b v.bytes) end s.numbers places holds.placed);
-      counts = loaded_counted b v.bytes s.numbers;
-      flags = clear_length s.numbers;
-      end_low = low;
-      end_high = subst (λ (n : ℕ). end ≤ n) is.pages high;
-      tail = seen_tail s.geometry.page (pages_in s) end v tail seen;
-    }

@@ -1,11 +1,10 @@
 -- The places that records give.
 use Rattle.std.specs.Prelude.{◌&&◌, if◌then◌else◌}
-use Rattle.std.proofs.Common.{◌≡◌, ℕ, Bool, true, false, List, [], ◌∷◌, ◌++◌, Option, Some, refl, sym, ap, ◌∙◌}
+use Rattle.std.proofs.Common.{◌≡◌, ℕ, Bool, true, false, List, [], ◌∷◌, ◌++◌, Option, Some, refl, ap, ◌∙◌}
 use Rattle.nv_base.specs.declared.instance.DeviceNumber.{DeviceNumber}
 use Rattle.fee_image.specs.Found.{fits, last_record}
-use Rattle.fee_image.specs.RecordList.{Rec, end_after}
+use Rattle.fee_image.specs.RecordList.{Rec}
 use Rattle.fee_image.specs.Places.{place_at, place_shown, noted, places_of}
-use Rattle.fee_view.specs.Record.{Walk, behind, records_in}
 use Rattle.fee_image.proofs.Appends.{last_is_new}
 
 shown_pick : (b : Bool) (r : Rec) (o : Option Rec)
@@ -28,8 +27,3 @@ places_push (n ∷ ns) rs r false is =
     let one = ap place_shown (last_is_new n.0.0 n.1 rs r ∙ ap (λ (b : Bool). if b && fits n.0.0 n.1 r.head then Some r else last_record n.0.0 n.1 rs) is) in
     let rest = places_push ns rs r false is in
     λ i. one i ∷ rest i
-
--- behind a record, those that are left end where they did
-pub ends_behind : (old new : Walk) (r : Rec) → records_in old ≡ r ∷ records_in new → new ≡ behind old r
-    → end_after new.bank.page new.at (records_in new) ≡ end_after old.bank.page old.at (records_in old)
-ends_behind old new r first is = ap (λ (w : Walk). end_after w.bank.page w.at (records_in new)) is ∙ sym (ap (λ (l : List Rec). end_after old.bank.page old.at l) first)

@@ -3,12 +3,10 @@ use Rattle.std.proofs.Common.{◌≡◌, ℕ, zero, suc, ◌≤◌, ◌+◌, Lis
 use Rattle.nv_base.specs.declared.instance.DeviceNumber.{DeviceNumber}
 use Rattle.nv_base.specs.Pages.{record_pages_of}
 use Rattle.fee_format.specs.declared.rec_head.RecHead.{RecHead}
-use Rattle.fee_image.specs.Bank.{Bank}
 use Rattle.fee_image.specs.Found.{fits}
 use Rattle.fee_image.specs.declared.place.Place.{Place}
 use Rattle.fee_image.specs.declared.place.Place.TheVariants.{Unwritten}
-use Rattle.fee_image.specs.May.{May}
-use Rattle.fee_image.specs.Places.{place_at, noted, erased_places, IsWithin, ArePlaced}
+use Rattle.fee_image.specs.Places.{place_at, noted, erased_places, IsWithin}
 use Rattle.fee_log.specs.Index.{AreWithin, or_else}
 use Rattle.fee_image.proofs.Placed.{fits_length, kind_within, further as further_place, pick_within}
 
@@ -22,13 +20,6 @@ within_length p end (n ∷ ns) (place ∷ places) all = omega (arith, within_len
 pub erased_within : (p end : ℕ) (ns : List (DeviceNumber × ℕ)) → AreWithin p end ns (erased_places ns)
 erased_within p end [] = tt
 erased_within p end (n ∷ ns) = (tt, erased_within p end ns)
-
-pub placed_within : (b : Bank) (bytes : List ℕ) (may : May) (end : ℕ) (ns : List (DeviceNumber × ℕ)) (places : List Place)
-    → ArePlaced b bytes may end ns places → AreWithin b.page end ns places
-placed_within b bytes may end [] [] all = tt
-placed_within b bytes may end [] (place ∷ places) all = absurd all
-placed_within b bytes may end (n ∷ ns) [] all = absurd all
-placed_within b bytes may end (n ∷ ns) (place ∷ places) all = (all.0, placed_within b bytes may end ns places all.2)
 
 -- a log that goes on keeps its places
 pub further : (p end end' : ℕ) (ns : List (DeviceNumber × ℕ)) (places : List Place) → end ≤ end'

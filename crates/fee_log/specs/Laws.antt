@@ -10,19 +10,19 @@ use Rattle.fls_model.specs.Step.{Leaves}
 use Rattle.fee_format.specs.declared.rec_head.RecHead.{RecHead}
 use Rattle.fee_format.specs.declared.rec_head.RecordKind.{RecordKind}
 use Rattle.nv_base.specs.Held.{never_written}
-use Rattle.fee_image.specs.Bank.{Bank, page_of, moved}
+use Rattle.fee_image.specs.Bank.{Bank, page_of}
 use Rattle.fee_image.specs.RecordList.{IsTailBlank}
-use Rattle.fee_view.specs.View.{View, IsView, bank_of as viewed_bank}
 use Rattle.fee_image.specs.declared.place.Place.{Place}
 use Rattle.fee_image.specs.Places.{count_at}
 use Rattle.fee_image.specs.LogLaws.{loaded_log, IsLoadedTail}
-use Rattle.fee_image.specs.Log.{Tail as LogTail, HoldsLog}
+use Rattle.fee_image.specs.Log.{HoldsLog}
 use Rattle.fee_image.specs.May.{May, IsAmong, MayCommit, exactly}
 use Rattle.fee_image.specs.Step.{IsDue, page_due, log_begun, log_failed, log_given_up, may_done}
 use Rattle.fee_log.specs.declared.tail.Tail.{Tail}
 use Rattle.fee_log.specs.declared.tail.Tail.TheVariants.{Open, Owes}
 use Rattle.fee_log.specs.Index.{with_flag}
-use Rattle.fee_log.specs.Log.{LogState, head_next, IsLogState, IsViewOf, IsLoaded, IsFor, bank_of, pages_in, free_in, log_of, tail_with, work_in, begun, erased_state}
+use Rattle.fee_log.specs.Load.{IsLoaded}
+use Rattle.fee_log.specs.Log.{LogState, head_next, IsLogState, IsFor, bank_of, pages_in, free_in, log_of, tail_with, work_in, begun, erased_state}
 use Rattle.fee_log.specs.Step.{IsPageOf, due_page, due_bytes, op_of, log_after, after_step, given_up}
 
 -- THE LOG THAT A STATE IS
@@ -45,18 +45,11 @@ abbrev pub WorkIsDue : Type 0
 WorkIsDue = (s : LogState) (body : List ℕ) → IsSome (work_in s.tail) → IsDue (log_of s body).tail × (due_page s ≡ page_due (log_of s body))
 
 -- STARTS
--- the log of a view's bytes, and of the same pages in an image
+-- a log that was loaded is the one of its bank in these bytes
 abbrev pub LoadsAreLoaded : Type 0
 LoadsAreLoaded =
-    (v : View) (old new : LogState) (body : List ℕ) → IsLoaded v old new
-    → let b = viewed_bank v in let tail = tail_with new.tail body in
-    (log_of new body ≡ loaded_log b old.numbers v.bytes tail) × IsLoadedTail b v.bytes tail
-
-abbrev pub LoadedLogsMove : Type 0
-LoadedLogsMove =
-    (b : Bank) (numbers : List (DeviceNumber × ℕ)) (own image : List ℕ) (at : ℕ) (tail : LogTail)
-    → ((q : ℕ) → 2 ≤ q → q < b.pages → page_of (moved b at) image q ≡ page_of b own q) → IsLoadedTail b own tail
-    → (loaded_log (moved b at) numbers image tail ≡ loaded_log b numbers own tail) × IsLoadedTail (moved b at) image tail
+    (b : Bank) (bytes : List ℕ) (s : LogState) (body : List ℕ) → IsLoaded b bytes s
+    → let tail = tail_with s.tail body in (log_of s body ≡ loaded_log b s.numbers bytes tail) × IsLoadedTail b bytes tail
 
 -- WHAT THE BYTES HOLD
 -- a record that waits for an owed gate may be committed
@@ -70,13 +63,12 @@ pub record HoldsState (s : LogState) (body bytes : List ℕ) (may : May) : Type 
   pub holds : HoldsLog (bank_of s) s.numbers bytes may (log_of s body)
   pub follows : MayFollow may s.tail body
 
--- after a load, where the view has the pages of the bank; nothing but what it shows may be found
+-- after a load; nothing but what the bank shows may be found
 abbrev pub LoadsHold : Type 0
 LoadsHold =
-    (v : View) (old new : LogState) (body bytes : List ℕ)
-    → IsLogState old → IsView v → IsViewOf old v → IsLoaded v old new → pages_in old * old.geometry.page * old.banks ≤ length bytes
-    → ((q : ℕ) → 2 ≤ q → q < pages_in old → page_of (bank_of old) bytes q ≡ page_of (viewed_bank v) v.bytes q)
-    → HoldsState new body bytes (exactly (viewed_bank v) v.bytes)
+    (s : LogState) (body bytes : List ℕ)
+    → IsLogState s → IsLoaded (bank_of s) bytes s → pages_in s * s.geometry.page * s.banks ≤ length bytes
+    → HoldsState s body bytes (exactly (bank_of s) bytes)
 
 -- a bank that is blank behind its gate, where each number may be erased
 abbrev pub ErasedHolds : Type 0

@@ -12,11 +12,10 @@ use Rattle.fee_format.specs.RecHead.{IsLegalRecHead}
 use Rattle.fee_image.specs.Bank.{Bank}
 use Rattle.nv_base.specs.Held.{more_writes}
 use Rattle.fee_image.specs.Image.{layout_of, bank_in}
-use Rattle.fee_image.specs.RecordList.{records_of, end_of, IsClosed, IsTailBlank, pages_of_head}
-use Rattle.fee_view.specs.View.{View, bank_of as viewed_bank}
+use Rattle.fee_image.specs.RecordList.{pages_of_head}
 use Rattle.fee_image.specs.declared.place.Place.{Place}
 use Rattle.fee_image.specs.Log.{Tail as LogTail, Open as LogOpen, Writes as LogWrites, Owes as LogOwes, Closed as LogClosed, Log}
-use Rattle.fee_image.specs.Places.{count_at, erased_places, places_of}
+use Rattle.fee_image.specs.Places.{count_at, erased_places}
 use Rattle.fee_log.specs.declared.tail.Tail.{Tail}
 use Rattle.fee_log.specs.declared.tail.Tail.TheVariants.{Open, Writes, Owes, Closed}
 use Rattle.fee_log.specs.Index.{place_in, with_flag, clear_flags, AreCounted, AreWithin}
@@ -145,28 +144,6 @@ erased_state g banks bank numbers = record {
   end = 2;
   tail = Open;
 }
-
--- a view of this bank
-pub record IsViewOf (s : LogState) (v : View) : Type 0 where
-  pub page : v.page ≡ s.geometry.page
-  pub pages : v.pages ≡ pages_in s
-
--- closed exactly where the bank is: its format isn't the one that is written, or its tail isn't blank
-abbrev pub IsTailSeen : View → Tail → Type 0
-IsTailSeen v Open = (v.head.format ≡ new_format) × IsTailBlank (viewed_bank v) v.bytes (end_of (viewed_bank v) v.bytes)
-IsTailSeen v Closed = IsClosed (viewed_bank v) v.bytes (end_of (viewed_bank v) v.bytes)
-IsTailSeen v _ = ⊥
-
--- the log of a bank that stands
-pub record IsLoaded (v : View) (old new : LogState) : Type 0 where
-  pub tail : IsTailSeen v new.tail
-  pub same : new ≡ record old {
-    format = v.head.format;
-    places = places_of old.numbers (records_of (viewed_bank v) v.bytes);
-    flags = clear_flags old.numbers;
-    end = end_of (viewed_bank v) v.bytes;
-    tail = new.tail;
-  }
 
 -- A RECORD TO APPEND
 -- a content has its number's length, and a mark has none

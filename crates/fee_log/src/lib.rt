@@ -6,12 +6,13 @@
 #![tactic(auto)]
 
 mod index;
+mod load;
 mod log;
 mod log_step;
 mod page;
 mod tail;
-mod walk;
 
+pub use load::{Awaited, Load};
 pub use log::Log;
 pub use log_step::LogStep;
 pub use tail::Tail;

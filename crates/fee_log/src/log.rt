@@ -1,5 +1,5 @@
 // The log of one bank.
-ghost use Rattle.std.specs.Prelude.{◌≡◌, ◌≤◌, ◌<◌, ◌+◌, ℕ, None, Some, Contains, length, IfOk, IsSome, MatchOption, take};
+ghost use Rattle.std.specs.Prelude.{◌≡◌, ◌≤◌, ◌<◌, ◌+◌, ℕ, None, Some, Contains, length, IfOk, IsSome, take};
 ghost use Rattle.std.specs.Option.{ForSome};
 ghost use Rattle.nv_base.specs.Geometry.{IsLegal, HasBanks, size_of, address_of_page};
 ghost use Rattle.nv_base.specs.Pages.{record_pages_of};
@@ -8,19 +8,17 @@ ghost use Rattle.fls_jobs.specs.CallOf.{closed_as};
 ghost use Rattle.fls_jobs.specs.Start.{IsIdle};
 ghost use Rattle.fee_image.specs.Places.{IsWithin};
 ghost use Rattle.fee_log.specs.Index.{place_in, flag_in, with_flag, clear_flags};
-ghost use Rattle.fee_log.specs.Log.{IsLogState, IsViewOf, IsLoaded, IsFor, head_next, work_in, is_closed, is_owed, free_in, left_in, pages_in, erased_state, begun};
+ghost use Rattle.fee_log.specs.Log.{IsLogState, IsFor, head_next, work_in, is_closed, is_owed, free_in, left_in, pages_in, erased_state, begun};
 ghost use Rattle.fee_log.specs.Step.{IsPageOf, IsStepAt, due_page, due_bytes, op_of, answer_of, after_step, given_up};
 
 use crate::index::{
     clear_all, clear_flags, count_at, erased_places, flag_of, forget, note, place_of, put_flag,
 };
 use crate::page::{fill_gate, fill_page};
-use crate::tail::{tail_begun, tail_seen};
-use crate::walk::take_records;
+use crate::tail::tail_begun;
 use crate::{LogStep, Tail};
 use fee_format::{NEW_FORMAT, RecHead, RecordKind, pages_of};
 use fee_image::Place;
-use fee_view::BankView;
 use fls_jobs::Fls;
 use fls_model::{Flash, FlashAnswer};
 use nv_base::{DeviceNumber, Geometry, Lengths, lengths_of};
@@ -30,15 +28,15 @@ use std::marker::Model;
 /// One bank as a log of records, with the place and a flag of each configured number. At most one record is in work.
 #[derive(Drop)]
 pub struct Log {
-    geometry: Geometry,
-    banks: u32,
-    bank: u32,
-    format: u8,
-    numbers: Lengths,
-    places: Vec<Place>,
-    flags: Vec<bool>,
-    end: u32,
-    tail: Tail,
+    pub(crate) geometry: Geometry,
+    pub(crate) banks: u32,
+    pub(crate) bank: u32,
+    pub(crate) format: u8,
+    pub(crate) numbers: Lengths,
+    pub(crate) places: Vec<Place>,
+    pub(crate) flags: Vec<bool>,
+    pub(crate) end: u32,
+    pub(crate) tail: Tail,
 }
 
 impl Model for Log {
@@ -210,17 +208,6 @@ impl Log {
         self.erase();
     }
 
-    /// Reads the log of a bank that stands from all its bytes, or that of an erased bank from None.
-    pub fn load(&mut self, view: Option<BankView<'_>>)
-        requires view { ForSome view (λ v. IsViewOf self.old v) }
-        ensures log { MatchOption view.entry (self.new ≡ erased_state self.old.geometry self.old.banks self.old.bank self.old.numbers) (λ v. IsLoaded v self.old self.new) }
-    {
-        match view {
-            Some(view) => self.load_view(&view),
-            None => self.erase(),
-        }
-    }
-
     fn erase(&mut self)
         ensures { self.new ≡ erased_state self.old.geometry self.old.banks self.old.bank self.old.numbers }
     {
@@ -229,17 +216,6 @@ impl Log {
         self.format = NEW_FORMAT;
         self.end = 2;
         self.tail = Tail::Open;
-    }
-
-    fn load_view(&mut self, view: &BankView<'_>)
-        requires view { IsViewOf self.old view.now }
-        ensures log { IsLoaded view.now self.old self.new }
-    {
-        let end = take_records(view, &self.numbers, &mut self.places);
-        clear_all(&self.numbers, &mut self.flags);
-        self.format = view.head().format;
-        self.end = end;
-        self.tail = tail_seen(view, end);
     }
 
     /// The header of the next record of a number, which is counted by one more.

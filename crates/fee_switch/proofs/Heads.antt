@@ -1,27 +1,38 @@
--- A bank in bytes of its own.
-use Rattle.std.proofs.Common.{◌≡◌, ◌≤◌, ℕ, List, Option, Some, None, sym, refl, subst, arith}
+-- The first pages of a bank.
+use Rattle.std.proofs.Common.{◌≡◌, ◌≤◌, ◌+◌, ◌*◌, ◌-◌, ℕ, List, length, take, drop, Option, Some, None, sym, ap, ◌∙◌, refl, subst, arith}
 use Rattle.std.specs.Prelude.{MatchOption}
+use Rattle.std.proofs.lemmas.List.{drop-drop, drop-take, take-take}
 use Rattle.fee_format.specs.declared.bank_head.BankHead.{BankHead}
-use Rattle.fee_image.specs.Bank.{page_of}
+use Rattle.fee_image.specs.Bank.{Bank, page_of, place_of_page}
 use Rattle.fee_image.specs.RecordList.{StandsAs, StandsNot}
 use Rattle.fee_image.specs.Image.{Layout, bank_in, head_of_bank, BankStands}
-use Rattle.fee_image.specs.Laws.{bank_bytes}
+use Rattle.fee_log.specs.Load.{HasPages}
 use Rattle.fee_view.specs.View.{own_bank}
 use Rattle.fee_switch.specs.StartLaws.{HeadsAreRead, PagesAreRead}
 use Rattle.fee_image.proofs.Banks.{heads_compute}
-use Rattle.fee_image.proofs.Reading.{slices_agree}
 
 pub pages_are_read : PagesAreRead
-pages_are_read l bytes own k format q is lt =
-    let e : page_of (own_bank l.page l.pages format) (bank_bytes (bank_in l 1 k) bytes) q ≡ page_of (bank_in l format k) bytes q = slices_agree (bank_in l 1 k) bytes q lt in
-    sym (subst (λ (x : List ℕ). page_of (own_bank l.page l.pages format) x q ≡ page_of (bank_in l format k) bytes q) (sym is) e)
+pages_are_read b bytes own from is q fits =
+    let p = b.page in
+    let n = length own in
+    let a = place_of_page b from in
+    let m = q * p in
+    let ys = drop a bytes in
+    let one : (q + 1) * p ≡ m + p = grind arith in
+    let le : m + p ≤ n = omega (arith, one, fits) in
+    let zeroth : (0 + q) * p ≡ m = omega arith in
+    let place : a + m ≡ (b.at + (from + q)) * p = grind arith in
+    sym (
+      ap (λ (x : ℕ). take p (drop x own)) zeroth
+      ∙ sym (drop-take m p own) ∙ ap (λ (x : List ℕ). drop m (take (m + p) x)) is ∙ ap (drop m) (take-take (m + p) n ys le) ∙ drop-take m p ys
+      ∙ ap (take p) (drop-drop m a bytes) ∙ ap (λ (x : ℕ). take p (drop x bytes)) place)
 
-module _ (l : Layout) (bytes own : List ℕ) (k : ℕ) (two : 2 ≤ l.pages) (is : own ≡ bank_bytes (bank_in l 1 k) bytes) where
+module _ (l : Layout) (bytes own : List ℕ) (k : ℕ) (two : 2 * l.page ≤ length own) (has : HasPages (bank_in l 1 k) bytes 0 own) where
   first : page_of (bank_in l 1 k) bytes 0 ≡ page_of (own_bank l.page 2 1) own 0
-  first = pages_are_read l bytes own k 1 0 is (omega arith)
+  first = has 0 (omega (arith, two))
 
   second : page_of (bank_in l 1 k) bytes 1 ≡ page_of (own_bank l.page 2 1) own 1
-  second = pages_are_read l bytes own k 1 1 is (omega arith)
+  second = has 1 two
 
   stands : (h : BankHead) → StandsAs (own_bank l.page 2 1) own h → BankStands l bytes k h
   stands h s = record { head = rw first s.head; gate = rw second s.gate }
@@ -38,4 +49,4 @@ module _ (l : Layout) (bytes own : List ℕ) (k : ℕ) (two : 2 ≤ l.pages) (is
   heads (Some h) s = (heads_compute l bytes k h).0 (stands h s)
 
 pub heads_are_read : HeadsAreRead
-heads_are_read l bytes own k head two is match = heads l bytes own k two is head match
+heads_are_read l bytes own k head two has match = heads l bytes own k two has head match

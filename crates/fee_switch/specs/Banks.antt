@@ -3,7 +3,7 @@ use Rattle.std.specs.Prelude.{◌≡◌, ◌==◌, ◌<◌, ◌+◌, if◌then�
 use Rattle.nv_base.specs.declared.geometry.Geometry.{Geometry}
 use Rattle.nv_base.specs.declared.instance.DeviceNumber.{DeviceNumber}
 use Rattle.nv_base.specs.Count.{Rose}
-use Rattle.nv_base.specs.Geometry.{IsLegal, HasBanks, size_of_bank, sectors_of_bank}
+use Rattle.nv_base.specs.Geometry.{IsLegal, HasBanks, sectors_of_bank}
 use Rattle.nv_base.specs.Lengths.{place_of}
 use Rattle.fls_model.specs.declared.flash.FlashAnswer.{FlashAnswer}
 use Rattle.fls_model.specs.declared.flash.FlashAnswer.TheVariants.{Done, Failed as FlashFailed, Off}
@@ -25,6 +25,7 @@ use Rattle.fee_course.specs.Copies.{next_copy}
 use Rattle.fee_course.specs.Course.{IsShort, after_done, after_failed, flag_due, appended_to, turns_left}
 use Rattle.fee_image.specs.Image.{layout_of, active_of}
 use Rattle.fee_switch.specs.Active.{active_shown}
+use Rattle.fee_switch.specs.Reading.{buffer_size}
 use Rattle.fee_switch.specs.Start.{IsLoadedAs}
 use Rattle.fee_switch.specs.declared.phase.BankStart.{BankStart}
 use Rattle.fee_switch.specs.declared.phase.BankStart.TheVariants.{Ready, Failed}
@@ -45,7 +46,7 @@ pub record BanksState : Type 0 where
   -- the log of the active bank, and of the target
   pub log : LogState
   pub copies : LogState
-  -- room for the bytes of a bank; the content that is copied stands at its front
+  -- room for what one read of a start-up gives; the content that is copied stands at its front
   pub buffer : List ℕ
 
 -- THE NEXT TARGET
@@ -71,7 +72,7 @@ pub record IsBanksState (s : BanksState) : Type 0 where
   pub target_log : s.copies.bank ≡ s.target
   pub active : IfSome s.active (λ a. (a.bank ≡ s.target → ⊥) × (s.log.bank ≡ a.bank))
   pub course : IfSome s.course (IsShort (sectors_of_bank s.geometry s.banks))
-  pub buffer : length s.buffer ≡ size_of_bank s.geometry s.banks
+  pub buffer : length s.buffer ≡ buffer_size s.geometry s.banks
 
 -- banks of the same flash and the same numbers
 pub record IsSameFlash (s t : BanksState) : Type 0 where

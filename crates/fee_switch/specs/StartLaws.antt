@@ -1,23 +1,22 @@
 -- Laws of what a start-up reads, for the layers above.
-use Rattle.std.specs.Prelude.{◌≡◌, ◌<◌, ◌≤◌, ℕ, List, Option, MatchOption}
+use Rattle.std.specs.Prelude.{◌≡◌, ◌≤◌, ◌*◌, ℕ, List, Option, length, MatchOption}
 use Rattle.fee_format.specs.declared.bank_head.BankHead.{BankHead}
-use Rattle.fee_image.specs.Bank.{page_of}
+use Rattle.fee_image.specs.Bank.{Bank}
 use Rattle.fee_image.specs.RecordList.{StandsAs, StandsNot}
 use Rattle.fee_image.specs.Image.{Layout, bank_in, head_of_bank}
-use Rattle.fee_image.specs.Laws.{bank_bytes}
+use Rattle.fls_model.specs.Bytes.{piece}
+use Rattle.fee_image.specs.Bank.{place_of_page}
+use Rattle.fee_log.specs.Load.{HasPages}
 use Rattle.fee_view.specs.View.{own_bank}
 
--- a bank stands in its own bytes with the head with which it stands in those of the flash, or in neither
+-- a bank stands by its first pages with the head with which it stands in the flash, or by neither
 abbrev pub HeadsAreRead : Type 0
 HeadsAreRead =
     (l : Layout) (bytes own : List ℕ) (k : ℕ) (head : Option BankHead)
-    → 2 ≤ l.pages → own ≡ bank_bytes (bank_in l 1 k) bytes
+    → 2 * l.page ≤ length own → HasPages (bank_in l 1 k) bytes 0 own
     → MatchOption head (StandsNot (own_bank l.page 2 1) own) (λ h. StandsAs (own_bank l.page 2 1) own h)
     → head_of_bank l bytes k ≡ head
 
--- and its pages are those of the flash, whatever its format
+-- a piece of the flash's bytes from a page of a bank on has its pages
 abbrev pub PagesAreRead : Type 0
-PagesAreRead =
-    (l : Layout) (bytes own : List ℕ) (k format q : ℕ)
-    → own ≡ bank_bytes (bank_in l 1 k) bytes → q < l.pages
-    → page_of (bank_in l format k) bytes q ≡ page_of (own_bank l.page l.pages format) own q
+PagesAreRead = (b : Bank) (bytes own : List ℕ) (from : ℕ) → own ≡ piece (place_of_page b from) (length own) bytes → HasPages b bytes from own

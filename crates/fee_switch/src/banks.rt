@@ -14,6 +14,7 @@ ghost use Rattle.fee_switch.specs.Banks.{IsBanksState, IsMade, TakesRecord, phas
 
 use crate::due::reads_place;
 use crate::phase::phase_of;
+use crate::reading::buffer_size;
 use crate::{ActiveBank, BankBegin, Phase};
 use fee_course::{Course, next_copy};
 use fee_format::{LAST_GENERATION, RecHead};
@@ -66,7 +67,7 @@ impl Banks {
     {
         let log = Log::make(alloc, numbers, geometry, 0, banks)?;
         let copies = Log::make(alloc, numbers, geometry, 0, banks)?;
-        let size = geometry.bank_size(banks) as usize;
+        let size = buffer_size(geometry, banks) as usize;
         let buffer = vec![in alloc; 0; size]?;
         Ok(Banks {
             geometry,

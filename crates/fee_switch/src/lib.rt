@@ -11,6 +11,7 @@ mod active;
 mod banks;
 mod copy;
 mod due;
+mod loading;
 mod phase;
 mod reading;
 mod start;
@@ -19,6 +20,6 @@ mod target;
 
 pub use active::{ActiveBank, comes_first};
 pub use banks::Banks;
+pub use loading::Coming;
 pub use phase::{BankBegin, BankStart, Phase};
-pub use reading::read_bank;
 pub use target::{Stage, Target};

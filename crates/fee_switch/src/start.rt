@@ -1,70 +1,20 @@
 // A start-up: which bank is active, and its log.
-ghost use Rattle.std.specs.Prelude.{◌≡◌, ◌<◌, ◌≤◌, ◌*◌, ◌/◌, length, None, IfSome, MatchOption, false};
-ghost use Rattle.nv_base.specs.Geometry.{IsLegal, HasBanks, pages_of_bank, size_of_bank};
+ghost use Rattle.std.specs.Prelude.{◌≡◌, length, None, IfSome, false};
 ghost use Rattle.fls_jobs.specs.Start.{IsIdle};
-ghost use Rattle.fls_model.specs.Told.{Told};
-ghost use Rattle.fee_image.specs.Image.{layout_of, bank_in};
-ghost use Rattle.fee_image.specs.Laws.{bank_bytes};
-ghost use Rattle.fee_image.specs.RecordList.{StandsAs, StandsNot};
-ghost use Rattle.fee_view.specs.View.{own_bank};
-ghost use Rattle.fee_switch.specs.Reading.{IsShared, IsAnswered};
-ghost use Rattle.fee_switch.specs.Start.{AreTaken, TakesNext, IsLogAt, IsSameShape};
+ghost use Rattle.fee_image.specs.Image.{layout_of};
+ghost use Rattle.fee_switch.specs.Reading.{IsShared, IsAnswered, buffer_size};
+ghost use Rattle.fee_switch.specs.Start.{AreTaken, IsLogAt, IsSameShape};
 ghost use Rattle.fee_switch.specs.Banks.{IsSameFlash, IsStartOf, target_after, FindsActive, LoadsActive};
 ghost use Rattle.fee_log.specs.Index.{clear_flags};
 ghost use Rattle.fee_log.specs.Log.{work_in, erased_state};
 
 use crate::due::target_of;
-use crate::{ActiveBank, BankStart, Banks, comes_first, read_bank};
+use crate::loading::take_bank;
+use crate::{ActiveBank, BankStart, Banks};
 use fee_log::Log;
-use fee_view::BankView;
 use fls_jobs::Fls;
 use fls_model::{Flash, FlashAnswer};
 use nv_base::Geometry;
-
-// The bank of these bytes, where it stands.
-fn view_of<'a>(geometry: Geometry, banks: u32, bytes: &'a [u8]) -> Option<BankView<'a>>
-    requires legal { IsLegal geometry }
-    requires shared { HasBanks geometry banks }
-    requires size { length bytes.now ≡ size_of_bank geometry banks }
-    ensures stands { MatchOption result (StandsNot (own_bank geometry.page 2 1) bytes.now) (λ v. StandsAs (own_bank geometry.page 2 1) bytes.now v.head) }
-    ensures view { IfSome result (λ v. v ≡ record { bytes = bytes.now; page = geometry.page; pages = length bytes.now / geometry.page; head = v.head }) }
-    ensures two { 2 ≤ pages_of_bank geometry banks }
-    ensures size { length bytes.now ≡ pages_of_bank geometry banks * geometry.page }
-{
-    let _ = geometry.bank_pages(banks);
-    let _ = geometry.bank_size(banks);
-    BankView::of(bytes, geometry.page)
-}
-
-// Takes a bank by its bytes: loads the log from them where they stand and come before the banks that were read.
-fn take_bytes(
-    geometry: Geometry,
-    banks: u32,
-    bank: u32,
-    bytes: &[u8],
-    first: &mut Option<ActiveBank>,
-    log: &mut Log,
-)
-    requires legal { IsLegal geometry }
-    requires shared { HasBanks geometry banks }
-    requires bank { bank < banks }
-    requires size { length bytes.now ≡ size_of_bank geometry banks }
-    requires log_geometry { log.old.geometry ≡ geometry }
-    requires log_banks { log.old.banks ≡ banks }
-    ensures taken { (told : Told) → IfSome told.bytes (λ b. bytes.now ≡ bank_bytes (bank_in (layout_of geometry banks) 1 bank) b.now) → TakesNext told (layout_of geometry banks) bank first.old log.old first.new log.new }
-    ensures place { IsLogAt banks first.old log.old → IsLogAt banks first.new log.new }
-    ensures shape { IsSameShape log.old log.new }
-{
-    let Some(view) = view_of(geometry, banks, bytes) else {
-        return;
-    };
-    let head = view.head();
-    if comes_first(*first, head) {
-        *first = Some(ActiveBank { bank, head });
-        log.move_to(bank);
-        log.load(Some(view));
-    }
-}
 
 // Reads all banks, one after another, and loads the log from the active one.
 fn take_banks<F: Flash>(
@@ -77,19 +27,19 @@ fn take_banks<F: Flash>(
 ) -> FlashAnswer
     requires flash { IsShared fls.old geometry banks }
     requires none { first.old ≡ None }
-    requires size { length buffer.old ≡ size_of_bank geometry banks }
+    requires size { length buffer.old ≡ buffer_size geometry banks }
     requires log_geometry { log.old.geometry ≡ geometry }
     requires log_banks { log.old.banks ≡ banks }
     ensures taken { result ≡ FlashAnswer.Done → IfSome fls.old.flash.bytes (λ b. AreTaken (layout_of geometry banks) b.now banks first.new log.new) }
     ensures answer { IsAnswered fls.old.flash result fls.new.flash }
     ensures same { fls.new ≡ record fls.old { flash = fls.new.flash; result = fls.new.result } }
-    ensures place { IsLogAt banks first.new log.new }
+    ensures place { result ≡ FlashAnswer.Done → IsLogAt banks first.new log.new }
     ensures shape { IsSameShape log.old log.new }
     ensures size { length buffer.new ≡ length buffer.old }
 {
     for bank in 0..banks {
-        match read_bank(fls, geometry, banks, bank, buffer) {
-            FlashAnswer::Done => take_bytes(geometry, banks, bank, buffer, first, log),
+        match take_bank(fls, geometry, banks, bank, first, log, buffer) {
+            FlashAnswer::Done => {}
             answer => return answer,
         }
     }
@@ -97,7 +47,7 @@ fn take_banks<F: Flash>(
 }
 
 impl Banks {
-    /// Reads each sector once, whole, in ascending order, and programs nothing. The active bank is the one that stands with
+    /// Reads each sector once, whole, in ascending order, a sector of more than 4,096 bytes in pieces of so many, and programs nothing. The active bank is the one that stands with
     /// the greatest generation, on a tie the lower one, whatever the bytes are; its log is loaded, or without one that of an
     /// erased bank, and no switch is open. `Failed` comes only where the flash's faults rose; then no bank is active.
     pub fn start<F: Flash>(&mut self, fls: &mut Fls<F>) -> BankStart

@@ -107,8 +107,8 @@ impl<'a> BankView<'a> {
     }
 }
 
-// Whether all pages from one on are blank.
-fn is_tail_blank(bank: &[u8], page: u32, pages: u32, end: u32) -> bool
+/// Whether of so many pages all from one on are blank.
+pub fn is_tail_blank(bank: &[u8], page: u32, pages: u32, end: u32) -> bool
     requires whole { pages * page ≤ length bank.now }
     requires inside { end ≤ pages }
     ensures { IsTrue result ↔ IsTailBlank (own_bank page pages 1) bank.now end }

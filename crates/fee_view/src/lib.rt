@@ -10,6 +10,7 @@ mod page;
 mod record;
 mod records;
 
-pub use bank_view::BankView;
+pub use bank_view::{BankView, is_tail_blank};
+pub use page::page_of;
 pub use record::Record;
 pub use records::Records;
