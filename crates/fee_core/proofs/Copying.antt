@@ -3,7 +3,6 @@ use Rattle.std.specs.Prelude.{IfSome, length}
 use Rattle.std.specs.List.{All}
 use Rattle.std.proofs.Common.{◌≡◌, ◌<◌, ℕ, true, false, Option, Some, None, refl, sym, ap, ◌∙◌, subst, arith}
 use Rattle.nv_base.specs.Count.{next_count}
-use Rattle.nv_base.specs.Geometry.{size_of_bank}
 use Rattle.nv_base.specs.declared.instance.DeviceNumber.{DeviceNumber}
 use Rattle.memif.specs.declared.answer.DeviceTurn.TheVariants as turn
 use Rattle.fls_model.specs.declared.flash.FlashAnswer.{FlashAnswer}
@@ -17,6 +16,7 @@ use Rattle.fee_course.specs.declared.copies.Source.{Source}
 use Rattle.fee_course.specs.declared.course.Course.{Course}
 use Rattle.fee_course.specs.declared.course.Course.TheVariants.{Erase, Copy, Head, Gate}
 use Rattle.fee_switch.specs.Banks.{BanksState, IsBanksState, reads_next, reads_source, reads_place, after_answer}
+use Rattle.fee_switch.specs.Reading.{buffer_size}
 use Rattle.fee_switch.specs.Copy.{BeginsAt, IsBankStep}
 use Rattle.promise_device.specs.Making.{Making}
 use Rattle.fee_laws.specs.Inside.{Parts}
@@ -111,12 +111,12 @@ module _ {m : Making} {entry : Told} {w : Whole} {answer : FlashAnswer} {f : Fls
   steps : (a : FlashAnswer) → answer ≡ a → IsStepping m entry s w.numbers w.reserve w.ops (Copy None) made.made a f
   steps a same = subst (λ (x : FlashAnswer). IsStepping m entry s w.numbers w.reserve w.ops (Copy None) made.made x f) same is.steps
 
-  -- its room is the same, as both are of a bank's size
+  -- its room is the same, as both are of the same flash
   room : answer ≡ Done → length made.made.buffer ≡ length s.banks.buffer
   room done =
       let shape = shape_same made.makes.source.place s.banks made.makes.number made.makes.source.length s.fls.flash answer made.made f.flash made.makes.begins in
-      let behind : length made.made.buffer ≡ size_of_bank made.made.geometry made.made.banks = (subst IsBanksState (sym (after Done done)) is.state).buffer in
-      behind ∙ (λ i. size_of_bank (shape.0 i) (shape.1 i)) ∙ sym is.steps.on.banks.buffer
+      let behind : length made.made.buffer ≡ buffer_size made.made.geometry made.made.banks = (subst IsBanksState (sym (after Done done)) is.state).buffer in
+      behind ∙ (λ i. buffer_size (shape.0 i) (shape.1 i)) ∙ sym is.steps.on.banks.buffer
 
   pub copied : answer ≡ Done → Turned m entry turn.Worked s (record s { fls = f; banks = b }) w.numbers w.reserve w.ops false
   copied done =

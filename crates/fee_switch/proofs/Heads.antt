@@ -1,9 +1,9 @@
 -- The first pages of a bank.
-use Rattle.std.proofs.Common.{◌≡◌, ◌≤◌, ◌+◌, ◌*◌, ◌-◌, ℕ, List, length, take, drop, Option, Some, None, sym, ap, ◌∙◌, refl, subst, arith}
+use Rattle.std.proofs.Common.{◌≡◌, ◌≤◌, ◌+◌, ◌*◌, ◌-◌, ℕ, List, length, take, drop, Option, Some, None, sym, ap, ◌∙◌, refl, arith}
 use Rattle.std.specs.Prelude.{MatchOption}
 use Rattle.std.proofs.lemmas.List.{drop-drop, drop-take, take-take}
 use Rattle.fee_format.specs.declared.bank_head.BankHead.{BankHead}
-use Rattle.fee_image.specs.Bank.{Bank, page_of, place_of_page}
+use Rattle.fee_image.specs.Bank.{page_of, place_of_page}
 use Rattle.fee_image.specs.RecordList.{StandsAs, StandsNot}
 use Rattle.fee_image.specs.Image.{Layout, bank_in, head_of_bank, BankStands}
 use Rattle.fee_log.specs.Load.{HasPages}
@@ -23,9 +23,9 @@ pages_are_read b bytes own from is q fits =
     let zeroth : (0 + q) * p ≡ m = omega arith in
     let place : a + m ≡ (b.at + (from + q)) * p = grind arith in
     sym (
-      ap (λ (x : ℕ). take p (drop x own)) zeroth
-      ∙ sym (drop-take m p own) ∙ ap (λ (x : List ℕ). drop m (take (m + p) x)) is ∙ ap (drop m) (take-take (m + p) n ys le) ∙ drop-take m p ys
-      ∙ ap (take p) (drop-drop m a bytes) ∙ ap (λ (x : ℕ). take p (drop x bytes)) place)
+    ap (λ (x : ℕ). take p (drop x own)) zeroth
+    ∙ sym (drop-take m p own) ∙ ap (λ (x : List ℕ). drop m (take (m + p) x)) is ∙ ap (drop m) (take-take (m + p) n ys le) ∙ drop-take m p ys
+    ∙ ap (take p) (drop-drop m a bytes) ∙ ap (λ (x : ℕ). take p (drop x bytes)) place)
 
 module _ (l : Layout) (bytes own : List ℕ) (k : ℕ) (two : 2 * l.page ≤ length own) (has : HasPages (bank_in l 1 k) bytes 0 own) where
   first : page_of (bank_in l 1 k) bytes 0 ≡ page_of (own_bank l.page 2 1) own 0

@@ -3,4 +3,4 @@ pub mod Picks
 pub mod Starts
 pub mod Targets
 pub mod Heads
-pub mod Sectors
+pub mod Pieces

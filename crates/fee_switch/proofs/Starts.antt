@@ -1,20 +1,23 @@
 -- What is loaded from a bank that is read.
 use Rattle.std.proofs.Common.{◌≡◌, ◌≤◌, ◌*◌, ◌+◌, ℕ, List, length, Option, Some, None, true, sym, ap, ◌∙◌, refl, subst, add-one}
 use Rattle.std.specs.Prelude.{IfSome}
+use Rattle.nv_base.specs.declared.geometry.Geometry.{Geometry}
+use Rattle.nv_base.specs.Geometry.{pages_of_bank}
 use Rattle.fls_model.specs.Told.{ToldBytes}
 use Rattle.fee_format.specs.declared.bank_head.BankHead.{BankHead}
 use Rattle.fee_image.specs.Bank.{Bank}
 use Rattle.fee_image.specs.RecordList.{StandsAs, StandsNot, IsClosed, end_of}
-use Rattle.fee_image.specs.Image.{Layout, bank_in, head_of_bank, first_of, active_below}
+use Rattle.fee_image.specs.Image.{Layout, layout_of, bank_in, head_of_bank, first_of, active_below}
 use Rattle.fee_view.specs.View.{own_bank}
 use Rattle.fee_log.specs.Index.{clear_flags}
 use Rattle.fee_log.specs.declared.tail.Tail.{Tail}
 use Rattle.fee_log.specs.declared.tail.Tail.TheVariants as tail
-use Rattle.fee_log.specs.Load.{HasPages, IsTailOf, IsLoaded}
+use Rattle.fee_log.specs.Load.{HasPages, IsOfBank, IsTailOf, IsLoaded, load_begun}
 use Rattle.fee_log.specs.Log.{LogState, is_closed}
 use Rattle.fee_switch.specs.declared.active.ActiveBank.{ActiveBank}
+use Rattle.fee_switch.specs.declared.loading.Coming.{Coming}
 use Rattle.fee_switch.specs.Active.{active_shown}
-use Rattle.fee_switch.specs.Start.{IsLoadedAs}
+use Rattle.fee_switch.specs.Start.{IsLoadedAs, HasComing}
 use Rattle.fee_log.proofs.Loads.{loads_are_loaded}
 use Rattle.fee_switch.proofs.Heads.{heads_are_read}
 
@@ -63,3 +66,25 @@ loaded_as l bytes k h log bank format flags is = record {
   tail = λ body. (loads_are_loaded (bank_in l h.format k) bytes log body is).1;
   closed = λ closed. closed_there (bank_in l h.format k) bytes log.tail closed is.tail;
 }
+
+-- its bank, as the layout has it
+pub bank_begun : (log new : LogState) (g : Geometry) (banks k format : ℕ) → new ≡ load_begun log k format → log.geometry ≡ g → log.banks ≡ banks → IsOfBank new (bank_in (layout_of g banks) format k)
+bank_begun log new g banks k format is of shared = record {
+  page = sym (ap (λ (s : LogState). s.geometry.page) is ∙ ap (λ (x : Geometry). x.page) of);
+  pages = sym (ap (λ (s : LogState). pages_of_bank s.geometry s.banks) is ∙ (λ i. pages_of_bank (of i) (shared i)));
+  format = sym (ap (λ (s : LogState). s.format) is);
+}
+
+pub bank_there : (log : LogState) (k format : ℕ) → log.format ≡ format → IsOfBank log (bank_in (layout_of log.geometry log.banks) format k)
+bank_there log k format is = record { page = refl; pages = refl; format = sym is }
+
+pub layout_same : (log : LogState) (g : Geometry) (banks : ℕ) → log.geometry ≡ g → log.banks ≡ banks → layout_of log.geometry log.banks ≡ layout_of g banks
+layout_same log g banks of shared = λ i. layout_of (of i) (shared i)
+
+-- so many pages were read
+pub further_coming : (k from to : ℕ) (log : LogState) (o : Option Coming) → from ≡ to → IfSome o (HasComing k from log) → IfSome o (HasComing k to log)
+further_coming k from to log o same is = subst (λ (n : ℕ). IfSome o (HasComing k n log)) same is
+
+-- a bank that doesn't come leaves the one before it as it is
+pub first_stays : (l : Layout) (bytes : List ℕ) (first : Option ActiveBank) (log new : LogState) → new ≡ log → IfSome first (λ a. IsLoadedAs l bytes a.bank a.head log) → IfSome first (λ a. IsLoadedAs l bytes a.bank a.head new)
+first_stays l bytes first log new same is = subst (λ (x : LogState). IfSome first (λ a. IsLoadedAs l bytes a.bank a.head x)) (sym same) is

@@ -1,11 +1,10 @@
 -- Laws of what a start-up reads, for the layers above.
 use Rattle.std.specs.Prelude.{◌≡◌, ◌≤◌, ◌*◌, ℕ, List, Option, length, MatchOption}
+use Rattle.fls_model.specs.Bytes.{piece}
 use Rattle.fee_format.specs.declared.bank_head.BankHead.{BankHead}
-use Rattle.fee_image.specs.Bank.{Bank}
+use Rattle.fee_image.specs.Bank.{Bank, place_of_page}
 use Rattle.fee_image.specs.RecordList.{StandsAs, StandsNot}
 use Rattle.fee_image.specs.Image.{Layout, bank_in, head_of_bank}
-use Rattle.fls_model.specs.Bytes.{piece}
-use Rattle.fee_image.specs.Bank.{place_of_page}
 use Rattle.fee_log.specs.Load.{HasPages}
 use Rattle.fee_view.specs.View.{own_bank}
 

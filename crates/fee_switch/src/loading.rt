@@ -61,21 +61,29 @@ fn open_bank(
     ensures shape { IsSameShape log.old log.new }
 {
     let head = head_standing(bytes, geometry.page)?;
-    if !comes_first(first, head) {
-        return None;
+    if comes_first(first, head) {
+        let load = log.load_start(bank, head.format);
+        let load = log.load_pages(load, 0, count, bytes);
+        Some(Coming { head, load })
+    } else {
+        None
     }
-    let load = log.load_start(bank, head.format);
-    let load = log.load_pages(load, 0, count, bytes);
-    Some(Coming { head, load })
 }
 
 // Goes on with so many of its pages, from one on.
-fn look_on(coming: Option<Coming>, from: u32, count: u32, bytes: &[u8], bank: u32, log: &mut Log) -> Option<Coming>
+fn look_on(
+    coming: Option<Coming>,
+    from: u32,
+    count: u32,
+    bytes: &[u8],
+    bank: u32,
+    log: &mut Log,
+) -> Option<Coming>
     requires coming { IfSome coming (HasComing bank from log.old) }
     requires size { length bytes.now ≡ count * log.old.geometry.page }
     requires inside { from + count ≤ pages_of_bank log.old.geometry log.old.banks }
     ensures coming { IfSome result (HasComing bank (from + count) log.new) }
-    ensures none { result ≡ None → log.new ≡ log.old }
+    ensures none { result ≡ None → (coming ≡ None) × (log.new ≡ log.old) }
     ensures shape { IsSameShape log.old log.new }
     ensures seen { (all : List ℕ) → ((format : ℕ) → HasPages (bank_in (layout_of log.old.geometry log.old.banks) format bank) all from bytes.now) → GoesOn (layout_of log.old.geometry log.old.banks) all bank coming log.old result log.new }
 {
@@ -111,7 +119,7 @@ fn read_on<F: Flash>(
     ensures same { fls.new ≡ record fls.old { flash = fls.new.flash; result = fls.new.result } }
     ensures size { length buffer.new ≡ length buffer.old }
     ensures shape { IsSameShape log.old log.new }
-    ensures none { result ≡ FlashAnswer.Done → coming.new ≡ None → log.new ≡ log.old }
+    ensures none { result ≡ FlashAnswer.Done → coming.new ≡ None → (coming.old ≡ None) × (log.new ≡ log.old) }
     ensures all { result ≡ FlashAnswer.Done → IfSome coming.new (HasComing bank (pages_of_bank geometry banks) log.new) }
     ensures seen { result ≡ FlashAnswer.Done → IfSome fls.old.flash.bytes (λ b. GoesOn (layout_of geometry banks) b.now bank coming.old log.old coming.new log.new) }
 {

@@ -121,7 +121,7 @@ module _ (reserve : ℕ) (s : BanksState) (end : ℕ) (tail : Tail) (places : Li
       (record {
         format = r.target.format;
         clear = r.target.clear;
-        work = record { head = copy.head; done = copy.done; tail = copy.tail; length = copy.length; named = copy.named; pages = copy.pages };
+        work = record { head = copy.head; done = copy.done; tail = copy.tail; length = copy.length; named = copy.named; fits = copy.fits; pages = copy.pages };
       })
       work
   page_keeps Head r free left some work = absurd (none_in_work (work_in s.log.tail) some r.work)
@@ -255,7 +255,7 @@ module _ (reserve : ℕ) (s : BanksState) (h : RecHead) (is : IsBanksState s) (s
       (record {
         format = r.target.format;
         clear = r.target.clear;
-        work = record { head = copy.head; done = copy.done; tail = copy.tail; length = copy.length; named = copy.named; pages = copy.pages };
+        work = record { head = copy.head; done = copy.done; tail = copy.tail; length = copy.length; named = copy.named; fits = copy.fits; pages = copy.pages };
       })
       content more
 

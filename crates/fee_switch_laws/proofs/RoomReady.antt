@@ -2,11 +2,12 @@
 use Rattle.std.proofs.Common.{◌≡◌, ◌<◌, ◌≤◌, ◌+◌, ◌-◌, ◌*◌, ◌/◌, ℕ, zero, suc, true, List, [], ◌∷◌, length, Option, Some, None, refl, sym, ap, ◌∙◌, subst, arith}
 use Rattle.std.specs.Prelude.{◌^◌, slice_get, is_some, IfSome}
 use Rattle.std.proofs.lemmas.Option.{slice_get_within, get_or_from_slice_get}
-use Rattle.std.proofs.Math.Nat.{div-add-mod, mul_comm, mul-le-mul_right}
+use Rattle.std.proofs.Math.Nat.{div-add-mod, mul_comm, mul-le-mul_right, le-min}
 use Rattle.nv_base.specs.declared.geometry.Geometry.{Geometry}
 use Rattle.nv_base.specs.declared.instance.DeviceNumber.{DeviceNumber}
 use Rattle.nv_base.specs.Geometry.{IsLegal, HasBanks, pages_of_bank, pages_of_sector, sectors_of_bank, size_of_bank}
 use Rattle.nv_base.specs.Pages.{record_pages_of, body_pages_of}
+use Rattle.nv_base.proofs.Places.{numbers_are_in_bounds}
 use Rattle.fee_format.specs.declared.rec_head.RecHead.{RecHead}
 use Rattle.fee_image.specs.RecordList.{pages_of_head}
 use Rattle.fee_image.specs.declared.place.Place.{Place}
@@ -23,6 +24,7 @@ use Rattle.fee_course.specs.declared.course.Course.{Course}
 use Rattle.fee_course.specs.declared.course.Course.TheVariants.{Erase, Copy, Head, Gate}
 use Rattle.fee_course.specs.Copies.{next_copy}
 use Rattle.fee_switch.specs.Banks.{BanksState, IsBanksState}
+use Rattle.fee_switch.specs.Reading.{buffer_size}
 use Rattle.fee_switch.specs.Copy.{head_at, CanBegin, CanCopy, CanCopyOn, CanGoOn}
 use Rattle.fee_switch_laws.specs.Space.{HasSpace}
 use Rattle.fee_switch_laws.specs.KeepsRoom.{IsRoomy}
@@ -40,16 +42,17 @@ bank_bytes g banks legal shared =
     let pages : pages_of_bank g banks ≡ m * k = sectors_fill_banks g banks legal shared in
     ap (λ (x : ℕ). x * g.page) pages ∙ (let e : m * k * g.page ≡ m * (k * g.page) = grind arith in e) ∙ sym (ap (λ (x : ℕ). m * x) sector)
 
--- so a content whose record has so many pages fits the buffer
-pub fits_buffer : (s : BanksState) (length' : ℕ) → IsBanksState s
+-- so a number's content whose record has so many pages fits the buffer
+pub fits_buffer : (s : BanksState) (length' : ℕ) → IsBanksState s → length' ≤ 4096
     → record_pages_of length' s.geometry.page ≤ pages_of_bank s.geometry s.banks → length' ≤ length s.buffer
-fits_buffer s length' is le =
+fits_buffer s length' is small le =
     let p = s.geometry.page in
     let low : 1 ≤ p = omega (arith, is.legal.page_low) in
     let body = bodies_have_room length' p low in
     let all : body_pages_of length' p * p ≤ pages_of_bank s.geometry s.banks * p = mul-le-mul_right p (omega arith) in
     let bytes = bank_bytes s.geometry s.banks is.legal is.shared in
-    omega (arith, body, all, bytes, is.buffer)
+    let both : length' ≤ buffer_size s.geometry s.banks = le-min (omega (arith, body, all, bytes)) small in
+    omega (arith, both, is.buffer)
 
 -- A COPY THAT BEGINS
 -- the place of a number lies among the records
@@ -107,7 +110,7 @@ module _ (reserve : ℕ) (s : BanksState)
       record {
         within = subst (λ (g : Geometry). IsWithin g.page s.log.end source.length source.place) is.log.shape
             (index_within s.log.geometry.page s.log.end s.log.numbers s.log.places source.index n source.place state.places named h.place);
-        fits = fits_buffer s source.length is (omega (arith, takes, r.room));
+        fits = fits_buffer s source.length is (numbers_are_in_bounds 0 s.log.numbers source.index n state.numbers named).3 (omega (arith, takes, r.room));
         idle = ap work_in tail;
         configured = subst (λ (ns : List (DeviceNumber × ℕ)). IsFor ns (head_at source.place number source.length)) (sym is.numbers)
             (for_number s.log.numbers source.index source.length number source.place named (counted_at s.log.places source.index source.place state.counts h.place));
@@ -135,7 +138,9 @@ module _ (reserve : ℕ) (s : BanksState)
       let work = r.target.work in
       let taken : taken_in page s.copies.tail ≡ pages_of_head page work.head = ap (taken_in page) work.tail in
       let in_work : work_in s.copies.tail ≡ Some work.head = ap work_in work.tail in
-      let fits : work.head.length ≤ length s.buffer = fits_buffer s work.head.length is (omega (arith, taken, r.room)) in
+      let configured = numbers_are_in_bounds 0 s.log.numbers w.index (work.head.number, work.length) state.numbers work.named in
+      let small : work.head.length ≤ 4096 = omega (arith, work.fits, configured.3) in
+      let fits : work.head.length ≤ length s.buffer = fits_buffer s work.head.length is small (omega (arith, taken, r.room)) in
       record {
         work = ap is_some in_work;
         fits = λ h at. (let same : work.head ≡ h = cc in subst (λ (x : RecHead). x.length ≤ length s.buffer) same fits);

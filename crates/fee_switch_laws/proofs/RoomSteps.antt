@@ -104,6 +104,7 @@ record IsBegun (s : BanksState) (source : Source) (number : DeviceNumber) (copie
   number_is : head.number ≡ number
   all : done + pages ≡ pages_of_head s.geometry.page head
   few : pages_of_head s.geometry.page head ≤ record_pages_of source.length s.geometry.page
+  fits : head.length ≤ source.length
 
 -- a flag that is set changes no numbers
 flagged_numbers : (log : LogState) (o : Option ℕ) → (flagged_by log o).numbers ≡ log.numbers
@@ -196,6 +197,7 @@ module _ (reserve : ℕ) (s : BanksState) (is : IsBanksState s) (state : IsLogSt
             tail = b.tail;
             length = source.length;
             named = named ∙ ap (λ (x : DeviceNumber). Some (x, source.length)) (sym b.number_is);
+            fits = b.fits;
             pages = b.all;
           };
         })
@@ -229,6 +231,7 @@ module _ (reserve : ℕ) (s : BanksState) (is : IsBanksState s) (state : IsLogSt
           number_is = refl;
           all = omega arith;
           few = omega arith;
+          fits = omega arith;
         })
         (ap (λ (x : Place). course_begun page (Some (record source { place = x }))) place)
 
@@ -243,7 +246,7 @@ module _ (reserve : ℕ) (s : BanksState) (is : IsBanksState s) (state : IsLogSt
         let few : record_pages_of 0 page ≤ record_pages_of source.length page = mark_pages page source.length is.legal.page_low in
         subst (λ (x : LogState). KeepsRoom reserve (advanced (record s { copies = x }) (Copy None))) (sym stepped)
         (after_begun (record c { tail = Writes head 1 }) s.buffer head 1 (record_pages_of 0 page - 1)
-        (record { format = r.target.format; clear = begun_clear head.number.0; end = refl; tail = refl; number_is = named_so; all = omega (arith, pages); few = omega (arith, few, pages) })
+        (record { format = r.target.format; clear = begun_clear head.number.0; end = refl; tail = refl; number_is = named_so; all = omega (arith, pages); few = omega (arith, few, pages); fits = omega (arith, none) })
         is_course)
 
     begin_keeps : (made : BanksState) (told told' : Told) (place : Place) → source.place ≡ place → BeginsAt place s number source.length told Done made told'
@@ -285,7 +288,7 @@ module _ (reserve : ℕ) (s : BanksState) (is : IsBanksState s) (state : IsLogSt
         (record {
           format = r.target.format;
           clear = r.target.clear;
-          work = record { head = work.head; done = work.done + 1; tail = refl; length = work.length; named = work.named; pages = left };
+          work = record { head = work.head; done = work.done + 1; tail = refl; length = work.length; named = work.named; fits = work.fits; pages = left };
         })
         (omega (arith, was))
 

@@ -19,13 +19,14 @@ use Rattle.fee_switch_laws.specs.Turns.{IsGoing}
 use Rattle.fee_switch_laws.specs.Space.{HasSpace, all_pages, most_pages, free_pages}
 
 -- THE TARGET'S LOG
--- the copy in work is of the number at its place in the list, and has as many pages left as the course says
+-- the copy in work is of the number at its place in the list, no longer than that, and has as many pages left as the course says
 pub record IsOpenCopy (s : BanksState) (w : Copying) : Type 0 where
   pub head : RecHead
   pub done : ℕ
   pub tail : s.copies.tail ≡ Writes head done
   pub length : ℕ
   pub named : slice_get s.log.numbers w.index ≡ Some (head.number, length)
+  pub fits : head.length ≤ length
   pub pages : done + w.pages ≡ pages_of_head s.geometry.page head
 
 abbrev pub HasCopy : BanksState → Course → Type 0

@@ -13,15 +13,15 @@ taken_next (Some b) P Q taken next = next taken
 pub loop-bank-preserved : goal.loop-bank-preserved
 loop-bank-preserved g c =
     let before = c.loop-bank.invariant in
-    let read = rw c.in-Done.is at c.read_bank.ensures.read in
+    let take = c.take_bank.ensures in
+    let read = rw c.in-Done.is at take.answer in
     let told : c.loop-bank.fls.flash ≡ c.args.fls.now.flash = ap (λ (f : FlsState). f.flash) before.0 in
-    let next = rw told at (c.take_bytes.ensures.taken c.loop-bank.fls.flash read.0) in
-    let shape = c.take_bytes.ensures.shape in (
-      c.read_bank.ensures.same ∙ (λ i. record c.loop-bank.fls { flash = read.1 i; result = c.read_bank.new.fls.result }) ∙ ap (λ (f : FlsState). record f { result = c.read_bank.new.fls.result }) before.0,
-      c.read_bank.ensures.size ∙ before.1,
+    let next = rw told at (take.taken c.in-Done.is) in (
+      take.same ∙ (λ i. record c.loop-bank.fls { flash = read i; result = c.take_bank.new.fls.result }) ∙ ap (λ (f : FlsState). record f { result = c.take_bank.new.fls.result }) before.0,
+      take.size ∙ before.1,
       taken_next c.args.fls.now.flash.bytes (λ b. AreTaken (layout_of c.args.geometry c.args.banks) b.now c.loop-bank.bank c.loop-bank.first c.loop-bank.log) _ before.2 next,
-      c.take_bytes.ensures.place before.3,
-      record { geometry = shape.geometry ∙ before.4.geometry; banks = shape.banks ∙ before.4.banks; numbers = shape.numbers ∙ before.4.numbers },
+      take.place c.in-Done.is before.3,
+      record { geometry = take.shape.geometry ∙ before.4.geometry; banks = take.shape.banks ∙ before.4.banks; numbers = take.shape.numbers ∙ before.4.numbers },
     )
 
 pub returns-clause-taken : goal.returns-clause-taken
