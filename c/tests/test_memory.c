@@ -1,6 +1,6 @@
 /* What a unit takes of memory beside its flash, which is used where it lies: each byte is counted that the C library's heap is asked for. A unit
-   may take what docs/COST.md has: a bank, its blocks' contents, once more those of permanent RAM, two of the longest content, a page, so much for
-   each block and each stored instance with its content twice, and 8 KB. A reset takes nothing, and leaves as many bytes as it found. */
+   may take what docs/COST.md has: room for one read, its blocks' contents, once more those of permanent RAM, two of the longest content, a page, so much for
+   each block and each stored instance, and 8 KB; a start-up once more what it finds. */
 #include "heap.h"
 #include "nvm_c.h"
 #include <stdio.h>
@@ -8,7 +8,7 @@
 #include <string.h>
 
 /* What a block and a stored instance may take, and all that grows with nothing. */
-enum { TEXT = 65536, MOST_LENGTH = 4096, A_BLOCK = 600, AN_INSTANCE = 80, BANKS = 2, FIXED = 8192, RESETS = 3 };
+enum { TEXT = 65536, MOST_LENGTH = 4096, MOST_READ = 4096, A_BLOCK = 600, AN_INSTANCE = 80, BANKS = 2, FIXED = 8192 };
 
 /* A unit of so many blocks of one length, the last one of another. */
 typedef struct {
@@ -46,7 +46,8 @@ static size_t found(const unit *it) {
 
 static size_t allowed(const unit *it) {
     size_t contents = (size_t)(it->count - 1) * it->length + it->longest, flash = (size_t)it->sector * it->sectors;
-    return flash / BANKS + contents * (it->is_permanent ? 2u : 1u) + 2u * it->longest + it->page + (size_t)A_BLOCK * it->count + found(it)
+    size_t bank = flash / BANKS;
+    return (bank < MOST_READ ? bank : MOST_READ) + contents * (it->is_permanent ? 2u : 1u) + 2u * it->longest + it->page + (size_t)A_BLOCK * it->count + found(it)
            + FIXED;
 }
 

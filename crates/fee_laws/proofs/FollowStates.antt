@@ -1,7 +1,7 @@
 -- Logs whose banks' pages stay, and logs of which nothing but the content of a record in work changes.
-use Rattle.std.proofs.Common.{◌≡◌, inl, inr, ◌<◌, ◌≤◌, ℕ, ◌*◌, Bool, List, length, Some, None, refl, sym, ap, ◌∙◌, subst, arith}
+use Rattle.std.proofs.Common.{◌≡◌, inl, inr, ◌<◌, ◌≤◌, ℕ, ◌+◌, ◌*◌, Bool, List, [], ◌∷◌, length, Some, None, refl, sym, ap, ◌∙◌, subst, arith}
 use Rattle.fee_image.specs.Bank.{page_of}
-use Rattle.fee_image.specs.RecordList.{IsClosed, IsTailBlank, records_of, end_of, end_after}
+use Rattle.fee_image.specs.RecordList.{Rec, IsClosed, IsTailBlank, pages_of_head, records_of, end_of, end_after}
 use Rattle.fee_image.specs.Log.{HoldsLog, Tail as LogTail}
 use Rattle.fee_image.specs.May.{May, IsWider}
 use Rattle.fee_image.specs.Places.{places_of}
@@ -11,7 +11,6 @@ use Rattle.fee_log.specs.declared.tail.Tail.{Tail}
 use Rattle.fee_log.specs.declared.tail.Tail.TheVariants.{Open, Writes, Owes, Closed}
 use Rattle.fee_log.specs.Laws.{HoldsState, MayFollow}
 use Rattle.fee_log.specs.Log.{LogState, bank_of, pages_in, log_of, tail_with, work_in}
-use Rattle.fee_log.proofs.Loads.{end_low}
 use Rattle.fee_laws.specs.Follows.{anything}
 
 -- THE PAGES
@@ -25,6 +24,11 @@ state_moves s body old new may low long same holds = record {
   holds = logs_stay (bank_of s) s.numbers old new (s.bank * pages_in s) may (log_of s body) low same holds.holds;
   follows = holds.follows;
 }
+
+-- records end behind the page where the first one begins
+end_low : (p q : ℕ) (records : List Rec) → q ≤ end_after p q records
+end_low p q [] = omega arith
+end_low p q (r ∷ rs) = omega (arith, end_low p (q + pages_of_head p r.head) rs)
 
 -- and a bank that is closed stays so
 module _ (s : LogState) (old new : List ℕ) (same : SameBody s old new) where
