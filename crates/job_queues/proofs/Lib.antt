@@ -1,3 +1,4 @@
+pub mod InOrder
 pub mod Turned
 pub mod Order
 pub mod Taken

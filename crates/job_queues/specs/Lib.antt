@@ -1,3 +1,4 @@
+pub mod InOrder
 pub mod Jobs
 pub mod Laws
 pub mod Order

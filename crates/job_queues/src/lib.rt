@@ -4,6 +4,7 @@
 //! exactly while it has room, and that only `make` takes memory. Which jobs are added is left to the crate above.
 #![tactic(auto)]
 
+mod queue;
 mod queues;
 mod ring;
 mod waiting;

@@ -3,8 +3,7 @@ ghost use Rattle.std.specs.Prelude.{◌≡◌, ◌+◌, ◌-◌, ◌^◌, ◌<�
 ghost use Rattle.job_queues.specs.Jobs.{jobs_of, size_of, first_in, found_in, with_job, with_job_first, without_first, without_block};
 
 use crate::Waiting;
-use crate::ring::{first_of, job_of, take_out};
-use circular_buffer::HeapCircularBuffer;
+use crate::queue::Queue;
 use std::alloc::{AllocError, Global};
 use std::marker::Model;
 
@@ -12,8 +11,8 @@ use std::marker::Model;
 /// the jobs came, with their sizes.
 #[derive(Drop)]
 pub struct Queues {
-    immediate: HeapCircularBuffer<Waiting>,
-    standard: HeapCircularBuffer<Waiting>,
+    immediate: Queue,
+    standard: Queue,
 }
 
 impl Model for Queues {
@@ -32,8 +31,8 @@ impl Queues {
     pub fn make(alloc: Global, standard: u16, immediate: u16) -> Result<Queues, AllocError>
         ensures { IfOk result (λ q. q ≡ record { immediate = []; standard = []; immediate_size = immediate; standard_size = standard }) }
     {
-        let immediate = HeapCircularBuffer::with_capacity(alloc, usize::from(immediate))?;
-        let standard = HeapCircularBuffer::with_capacity(alloc, usize::from(standard))?;
+        let immediate = Queue::make(alloc, immediate)?;
+        let standard = Queue::make(alloc, standard)?;
         Ok(Queues {
             immediate,
             standard,
@@ -41,41 +40,42 @@ impl Queues {
     }
 
     /// Puts a job behind those of its queue. False exactly where that queue holds its size; nothing changes then. It
-    /// looks at no other job.
+    /// looks at the last one alone.
     pub fn add(&mut self, job: Waiting) -> bool
         ensures room { (result ≡ true) ↔ (length (jobs_of self.old job.immediate) < size_of self.old job.immediate) }
         ensures added { result ≡ true → self.new ≡ with_job job self.old }
         ensures full { result ≡ false → self.new ≡ self.old }
     {
         if job.immediate {
-            self.immediate.try_push_back(job).is_ok()
+            self.immediate.add(job)
         } else {
-            self.standard.try_push_back(job).is_ok()
+            self.standard.add(job)
         }
     }
 
     /// Puts a job that was taken before those of its queue again. False exactly where that queue holds its size; nothing
-    /// changes then. It looks at no other job.
+    /// changes then. It looks at the first one alone.
     pub fn put_back(&mut self, job: Waiting) -> bool
         ensures room { (result ≡ true) ↔ (length (jobs_of self.old job.immediate) < size_of self.old job.immediate) }
         ensures put_back { result ≡ true → self.new ≡ with_job_first job self.old }
         ensures full { result ≡ false → self.new ≡ self.old }
     {
         if job.immediate {
-            self.immediate.try_push_front(job).is_ok()
+            self.immediate.put_back(job)
         } else {
-            self.standard.try_push_front(job).is_ok()
+            self.standard.put_back(job)
         }
     }
 
-    /// The job that goes before all others; it stays. None exactly where both queues are empty. It looks at each job of
-    /// the immediate queue once, or where that is empty at each of the standard queue.
+    /// The job that goes before all others; it stays. None exactly where both queues are empty. It looks at the first job
+    /// of the immediate queue, or where that is empty of the standard queue; where that queue's jobs didn't come in the
+    /// order in which they go, at each once.
     pub fn first(&self) -> Option<Waiting>
         ensures { result ≡ first_in self.now }
     {
-        match first_of(&self.immediate) {
+        match self.immediate.first() {
             Some(first) => Some(first),
-            None => first_of(&self.standard),
+            None => self.standard.first(),
         }
     }
 
@@ -93,20 +93,18 @@ impl Queues {
         !self.immediate.is_empty()
     }
 
-    /// Takes the job that goes before all others. None exactly where both queues are empty. It looks at each job of the
-    /// immediate queue twice, or where that is empty at each of the standard queue, and moves none where the one that
-    /// goes is the first that came; else it turns that queue once, which closes the gap.
+    /// Takes the job that goes before all others. None exactly where both queues are empty. It looks at the first job of
+    /// the immediate queue, or where that is empty of the standard queue, and moves no other. Where that queue's jobs
+    /// didn't come in the order in which they go, it looks at each twice, and turns that queue once, which
+    /// closes the gap, where the one that goes isn't the first that came.
     pub fn next(&mut self) -> Option<Waiting>
         ensures first { result ≡ first_in self.old }
         ensures taken { self.new ≡ without_first self.old }
     {
-        if let Some(first) = first_of(&self.immediate) {
-            take_out(&mut self.immediate, first.number);
+        if let Some(first) = self.immediate.next() {
             return Some(first);
         }
-        let first = first_of(&self.standard)?;
-        take_out(&mut self.standard, first.number);
-        Some(first)
+        self.standard.next()
     }
 
     /// Takes the job of a block. None exactly where neither queue has one. It looks at each job twice at most, and turns
@@ -115,13 +113,10 @@ impl Queues {
         ensures found { result ≡ found_in block self.old }
         ensures taken { self.new ≡ without_block block self.old }
     {
-        if let Some(job) = job_of(&self.immediate, block) {
-            take_out(&mut self.immediate, job.number);
+        if let Some(job) = self.immediate.remove(block) {
             return Some(job);
         }
-        let job = job_of(&self.standard, block)?;
-        take_out(&mut self.standard, job.number);
-        Some(job)
+        self.standard.remove(block)
     }
 
     /// No job waits any more.
@@ -136,11 +131,11 @@ impl Queues {
     pub fn room(&self, immediate: bool) -> u16
         ensures { result ≡ size_of self.now immediate - length (jobs_of self.now immediate) }
     {
-        let ring = if immediate {
+        let queue = if immediate {
             &self.immediate
         } else {
             &self.standard
         };
-        (ring.capacity() - ring.len()) as u16
+        queue.room() as u16
     }
 }

@@ -1,7 +1,8 @@
 // A job that waits.
-ghost use Rattle.std.specs.Prelude.{◌≡◌};
+ghost use Rattle.std.specs.Prelude.{◌≡◌, ◌↔◌, IsTrue};
 ghost use Rattle.block_machine.specs.Order.{goes_before};
 ghost use Rattle.job_queues.specs.Order.{rank_of};
+ghost use Rattle.job_queues.specs.InOrder.{Leads};
 
 /// A job that waits: its block, that block's priority (0 to 255, the lowest), whether it is immediate, and the number of
 /// the entry that accepted it.
@@ -25,5 +26,14 @@ impl Waiting {
                 && (self.priority < other.priority
                     || self.priority == other.priority && self.number < other.number)
         }
+    }
+
+    // Whether, where it came before another one of its queue, it goes before it too.
+    pub(crate) fn leads(&self, behind: &Waiting) -> bool
+        ensures { IsTrue result ↔ Leads self.now behind.now }
+    {
+        self.immediate == behind.immediate
+            && self.priority <= behind.priority
+            && self.number < behind.number
     }
 }
