@@ -12,6 +12,8 @@ use nvm_top::{ImageOpener, Status, execute};
 use std::alloc::{AllocError, Global};
 use std::io::{IsTerminal, Stdout, Write};
 use std::process::ExitCode;
+use std::sync::Wait;
+use std::thread::Threads;
 use std::{env, io};
 
 /// The most bytes of output that are held back, where it is no terminal: 64 KiB.
@@ -91,11 +93,17 @@ fn tell(rt: &HostRuntime, path: &str, beside: &str, flash: &SystemImage<'_>) {
 }
 
 /// Executes the words over the standard input and this output, with the name under which an image file is made, and says which
-/// file is at fault. Gives the code of the command.
-fn executed<K: Sink>(rt: &HostRuntime, words: &[String], beside: &str, output: &mut K) -> u8 {
+/// file is at fault. Gives the code of the command, whose callers are threads of this.
+fn executed<R: Threads + Wait + Sync, K: Sink>(
+    rt: &HostRuntime,
+    threads: &R,
+    words: &[String],
+    beside: &str,
+    output: &mut K,
+) -> u8 {
     let mut input = StdSource::make(rt.stdin());
     let (code, image) = execute(
-        rt,
+        threads,
         rt.alloc(),
         words,
         &mut input,
@@ -120,15 +128,16 @@ fn ended<W: Write>(code: u8, output: &mut HeldSink<W>) -> u8
 }
 
 /// Executes the words over this output. Behind it nothing is held back, or the code is that of a fault of the output.
-fn flushed<W: Write>(
+fn flushed<R: Threads + Wait + Sync, W: Write>(
     rt: &HostRuntime,
+    threads: &R,
     words: &[String],
     beside: &str,
     output: &mut HeldSink<W>,
 ) -> u8
     ensures { (output.new.held ≡ []) ⊎ (result ≡ 6) }
 {
-    let code = executed(rt, words, beside, output);
+    let code = executed(rt, threads, words, beside, output);
     ended(code, output)
 }
 
@@ -140,16 +149,18 @@ fn output(rt: &HostRuntime) -> Result<HeldSink<Stdout>, AllocError> {
 }
 
 /// Executes the words, and gives the exit code of the program: that of no memory, where there is none for an output or a name.
-fn answered(rt: &HostRuntime, words: &[String]) -> u8 {
+fn answered<R: Threads + Wait + Sync>(rt: &HostRuntime, threads: &R, words: &[String]) -> u8 {
     match (beside(rt.alloc(), words), output(rt)) {
-        (Ok(beside), Ok(mut output)) => flushed(rt, words, beside.as_str(), &mut output),
+        (Ok(beside), Ok(mut output)) => {
+            flushed(rt, threads, words, beside.as_str(), &mut output)
+        }
         _ => Status::Memory.code(),
     }
 }
 
 fn main(rt: HostRuntime) -> ExitCode {
     ExitCode::from(match words(&rt) {
-        Ok(words) => answered(&rt, &words),
+        Ok(words) => answered(&rt, &rt, &words),
         Err(_) => Status::Memory.code(),
     })
 }
