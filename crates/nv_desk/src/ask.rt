@@ -43,6 +43,7 @@ impl From<AllocError> for AskFault {
 
 impl Desk {
     // Adds the entry of a request that changes nothing.
+    #[inline(always)]
     #[tactic(auto, using(crate::proofs::Entries::memory_kept))]
     fn note(&mut self, caller: u8, incoming: Incoming<'_>, reply: Reply) -> Result<(), AllocError>
         requires allowed { IsAllowed self.old.config self.old.cap (state_of self.old) (Entry.Ask caller (request_in incoming) reply) }
@@ -136,7 +137,8 @@ impl Desk {
         }
     }
 
-    // Takes a request whose entry fits, and replies.
+    // Takes a request whose entry fits, and replies. It is a part of `ask` and of `enter`, which know how the request comes in.
+    #[inline(always)]
     fn take(&mut self, caller: u8, incoming: Incoming<'_>) -> Result<Reply, AllocError>
         requires started { IsTrue (state_of self.old).started }
         requires caller { caller ≤ 15 }

@@ -19,6 +19,7 @@ pub enum Incoming<'a> {
 
 impl<'a> Incoming<'a> {
     /// Lends the request.
+    #[inline(always)]
     pub fn lent(&self) -> LentRequest<'_>
         ensures { request_lent result ≡ request_in self.now }
     {
@@ -29,6 +30,7 @@ impl<'a> Incoming<'a> {
     }
 
     /// Takes the memory of its entry, and of so many that are reserved. One that is lent has it.
+    #[inline(always)]
     pub fn take_memory(&self, history: &mut Recorder, reserved: u32) -> Result<(), AllocError>
         requires few { reserved + 1 < 2 ^ 32 }
         requires comes { CanRecord history.old self.now }
@@ -48,6 +50,7 @@ impl<'a> Incoming<'a> {
 }
 
 /// Adds the entry of a request, in memory that was taken.
+#[inline(always)]
 pub fn add_ask(history: &mut Recorder, caller: u8, incoming: Incoming<'_>, reply: Reply)
     requires below { length history.old.entries < history.old.cap }
     requires room { 0 < history.old.reserved }

@@ -52,12 +52,13 @@ impl Desk {
         }
     }
 
-    fn is_bad_length(&self, request: LentRequest<'_>) -> bool
+    fn is_bad_length(&self, request: LentRequest<'_>, id: u16) -> bool
+        requires { id ≡ asked_block (request_lent request) }
         ensures { result ≡ holds self.now.config self.now.cap (state_of self.now) Refusal.BadLength (request_lent request.entry) }
     {
         match request.kind {
-            RequestKind::Write { block, .. } | RequestKind::PutRam { block } => {
-                request.content.len() != usize::from(length(&self.config, block))
+            RequestKind::Write { .. } | RequestKind::PutRam { .. } => {
+                request.content.len() != usize::from(length(&self.config, id))
             }
             _ => false,
         }
@@ -68,7 +69,7 @@ impl Desk {
         ensures { result ≡ holds self.now.config self.now.cap (state_of self.now) Refusal.NoRam (request_lent request.entry) }
     {
         match request.kind {
-            RequestKind::PutRam { block } => !is_permanent(&self.config, block),
+            RequestKind::PutRam { .. } => !is_permanent(&self.config, id),
             _ => has_no_ram(&self.config, id),
         }
     }
@@ -164,7 +165,7 @@ impl Desk {
             Refusal::NotStarted => self.kept.off,
             Refusal::WrongType => self.is_wrong_type(request, id),
             Refusal::BadIndex => self.is_bad_index(request),
-            Refusal::BadLength => self.is_bad_length(request),
+            Refusal::BadLength => self.is_bad_length(request, id),
             Refusal::NoRam => self.lacks_ram(request, id),
             Refusal::NoDefaults => has_no_defaults(&self.config, id),
             Refusal::NotImmediate => priority(&self.config, id) != 0,
