@@ -1,5 +1,5 @@
 -- A block with an accepted job, while requests come.
-use Rattle.nvm_moves.proofs.Common.{IsTrue, ◌==◌, ◌≡◌, ◌+◌, ◌<◌, ℕ, zero, suc, true, List, [], ◌∷◌, length, Option, Some, None, refl, sym, ap, ◌∙◌, arith, ReqResult, Request, Write, Reply, Accepted, JobKind, Taken, Instance, Mark, Entry, Ask, Pick, Wrote, Post, Off, Found, Configuration, State, Job, is_pending, status_of, Next, PickJob, BeginSweep, PickMember, PostMember, EndSweep, next_of, reply_of, at_first, step, after, after_from, picked, wrote, unwrap_or, map, slice_get, enumerate_from, length-map, length-set, length-enumerate_from, plain_block, Fine, SetIndex, SetProtection, SetLock, SetRam, PutRam, ReadAll, WriteAll, CancelWriteAll, BlockDesc, BlockState, asked_block, is_immediate, job_kind, started_block, changed, changed_by, accepted_by, asked, posted, posted_next, entries_give_status, pending_stay}
+use Rattle.nvm_moves.proofs.Common.{IsTrue, ◌==◌, ◌≡◌, ◌+◌, ◌<◌, ℕ, zero, suc, true, List, [], ◌∷◌, length, Option, Some, None, refl, sym, ap, ◌∙◌, arith, ReqResult, Request, Write, Reply, Accepted, JobKind, Taken, Instance, Mark, Entry, Ask, Pick, Wrote, Post, Off, Found, Configuration, State, Job, is_pending, status_of, Next, PickJob, BeginSweep, PickMember, PostMember, EndSweep, next_of, reply_of, at_first, step, after, after_from, picked, wrote, unwrap_or, map, slice_get, enumerate_from, length-map, length-set, length-enumerate_from, plain_block, Fine, SetIndex, SetProtection, SetLock, SetRam, PutRam, ReadAll, WriteAll, CancelWriteAll, BlockDesc, BlockState, asked_block, is_immediate, job_kind, started_block, changed, changed_by, accepted_by, asked, posted, posted_next, entries_give_status, pending_stay, asked_power}
 
 -- THE NUMBER OF BLOCKS
 -- the states of so many blocks, behind a start-up
@@ -34,18 +34,6 @@ asked_stays c s r Accepted = accepted_stays c s r (job_kind r)
 asked_stays c s r reply = same_stays s
 
 -- it leaves the power too
-changed_power : (c : Configuration) (s : State) (r : Request) → (changed c s r).off ≡ s.off
-changed_power c s (SetIndex block index) = refl
-changed_power c s r = refl
-
-accepted_power : (c : Configuration) (s : State) (r : Request) (kind : Option JobKind) → (accepted_by c s r kind).off ≡ s.off
-accepted_power c s r (Some kind) = refl
-accepted_power c s r None = changed_power c s r
-
-asked_power : (c : Configuration) (s : State) (r : Request) (reply : Reply) → (asked c s r reply).off ≡ s.off
-asked_power c s r Accepted = accepted_power c s r (job_kind r)
-asked_power c s r reply = refl
-
 pub ask_leaves_power : (c : Configuration) (s : State) (caller : ℕ) (r : Request) (reply : Reply) → ((step c s (Ask caller r reply)).started ≡ s.started) × ((step c s (Ask caller r reply)).off ≡ s.off)
 ask_leaves_power c s caller r reply = ((asked_stays c s r reply).started, asked_power c s r reply)
 

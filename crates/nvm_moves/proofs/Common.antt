@@ -115,3 +115,4 @@ pub use Rattle.promise_run.proofs.StartUps.{turns_start_none}
 pub use Rattle.nvm_core.specs.job_progress.Asks.{is_of_jobs}
 pub use Rattle.nvm_core.proofs.job_progress.Powering.{jobs_keep_power}
 pub use Rattle.promise_run.proofs.WorkedMoves.{worked_by}
+pub use Rattle.promise_run.proofs.Power.{asked_power, picked_power, wrote_power}

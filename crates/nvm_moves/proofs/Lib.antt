@@ -44,6 +44,7 @@ pub use Rattle.script_walks.proofs.Walks as Walks
 pub use Rattle.promise_run.proofs.Counted as Counted
 pub use Rattle.promise_run.proofs.Paid as Paid
 pub use Rattle.promise_run.proofs.PlannedCuts as PlannedCuts
+pub use Rattle.promise_run.proofs.Power as Power
 pub use Rattle.promise_run.proofs.StartUps as StartUps
 pub use Rattle.promise_run.proofs.TakenPages as TakenPages
 pub use Rattle.promise_run.proofs.UrgentPosts as UrgentPosts

@@ -1,5 +1,5 @@
 -- A job is posted within its turns, by the law along moves.
-use Rattle.nvm_moves.proofs.Common.{IfSome, ◌||◌, is_none, option_map, ◌≡◌, inl, inr, ◌≤◌, ℕ, Bool, true, false, List, [], ◌∷◌, ◌++◌, Option, Some, None, refl, sym, ap, ◌∙◌, subst, arith, cases_Bool, Rose, last_count, ops_of, Clock, Instance, Mark, Taken, Request, Reply, Entry, Ask, Pick, Wrote, Post, Off, Found, Configuration, State, Job, job_block, Next, PickJob, next_of, after_from, picked, wrote, has_risen, asked_hand, Moment, Move, EachMove, PostsPicked, entry_list, is_asked, is_found, is_picked, Along, Bound, Cursor, Frame, bound_of, left_behind, next_by, one_less, renewed, FitsHand, IsLawful, nat_le, nat_lt, ◌-◌, eq-eqb, leb-true, ltb-true, IsMoveMade, IsPostedWithin, ends, fails, PostsAt}
+use Rattle.nvm_moves.proofs.Common.{IfSome, ◌||◌, is_none, option_map, ◌≡◌, inl, inr, ◌≤◌, ℕ, Bool, true, false, List, [], ◌∷◌, ◌++◌, Option, Some, None, refl, sym, ap, ◌∙◌, subst, arith, cases_Bool, Rose, last_count, ops_of, Clock, Request, Reply, Entry, Ask, Pick, Wrote, Post, Off, Found, State, Job, job_block, next_of, after_from, picked, wrote, has_risen, asked_hand, Moment, Move, EachMove, PostsPicked, entry_list, is_asked, is_found, is_picked, Along, Bound, Cursor, Frame, bound_of, left_behind, next_by, one_less, renewed, FitsHand, IsLawful, nat_le, nat_lt, ◌-◌, eq-eqb, leb-true, ltb-true, IsMoveMade, IsPostedWithin, ends, fails, PostsAt, wrote_power, picked_power}
 use Rattle.nvm_moves.proofs.AskedBlocks.{ask_leaves_power}
 
 -- COUNTS
@@ -20,15 +20,6 @@ asked_still before m caller r reply is (inr turns) = let none : None ≡ Some m.
 never_less : (before : Moment) (m : Move) → IsMoveMade before m → before.faults ≤ m.behind.faults
 never_less before m (inl asks) = let same = ap (λ (n : Moment). n.faults) asks.1 in omega (arith, same)
 never_less before m (inr turns) = turns.faults
-
--- THE HAND AND THE POWER
-wrote_on : (s : State) (i : Instance) (mark : Mark) (hand : Option Job) → (wrote s i mark hand).off ≡ s.off
-wrote_on s i mark None = refl
-wrote_on s i mark (Some j) = refl
-
-picked_on : (c : Configuration) (s : State) (t : Taken) (next : Next) → (picked c s t next).off ≡ s.off
-picked_on c s t (PickJob j) = refl
-picked_on c s t next = refl
 
 module _ (f : Frame) (clock : Clock) (k : Cursor) (m : Move) (one : IsLawful f.config clock k m) where
   abbrev next : State
@@ -68,7 +59,7 @@ module _ (f : Frame) (clock : Clock) (k : Cursor) (m : Move) (one : IsLawful f.c
     by (Some (Wrote i mark ops)) is =
         goes (ap is_asked is) (ap is_found is) (ap is_picked is) (record j { reserved = j.reserved - 1; written = j.written ++ i.index ∷ [] })
         (ap (λ (o : Option Entry). (after_from f.config k.state (entry_list o)).hand) is ∙ ap (λ (o : Option Job). (wrote k.state i mark o).hand) held) own
-        (ap (λ (o : Option Entry). (after_from f.config k.state (entry_list o)).off) is ∙ wrote_on k.state i mark k.state.hand ∙ on)
+        (ap (λ (o : Option Entry). (after_from f.config k.state (entry_list o)).off) is ∙ wrote_power k.state i mark k.state.hand ∙ on)
     by (Some (Post block r given refused ops)) is =
         let fits : IfSome k.state.hand (λ x. job_block x ≡ block) = subst (λ (o : Option Entry). FitsHand k.state o) is one.fits in
         let same : job_block j ≡ block = subst (λ (o : Option Job). IfSome o (λ x. job_block x ≡ block)) held fits in inr (inr (inr (inr (inl (ap (ends id) is ∙ eq-eqb block id (sym same ∙ own))))))
@@ -79,7 +70,7 @@ module _ (f : Frame) (clock : Clock) (k : Cursor) (m : Move) (one : IsLawful f.c
   picks : is_picked m.entry ≡ true → (e : Option Entry) → m.entry ≡ e → (is_asked m.entry ≡ false) × (is_found m.entry ≡ false) × (next.off ≡ false)
   picks picked (Some (Pick block kind t ops)) is =
       let on : k.state.off ≡ false = subst (λ (o : Option Entry). FitsHand k.state o) is one.fits in
-      (ap is_asked is, ap is_found is, ap (λ (o : Option Entry). (after_from f.config k.state (entry_list o)).off) is ∙ picked_on f.config k.state t (next_of f.config k.state) ∙ on)
+      (ap is_asked is, ap is_found is, ap (λ (o : Option Entry). (after_from f.config k.state (entry_list o)).off) is ∙ picked_power f.config k.state t (next_of f.config k.state) ∙ on)
   picks picked None is = absurd (none (sym picked ∙ ap is_picked is))
     where
       none : true ≡ false → ⊥

@@ -1,7 +1,7 @@
 -- Power cuts that are planned, from call to call and from step to step.
 use Rattle.script_player.proofs.Common.{◌≡◌, ℕ, true, List, [], ◌∷◌, ◌++◌, Option, Some, None, refl, sym, ap, ◌∙◌, subst, inl, inr, arith, append_assoc, Request, Reply, Entry, Ask, Pick, Wrote, Post, Off, Found, Configuration, State, step, after_from, histories_step, Step, StepKind, AskStep, Refuse, IsTurn, Moment, Move, Planned, entry_list, entries_of, moment_behind, moment_after, planned_by, IsInTime, AreInTime, AreMoves, all_moves, from_more, StackTold, state_of, moment_of, IsComing, IsPending, PlansCuts, AddsAsk, MakesTurn, Refuses, planned_behind, CutsCome, none_in_time, Stands, CarriesCuts}
 use Rattle.script_player.proofs.Grown.{state_grown}
-use Rattle.script_player.proofs.InHand.{stays_off}
+use Rattle.uds_gateway.proofs.Power.{stays_off}
 
 -- AT A MOMENT
 

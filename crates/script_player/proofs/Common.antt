@@ -1,21 +1,21 @@
 -- The names of other rooms, and of this one's definitions, that its proofs cite, passed on from one place. Declares nothing.
-pub use Rattle.std.proofs.Common.{◌≡◌, ℕ, Bool, false, inl, inr, Option, None, List, [], ◌∷◌, ◌++◌, IsTrue, Some, refl, sym, ap, ◌∙◌, subst, append_assoc, append-nil, ◌<◌, ◌≤◌, ◌+◌, ◌⊎◌, true, length, arith, take, rules, ◌≢◌, get_or-set_other, zero, suc, get_or, ◌*◌, ◌^◌, replicate, add-one, length-append, length-set, drop, Result, Ok, Err, get_or-set_same}
+pub use Rattle.std.proofs.Common.{◌≡◌, ℕ, Bool, false, inl, inr, Option, None, List, [], ◌∷◌, ◌++◌, IsTrue, Some, refl, sym, ap, ◌∙◌, subst, append_assoc, append-nil, ◌<◌, ◌≤◌, ◌+◌, ◌⊎◌, true, length, arith, take, rules, ◌≢◌, get_or-set_other, zero, suc, get_or, ◌*◌, ◌^◌, replicate, add-one, length-append, length-set, drop, Result, Ok, Err, get_or-set_same, OnErr}
 pub use Rattle.std.proofs.lemmas.List.{append_cancel_left, map-append, take_more, map-set, length-map, ext_get_or, length-replicate, take_all, take-append-drop, nil_from_length}
 pub use Rattle.uds_gateway.specs.block_machine.Words.{Instance, Mark, Request, Reply, Entry, Ask, Pick, Wrote, Post, Off, Found, Configuration, ReqResult, JobKind, WriteJob, Taken, TookNothing, TookContent, TookRefused, TookStale, BlockDesc, RamKind, Accepted, Refused, StatusIs, IndexIs}
 pub use Rattle.uds_gateway.specs.block_machine.State.{State, Job, BlockState, Sweep}
 pub use Rattle.uds_gateway.specs.script_walks.Words.{Step, Drain, StepKind, AskStep, Refuse, Cut, Store, Turn, Restart}
 pub use Rattle.uds_gateway.specs.script_walks.Turn.{IsTurn, TakesNewest, IsOfTurn, IsOneOrNone}
-pub use Rattle.uds_gateway.specs.promise_run.Turns.{Moment, Move, entry_list, entries_of, moment_behind, moment_after, AreMovesOf, AreMoves, FindsWork, is_found, all_moves, IsInTime, AreInTime, Planned, planned_by, CutsCome, AreTurnsMade, HasMoves, ClosesAtDrains, FindWorkAtDrains, is_asked, is_picked, urgent_block, IsPostedSoon, turns_beside}
-pub use Rattle.uds_gateway.specs.block_machine.Steps.{after_from, step, after, picked, wrote, posted, posted_next}
+pub use Rattle.uds_gateway.specs.promise_run.Turns.{Moment, Move, entry_list, entries_of, moment_behind, moment_after, AreMovesOf, AreMoves, FindsWork, all_moves, IsInTime, AreInTime, Planned, planned_by, CutsCome, AreTurnsMade, HasMoves, ClosesAtDrains, FindWorkAtDrains, turns_beside}
+pub use Rattle.uds_gateway.specs.block_machine.Steps.{after_from, step, after}
 pub use Rattle.script_player.specs.Told.{StackTold, state_of, moment_of, IsGrown, IsNoEarlier, AreCut, TellsOff, plan_behind, ops_at, desk_of}
 pub use Rattle.uds_gateway.specs.nvm_moves.Seen.{Seen, moment_seen, seen_as, seen_in}
 pub use Rattle.uds_gateway.specs.nvm_moves.Moved.{MovesBy}
 pub use Rattle.uds_gateway.proofs.Moved.{moves_more, none_moves}
-pub use Rattle.script_player.specs.Paying.{TurnMoves, IsSeen, LastsOn, AskMoves, StartsAnew, CameBy, StartMoves}
+pub use Rattle.script_player.specs.Paying.{TurnMoves, IsSeen, LastsOn, AskMoves, StartsAnew, CameBy, StartMoves, StaysStill}
 pub use Rattle.script_player.specs.Calls.{AllTell, MakesTurn, AddsAsk, Refuses, Arms, Stores, Turns, IsAnswer, Lowers, AreExplained, StartsAgain, MakesOne, is_last, Asks}
 pub use Rattle.uds_gateway.proofs.PlannedCuts.{from_more, none_in_time, in_time_more}
 pub use Rattle.script_player.specs.Kept.{AreMade, HasTurned, AllFindWork, MakesTurns, Drains, StaysCalm, has_work}
-pub use Rattle.std.specs.Prelude.{◌||◌, min, slice_get, not, option_map, ◌==◌, ◌&&◌, ◌-◌, unwrap_or, map, nat_le, slice_set, if◌then◌else◌, is_some, IsErrOf, ◌↔◌, OnOk, IfErr, IfSome, option_and_then, is_none, IfOk, IsSome}
+pub use Rattle.std.specs.Prelude.{◌||◌, min, slice_get, not, option_map, ◌==◌, ◌&&◌, ◌-◌, unwrap_or, map, nat_le, slice_set, if◌then◌else◌, is_some, IsErrOf, ◌↔◌, OnOk, IfErr, IfSome, option_and_then, IfOk, IsSome}
 pub use Rattle.std.proofs.lemmas.Bool.Decides.{leb_tells, eqb_tells}
 pub use Rattle.uds_gateway.specs.nv_base.Count.{last_count, next_count, WereCounted, Rose}
 pub use Rattle.uds_gateway.specs.memif.Told.{DeviceTold, PartTold, Part, Fixed, Stand, Open, ops_of, faults_of, is_off, armed, Ended as At, nothing_open, First, Second, Ended, part_at, with_part}
@@ -64,11 +64,11 @@ pub use Rattle.nvm_script.specs.Rules.{length_where_sync, sync_length_of}
 pub use Rattle.uds_gateway.specs.block_machine.Blocks.{desc_of, is_synchronized, job_block, names_ram, block_at, kind_of, asked_store, asked_block}
 pub use Rattle.uds_gateway.specs.script_walks.StoreLaws.{is_store, KeepsStored}
 pub use Rattle.uds_gateway.specs.block_machine.Results.{Answer}
-pub use Rattle.uds_gateway.specs.block_machine.Next.{Next, Nothing, PickJob, BeginSweep, PickMember, PostMember, EndSweep, next_of, next_by, next_in, next_in_sweep, next_member}
+pub use Rattle.uds_gateway.specs.block_machine.Next.{Next, PickJob, BeginSweep, PickMember, PostMember, EndSweep, next_of}
 pub use Rattle.uds_gateway.specs.nv_desk_copies.Takes.{copies_out_next, copies_out_by, IsCopied, copies_out_for, IsFromCopies, IsCopiedOut}
 pub use Rattle.uds_gateway.specs.nv_desk_copies.Front.{AreSynchronized}
 pub use Rattle.uds_gateway.specs.block_machine.Legal.{MayPick, TakesBy, MayWrite, IsAllowed, MayPost, MayPostNext, TakesCopy, TakesForWrite, HasStore}
-pub use Rattle.std.specs.List.{list_all, list_any}
+pub use Rattle.std.specs.List.{list_all}
 pub use Rattle.std.proofs.lemmas.List.Folds.{list_all-append}
 pub use Rattle.uds_gateway.specs.block_machine.Reply.{fits, reply_of}
 pub use Rattle.uds_gateway.specs.declared.stop.ServeStop.{ServeStop}
@@ -83,7 +83,6 @@ pub use Rattle.uds_gateway.proofs.StackMoves.{stack_stays, device_starts, stack_
 pub use Rattle.std.specs.Vec.Iter.{into_iter_items, into_iter_len}
 pub use Rattle.std.proofs.lemmas.Grind.{flat_map-append}
 pub use Rattle.uds_gateway.proofs.FreshCopies.{none_to_refuse}
-pub use Rattle.uds_gateway.proofs.Along.{Leaves, asked_leaves}
 pub use Rattle.std.proofs.Math.Nat.{min-eq_left}
 pub use Rattle.uds_gateway.proofs.NewestStores.{others_keep_newest, stores_are_newest, stores_are_few, last_stores_grow}
 pub use Rattle.uds_gateway.proofs.Counted.{behind_more, counted_by}
@@ -99,7 +98,7 @@ pub use Rattle.uds_gateway.proofs.WorkedBy.{worked_by}
 pub use Rattle.uds_gateway.specs.nvm_moves.Beginning.{BeginsMoves}
 pub use Rattle.uds_gateway.proofs.Beginning.{moves_came}
 pub use Rattle.uds_gateway.specs.nv_base.Marks.{instance_of}
-pub use Rattle.uds_gateway.specs.memif.declared.answer.JobResult.TheVariants.{JobOk, JobFailed, JobPending, JobCanceled, BlockInconsistent, BlockInvalid}
+pub use Rattle.uds_gateway.specs.memif.declared.answer.JobResult.TheVariants.{JobOk}
 pub use Rattle.uds_gateway.specs.nvm_laws.AtDevice.{GoesOn}
 pub use Rattle.uds_gateway.specs.nvm_laws.Turns.{AddsBy}
 pub use Rattle.uds_gateway.specs.nvm_laws.declared.turned.Act.TheVariants.{Device}
@@ -111,12 +110,10 @@ pub use Rattle.uds_gateway.specs.nvm_laws.Halves.{AddsPost}
 pub use Rattle.uds_gateway.specs.nvm_laws.Ties.{IsTied}
 pub use Rattle.uds_gateway.specs.memif.Marks.{ComesFrom}
 pub use Rattle.uds_gateway.specs.nvm_laws.Keeps.{StaysKept, StackKeepsAsTold}
-pub use Rattle.uds_gateway.proofs.NextLaws.{none_waits}
 pub use Rattle.uds_gateway.specs.ram_blocks.Tries.{Spends, OthersStay}
 pub use Rattle.uds_gateway.specs.promise_blocks.Operations.{founds}
 pub use Rattle.uds_gateway.proofs.StartUps.{founds_add}
 pub use Rattle.uds_gateway.specs.nvm_laws.Work.{stack_work}
-pub use Rattle.uds_gateway.specs.nvm_core.Work.{left_with}
 pub use Rattle.std.proofs.lemmas.Option.{slice_get_within, get_or_from_slice_get}
 pub use Rattle.uds_gateway.specs.declared.code.NegativeCode.{NegativeCode}
 pub use Rattle.uds_gateway.proofs.Served.{served_more}

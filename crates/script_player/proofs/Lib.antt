@@ -11,7 +11,6 @@ pub mod Grown
 pub mod Paying
 pub mod Moves
 pub mod Coming
-pub mod InHand
 pub mod Serving
 pub mod EachPiece
 pub mod PlainPlans

@@ -1,11 +1,11 @@
 -- Each kind of step is made.
-use Rattle.script_player.proofs.Common.{◌≡◌, ◌<◌, ◌≤◌, ◌+◌, ◌^◌, ℕ, zero, suc, Bool, true, false, IsTrue, List, [], ◌∷◌, ◌++◌, length, get_or, refl, sym, ap, ◌∙◌, subst, arith, Option, append-nil, length-set, not, slice_set, Instance, Mark, Request, Reply, Entry, Ask, Found, Configuration, State, desc_of, is_synchronized, next_of, fits, step, after, next_number, Step, StepKind, AskStep, Store, Turn, Drain, Restart, Cut, Refuse, HasNoRoom, DueCut, plan_after, is_drain, stores_of, request_after, CanBePlayed, AreNewest, JobsTookStored, is_store, histories_step, starts_keep_stored, StackTold, state_of, moment_of, Arms, Stores, Refuses, StaysCalm, HasTurned, AreMade, MakesTurns, Drains, PlansCuts, cuts_in, IsMade, Makes, IsAsked, IsExplained, Moment, Move, Planned, planned_by, AreMovesOf, FindsWork, Seen, MovesBy, AskMoves, asked_by, Rose, HasLastStores, OnOk, IfErr, min-eq_left, copies_by, TakesStore, IsPieceBy, others_keep_newest, stores_are_newest, stores_are_few, steps_keep_stored, asks_keep_stored, StartsAgain, StartsAnew}
+use Rattle.script_player.proofs.Common.{◌≡◌, ◌<◌, ◌≤◌, ◌+◌, ◌^◌, ℕ, zero, suc, Bool, true, false, IsTrue, List, [], ◌∷◌, ◌++◌, length, get_or, refl, sym, ap, ◌∙◌, subst, arith, Option, append-nil, length-set, not, slice_set, Instance, Mark, Request, Reply, Entry, Ask, Found, Configuration, State, desc_of, is_synchronized, next_of, fits, step, after, next_number, Step, StepKind, AskStep, Store, Turn, Drain, Restart, Cut, Refuse, HasNoRoom, DueCut, plan_after, is_drain, stores_of, request_after, CanBePlayed, AreNewest, JobsTookStored, is_store, histories_step, starts_keep_stored, StackTold, state_of, moment_of, Arms, Stores, Refuses, StaysCalm, HasTurned, AreMade, MakesTurns, Drains, PlansCuts, cuts_in, IsMade, Makes, IsAsked, IsExplained, Moment, Move, Planned, planned_by, AreMovesOf, FindsWork, Seen, MovesBy, AskMoves, asked_by, Rose, HasLastStores, OnOk, IfErr, min-eq_left, copies_by, TakesStore, IsPieceBy, others_keep_newest, stores_are_newest, stores_are_few, steps_keep_stored, asks_keep_stored, StartsAgain, StartsAnew, at_first}
 use Rattle.std.specs.Prelude.{Result, Ok, Err}
 use Rattle.script_player.specs.Kept.{IsKept}
 use Rattle.script_player.proofs.Coming.{pending_same, refuse_cuts, ask_cuts, turns_cuts}
 use Rattle.script_player.proofs.Moves.{move_to}
 use Rattle.script_player.proofs.Explained.{by_cut, by_entries, by_nothing, by_refuse, by_restart}
-use Rattle.script_player.proofs.InHand.{power_on}
+use Rattle.uds_gateway.proofs.Power.{is_on}
 use Rattle.script_player.proofs.Table.{same_table}
 
 -- a step of this kind
@@ -192,7 +192,7 @@ pub drain_made : (p q : Seen) (before : List Step) (line caller : ℕ) (old new 
     → IsMade p q before (record { line = line; caller = caller; kind = Drain }) old new
 drain_made p q before line caller old new (es, turned, is, (ms, few, finds, moved)) closes kept =
     turned_made p q before line caller Drain old new es ms moved.turns moved refl (λ no. no) (λ plan ops. refl) (λ id left. refl) (λ plan now. refl) turned
-    (λ calm drain. closes calm.no_fault (power_on new.configuration new.entries calm.entries)) (λ drain. finds) is kept
+    (λ calm drain. closes calm.no_fault (is_on new.configuration at_first new.entries calm.entries refl)) (λ drain. finds) is kept
 
 -- a store
 pub next_store : (c : Configuration) (before : List Step) (block n : ℕ) → length before < 2 ^ 32 → n ≡ length (stores_of block before) → next_number n ≡ length (stores_of block before) + 1

@@ -1,5 +1,5 @@
 -- What moves by the one law came to, and what calls that make none keep.
-use Rattle.script_player.proofs.Common.{None, ◌≡◌, ◌≤◌, ◌++◌, ℕ, Bool, List, take, refl, ap, subst, inl, inr, arith, DeviceTold, Clock, Lasts, Entry, Configuration, after, DeskState, Moment, Move, entries_of, Seen, MovesBy, LastsOn, Past, Seals, TakesKept, same_clock, same_told, HadPages, HasMovesTo, MayGoOn, worn_by, write_pages, costs_of, making_of, turns_beside, counted_by, since_too, taken_by, urgent_by, worked_by, BeginsMoves, moment_seen, moves_came, CameBy}
+use Rattle.script_player.proofs.Common.{None, ◌≤◌, ◌++◌, ℕ, Bool, List, take, refl, ap, subst, inl, inr, arith, DeviceTold, Clock, Entry, Configuration, after, DeskState, Moment, Move, entries_of, Seen, MovesBy, LastsOn, Past, Seals, TakesKept, same_clock, same_told, HadPages, HasMovesTo, MayGoOn, worn_by, write_pages, costs_of, making_of, turns_beside, counted_by, since_too, taken_by, urgent_by, worked_by, BeginsMoves, moment_seen, moves_came, CameBy}
 use Rattle.std.specs.Prelude.{false}
 
 -- nothing more is told

@@ -1,5 +1,5 @@
 -- A turn of the device behind the first half.
-use Rattle.script_player.proofs.Common.{map, not, ◌≡◌, ◌⊎◌, ℕ, Bool, true, false, List, [], ◌∷◌, ◌++◌, Option, Some, None, refl, sym, ap, ◌∙◌, subst, inl, inr, DeviceTold, Stand, Open, ops_of, is_off, Clock, Instance, Mark, Entry, Wrote, Off, State, Job, PlainBlock, Told, told_of, store_of, DeskState, IsPaired, HandState, Turned, StackState, PowersOff, IsFirstHalf, Added, copy_told, is_due, is_at_rest, AreCut, Turns, IsAnswer, Lowers, told_by, to_refuse_in, plan_in, came_in, at_rest, due_rest, rests_next, some_none, list_any, instance_of, ops_told, JobOk, JobFailed, JobPending, JobCanceled, BlockInconsistent, BlockInvalid, At, nothing_open, MayWrite, settled_by, wrote_by, GoesOn, AddsBy, Device, IsSecondHalf, IsOfTurn, due_hand}
+use Rattle.script_player.proofs.Common.{map, not, ◌≡◌, ◌⊎◌, ℕ, Bool, true, false, List, [], ◌∷◌, ◌++◌, Option, Some, None, refl, sym, ap, ◌∙◌, subst, inl, inr, DeviceTold, Stand, Open, ops_of, is_off, Clock, Instance, Mark, Entry, Wrote, Off, Job, PlainBlock, Told, told_of, store_of, DeskState, IsPaired, HandState, Turned, StackState, PowersOff, IsFirstHalf, Added, copy_told, is_due, is_at_rest, AreCut, Turns, IsAnswer, Lowers, told_by, to_refuse_in, plan_in, came_in, at_rest, due_rest, rests_next, some_none, instance_of, ops_told, JobOk, At, nothing_open, MayWrite, settled_by, wrote_by, GoesOn, AddsBy, Device, IsSecondHalf, IsOfTurn, due_hand}
 use Rattle.std.specs.Prelude.{IsTrue}
 use Rattle.uds_gateway.specs.nv_desk.Desk.{state_of}
 use Rattle.uds_gateway.specs.nvm_laws.declared.turned.Turned.TheVariants as turned

@@ -1,5 +1,5 @@
 -- An application in memory behind its own steps and behind copies.
-use Rattle.script_player.proofs.Common.{◌==◌, slice_set, map, if◌then◌else◌, option_map, unwrap_or, ◌≡◌, ℕ, zero, suc, Bool, true, false, List, [], ◌∷◌, length, get_or, Option, Some, None, refl, sym, ap, ◌∙◌, subst, map-set, block_of, BlockDesc, Configuration, plain_block, desc_of, is_synchronized, AreSynchronized, length_where_sync, sync_length_of, PlainBlock, Told, Synchronized, IsSynchronized, told_at, told_of, store_of, stored, refusing, no_plain, option_and_then, map-set_same, RamKind}
+use Rattle.script_player.proofs.Common.{◌==◌, slice_set, map, if◌then◌else◌, option_map, unwrap_or, ◌≡◌, ℕ, suc, Bool, true, false, List, [], ◌∷◌, length, get_or, Option, Some, None, refl, sym, ap, ◌∙◌, subst, map-set, block_of, BlockDesc, Configuration, plain_block, desc_of, is_synchronized, AreSynchronized, length_where_sync, sync_length_of, PlainBlock, Told, Synchronized, IsSynchronized, told_at, told_of, store_of, stored, refusing, no_plain, option_and_then, map-set_same, RamKind}
 use Rattle.uds_gateway.specs.block_config.declared.block.RamKind.TheVariants as kind
 
 -- a block among others, by what is seen of it

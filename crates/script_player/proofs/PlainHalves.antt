@@ -1,5 +1,5 @@
 -- A turn that is its first half alone.
-use Rattle.script_player.proofs.Common.{map, not, ◌&&◌, ◌≡◌, ◌≤◌, ◌+◌, ℕ, Bool, true, false, List, [], ◌∷◌, ◌++◌, get_or, Option, None, refl, sym, ap, ◌∙◌, subst, inl, inr, DeviceTold, faults_of, ops_of, ReqResult, Pick, Post, Job, desc_of, is_synchronized, job_block, names_ram, Answer, Next, Nothing, PickJob, BeginSweep, PickMember, PostMember, EndSweep, next_of, PlainBlock, Told, told_of, store_of, DeskState, copies_out_next, AreSynchronized, HandState, IsPaired, Turned, StackState, PowersOff, IsFirstHalf, is_at_rest, is_due, copies_next, TakesNewest, copied_in, Turns, IsAnswer, Lowers, told_by, shown, to_refuse_in, MayPick, moment_of, at_rest, due_rest, rests_next, some_none, option_map_or, IsPosted, IsPostedNext, AddsPost, IsTied, IsAllowed, MayPost, MayPostNext, due_off}
+use Rattle.script_player.proofs.Common.{map, not, ◌&&◌, ◌≡◌, ◌≤◌, ◌+◌, ℕ, Bool, true, false, List, [], ◌∷◌, ◌++◌, get_or, Option, None, refl, sym, ap, ◌∙◌, subst, inl, inr, DeviceTold, faults_of, ops_of, ReqResult, Pick, Post, Job, desc_of, is_synchronized, job_block, names_ram, Answer, Next, PostMember, EndSweep, next_of, PlainBlock, Told, told_of, store_of, DeskState, copies_out_next, AreSynchronized, Turned, StackState, PowersOff, IsFirstHalf, is_at_rest, is_due, copies_next, TakesNewest, copied_in, Turns, IsAnswer, Lowers, told_by, shown, to_refuse_in, MayPick, moment_of, at_rest, due_rest, rests_next, some_none, option_map_or, IsPosted, IsPostedNext, AddsPost, IsTied, IsAllowed, MayPost, MayPostNext, due_off}
 use Rattle.std.specs.Prelude.{IsTrue}
 use Rattle.uds_gateway.specs.nv_desk.Desk.{state_of}
 use Rattle.uds_gateway.specs.nvm_laws.declared.turned.Turned.TheVariants as turned

@@ -1,5 +1,5 @@
 -- Copies that are refused, as entries tell of them.
-use Rattle.script_player.proofs.Common.{◌==◌, ◌&&◌, ◌-◌, not, nat_le, is_some, map, unwrap_or, if◌then◌else◌, ◌≡◌, ◌≢◌, ◌+◌, ◌⊎◌, ℕ, zero, suc, add-one, Bool, true, false, List, [], ◌∷◌, length, Option, Some, None, refl, sym, ap, ◌∙◌, subst, inl, inr, eqb_tells, JobKind, WriteJob, Taken, TookNothing, TookContent, TookRefused, TookStale, Entry, Configuration, State, BlockState, Job, desc_of, block_at, is_synchronized, job_block, kind_of, member_job, Answer, TakesBy, MayPick, Next, Nothing, PickJob, BeginSweep, PickMember, PostMember, EndSweep, PlainBlock, Told, Synchronized, IsSynchronized, told_at, to_refuse_by, told_of, AreSynchronized, copies_out_by, copies_out_next, IsCopied, copied_in, copy_told, left_by, AreAsAsked, to_refuse_in, asked_store, TakesCopy, TakesForWrite, to_refuse_of, Spends, OthersStay, IsCopiedOut, goes_over, IsHandedOver, copied_out, has_content, IsAsAsked}
+use Rattle.script_player.proofs.Common.{◌==◌, ◌&&◌, ◌-◌, not, nat_le, is_some, map, unwrap_or, if◌then◌else◌, ◌≡◌, ◌≢◌, ◌+◌, ◌⊎◌, ℕ, zero, suc, add-one, Bool, true, false, List, [], ◌∷◌, length, Option, Some, None, refl, sym, ap, ◌∙◌, subst, inl, inr, eqb_tells, JobKind, WriteJob, Taken, TookNothing, TookContent, TookRefused, Entry, Configuration, State, BlockState, Job, desc_of, block_at, is_synchronized, job_block, kind_of, member_job, Answer, TakesBy, MayPick, Next, PickJob, BeginSweep, PickMember, PlainBlock, Told, Synchronized, IsSynchronized, told_at, to_refuse_by, told_of, AreSynchronized, copies_out_by, copies_out_next, IsCopied, copied_in, copy_told, left_by, AreAsAsked, to_refuse_in, asked_store, TakesCopy, TakesForWrite, to_refuse_of, Spends, OthersStay, IsCopiedOut, goes_over, IsHandedOver, copied_out, has_content, IsAsAsked}
 use Rattle.std.proofs.Common.{option_map, IfSome}
 
 -- A post is on the block of the job in hand, if there is one.

@@ -1,5 +1,5 @@
 -- Each start-up that a player makes has its Found.
-use Rattle.script_player.proofs.Common.{rules, ◌≡◌, ◌+◌, ℕ, Bool, true, false, List, [], ◌∷◌, ◌++◌, refl, sym, ap, ◌∙◌, subst, inl, inr, arith, append-nil, DeviceTold, Clock, Entry, Ask, Pick, Wrote, Post, Off, Found, Configuration, State, PlainBlock, Told, DeskState, Turned, FoundAnswer, StackState, Restarts, HistoriesStep, SumsGrow, histories_go_on, histories_step, sums_grow, told_by, AreStartsFound, founds, IsOneOrNone, device_starts, founds_add, EntriesAreCounted, HistoriesGoOn, entries_are_counted}
+use Rattle.script_player.proofs.Common.{rules, ◌≡◌, ◌+◌, ℕ, Bool, true, false, List, [], ◌∷◌, ◌++◌, refl, sym, ap, ◌∙◌, subst, inl, inr, arith, append-nil, DeviceTold, Clock, Entry, Ask, Found, Configuration, State, PlainBlock, Told, DeskState, Turned, FoundAnswer, StackState, Restarts, HistoriesStep, SumsGrow, histories_go_on, histories_step, sums_grow, told_by, AreStartsFound, founds, IsOneOrNone, device_starts, founds_add, EntriesAreCounted, HistoriesGoOn, entries_are_counted}
 use Rattle.uds_gateway.specs.nvm_laws.declared.turned.FoundAnswer.TheVariants as found
 use Rattle.uds_gateway.specs.nvm_core.Turns as core
 use Rattle.script_player.specs.Calls as calls

@@ -1,10 +1,17 @@
 -- The steps of the player: a power cut that is planned, a store, copies that are to be refused.
-use Rattle.script_player.proofs.Common.{◌==◌, ◌&&◌, ◌-◌, min, unwrap_or, option_map, map, nat_le, slice_set, if◌then◌else◌, ◌≡◌, ◌≢◌, get_or-set_other, ◌≤◌, ◌+◌, ◌⊎◌, ℕ, zero, suc, Bool, true, false, List, [], ◌∷◌, length, get_or, Option, Some, None, refl, sym, ap, ◌∙◌, subst, inl, inr, arith, eqb_tells, leb_tells, map-set, last_count, ops_behind, Planning, DeviceTold, armed, ops_of, faults_of, is_off, PlainBlock, next_number, Told, Synchronized, IsSynchronized, to_refuse_by, told_of, store_of, stored, refusing, no_plain, DeskState, HandState, PowersOff, Cut, Refuse, DueCut, plan_after, asked_by, IsNoEarlier, IsComing, PlansCuts, Arms, Stores, Refuses, plan_from, plan_in, takes_in, ops_in, to_refuse_in, shown, planned, stack_work, left_with, causes_in}
+use Rattle.script_player.proofs.Common.{◌==◌, ◌&&◌, ◌-◌, min, unwrap_or, option_map, map, nat_le, slice_set, if◌then◌else◌, ◌≡◌, ◌≢◌, get_or-set_other, ◌≤◌, ◌+◌, ◌⊎◌, ℕ, zero, suc, Bool, true, false, List, [], ◌∷◌, length, get_or, Option, Some, None, refl, sym, ap, ◌∙◌, subst, inl, inr, arith, eqb_tells, leb_tells, map-set, last_count, ops_behind, Planning, DeviceTold, armed, ops_of, faults_of, is_off, PlainBlock, next_number, Told, Synchronized, IsSynchronized, to_refuse_by, told_of, store_of, stored, refusing, no_plain, DeskState, HandState, PowersOff, Cut, Refuse, DueCut, plan_after, asked_by, IsNoEarlier, IsComing, PlansCuts, Arms, Stores, Refuses, plan_from, plan_in, takes_in, ops_in, to_refuse_in, shown, planned, stack_work, causes_in, IsErrOf, ◌↔◌, Result, Ok, AskFault, Reply, IsTrue}
 use Prim.Native.Nat.compare
+use Rattle.uds_gateway.specs.nv_desk.declared.ask.AskFault.TheVariants as fault
 use Rattle.uds_gateway.specs.nv_desk.Desk.{state_of}
 use Rattle.script_player.proofs.Coming.{pending_same}
 use Rattle.script_player.proofs.PlainPlans.{ops_told}
 use Rattle.script_player.proofs.PlainCopies.{store_here, stored_told, stored_stores, refusing_stores}
+
+-- A REQUEST
+-- a request that was answered had room
+pub had_room : (r : Result Reply AskFault) (reply : Reply) (room : Bool) → r ≡ Ok reply → IsErrOf r fault.NoRoom ↔ room ≡ false → IsTrue room
+had_room r reply true is exactly = refl
+had_room r reply false is exactly = let none : IsErrOf r fault.NoRoom = exactly.1 refl in absurd (cc (none, is))
 
 -- A POWER CUT
 

@@ -47,6 +47,12 @@ abbrev pub StartMoves : FoundAnswer → Seen → Seen → StackTold → StackTol
 StartMoves found.Ready v w old new = StartsAnew v w old new
 StartMoves answer v w old new = LastsOn v w
 
+-- for want of room or memory nothing moved
+abbrev pub StaysStill : FoundAnswer → Seen → Seen → Type 0
+StaysStill found.NoRoom v w = MovesBy false [] v w
+StaysStill found.Memory v w = MovesBy false [] v w
+StaysStill answer v w = Unit {0}
+
 -- ALL OF THEM
 -- From a first start-up on these moves were made, by the words of what stands now; behind them start-ups may have failed, which made none.
 pub record CameBy (p q : Seen) (ms : List Move) : Type 0 where

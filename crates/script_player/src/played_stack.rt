@@ -11,7 +11,7 @@ ghost use Rattle.script_player.specs.Told.{StackTold, state_of, desk_of};
 ghost use Rattle.script_player.specs.Calls.{Asks, Turns, Restarts, Arms, Stores, Refuses};
 ghost use Rattle.uds_gateway.specs.nvm_moves.Seen.{Seen};
 ghost use Rattle.uds_gateway.specs.nvm_moves.Moved.{MovesBy};
-ghost use Rattle.script_player.specs.Paying.{AskMoves, IsSeen, LastsOn, StartMoves, TurnMoves};
+ghost use Rattle.script_player.specs.Paying.{AskMoves, IsSeen, LastsOn, StartMoves, StaysStill, TurnMoves};
 
 use std::alloc::Global;
 use uds_gateway::{AskFault, FoundAnswer, Reply, Request, Turned};
@@ -39,6 +39,7 @@ pub trait PlayedStack {
         ensures replies { IfOk result (λ reply. reply ≡ reply_of (told self.old).configuration (told self.old).cap (state_of (told self.old)) request) }
         ensures moved { OnOk result (AskMoves (seen self.old) (seen self.new) (told self.old) (told self.new)) }
         ensures lasts { OnErr result (LastsOn (seen self.old) (seen self.new)) }
+        ensures still { OnErr result (MovesBy false [] (seen self.old) (seen self.new)) }
         ensures keeps { (before : Part → PartTold) → kept self.old before → kept self.new before }
         ensures starts { starts_found self.old → starts_found self.new };
 
@@ -55,6 +56,7 @@ pub trait PlayedStack {
     fn restart(&mut self, alloc: Global) -> FoundAnswer
         ensures restarts { Restarts result (told self.old) (told self.new) }
         ensures moved { StartMoves result (seen self.old) (seen self.new) (told self.old) (told self.new) }
+        ensures still { StaysStill result (seen self.old) (seen self.new) }
         ensures keeps { (before : Part → PartTold) → kept self.old before → kept self.new before }
         ensures starts { (told self.old).ready ≡ true → starts_found self.old → starts_found self.new };
 

@@ -27,6 +27,7 @@ pub use Rattle.nvm_moves.proofs.Walks as Walks
 pub use Rattle.nvm_moves.proofs.Counted as Counted
 pub use Rattle.nvm_moves.proofs.Paid as Paid
 pub use Rattle.nvm_moves.proofs.PlannedCuts as PlannedCuts
+pub use Rattle.nvm_moves.proofs.Power as Power
 pub use Rattle.nvm_moves.proofs.StartUps as StartUps
 pub use Rattle.nvm_moves.proofs.TakenPages as TakenPages
 pub use Rattle.nvm_moves.proofs.UrgentPosts as UrgentPosts

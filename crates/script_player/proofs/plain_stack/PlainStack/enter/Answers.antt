@@ -1,12 +1,7 @@
-use Rattle.script_player.proofs.Common.{IsErrOf, ◌↔◌, rules, ◌≡◌, Bool, true, false, IsTrue, Result, Ok, refl, AskFault, Reply, fits, HistoriesStep, SumsGrow, histories_step, sums_grow}
-use Rattle.uds_gateway.specs.nv_desk.declared.ask.AskFault.TheVariants as fault
+use Rattle.script_player.proofs.Common.{rules, IsTrue, fits, HistoriesStep, SumsGrow, histories_step, sums_grow}
 use Rattle.uds_gateway.specs.nv_desk.Desk.{state_of}
+use Rattle.script_player.proofs.PlainSteps.{had_room}
 use Rattle.script_player.proofs.plain_stack.PlainStack.enter.Goals as goal
-
--- a request that was answered had room
-had_room : (r : Result Reply AskFault) (reply : Reply) (room : Bool) → r ≡ Ok reply → IsErrOf r fault.NoRoom ↔ room ≡ false → IsTrue room
-had_room r reply true is exactly = refl
-had_room r reply false is exactly = let none : IsErrOf r fault.NoRoom = exactly.1 refl in absurd (cc (none, is))
 
 pub returns-clause-asks : goal.returns-clause-asks
 returns-clause-asks g c =

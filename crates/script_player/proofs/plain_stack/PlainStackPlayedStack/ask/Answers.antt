@@ -1,14 +1,9 @@
-use Rattle.script_player.proofs.Common.{IsErrOf, ◌↔◌, rules, ◌≡◌, Bool, true, false, IsTrue, Result, Ok, Some, List, [], ◌∷◌, ◌++◌, refl, sym, ap, ◌∙◌, subst, Part, PartTold, InOrder, AskFault, Reply, Entry, Ask, fits, HistoriesStep, SumsGrow, histories_step, sums_grow, PlainBlock, StackState, MovesBy, moment_of, IsKept, AreStartsFound, seen_by, told_by, IfOk, FreesReady, stack_asks}
-use Rattle.uds_gateway.specs.nv_desk.declared.ask.AskFault.TheVariants as fault
+use Rattle.script_player.proofs.Common.{rules, ◌≡◌, false, IsTrue, Result, Some, List, [], ◌∷◌, ◌++◌, refl, sym, ap, ◌∙◌, subst, Part, PartTold, InOrder, AskFault, Reply, Entry, Ask, fits, HistoriesStep, SumsGrow, histories_step, sums_grow, PlainBlock, StackState, MovesBy, moment_of, IsKept, AreStartsFound, seen_by, told_by, IfOk, FreesReady, stack_asks, OnErr, Ok, Err}
 use Rattle.uds_gateway.specs.nv_desk.Desk.{state_of}
-use Rattle.script_player.proofs.PlainPaying.{keeps_by, same_entry}
+use Rattle.script_player.proofs.PlainPaying.{keeps_by, same_entry, still}
 use Rattle.script_player.proofs.PlainStarts.{ask_starts}
+use Rattle.script_player.proofs.PlainSteps.{had_room}
 use Rattle.script_player.proofs.plain_stack.PlainStackPlayedStack.ask.Goals as goal
-
--- a request that was answered had room
-had_room : (r : Result Reply AskFault) (reply : Reply) (room : Bool) → r ≡ Ok reply → IsErrOf r fault.NoRoom ↔ room ≡ false → IsTrue room
-had_room r reply true is exactly = refl
-had_room r reply false is exactly = let none : IsErrOf r fault.NoRoom = exactly.1 refl in absurd (cc (none, is))
 
 pub returns-clause-asks : goal.returns-clause-asks
 returns-clause-asks g c =
@@ -47,3 +42,17 @@ returns-clause-starts g c =
     let adds = subst (λ (r : Result Reply AskFault). IfOk r (λ x. new ≡ record s { desk = record s.desk { entries = s.desk.entries ++ Ask c.args.caller c.args.request x ∷ [] } })) c.in_ok-reply.was c.ask.ensures.ok in
     subst (λ (t : StackState g.row.D.Denot (List PlainBlock)). AreStartsFound t.ready t.desk (told t.device) → AreStartsFound new.ready new.desk (told new.device)) c.self.view_is
     (ask_starts told clock s new (asked ∷ []) refl (ap (λ (t : StackState g.row.D.Denot (List PlainBlock)). t.ready) adds) (ap (λ (t : StackState g.row.D.Denot (List PlainBlock)). t.desk.entries) adds) (ap (λ (t : StackState g.row.D.Denot (List PlainBlock)). (told t.device).starts) adds))
+
+-- one that isn't answered moves nothing
+on_err : {X E P : Type 0} (r : Result X E) → P → OnErr r P
+on_err (Ok x) p = tt
+on_err (Err e) p = p
+
+pub returns-in_err-reply-clause-still : goal.returns-in_err-reply-clause-still
+returns-in_err-reply-clause-still g c =
+    let told = g.D.MemDevice.told in
+    let clock = g.D.MemDevice.clock in
+    let s = c.self.inside.stack in
+    let new = c.ask.new.self in
+    let same : new ≡ s = subst (λ (r : Result Reply AskFault). OnErr r (new ≡ s)) c.in_err-reply.was c.ask.ensures.err in
+    on_err _ (subst (λ (t : StackState g.row.D.Denot (List PlainBlock)). MovesBy false [] (seen_by told clock t) (seen_by told clock new)) c.self.view_is (still told clock s new same))

@@ -1,7 +1,7 @@
-use Rattle.script_player.proofs.Common.{◌≡◌, Bool, true, false, List, [], ◌∷◌, Option, Some, sym, ap, subst, inl, ◌∙◌, DeviceTold, Part, PartTold, ops_of, Lasts, Entry, Found, Clock, InOrder, HandState, DeskState, PlainBlock, TellsSlots, FoundAnswer, StackState, PowersOff, Restarts, MovesBy, moment_of, told_by, IsKept, AreStartsFound, seen_by, HasStarted, StackKeepsAsTold, DownKeepsAsTold, StartsKeep, stack_starts, StartMoves}
+use Rattle.script_player.proofs.Common.{◌≡◌, Bool, true, false, List, [], ◌∷◌, Option, Some, sym, ap, subst, inl, ◌∙◌, DeviceTold, Part, PartTold, ops_of, Lasts, Entry, Found, Clock, InOrder, HandState, DeskState, PlainBlock, TellsSlots, FoundAnswer, StackState, PowersOff, Restarts, MovesBy, moment_of, told_by, IsKept, AreStartsFound, seen_by, HasStarted, StackKeepsAsTold, DownKeepsAsTold, StartsKeep, stack_starts, StartMoves, StaysStill}
 use Rattle.uds_gateway.specs.nvm_laws.declared.turned.FoundAnswer.TheVariants as found
 use Rattle.script_player.specs.Calls as calls
-use Rattle.script_player.proofs.PlainPaying.{fails_last, restart_tells, same_entry, same_last}
+use Rattle.script_player.proofs.PlainPaying.{fails_last, restart_tells, same_entry, same_last, still}
 use Rattle.script_player.proofs.PlainStarts.{restart_starts, restarts_told}
 use Rattle.script_player.proofs.plain_stack.PlainStackPlayedStack.restart.Goals as goal
 
@@ -75,6 +75,18 @@ returns-clause-moved g c =
     (restart_moves told clock s new
     (λ before kept. restart_keeps told clock before s new (c.restart-answer.ensures.down before) kept c.restart-answer.result c.restart-answer.ensures.restarts c.restart-answer.ensures.keeps)
     c.restart-answer.ensures.lasts (subst (λ (x : g.row.D.Denot). InOrder (told x) (clock x)) c.device-behind.ensures.device c.status-status.ensures.order) c.device-behind.ensures.power c.restart-answer.result c.restart-answer.ensures.restarts)
+
+restart_still : {D : Type 0} (told : D → DeviceTold) (clock : D → Clock) (old new : StackState D (List PlainBlock)) (answer : FoundAnswer) → Restarts told answer old new → StaysStill answer (seen_by told clock old) (seen_by told clock new)
+restart_still told clock old new found.NoRoom restarts = still told clock old new restarts.0
+restart_still told clock old new found.Memory restarts = still told clock old new restarts
+restart_still told clock old new answer restarts = tt
+
+pub returns-clause-still : goal.returns-clause-still
+returns-clause-still g c =
+    let told = g.D.MemDevice.told in
+    let clock = g.D.MemDevice.clock in
+    subst (λ (t : StackState g.row.D.Denot (List PlainBlock)). StaysStill c.restart-answer.result (seen_by told clock t) (seen_by told clock c.restart-answer.new.self)) c.self.view_is
+    (restart_still told clock c.self.inside.stack c.restart-answer.new.self c.restart-answer.result c.restart-answer.ensures.restarts)
 
 pub returns-clause-restarts : goal.returns-clause-restarts
 returns-clause-restarts g c =
