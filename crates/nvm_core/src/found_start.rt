@@ -1,12 +1,11 @@
 // A start-up.
-ghost use Rattle.std.specs.Prelude.{◌≡◌, ◌≤◌, ◌+◌, false, length, is_some, IfErr, IfOk, IfSome, OnOk, OnErr};
+ghost use Rattle.std.specs.Prelude.{◌≡◌, ◌≤◌, ◌+◌, true, false, length, Some, IfErr, IfOk, OnOk, OnErr};
 ghost use Rattle.nvm_laws.specs.nv_desk.FoundMarks.{numbers_of};
-ghost use Rattle.nvm_laws.specs.nv_desk.Recorder.{keeps};
 ghost use Rattle.nvm_laws.specs.memif.Calls.{InOrder};
 ghost use Rattle.nvm_laws.specs.memif.Trials.{Lasts};
 ghost use Rattle.nvm_found.specs.Found.{FailsToFind};
 ghost use Rattle.nvm_core.specs.FoundStart.{IsListed, StartKeeps};
-ghost use Rattle.nvm_core.specs.Stack.{IsRoom};
+ghost use Rattle.nvm_core.specs.Stack.{HasRooms, IsRoom};
 
 use nvm_found::{FoundMarks, find};
 use nvm_laws::memif::MemDevice;
@@ -34,11 +33,10 @@ pub fn start_up<D: MemDevice>(
     requires room { IsRoom desk.old room }
     requires numbers { numbers_of room ≡ (D.told device.old).fixed.numbers }
     ensures listed { OnOk result (IsListed desk.old desk.new (D.told device.old) (D.told device.new)) }
-    ensures further { IfOk result (λ back. IfSome back (IsRoom desk.old)) }
-    ensures counted { IfOk result (λ back. keeps desk.old.cap ≡ false → is_some back ≡ true) }
+    ensures further { IfOk result (λ back. HasRooms desk.new back true) }
     ensures desk { OnErr result (desk.new ≡ desk.old) }
     ensures failed { OnErr result (FailsToFind (D.told device.old) (D.told device.new)) }
-    ensures room { IfErr result (λ again. IsRoom desk.old again) }
+    ensures room { IfErr result (λ again. HasRooms desk.new (Some again) false) }
     ensures lasts { Lasts (D.told device.old) (D.clock device.old) (D.told device.new) (D.clock device.new) }
     ensures order { InOrder (D.told device.new) (D.clock device.new) }
     ensures keeps { StartKeeps result desk.old desk.new (D.told device.old) (D.clock device.old) (D.told device.new) (D.clock device.new) }

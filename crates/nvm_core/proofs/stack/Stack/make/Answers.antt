@@ -8,7 +8,7 @@ invariant_of-result g c = record {
   stages = subst (λ (d : DeskState). StagesAll d.config c.in-Ok.front.staging) (sym c.in-Ok.ensures.desk) c.in-Ok.ensures.staging;
   synchronized = subst (λ (d : DeskState). AreSynchronized d.config (g.C.SyncCalls.told c.args.copies)) (sym c.in-Ok.ensures.desk) c.requires.synchronized;
   numbers = search rules;
-  has_room = search rules;
+  has_room = c.in-Ok.ensures.room;
   tied = search rules;
   power = search rules;
 }
