@@ -17,7 +17,11 @@ pub fn room_for(alloc: Global, desk: &Desk) -> Result<FoundMarks, AllocError>
     ensures { IfOk result (λ room. IsRoom desk.now room) }
 {
     let lengths = desk.config().all_lengths(alloc)?;
-    let listed = if desk.keeps_entries() { lengths.len() } else { 0 };
+    let listed = if desk.keeps_entries() {
+        lengths.len()
+    } else {
+        0
+    };
     FoundMarks::make(alloc, &lengths, listed)
 }
 
