@@ -149,6 +149,7 @@ impl Desk {
     }
 
     /// Whether a refusal holds of a request, of whose block this is kept.
+    #[inline(always)]
     fn refuses(
         &self,
         refusal: Refusal,

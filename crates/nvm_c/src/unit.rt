@@ -87,6 +87,7 @@ impl<O: Origin> LentUnit<O> {
 
     /// Takes a request of the one caller, whose content is lent. It takes memory only for a content that is longer than its block's,
     /// which is refused.
+    #[inline(always)]
     pub fn enter(
         &mut self,
         alloc: Global,
@@ -122,6 +123,7 @@ impl<O: Origin> LentUnit<O> {
     }
 
     /// This is its buffer from now on.
+    #[inline(always)]
     pub fn keep(&mut self, buffer: Buffer)
         ensures { self.new ≡ self.old }
     {
