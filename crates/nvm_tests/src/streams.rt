@@ -1,5 +1,5 @@
 // Sources and sinks over a reader and a writer of which one call fails.
-use nv_streams::{Sink, SinkAnswer, Source, SourceAnswer, StdSink, StdSource};
+use nv_streams::{HeldSink, Sink, SinkAnswer, Source, SourceAnswer, StdSink, StdSource};
 use std::alloc::Global;
 use std::io;
 use std::io::{ErrorKind, Read, Write};
@@ -98,4 +98,27 @@ fn a_sink_fails_with_its_writer_and_goes_on(rt: HostRuntime) {
     assert!(rt; puts(rt.alloc(), ErrorKind::StorageFull, failed, b"abfg"));
     let done = SinkAnswer::Done;
     assert!(rt; puts(rt.alloc(), ErrorKind::Interrupted, done, b"abcdefg"));
+}
+
+// Whether two puts are held, a flush fails as its writer does, and the next one goes on.
+fn put_held(writer: &mut Tape, memory: Vec<u8>) -> bool {
+    let mut sink = HeldSink::over(writer, memory);
+    sink.put(b"abcde") == SinkAnswer::Done
+        && sink.put(b"fg") == SinkAnswer::Done
+        && sink.flush() == SinkAnswer::Failed
+        && sink.flush() == SinkAnswer::Done
+}
+
+// Whether they do so, and the writer has both then.
+fn holds(alloc: Global) -> bool {
+    let Ok(memory) = Vec::with_capacity(alloc, 8) else {
+        return false;
+    };
+    let mut writer = make_tape(alloc, ErrorKind::StorageFull);
+    put_held(&mut writer, memory) && writer.kept.as_slice() == b"abcdefg".as_slice()
+}
+
+#[test]
+fn a_sink_holds_its_pieces_back_and_goes_on_where_its_writer_failed(rt: HostRuntime) {
+    assert!(rt; holds(rt.alloc()));
 }
