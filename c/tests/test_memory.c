@@ -51,10 +51,10 @@ static size_t allowed(const unit *it) {
            + FIXED;
 }
 
-/* What stands at most while a unit opens: what it takes with what it finds, or before that what the reading of its text takes. */
+/* What stands at most while a unit opens: what it takes, or before that what the reading of its text takes. */
 static size_t allowed_to_open(const unit *it) {
-    size_t unit_and_found = allowed(it) + found(it), text = (size_t)A_BLOCK_OF_TEXT * it->count + FIXED;
-    return unit_and_found > text ? unit_and_found : text;
+    size_t unit = allowed(it), text = (size_t)A_BLOCK_OF_TEXT * it->count + FIXED;
+    return unit > text ? unit : text;
 }
 
 /* Each block is written once, so that a further start-up finds all of them; and what is read stands in the last entry. */
