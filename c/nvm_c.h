@@ -57,13 +57,7 @@ uint8_t nvm_line(nvm_handle *handle, uint8_t *into, size_t room, size_t *size);
 /* Whether a block's RAM is valid, 1 or 0; 0 too of a block without RAM, and where there is no such block. */
 uint8_t nvm_ram_is_valid(nvm_handle *handle, uint16_t block);
 
-void nvm_close(nvm_handle *handle, nvm_memory *back);
-
-/* Of the text of a configuration, without a unit. 0 it is one; 1 it breaks a rule, the first by its number in docs/CONFIGURATION.md, at a
-   block, or at 0 where the rule isn't about one; 4 no memory to say. At 0 and 4 both are 0. */
-uint8_t nvm_check(const uint8_t *text, size_t text_length, uint8_t *rule, uint16_t *block);
-
-/* What it says of a block, by its keys; a flag is 0 or 1. What lies there before doesn't matter. */
+/* What the unit's configuration says of a block, by its keys; a flag is 0 or 1. What lies there before doesn't matter. */
 enum { NVM_KIND_NATIVE = 0, NVM_KIND_REDUNDANT = 1, NVM_KIND_DATASET = 2 };
 enum { NVM_RAM_NONE = 0, NVM_RAM_PERMANENT = 1, NVM_RAM_SYNC = 2 };
 typedef struct {
@@ -75,9 +69,14 @@ typedef struct {
     uint8_t priority, reads, writes, repeats, device;
 } nvm_block_facts;
 
-/* 0 it stands in facts; else they stay as they are: 1 there is no block of this id, 2 the text is no configuration, 4 no memory. Each call
-   reads the whole text. */
-uint8_t nvm_block(const uint8_t *text, size_t text_length, uint16_t block, nvm_block_facts *facts);
+/* 0 it stands in facts; 1 there is no block of this id, and they stay as they are. It reads no text and takes no memory. */
+uint8_t nvm_block(nvm_handle *handle, uint16_t block, nvm_block_facts *facts);
+
+void nvm_close(nvm_handle *handle, nvm_memory *back);
+
+/* Of the text of a configuration, without a unit. 0 it is one; 1 it breaks a rule, the first by its number in docs/CONFIGURATION.md, at a
+   block, or at 0 where the rule isn't about one; 4 no memory to say. At 0 and 4 both are 0. */
+uint8_t nvm_check(const uint8_t *text, size_t text_length, uint8_t *rule, uint16_t *block);
 
 #ifdef __cplusplus
 }

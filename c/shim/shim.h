@@ -100,8 +100,8 @@ static inline void NvMShim_Put(NvM_BlockIdType id, NvMShim_Phase phase) {
 /* No request on one block is under way. */
 static inline int NvMShim_IsAlone(void) { return NvMShim.in_phase[PHASE_NONE] + NvMShim.in_phase[PHASE_IN_ALL] == PLACES; }
 
-/* table.c: whether the block table is what the text says. */
-uint8 NvMShim_FaultOfTable(const uint8 *text, size_t length);
+/* table.c: whether the block table is what the configuration of the opened unit says. */
+uint8 NvMShim_FaultOfTable(void);
 
 /* history.c: the line of the entry that a proved call added. */
 void NvMShim_BeginHistory(void);

@@ -1,4 +1,5 @@
-/* The block table that C holds is compared with what the text says, before anything is opened: so a wrong one is refused and not believed. */
+/* The block table that C holds is compared with the configuration of the unit that was opened, before anything else is asked of it: so a wrong
+   one is refused and not believed. */
 #include "shim.h"
 
 static uint8 bad(NvM_BlockIdType id, uint8 fault) {
@@ -15,14 +16,13 @@ static int is_described(const NvM_BlockDescriptorType *block, const nvm_block_fa
 }
 
 /* What is wrong with a block of the table, or with there being none. */
-static uint8 fault_of(const uint8 *text, size_t length, NvM_BlockIdType id) {
+static uint8 fault_of(NvM_BlockIdType id) {
     const NvM_ConfigType *config = NvMShim.config;
     const NvM_BlockDescriptorType *block = id - FIRST_BLOCK < config->count ? &config->blocks[id - FIRST_BLOCK] : NULL;
     nvm_block_facts facts = { 0 };
-    uint8 code = nvm_block(text, length, id, &facts);
-    if (code == 4) return NVM_SIM_MEMORY;
-    if (!block) return code == 1 ? (uint8)NVM_SIM_UP : bad(id, NVM_SIM_BAD_TABLE);
-    if (code != 0) return bad(id, NVM_SIM_BAD_TABLE);
+    int is_there = nvm_block(&NvMShim.handle, id, &facts) == 0;
+    if (!block) return is_there ? bad(id, NVM_SIM_BAD_TABLE) : (uint8)NVM_SIM_UP;
+    if (!is_there) return bad(id, NVM_SIM_BAD_TABLE);
     if (facts.ram == NVM_RAM_SYNC) return bad(id, NVM_SIM_SYNCHRONIZED);
     if (block->length > config->room_size) return bad(id, NVM_SIM_BAD_TABLE);
     if (!block->to_nvm != !block->from_nvm || (block->to_nvm && !block->ram)) return bad(id, NVM_SIM_BAD_TABLE);
@@ -30,9 +30,9 @@ static uint8 fault_of(const uint8 *text, size_t length, NvM_BlockIdType id) {
 }
 
 /* (and of the block behind the last one there is nothing) */
-uint8 NvMShim_FaultOfTable(const uint8 *text, size_t length) {
+uint8 NvMShim_FaultOfTable(void) {
     for (unsigned id = FIRST_BLOCK; id <= NvMShim.config->count + 2u; id++) {
-        uint8 fault = fault_of(text, length, (NvM_BlockIdType)id);
+        uint8 fault = fault_of((NvM_BlockIdType)id);
         if (fault) return fault;
     }
     return NVM_SIM_UP;

@@ -30,13 +30,9 @@ static size_t join_text(const NvM_ConfigType *config) {
     return length;
 }
 
-/* Whether the text is a configuration; else which rule it breaks, and at which block. */
+/* Which rule a text breaks that is no configuration, and at which block, unless there is no memory to say. */
 static uint8 fault_of_text(const uint8 *text, size_t length) {
-    switch (nvm_check(text, length, &NvMShim.rule, &NvMShim.fault_block)) {
-    case 0: return NVM_SIM_UP;
-    case 1: return NVM_SIM_BAD_CONFIG;
-    default: return NVM_SIM_MEMORY;
-    }
+    return nvm_check(text, length, &NvMShim.rule, &NvMShim.fault_block) == 1 ? NVM_SIM_BAD_CONFIG : NVM_SIM_MEMORY;
 }
 
 static uint8 open_unit(void) {
@@ -49,10 +45,13 @@ static uint8 open_unit(void) {
     if (!config->blocks || config->count > MOST_BLOCKS) return NVM_SIM_BAD_TABLE;
     length = join_text(config);
     if (!length) return NVM_SIM_BAD_CONFIG;
-    fault = fault_of_text(config->room, length);
-    if (!fault) fault = NvMShim_FaultOfTable(config->room, length);
-    if (!fault) fault = nvm_open(&NvMShim.handle, config->room, length, NvMShim.flash, NvMShim.most_cuts, &back);
-    if (fault) return fault;
+    fault = nvm_open(&NvMShim.handle, config->room, length, NvMShim.flash, NvMShim.most_cuts, &back);
+    if (fault) return fault == NVM_SIM_BAD_CONFIG ? fault_of_text(config->room, length) : fault;
+    fault = NvMShim_FaultOfTable();
+    if (fault) {
+        nvm_close(&NvMShim.handle, &back);
+        return fault;
+    }
     NvMShim.last_id = (uint16)(config->count + 1u);
     NvMShim_BeginHistory();
     NvMShim_Tell();

@@ -156,10 +156,8 @@ static nvm_block_facts facts_of(const block_facts *it) {
 }
 
 /* (of block 1 the services ask nothing) */
-uint8_t nvm_block(const uint8_t *text, size_t text_length, uint16_t block, nvm_block_facts *told) {
-    unsigned at = 0;
-    if (fails()) return 4;
-    if (read_text((const char *)text, text_length, &at)) return 2;
+uint8_t nvm_block(nvm_handle *handle, uint16_t block, nvm_block_facts *told) {
+    if (!handle->at) abort();
     if (block < 2 || block > count + 1) return 1;
     *told = facts_of(&facts[block]);
     return 0;

@@ -1,4 +1,4 @@
--- What the text of a configuration says, without a unit.
+-- What the text of a configuration says, and a configuration of a block.
 use Rattle.std.specs.Prelude.{◌≡◌, ◌⊎◌, ℕ, Bool, false, true, List, length, Some, None, is_some, Ok, Err}
 use Rattle.nvm.specs.block_config.Config.{Configuration, block_of}
 use Rattle.nvm.specs.block_config.Reading.{meaning_of}
@@ -53,9 +53,7 @@ facts_of d = record {
   device = d.device;
 }
 
--- So it is of the block with this id. Or nothing is told: there is no such block, or the text is no configuration, or there was no memory.
-abbrev pub IsDescribed : (text : List ℕ) → (block code : ℕ) → BlockFacts → BlockFacts → Type 0
-IsDescribed text block code old new =
-    ((c : Configuration) × (d : BlockDesc) × (meaning_of text ≡ Ok c) × (block_of c block ≡ Some d) × (code ≡ 0) × (new ≡ facts_of d))
-    ⊎ (((c : Configuration) × (meaning_of text ≡ Ok c) × (block_of c block ≡ None) × (code ≡ 1) × (new ≡ old))
-    ⊎ (((rule at : ℕ) × (meaning_of text ≡ Err (Broken rule at)) × (code ≡ 2) × (new ≡ old)) ⊎ ((code ≡ 4) × (new ≡ old))))
+-- So it is of the block with this id, or there is none, and nothing is told.
+abbrev pub IsDescribed : Configuration → (block code : ℕ) → BlockFacts → BlockFacts → Type 0
+IsDescribed c block code old new =
+    ((d : BlockDesc) × (block_of c block ≡ Some d) × (code ≡ 0) × (new ≡ facts_of d)) ⊎ ((block_of c block ≡ None) × (code ≡ 1) × (new ≡ old))

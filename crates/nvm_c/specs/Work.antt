@@ -1,5 +1,6 @@
 -- What is asked of the unit of a handle, and what comes of it.
 use Rattle.std.specs.Prelude.{◌≡◌, ◌⊎◌, ◌≤◌, ℕ, false, true, [], Bool, Option, None, Some, IsSome, IsSomeAnd, IfOk, IfSome, Result, length, option_map}
+use Rattle.nvm.specs.block_config.Config.{block_of}
 use Rattle.nvm.specs.block_machine.Blocks.{block_at, status_of}
 use Rattle.nvm.specs.block_machine.Legal.{HasStore}
 use Rattle.nvm.specs.block_machine.Reply.{reply_of}
@@ -10,6 +11,7 @@ use Rattle.nvm.specs.nv_desk.Request.{whole_request}
 use Rattle.nvm.specs.nv_desk.declared.ask.AskFault.{AskFault}
 use Rattle.nvm.specs.nvm_flash.Made.{ComesBack, IsOrigin}
 use Rattle.nvm.specs.nvm_flash.promise_device.Making.{Making}
+use Rattle.nvm_c.specs.Texts.{facts_of}
 use Rattle.nvm_c.specs.Unit.{UnitState, unit_told, IsAskCall, IsPlanCall, IsStartCall, IsTurnCall, given_last, last_line, Opens, CameBack}
 use Rattle.nvm_c.specs.declared.work.Task.{Task}
 use Rattle.nvm_c.specs.declared.work.Task.TheVariants as task
@@ -67,6 +69,7 @@ Does (task.Cut nth keep) outcome.Down s t = StaysDown s t
 Does task.Restart (outcome.Found answer) s t = IsStartCall answer s t
 Does (task.Status block) (outcome.StatusIs result) s t = (result ≡ status_of (state_of s.desk) block) × (t ≡ s)
 Does (task.Valid block) (outcome.Is valid) s t = (valid ≡ (block_at (state_of s.desk) block).valid) × (t ≡ s)
+Does (task.Facts block) (outcome.FactsAre facts) s t = (facts ≡ option_map facts_of (block_of s.desk.config block)) × (t ≡ s)
 Does (task.Ram block) (outcome.Content buffer) s t = (buffer.content ≡ (block_at (state_of s.desk) block).ram) × (t ≡ s)
 Does (task.Ram block) outcome.NoMemory s t = t ≡ s
 Does task.Given (outcome.Content buffer) s t = (given_last s ≡ Some buffer.content) × (t ≡ s)

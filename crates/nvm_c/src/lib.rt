@@ -17,10 +17,12 @@ mod unit_opening;
 mod work;
 
 pub use handle::Handle;
-pub use looks::{nvm_entries, nvm_given, nvm_line, nvm_ram, nvm_ram_is_valid, nvm_status};
+pub use looks::{
+    nvm_block, nvm_entries, nvm_given, nvm_line, nvm_ram, nvm_ram_is_valid, nvm_status,
+};
 pub use room::Room;
 pub use services::nvm_ask;
-pub use texts::{BlockFacts, nvm_block, nvm_check};
+pub use texts::{BlockFacts, nvm_check};
 pub use turns::{nvm_close, nvm_cut, nvm_open, nvm_restart, nvm_turn};
 pub use unit::LentUnit;
 pub use work::{Outcome, Work, serve};

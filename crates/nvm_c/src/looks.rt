@@ -4,9 +4,10 @@ ghost use Rattle.nvm.specs.block_machine.Blocks.{block_at, status_of};
 ghost use Rattle.nvm.specs.nv_base.Result.{code_of};
 ghost use Rattle.nvm.specs.nv_desk.Desk.{state_of};
 ghost use Rattle.nvm_c.specs.Exports.{IsFilled, IsGiven, IsLine, IsRam, Looks};
-ghost use Rattle.nvm_c.specs.Texts.{flag};
+ghost use Rattle.nvm_c.specs.Texts.{IsDescribed, flag};
 
 use crate::handle::{Handle, work_on};
+use crate::texts::BlockFacts;
 use crate::work::{Outcome, Task, Work};
 use nvm::{Buffer, result_code};
 use std::alloc::Global;
@@ -34,6 +35,28 @@ pub extern "C" fn nvm_ram_is_valid(alloc: Global, handle: &mut Handle, block: u1
     match work_on(alloc, handle, Work::Serve { task }) {
         Outcome::Is { valid: true } => 1,
         _other => 0,
+    }
+}
+
+/// What the unit's configuration says of the block with an id, 1 for the manager's own. 0: it stands in `facts`.
+/// 1: there is no such block, and they stay as they are. It reads no text and takes no memory.
+#[unsafe(no_mangle)]
+pub extern "C" fn nvm_block(
+    alloc: Global,
+    handle: &mut Handle,
+    block: u16,
+    facts: &mut BlockFacts,
+) -> u8
+    requires open { IsSome handle.old.kept }
+    ensures described { Looks handle.old.kept handle.new.kept (λ s. IsDescribed s.desk.config block result facts.old facts.new) }
+{
+    let task = Task::Facts { block };
+    match work_on(alloc, handle, Work::Serve { task }) {
+        Outcome::FactsAre { facts: Some(found) } => {
+            *facts = found;
+            0
+        }
+        _other => 1,
     }
 }
 

@@ -1,6 +1,6 @@
-// What the text of a configuration says, without a unit.
+// What the text of a configuration says.
 ghost use Rattle.std.specs.Prelude.{◌≡◌};
-ghost use Rattle.nvm_c.specs.Texts.{IsChecked, IsDescribed, facts_of, flag, kind_number, ram_number};
+ghost use Rattle.nvm_c.specs.Texts.{IsChecked, facts_of, flag, kind_number, ram_number};
 
 use nvm::nvm_flash::block_config::{BlockDesc, BlockKind, RamKind};
 use nvm::{ConfigFault, read};
@@ -86,7 +86,8 @@ fn flag(on: bool) -> u8
     if on { 1 } else { 0 }
 }
 
-fn facts_of(block: &BlockDesc) -> BlockFacts
+/// A description as C gets it.
+pub(crate) fn facts_of(block: &BlockDesc) -> BlockFacts
     ensures { result ≡ facts_of block.now }
 {
     BlockFacts {
@@ -106,24 +107,5 @@ fn facts_of(block: &BlockDesc) -> BlockFacts
         writes: block.writes,
         repeats: block.repeats,
         device: block.device,
-    }
-}
-
-/// What the text of a configuration says of the block with an id, 1 for the manager's own. 0: it stands in `facts`. Else they stay as
-/// they are. 1: there is no such block. 2: the text is no configuration. 4: there is no memory to say.
-#[unsafe(no_mangle)]
-pub extern "C" fn nvm_block(alloc: Global, text: &[u8], block: u16, facts: &mut BlockFacts) -> u8
-    ensures { IsDescribed text.now block result facts.old facts.new }
-{
-    match read(alloc, text) {
-        Ok(config) => match config.block(block) {
-            Some(found) => {
-                *facts = facts_of(found);
-                0
-            }
-            None => 1,
-        },
-        Err(ConfigFault::Broken { .. }) => 2,
-        Err(ConfigFault::Memory) => 4,
     }
 }

@@ -1,5 +1,6 @@
 // A unit: a stack over memory that C lends, behind its first start-up.
-ghost use Rattle.std.specs.Prelude.{◌≡◌, ◌≤◌, ◌↔◌, false, true, Some, None, IfOk, IfSome, IsErrOf, length, option_copied};
+ghost use Rattle.std.specs.Prelude.{◌≡◌, ◌≤◌, ◌↔◌, false, true, Some, None, IfOk, IfSome, IsErrOf, length, option_copied, option_map};
+ghost use Rattle.nvm.specs.block_config.Config.{block_of};
 ghost use Rattle.nvm.specs.block_machine.Blocks.{asked_block, block_at, desc_of, status_of};
 ghost use Rattle.nvm.specs.block_machine.Legal.{HasStore};
 ghost use Rattle.nvm.specs.block_machine.Reply.{reply_of};
@@ -10,15 +11,17 @@ ghost use Rattle.nvm.specs.nv_desk.Recorder.{keeps};
 ghost use Rattle.nvm.specs.nv_desk.Request.{request_lent, whole_request};
 ghost use Rattle.nvm_script.specs.Lines.{entry_line};
 ghost use Rattle.nvm.specs.Unit.{Stands, takes_of};
+ghost use Rattle.nvm_c.specs.Texts.{facts_of};
 ghost use Rattle.nvm_c.specs.Unit.{CameBack, IsAskCall, IsStartCall, IsTurnCall, TakenFrom, given_last, last_line};
 ghost use Rattle.nvm_c.specs.Work.{PlansCut, PlansNone};
 
+use crate::texts::{BlockFacts, facts_of};
 use lent_flash::{Lent, LentFlash};
 use nvm::nvm_flash::FlashStack;
 use nvm::nvm_flash::fee_core::Origin;
 use nvm::{
-    AskFault, Buffer, Bytes, Entry, Event, FoundAnswer, FoundMarks, Last, LentRequest, Reply,
-    ReqResult, Request, RequestKind, Turned, UnitStack, bytes_of,
+    AskFault, Buffer, Bytes, Config, Entry, Event, FoundAnswer, FoundMarks, Last, LentRequest,
+    Reply, ReqResult, Request, RequestKind, Turned, UnitStack, bytes_of,
 };
 use nvm_script::entry_text;
 use std::alloc::{AllocError, Global};
@@ -187,6 +190,14 @@ impl<O: Origin> LentUnit<O> {
         self.unit.ram_is_valid(block)
     }
 
+    /// What the configuration says of a block, if there is one.
+    pub fn block_facts(&self, block: u16) -> Option<BlockFacts>
+        ensures { result ≡ option_map facts_of (block_of self.now.desk.config block) }
+    {
+        let stack = self.unit.stack();
+        described(stack.config(), block)
+    }
+
     /// Lends its buffer with what a block's RAM holds, where it has that and room for it.
     pub fn lend_ram(&mut self, block: u16) -> Option<Buffer>
         ensures same { self.new ≡ self.old }
@@ -252,6 +263,16 @@ impl<O: Origin> LentUnit<O> {
     {
         let LentUnit { unit, .. } = self;
         unit.into_flash().into_lent()
+    }
+}
+
+// What a configuration says of a block, if there is one.
+fn described(config: &Config, block: u16) -> Option<BlockFacts>
+    ensures { result ≡ option_map facts_of (block_of config.now block) }
+{
+    match config.block(block) {
+        Some(found) => Some(facts_of(found)),
+        None => None,
     }
 }
 

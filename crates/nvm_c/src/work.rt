@@ -5,6 +5,7 @@ ghost use Rattle.nvm_c.specs.declared.work.Work.TheVariants as Work;
 ghost use Rattle.nvm_c.specs.Work.{CanDo, CanServe, Does, Serves};
 
 use crate::room::Room;
+use crate::texts::BlockFacts;
 use crate::unit::LentUnit;
 use crate::unit_opening::open;
 use lent_flash::{Lent, LentFlash};
@@ -46,6 +47,8 @@ pub enum Task {
     Restart,
     Status { block: u16 },
     Valid { block: u16 },
+    /// What the configuration says of a block.
+    Facts { block: u16 },
     /// The buffer, with what a block's RAM holds.
     Ram { block: u16 },
     /// The buffer, with what the last entry gave.
@@ -70,6 +73,7 @@ pub enum Outcome {
     Found { found: FoundAnswer },
     StatusIs { result: ReqResult },
     Is { valid: bool },
+    FactsAre { facts: Option<BlockFacts> },
     Content { buffer: Buffer },
     Nothing,
     Line { text: Option<Bytes> },
@@ -177,6 +181,9 @@ fn do_task<O: Origin>(alloc: Global, unit: &mut LentUnit<O>, task: Task) -> Outc
         },
         Task::Valid { block } => Outcome::Is {
             valid: unit.ram_is_valid(block),
+        },
+        Task::Facts { block } => Outcome::FactsAre {
+            facts: unit.block_facts(block),
         },
         Task::Ram { block } => match unit.lend_ram(block) {
             Some(buffer) => Outcome::Content { buffer },
