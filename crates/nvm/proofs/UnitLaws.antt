@@ -52,12 +52,16 @@ true_false {t} on off = never (sym on ∙ off)
     never e = cc
 
 -- THE FIRST START-UP
+pub begun_takes : (making : Making) (entry : Told) (m s : UnitState) → IsMadeStack m.desk.config m.desk.cap making entry m → StartsUp told_of m s → (inner : Told) (cuts : ℕ) → IsOrigin m.desk.config inner cuts making entry → takes_of s ≡ cuts
+begun_takes making entry m s made starts inner cuts origin =
+    ap (λ p. p.planning.takes) starts.finds.up.restarted.first.only ∙ ap (λ p. p.planning.takes) made.device.part ∙ ap (λ (t : Told). (part_at t).planning.takes) origin.over
+
 pub begun_unit : (making : Making) (entry : Told) (m s : UnitState) → IsMadeStack m.desk.config m.desk.cap making entry m → BeginsKept (told_of m.device) (told_clock m.device) → InOrder (told_of m.device) (told_clock m.device) → InOrder (told_of s.device) (told_clock s.device)
     → StartsUp told_of m s → StartsKeep found.Ready m.desk (told_of m.device) (told_clock m.device) s.desk (told_of s.device) (told_clock s.device)
     → (inner : Told) (cuts : ℕ) → IsLegalConfig m.desk.config → IsOrigin m.desk.config inner cuts making entry → IsUnit making entry cuts s
 begun_unit making entry m s made begins order order_new starts keeps inner cuts legal origin = record {
   made_for = origin.made_for ∙ ap (λ x. making_of x.desk.config) (sym starts.only);
-  takes = ap (λ p. p.planning.takes) starts.finds.up.restarted.first.only ∙ ap (λ p. p.planning.takes) made.device.part ∙ ap (λ (t : Told). (part_at t).planning.takes) origin.over;
+  takes = begun_takes making entry m s made starts inner cuts origin;
   up = λ ready.
       subst (λ (h : Option HandState). StackKeepsAsTold (one_part (part_at entry)) s.desk h (told_of s.device) (told_clock s.device)) (sym (ap (λ x. x.hand) starts.only))
       (begins_up m.desk.config making entry m s made begins order starts keeps inner cuts refl legal origin);

@@ -6,7 +6,7 @@ ghost use Rattle.nvm_flash.specs.nv_desk.Recorder.{endless};
 ghost use Rattle.nvm_flash.specs.fls_devices.Cutter.{cutting, told_cutting};
 ghost use Rattle.nvm_flash.specs.fls_model.Told.{Told};
 ghost use Rattle.nvm_flash.specs.Made.{ComesBack, IsMadeStack, IsOrigin};
-ghost use Rattle.nvm.specs.Unit.{HasRun, Stays};
+ghost use Rattle.nvm.specs.Unit.{HasRun, Stays, takes_of};
 
 use crate::unit_stack::UnitStack;
 use nvm_flash::block_config::Config;
@@ -20,14 +20,15 @@ use std::marker::Brand;
 
 /// What a unit does between switching on and switching off.
 pub trait Unit {
-    /// What one run makes of it: the unit before it and behind it, and the entries of its stack.
-    ghost ran: { Self → Self → List Entry → Type 0 };
+    /// What one run makes of it: the unit before it and behind it, how many power cuts could be planned at first, and the entries of
+    /// its stack.
+    ghost ran: { Self → Self → ℕ → List Entry → Type 0 };
 
     /// Runs over a stack that is up: its first start-up stands. It has room for as many entries as can be counted, and keeps the last one.
     fn run<F: Flash, O: Origin>(&mut self, alloc: Global, stack: &mut UnitStack<F, O>)
         requires ready { stack.old.ready ≡ true }
         requires most { stack.old.desk.cap ≡ endless }
-        ensures ran { ran self.old self.new stack.new.desk.entries }
+        ensures ran { ran self.old self.new (takes_of stack.old) stack.new.desk.entries }
         ensures stays { Stays stack.old stack.new };
 }
 
@@ -41,7 +42,7 @@ pub fn run_unit<F: Flash, U: Unit>(
     cuts: u32,
     unit: &mut U,
 ) -> Result<F, (MakeFault, F)>
-    ensures ran { IfOk result (λ f. HasRun config (F.told flash) (F.told f) (U.ran unit.old unit.new)) }
+    ensures ran { IfOk result (λ f. HasRun config (F.told flash) (F.told f) (U.ran unit.old unit.new cuts)) }
     ensures stopped { IfErr result (λ e. ComesBack config e.0 (F.told flash) (F.told e.1)) }
     ensures untouched { OnErr result (unit.new ≡ unit.old) }
 {
@@ -57,7 +58,7 @@ fn run_over<F: Flash, U: Unit, O: Origin>(
     unit: &mut U,
 ) -> Result<F, (MakeFault, F)>
     requires { IsOrigin config (F.told flash) cuts O.making O.entry }
-    ensures ran { IfOk result (λ f. HasRun config (F.told flash) (F.told f) (U.ran unit.old unit.new)) }
+    ensures ran { IfOk result (λ f. HasRun config (F.told flash) (F.told f) (U.ran unit.old unit.new cuts)) }
     ensures stopped { IfErr result (λ e. ComesBack config e.0 (F.told flash) (F.told e.1)) }
     ensures untouched { OnErr result (unit.new ≡ unit.old) }
 {
@@ -80,6 +81,7 @@ fn switch_on<F: Flash, O: Origin>(
     requires legal { IsLegalConfig stack.desk.config }
     requires origin { (inner : Told) × IsOrigin stack.desk.config inner cuts O.making O.entry }
     ensures ready { IfOk result (λ s. s.ready ≡ true) }
+    ensures plans { IfOk result (λ s. takes_of s ≡ cuts) }
     ensures stays { IfOk result (λ s. Stays stack s) }
     ensures stopped { IfErr result (λ e. (inner : Told) (n : ℕ) → IsOrigin stack.desk.config inner n O.making O.entry → ComesBack stack.desk.config e.0 inner (F.told e.1)) }
 {
@@ -102,7 +104,7 @@ fn switch_off<F: Flash, U: Unit, O: Origin>(
 ) -> F
     requires ready { stack.ready ≡ true }
     requires most { stack.desk.cap ≡ endless }
-    ensures { (inner : Told) (cuts : ℕ) → O.entry ≡ told_cutting (cutting inner cuts) → HasRun stack.desk.config inner (F.told result) (U.ran unit.old unit.new) }
+    ensures { (inner : Told) (cuts : ℕ) → O.entry ≡ told_cutting (cutting inner cuts) → HasRun stack.desk.config inner (F.told result) (U.ran unit.old unit.new (takes_of stack)) }
 {
     let mut stack = stack;
     unit.run(alloc, &mut stack);

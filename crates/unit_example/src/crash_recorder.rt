@@ -89,7 +89,7 @@ impl CrashRecorder {
 
 impl Unit for CrashRecorder {
     // nothing is asked of a run
-    ghost ran = { λ before behind entries. Unit {0} };
+    ghost ran = { λ before behind plans entries. Unit {0} };
 
     fn run<F: Flash, O: Origin>(&mut self, alloc: Global, stack: &mut UnitStack<F, O>) {
         for crash in 0..self.requests / 2 {

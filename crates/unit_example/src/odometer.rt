@@ -42,7 +42,7 @@ impl Odometer {
 
 impl Unit for Odometer {
     // nothing is asked of a run
-    ghost ran = { λ before behind entries. Unit {0} };
+    ghost ran = { λ before behind plans entries. Unit {0} };
 
     fn run<F: Flash, O: Origin>(&mut self, alloc: Global, stack: &mut UnitStack<F, O>) {
         ask(alloc, stack, Request::ReadAll);

@@ -4,8 +4,8 @@ use Rattle.nvm_flash.specs.fee_core.Tells.{told_clock}
 use Rattle.nvm_flash.specs.fee_told.Device.{Device, told_of}
 use Rattle.nvm_flash.proofs.nvm_device_laws.Called.{begins_kept}
 use Rattle.nvm.specs.Closing.{UnitState}
-use Rattle.nvm.specs.Unit.{Stays}
-use Rattle.nvm.proofs.UnitLaws.{begun_unit, starts_stay}
+use Rattle.nvm.specs.Unit.{Stays, takes_of}
+use Rattle.nvm.proofs.UnitLaws.{begun_takes, begun_unit, starts_stay}
 use Rattle.nvm.proofs.unit.switch_on.Goals as goal
 
 pub over-requires : goal.over-requires
@@ -21,3 +21,7 @@ returns-in-Ok-clause-stays g c = subst (λ (s : UnitState). Stays c.args.stack s
 
 pub returns-in-Ok-clause-ready : goal.returns-in-Ok-clause-ready
 returns-in-Ok-clause-ready g c = ap (λ (s : UnitState). s.ready) c.over.ensures ∙ ap (λ (s : UnitState). s.ready) c.in-Ok.ensures.started.only
+
+pub returns-in-Ok-clause-plans : goal.returns-in-Ok-clause-plans
+returns-in-Ok-clause-plans g c =
+    ap takes_of c.over.ensures ∙ begun_takes g.O.Origin.making g.O.Origin.entry c.args.stack c.in-Ok.stack c.requires.made c.in-Ok.ensures.started c.requires.origin.0 c.args.cuts c.requires.origin.1
