@@ -131,7 +131,7 @@ down_by r task y s t is does other = absurd is
 stayed_by : (k : Kept) (behind : Option Kept) (r : Request) (service block number : ℕ) (content : List ℕ) (task : Task) (y : Outcome) → IsTaskOf r task → ((answer : Result Reply AskFault) → y ≡ Asked answer → ⊥)
     → (s : Option UnitState) → behind ≡ kept_as (Some k) (Serve task) s → Serves (origin_of k).making (origin_of k).entry (Serve task) y (Some k.state) s → Goes (Some k) behind (IsAsked service block number content 5 0)
 stayed_by k behind r service block number content task y is_task other None is does = absurd does
-stayed_by k behind r service block number content task y is_task other (Some t) is does = (t, is, inr (inr (inl (refl, down_by r task y k.state t is_task does other))))
+stayed_by k behind r service block number content task y is_task other (Some t) is does = (t, is, inr (refl, inr (inl (refl, down_by r task y k.state t is_task does other))))
 
 -- a request wasn't answered
 pub stayed_down : (kept behind : Option Kept) (v : Service) (service block number : ℕ) (content : List ℕ) (y : Outcome) → IsSome kept → IsHandedOn (request_of v block number content) kept y behind

@@ -14,7 +14,7 @@ returns-in_default c = record {
 
 pub returns-in_default-ask_unit : goal.returns-in_default-ask_unit
 returns-in_default-ask_unit c = record {
-  asked = rw c.in_default-ask_unit.ensures.same (goes_same c.args.handle.now.kept (IsAsked c.args.service c.args.block c.args.number c.args.content.now 4 0) c.requires.open (λ s. inr (inl (refl, refl))));
+  asked = rw c.in_default-ask_unit.ensures.same (goes_same c.args.handle.now.kept (IsAsked c.args.service c.args.block c.args.number c.args.content.now 4 0) c.requires.open (λ s. inr (refl, inl (refl, refl))));
 }
 
 pub returns-in-Asked : goal.returns-in-Asked
