@@ -10,10 +10,10 @@ use crate::slots::{SMALL, one_number};
 use crate::steps::{Content, NUMBER, gives, turns};
 use crate::trial::Trial;
 use memif_fee_ea::ea_slots::{Ea, Origin};
-use memif_fee_ea::fls_model::Flash;
-use memif_fee_ea::memif::{DeviceRefusal, JobResult, MemDevice, MemIf, PlainStore};
 use memif_fee_ea::memif_pair::Both;
-use memif_fee_ea::nv_base::{DeviceNumber, lengths_of};
+use memif_fee_ea::{
+    DeviceNumber, DeviceRefusal, Flash, JobResult, MemDevice, MemIf, PlainStore, lengths_of,
+};
 use std::alloc::{AllocError, Global};
 use std::marker::Brand;
 

@@ -4,12 +4,10 @@ use crate::pairs::{FLASH_A, try_pair};
 use crate::slots::{one_number, try_over};
 use crate::steps::NUMBER;
 use crate::trial::Trial;
-use memif_fee_ea::fls_model::mem_flash;
-use memif_fee_ea::memif::{
-    DeviceCall, DeviceStep, DeviceTurn, JobResult, MemDevice, MemIf, PlainStore, Rest, erase,
-    make_turns, run_calls, start_up,
+use memif_fee_ea::{
+    DeviceCall, DeviceNumber, DeviceStep, DeviceTurn, JobResult, MemDevice, MemIf, PlainStore,
+    Rest, bytes_of, erase, make_turns, mem_flash, run_calls, start_up,
 };
-use memif_fee_ea::nv_base::{DeviceNumber, bytes_of};
 use std::alloc::{AllocError, Global};
 
 fn make_store(alloc: Global) -> Option<PlainStore> {

@@ -3,7 +3,7 @@
 use crate::slots::makes_over;
 use crate::steps::{Content, Step};
 use fls_devices::{Cutter, FaultScript};
-use memif_fee_ea::fls_model::{Flash, MemFlash, mem_flash};
+use memif_fee_ea::{Flash, MemFlash, mem_flash};
 use std::alloc::{AllocError, Global};
 
 const OLDER: Content = [1, 2, 3, 4];

@@ -1,7 +1,7 @@
 // The bytes of paired slots, worked out by hand.
 use crate::slots::makes_over;
 use crate::steps::{Content, Step};
-use memif_fee_ea::fls_model::{MemFlash, mem_flash};
+use memif_fee_ea::{MemFlash, mem_flash};
 use std::alloc::{AllocError, Global};
 
 type Page = [u8; 16];

@@ -7,9 +7,7 @@ use crate::pairs::{
 use crate::steps::turns;
 use crate::trial::Trial;
 use fls_devices::{Cutter, FaultScript};
-use memif_fee_ea::fls_model::{Flash, MemFlash, mem_flash};
-use memif_fee_ea::memif::{JobResult, MemDevice};
-use memif_fee_ea::nv_base::DeviceNumber;
+use memif_fee_ea::{DeviceNumber, Flash, JobResult, MemDevice, MemFlash, mem_flash};
 use std::alloc::Global;
 
 // Writes, each of four bytes, with the operations that it makes of its own flash. The first write of the flash erases a bank of five

@@ -4,9 +4,7 @@ use crate::pairs::{Contents, Write, behind, holds_all, try_pair};
 use crate::steps::turns;
 use crate::trial::Trial;
 use fls_devices::FaultScript;
-use memif_fee_ea::fls_model::{MemFlash, mem_flash};
-use memif_fee_ea::memif::{JobResult, MemDevice};
-use memif_fee_ea::nv_base::DeviceNumber;
+use memif_fee_ea::{DeviceNumber, JobResult, MemDevice, MemFlash, mem_flash};
 use std::alloc::{AllocError, Global};
 
 // How often each flash is read by a start-up and a read of each of its numbers.

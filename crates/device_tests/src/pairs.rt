@@ -4,10 +4,10 @@ ghost use Rattle.memif_fee_ea.specs.ea_slots.ea_told.Making.{HasSlots};
 
 use crate::steps::{Content, gives, turns};
 use crate::trial::Trial;
-use memif_fee_ea::fls_model::Flash;
-use memif_fee_ea::memif::{JobResult, MemDevice, PlainMark};
-use memif_fee_ea::nv_base::{DeviceNumber, Geometry, Lengths, lengths_of};
-use memif_fee_ea::{Shapes, ea_slots, fee_core, make};
+use memif_fee_ea::{
+    DeviceNumber, Flash, Geometry, JobResult, Lengths, MemDevice, PlainMark, Shapes, ea_slots,
+    fee_core, lengths_of, make,
+};
 use std::alloc::{AllocError, Global};
 use std::marker::Brand;
 

@@ -5,8 +5,7 @@ ghost use Rattle.memif_fee_ea.specs.ea_slots.ea_told.Making.{HasSlots};
 use crate::steps::{NUMBER, Step, Steps};
 use crate::trial::Trial;
 use memif_fee_ea::ea_slots::{Ea, Origin};
-use memif_fee_ea::fls_model::Flash;
-use memif_fee_ea::nv_base::{Geometry, Lengths, lengths_of};
+use memif_fee_ea::{Flash, Geometry, Lengths, lengths_of};
 use std::alloc::{AllocError, Global};
 use std::marker::Brand;
 

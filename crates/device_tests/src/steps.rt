@@ -1,7 +1,6 @@
 // What is done with a device, a step at a time, and whether each comes to what is expected of it.
 use crate::trial::Trial;
-use memif_fee_ea::memif::{DeviceTurn, JobResult, MemDevice, PlainMark};
-use memif_fee_ea::nv_base::DeviceNumber;
+use memif_fee_ea::{DeviceNumber, DeviceTurn, JobResult, MemDevice, PlainMark};
 use std::alloc::Global;
 
 /// The number that is written.

@@ -1,5 +1,5 @@
 // What is tried with any device.
-use memif_fee_ea::memif::MemDevice;
+use memif_fee_ea::MemDevice;
 use std::alloc::Global;
 
 /// Calls on a device, which is given back where they come to what is expected.

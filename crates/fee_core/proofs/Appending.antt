@@ -9,11 +9,11 @@ use Rattle.fls_model.specs.Told.{Told, Change}
 use Rattle.fls_jobs.specs.State.{FlsState, IsDriverState}
 use Rattle.fls_jobs.specs.CallOf.{closed_as}
 use Rattle.fee_format.specs.declared.rec_head.RecHead.{RecHead}
-use Rattle.fee_log.specs.Log.{work_in}
-use Rattle.fee_log.specs.Step.{IsPageOf, due_bytes, op_of}
-use Rattle.fee_switch.specs.Banks.{BanksState}
+use Rattle.fee_laws.specs.fee_log.Log.{work_in}
+use Rattle.fee_laws.specs.fee_log.Step.{IsPageOf, due_bytes, op_of}
+use Rattle.fee_laws.specs.fee_switch.Banks.{BanksState}
 use Rattle.promise_device.specs.Making.{Making}
-use Rattle.fls_told.specs.Clock.{change_of}
+use Rattle.fee_laws.specs.fls_told.Clock.{change_of}
 use Rattle.fee_laws.specs.declared.job.FeeJob.{FeeJob}
 use Rattle.fee_laws.specs.Inside.{Parts, IsAtWork, body_of}
 use Rattle.fee_laws.specs.Record.{IsInWork, head_of}

@@ -14,13 +14,13 @@ use Rattle.fls_model.specs.Told.{Told}
 use Rattle.fee_format.specs.declared.rec_head.RecHead.{RecHead}
 use Rattle.fee_format.specs.declared.rec_head.RecordKind.{RecordKind}
 use Rattle.fee_format.specs.declared.rec_head.RecordKind.TheVariants as kind
-use Rattle.fee_log.specs.declared.tail.Tail.{Tail}
-use Rattle.fee_log.specs.declared.tail.Tail.TheVariants.{Open, Writes, Owes, Closed}
-use Rattle.fee_log.specs.Log.{LogState, IsFor, work_in, free_in, head_next, tail_begun}
+use Rattle.fee_laws.specs.fee_log.declared.tail.Tail.{Tail}
+use Rattle.fee_laws.specs.fee_log.declared.tail.Tail.TheVariants.{Open, Writes, Owes, Closed}
+use Rattle.fee_laws.specs.fee_log.Log.{LogState, IsFor, work_in, free_in, head_next, tail_begun}
 use Rattle.fee_course.specs.declared.course.Course.{Course}
 use Rattle.fee_course.specs.declared.course.Course.TheVariants.{Erase, Copy, Head, Gate}
-use Rattle.fee_switch.specs.Banks.{BanksState, TakesRecord, append_begun, appended_at, begun_again, is_worn_out}
-use Rattle.fee_switch_laws.specs.Space.{free_pages, has_room}
+use Rattle.fee_laws.specs.fee_switch.Banks.{BanksState, TakesRecord, append_begun, appended_at, begun_again, is_worn_out}
+use Rattle.fee_laws.specs.fee_switch_laws.Space.{free_pages, has_room}
 use Rattle.promise_device.specs.Making.{Making}
 use Rattle.fee_laws.specs.declared.job.FeeJob.{FeeJob}
 use Rattle.fee_laws.specs.Inside.{Parts, IsSound, IsActiveOf}

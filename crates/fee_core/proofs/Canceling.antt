@@ -6,9 +6,9 @@ use Rattle.memif.specs.declared.answer.JobResult.{JobResult}
 use Rattle.memif.specs.Told.{is_urgent}
 use Rattle.memif.specs.Calls.{Cancels}
 use Rattle.fls_model.specs.Told.{Told}
-use Rattle.fee_log.specs.Log.{IsLogState, work_in}
-use Rattle.fee_log.specs.Step.{given_up}
-use Rattle.fee_switch.specs.Banks.{BanksState, IsBanksState}
+use Rattle.fee_laws.specs.fee_log.Log.{IsLogState, work_in}
+use Rattle.fee_laws.specs.fee_log.Step.{given_up}
+use Rattle.fee_laws.specs.fee_switch.Banks.{BanksState, IsBanksState}
 use Rattle.promise_device.specs.Making.{Making}
 use Rattle.fee_laws.specs.declared.job.FeeJob.{FeeJob}
 use Rattle.fee_laws.specs.Inside.{Parts, stand_of}

@@ -11,13 +11,13 @@ use Rattle.fls_model.specs.Told.{Told}
 use Rattle.fls_jobs.specs.State.{FlsState, IsDriverState}
 use Rattle.fee_image.specs.declared.place.Place.{Place}
 use Rattle.fee_image.specs.declared.place.Place.TheVariants as place
-use Rattle.fee_log.specs.Log.{IsLogState, work_in}
+use Rattle.fee_laws.specs.fee_log.Log.{IsLogState, work_in}
 use Rattle.fee_course.specs.declared.copies.Source.{Source}
 use Rattle.fee_course.specs.declared.course.Course.{Course}
 use Rattle.fee_course.specs.declared.course.Course.TheVariants.{Erase, Copy, Head, Gate}
-use Rattle.fee_switch.specs.Banks.{BanksState, IsBanksState, reads_next, reads_source, reads_place, after_answer}
-use Rattle.fee_switch.specs.Reading.{buffer_size}
-use Rattle.fee_switch.specs.Copy.{BeginsAt, IsBankStep}
+use Rattle.fee_laws.specs.fee_switch.Banks.{BanksState, IsBanksState, reads_next, reads_source, reads_place, after_answer}
+use Rattle.fee_laws.specs.fee_switch.Reading.{buffer_size}
+use Rattle.fee_laws.specs.fee_switch.Copy.{BeginsAt, IsBankStep}
 use Rattle.promise_device.specs.Making.{Making}
 use Rattle.fee_laws.specs.Inside.{Parts}
 use Rattle.fee_laws.specs.Turn.{Turned}

@@ -7,14 +7,14 @@ use Rattle.fee_format.specs.declared.rec_head.RecHead.{RecHead}
 use Rattle.fee_image.specs.RecordList.{pages_of_head}
 use Rattle.fee_image.specs.declared.place.Place.{Place}
 use Rattle.fee_image.specs.Places.{erased_places}
-use Rattle.fee_log.specs.declared.tail.Tail.{Tail}
-use Rattle.fee_log.specs.declared.tail.Tail.TheVariants.{Open, Writes, Owes, Closed}
-use Rattle.fee_log.specs.Index.{clear_flags}
-use Rattle.fee_log.specs.Log.{LogState, work_in, left_in}
-use Rattle.fee_switch.specs.declared.active.ActiveBank.{ActiveBank}
+use Rattle.fee_laws.specs.fee_log.declared.tail.Tail.{Tail}
+use Rattle.fee_laws.specs.fee_log.declared.tail.Tail.TheVariants.{Open, Writes, Owes, Closed}
+use Rattle.fee_laws.specs.fee_log.Index.{clear_flags}
+use Rattle.fee_laws.specs.fee_log.Log.{LogState, work_in, left_in}
+use Rattle.fee_laws.specs.fee_switch.declared.active.ActiveBank.{ActiveBank}
 use Rattle.fee_course.specs.Copies.{copies_left, as_cleared, as_appended}
-use Rattle.fee_switch.specs.Banks.{BanksState, index_of}
-use Rattle.fee_told.specs.Figures.{turns_owed}
+use Rattle.fee_laws.specs.fee_switch.Banks.{BanksState, index_of}
+use Rattle.fee_laws.specs.fee_told.Figures.{turns_owed}
 use Rattle.fee_laws.specs.declared.job.FeeJob.{FeeJob}
 use Rattle.fee_laws.specs.Inside.{IsActiveOf}
 use Rattle.fee_laws.specs.Record.{head_of}

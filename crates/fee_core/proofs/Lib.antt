@@ -14,3 +14,7 @@ mod Standing
 mod Started
 mod Stepping
 mod Telling
+pub use Rattle.promise_device.proofs.Readings as Readings
+pub use Rattle.memif.proofs.Turning as Turning
+pub use Rattle.fee_image.proofs.Soundness as Soundness
+pub use Rattle.promise_device.proofs.FlashRun as FlashRun

@@ -14,13 +14,13 @@ use Rattle.memif.specs.declared.answer.DeviceRefusal.{DeviceRefusal}
 use Rattle.memif.specs.declared.answer.JobResult.{JobResult}
 use Rattle.memif.specs.Told.{Figures, is_open, length_of, at_number, no_figures, most_of}
 use Rattle.fee_course.specs.Course.{most_turns}
-use Rattle.fee_told.specs.Figures.{figures_for}
+use Rattle.fee_laws.specs.fee_told.Figures.{figures_for}
 use Rattle.fee_laws.specs.Work.{pages_of_op}
 use Rattle.memif.specs.Calls.{refusal_of, length_refusal}
 use Rattle.fls_model.specs.Told.{Told}
 use Rattle.promise_device.specs.Making.{Making}
-use Rattle.fee_told.specs.Device.{told_of}
-use Rattle.fee_told.proofs.Figures.{length_few}
+use Rattle.fee_laws.specs.fee_told.Device.{told_of}
+use Rattle.fee_laws.proofs.ToldFigures.{length_few}
 use Rattle.fee_laws.specs.declared.job.FeeJob.{FeeJob}
 use Rattle.fee_laws.specs.Inside.{Parts, device_of, stand_of, mark_of, IsSound}
 use Rattle.fee_core.specs.Whole.{Whole, Sound, told_in}

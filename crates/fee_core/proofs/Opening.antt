@@ -5,8 +5,8 @@ use Rattle.nv_base.specs.declared.job.DeviceOp.TheVariants.{Write}
 use Rattle.nv_base.specs.declared.mark.Mark.{Mark}
 use Rattle.memif.specs.Calls.{Opens, ClockStays}
 use Rattle.fls_model.specs.Told.{Told}
-use Rattle.fee_log.specs.Log.{IsLogState}
-use Rattle.fee_switch.specs.Banks.{IsBanksState}
+use Rattle.fee_laws.specs.fee_log.Log.{IsLogState}
+use Rattle.fee_laws.specs.fee_switch.Banks.{IsBanksState}
 use Rattle.promise_device.specs.Making.{Making}
 use Rattle.fee_laws.specs.declared.job.FeeJob.{FeeJob}
 use Rattle.fee_laws.specs.Inside.{Parts, mark_of}

@@ -18,8 +18,8 @@ use Rattle.fls_jobs.specs.CallOf.{closed_as}
 use Rattle.fee_image.specs.declared.place.Place.{Place}
 use Rattle.fee_image.specs.declared.place.Place.TheVariants.{Content}
 use Rattle.fee_image.specs.Places.{IsWithin}
-use Rattle.fee_log.specs.Index.{place_in}
-use Rattle.fee_log.specs.Log.{LogState}
+use Rattle.fee_laws.specs.fee_log.Index.{place_in}
+use Rattle.fee_laws.specs.fee_log.Log.{LogState}
 use Rattle.promise_device.specs.Making.{Making}
 use Rattle.fee_laws.specs.declared.job.FeeJob.{FeeJob}
 use Rattle.fee_laws.specs.Inside.{Parts}

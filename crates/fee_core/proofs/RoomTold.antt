@@ -4,16 +4,16 @@ use Rattle.std.proofs.Common.{◌≡◌, ◌≤◌, ◌+◌, Bool, true, false, 
 use Rattle.memif.specs.Told.{Fixed, Stand, Open, Ended, is_open}
 use Rattle.memif.specs.Calls.{FreesReady, RoomIsLeft, job_first, pages_needed, pages_open, pages_urgent}
 use Rattle.fls_model.specs.Told.{Told, ToldBytes}
-use Rattle.fee_log.specs.Log.{IsLogState}
+use Rattle.fee_laws.specs.fee_log.Log.{IsLogState}
 use Rattle.fee_course.specs.declared.course.Course.{Course}
 use Rattle.fee_course.specs.declared.course.Course.TheVariants.{Erase, Copy, Head, Gate}
-use Rattle.fee_switch.specs.Banks.{BanksState, IsBanksState}
-use Rattle.fee_switch_laws.specs.Shown.{phase_shown}
+use Rattle.fee_laws.specs.fee_switch.Banks.{BanksState, IsBanksState}
+use Rattle.fee_laws.specs.fee_switch_laws.Shown.{phase_shown}
 use Rattle.promise_device.specs.Making.{Making}
 use Rattle.promise_device.specs.Bridge.{free_pages}
 use Rattle.promise_device.specs.Room.{TellsWorkOver}
-use Rattle.fls_told.proofs.Clocks.{free_now}
-use Rattle.fee_told.specs.Device.{told_of, flash_device, is_switching}
+use Rattle.fee_laws.proofs.Clocks.{free_now}
+use Rattle.fee_laws.specs.fee_told.Device.{told_of, flash_device, is_switching}
 use Rattle.fee_laws.specs.Inside.{device_of, IsSound}
 use Rattle.fee_laws.specs.SwitchTold.{TellsSwitchOver}
 use Rattle.fee_laws.proofs.FollowFree.{room_is_enough}

@@ -14,14 +14,14 @@ use Rattle.fee_image.specs.declared.place.Place.{Place}
 use Rattle.fee_image.specs.declared.place.Place.TheVariants.{Content, Invalid, Erased, Unwritten}
 use Rattle.fee_image.specs.Places.{held_at}
 use Rattle.fee_image.specs.Doubts.{shown_of}
-use Rattle.fee_switch.specs.declared.active.ActiveBank.{ActiveBank}
-use Rattle.fee_log.specs.Index.{at_index, or_else, place_in}
+use Rattle.fee_laws.specs.fee_switch.declared.active.ActiveBank.{ActiveBank}
+use Rattle.fee_laws.specs.fee_log.Index.{at_index, or_else, place_in}
 use Rattle.promise_device.specs.Making.{Making, banks_of}
-use Rattle.fee_told.specs.Slots.{slots_held, slots_found, held_all, settled_in, job_leaves}
-use Rattle.fee_told.specs.Device.{tells_now, slots_told}
+use Rattle.fee_laws.specs.fee_told.Slots.{slots_held, slots_found, held_all, settled_in, job_leaves}
+use Rattle.fee_laws.specs.fee_told.Device.{tells_now, slots_told}
 use Rattle.fls_model.specs.Told.{bytes_now}
-use Rattle.fee_switch_laws.specs.Shown.{old_shown}
-use Rattle.fee_log.specs.Log.{LogState, work_in}
+use Rattle.fee_laws.specs.fee_switch_laws.Shown.{old_shown}
+use Rattle.fee_laws.specs.fee_log.Log.{LogState, work_in}
 use Rattle.fee_laws.specs.Inside.{Parts, device_of, memory_of, body_of}
 use Rattle.fee_laws.proofs.Marks.{none_at, settled_of}
 use Rattle.fee_core.specs.Whole.{Whole, Sound}

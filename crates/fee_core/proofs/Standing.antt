@@ -12,13 +12,13 @@ use Rattle.fee_format.specs.declared.rec_head.RecordKind.{RecordKind}
 use Rattle.fee_image.specs.declared.place.Place.{Place}
 use Rattle.fee_image.specs.declared.place.Place.TheVariants.{Unwritten}
 use Rattle.fee_image.specs.Places.{count_at}
-use Rattle.fee_log.specs.Index.{at_index, or_else, AreCounted}
-use Rattle.fee_log.specs.Log.{LogState, IsLogState, work_in}
+use Rattle.fee_laws.specs.fee_log.Index.{at_index, or_else, AreCounted}
+use Rattle.fee_laws.specs.fee_log.Log.{LogState, IsLogState, work_in}
 use Rattle.fee_course.specs.declared.course.Course.{Course}
-use Rattle.fee_switch.specs.declared.phase.Phase.TheVariants as phase
-use Rattle.fee_switch.specs.Banks.{BanksState, IsBanksState, phase_of}
+use Rattle.fee_laws.specs.fee_switch.declared.phase.Phase.TheVariants as phase
+use Rattle.fee_laws.specs.fee_switch.Banks.{BanksState, IsBanksState, phase_of}
 use Rattle.promise_device.specs.Making.{Making}
-use Rattle.fee_told.proofs.Figures.{length_few as few_at}
+use Rattle.fee_laws.proofs.ToldFigures.{length_few as few_at}
 use Rattle.fee_laws.specs.declared.job.FeeJob.{FeeJob}
 use Rattle.fee_laws.specs.Inside.{Parts, IsSound}
 use Rattle.fee_laws.specs.Record.{IsJobOf, IsLengthOf, head_of}

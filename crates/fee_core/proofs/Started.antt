@@ -14,15 +14,15 @@ use Rattle.nv_base.specs.declared.geometry.Geometry.{Geometry}
 use Rattle.fee_image.specs.Image.{layout_of, bank_in}
 use Rattle.fee_image.specs.RecordList.{IsClosed, end_of}
 use Rattle.fls_jobs.specs.State.{FlsState}
-use Rattle.fee_log.specs.Index.{clear_flags}
-use Rattle.fee_log.specs.Log.{LogState, erased_state, work_in, is_closed}
-use Rattle.fee_switch.specs.declared.active.ActiveBank.{ActiveBank}
-use Rattle.fee_switch.specs.Banks.{BanksState, IsBanksState, IsSameFlash, FindsActive, LoadsActive}
+use Rattle.fee_laws.specs.fee_log.Index.{clear_flags}
+use Rattle.fee_laws.specs.fee_log.Log.{LogState, erased_state, work_in, is_closed}
+use Rattle.fee_laws.specs.fee_switch.declared.active.ActiveBank.{ActiveBank}
+use Rattle.fee_laws.specs.fee_switch.Banks.{BanksState, IsBanksState, IsSameFlash, FindsActive, LoadsActive}
 use Rattle.promise_device.specs.Making.{Making}
-use Rattle.fee_told.specs.Device.{told_of, clock_of}
+use Rattle.fee_laws.specs.fee_told.Device.{told_of, clock_of}
 use Rattle.fee_laws.specs.Inside.{Parts, device_of, IsSound, IsActiveOf}
-use Rattle.fee_switch.specs.Start.{IsLoadedAs}
-use Rattle.fee_switch_laws.specs.Shown.{layout_in}
+use Rattle.fee_laws.specs.fee_switch.Start.{IsLoadedAs}
+use Rattle.fee_laws.specs.fee_switch_laws.Shown.{layout_in}
 use Rattle.fee_laws.specs.Follows.{Follows}
 use Rattle.fee_laws.specs.Wears.{Wears}
 use Rattle.fee_laws.specs.Restarts.{may_come, Restarts}

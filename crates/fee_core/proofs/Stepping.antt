@@ -18,16 +18,16 @@ use Rattle.fls_jobs.specs.State.{FlsState, IsDriverState}
 use Rattle.fee_format.specs.declared.rec_head.RecHead.{RecHead}
 use Rattle.fee_image.specs.declared.place.Place.{Place}
 use Rattle.fee_image.specs.declared.place.Place.TheVariants as place
-use Rattle.fee_log.specs.Log.{IsLogState, work_in, begun}
-use Rattle.fee_log.specs.Step.{op_of}
+use Rattle.fee_laws.specs.fee_log.Log.{IsLogState, work_in, begun}
+use Rattle.fee_laws.specs.fee_log.Step.{op_of}
 use Rattle.fee_course.specs.declared.course.Course.{Course}
 use Rattle.fee_course.specs.declared.course.Course.TheVariants.{Erase, Copy, Head, Gate}
-use Rattle.fee_switch.specs.Banks.{BanksState, is_worn_out, reads_next, after_answer}
-use Rattle.fee_switch.specs.Copy.{CanGoOn, BeginsAt, head_at, MakesNext, IsBankStep}
-use Rattle.fee_switch_laws.proofs.RoomReady.{steps_may_be_made}
+use Rattle.fee_laws.specs.fee_switch.Banks.{BanksState, is_worn_out, reads_next, after_answer}
+use Rattle.fee_laws.specs.fee_switch.Copy.{CanGoOn, BeginsAt, head_at, MakesNext, IsBankStep}
+use Rattle.fee_laws.proofs.RoomReady.{steps_may_be_made}
 use Rattle.promise_device.specs.Making.{Making}
-use Rattle.fls_told.specs.Clock.{change_of}
-use Rattle.fls_told.specs.Runs.{counts_fault}
+use Rattle.fee_laws.specs.fls_told.Clock.{change_of}
+use Rattle.fee_laws.specs.fls_told.Runs.{counts_fault}
 use Rattle.fee_laws.specs.Inside.{Parts, HasSwitch}
 use Rattle.fee_laws.specs.Turn.{IsOn, IsCounted, Turned, operated}
 use Rattle.fee_laws.specs.Switches.{IsBehind, IsStepping, IsWithin, step_op, failed_with}

@@ -7,8 +7,8 @@ use Rattle.memif.specs.declared.answer.StartFault.{StartFault}
 use Rattle.memif.specs.Told.{DeviceTold, Part, First, Second, Job, Stand, Open, Ended, no_figures, at_number}
 use Rattle.memif.specs.Clock.{SameClock, FindsNow, Ticks}
 use Rattle.memif.specs.Calls.{InOrder, ClockStays, StartsUp, MayFail, JobTurns, Works, TurnsAs, Turns}
-use Rattle.fee_told.specs.Device.{Device, clock_of}
-use Rattle.fee_told.specs.Figures.{figures_for}
+use Rattle.fee_laws.specs.fee_told.Device.{Device, clock_of}
+use Rattle.fee_laws.specs.fee_told.Figures.{figures_for}
 use Rattle.fee_core.specs.Tells.{told_clock}
 
 -- WHAT STAYS

@@ -7,7 +7,7 @@ use Rattle.promise_device.specs.Reading.{Reading}
 use Rattle.promise_device.specs.Bridge.{reading_of}
 use Rattle.promise_device.specs.Wear.{OperationsAreDue}
 use Rattle.promise_device.proofs.Readings.{sound_starts_compute}
-use Rattle.fls_told.specs.Device.{is_told_sound}
+use Rattle.fee_laws.specs.fls_told.Device.{is_told_sound}
 use Rattle.fee_laws.specs.Wears.{Wears}
 
 told_by : (r : Reading) (o : Option (List ℕ)) (first : List ℕ) → o ≡ Some first → IfSome o (λ image. IsTrue (r.is_sound image)) → IsTrue (is_told_sound r o)

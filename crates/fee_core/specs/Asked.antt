@@ -5,10 +5,10 @@ use Rattle.fls_model.specs.Op.{Op}
 use Rattle.fls_model.specs.Told.{Change, bytes_now}
 use Rattle.fls_jobs.specs.State.{FlsState}
 use Rattle.fee_format.specs.declared.rec_head.RecHead.{RecHead}
-use Rattle.fee_log.specs.Log.{work_in}
-use Rattle.fee_log.specs.Step.{op_of}
+use Rattle.fee_laws.specs.fee_log.Log.{work_in}
+use Rattle.fee_laws.specs.fee_log.Step.{op_of}
 use Rattle.fee_course.specs.declared.course.Course.{Course}
-use Rattle.fee_switch.specs.Banks.{BanksState}
+use Rattle.fee_laws.specs.fee_switch.Banks.{BanksState}
 use Rattle.fee_laws.specs.Switches.{nothing, step_op}
 
 -- of an open switch; without one none

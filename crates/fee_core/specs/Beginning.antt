@@ -1,7 +1,7 @@
 -- What the turn of a job that waits begins with.
 use Rattle.std.specs.Prelude.{ℕ, Bool, Option, Some, None}
 use Rattle.fee_course.specs.declared.course.Course.{Course}
-use Rattle.fee_switch.specs.Banks.{BanksState}
+use Rattle.fee_laws.specs.fee_switch.Banks.{BanksState}
 use Rattle.fee_laws.specs.declared.job.FeeJob.{FeeJob}
 use Rattle.fee_laws.specs.Work.{begins_next, fits_in}
 

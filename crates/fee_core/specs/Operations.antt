@@ -5,10 +5,10 @@ use Rattle.fls_model.specs.Step.{IsStep}
 use Rattle.fls_model.specs.Told.{Change}
 use Rattle.fls_jobs.specs.CallOf.{closed_as}
 use Rattle.fls_jobs.specs.State.{FlsState}
-use Rattle.fee_log.specs.Step.{IsPageOf, due_bytes, op_of, after_step}
-use Rattle.fee_switch.specs.Banks.{BanksState}
-use Rattle.fee_switch.specs.Copy.{IsBankStep}
-use Rattle.fls_told.specs.Clock.{change_of}
+use Rattle.fee_laws.specs.fee_log.Step.{IsPageOf, due_bytes, op_of, after_step}
+use Rattle.fee_laws.specs.fee_switch.Banks.{BanksState}
+use Rattle.fee_laws.specs.fee_switch.Copy.{IsBankStep}
+use Rattle.fee_laws.specs.fls_told.Clock.{change_of}
 use Rattle.fee_core.specs.Asked.{switch_op_of}
 
 -- the next page of the record in work, whose content has these bytes, was asked for, and this was answered

@@ -2,8 +2,8 @@
 use Rattle.std.specs.Prelude.{◌<◌}
 use Rattle.nv_base.specs.Count.{last_count}
 use Rattle.memif.specs.Clock.{Clock}
-use Rattle.fls_told.specs.Clock.{off_in_of}
-use Rattle.fee_told.specs.Device.{Device, flash_device, clock_of}
+use Rattle.fee_laws.specs.fls_told.Clock.{off_in_of}
+use Rattle.fee_laws.specs.fee_told.Device.{Device, flash_device, clock_of}
 
 -- That of the operations of its flash. An operation past the end of the count tells no moment: of none there it says that the
 -- power went off in it.

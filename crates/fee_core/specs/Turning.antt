@@ -2,7 +2,7 @@
 use Rattle.std.specs.Prelude.{◌≡◌, ◌≢◌, true, false, Some, None}
 use Rattle.nv_base.specs.declared.job.DeviceOp.TheVariants.{Read}
 use Rattle.fls_model.specs.Told.{Told}
-use Rattle.fee_log.specs.Log.{work_in}
+use Rattle.fee_laws.specs.fee_log.Log.{work_in}
 use Rattle.promise_device.specs.Making.{Making}
 use Rattle.fee_laws.specs.declared.job.FeeJob.{FeeJob}
 use Rattle.fee_core.specs.Whole.{Whole, Sound}

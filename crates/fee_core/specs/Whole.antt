@@ -8,10 +8,10 @@ use Rattle.memif.specs.Calls.{Turns}
 use Rattle.memif.specs.declared.answer.JobResult.TheVariants.{JobOk}
 use Rattle.fls_model.specs.Told.{Told}
 use Rattle.fls_jobs.specs.State.{FlsState}
-use Rattle.fee_switch.specs.Banks.{BanksState}
+use Rattle.fee_laws.specs.fee_switch.Banks.{BanksState}
 use Rattle.promise_device.specs.Making.{Making}
-use Rattle.fee_told.specs.Device.{told_of, clock_of}
-use Rattle.fee_told.specs.Turns.{TakesTurn}
+use Rattle.fee_laws.specs.fee_told.Device.{told_of, clock_of}
+use Rattle.fee_laws.specs.fee_told.Turns.{TakesTurn}
 use Rattle.fee_laws.specs.Inside.{Parts, device_of, IsSound}
 use Rattle.fee_laws.specs.Follows.{Follows}
 use Rattle.fee_laws.specs.Wears.{Wears}

@@ -1,7 +1,7 @@
 // The turns of the open job's record.
 ghost use Rattle.std.specs.Prelude.{◌≡◌, ◌≢◌, true, Some, IsSome};
 ghost use Rattle.nv_base.specs.declared.job.DeviceOp.TheVariants.{Read};
-ghost use Rattle.fee_log.specs.Log.{work_in};
+ghost use Rattle.fee_laws.specs.fee_log.Log.{work_in};
 ghost use Rattle.fee_laws.specs.Record.{kind_of};
 ghost use Rattle.fee_core.specs.Beginning.{begins_now};
 ghost use Rattle.fee_core.specs.Turning.{IsUp, Waits};
@@ -11,8 +11,7 @@ use crate::Origin;
 use crate::operations::program_record;
 use crate::parts::FeeParts;
 use fee_format::RecordKind;
-use fee_laws::FeeJob;
-use fee_log::LogStep;
+use fee_laws::{FeeJob, LogStep};
 use fls_model::Flash;
 use memif::{DeviceTurn, JobResult};
 use nv_base::DeviceOp;

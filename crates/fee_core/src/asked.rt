@@ -2,7 +2,7 @@
 ghost use Rattle.std.specs.Prelude.{◌≡◌};
 
 use crate::content::Content;
-use fee_switch::Banks;
+use fee_laws::Banks;
 use fls_jobs::Fls;
 use fls_model::{Flash, FlashAnswer};
 use nv_base::Trace;

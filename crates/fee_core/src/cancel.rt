@@ -2,7 +2,7 @@
 ghost use Rattle.std.specs.Prelude.{◌≡◌, false, true, is_some};
 ghost use Rattle.memif.specs.Told.{is_urgent};
 ghost use Rattle.memif.specs.Calls.{Cancels};
-ghost use Rattle.fee_log.specs.Log.{work_in};
+ghost use Rattle.fee_laws.specs.fee_log.Log.{work_in};
 ghost use Rattle.fee_laws.specs.Inside.{IsActiveOf};
 ghost use Rattle.fee_laws.specs.Parts.{without_work};
 ghost use Rattle.fee_core.specs.Whole.{Sound, told_in, clock_in};
@@ -10,7 +10,7 @@ ghost use Rattle.fee_core.specs.Whole.{Sound, told_in, clock_in};
 use crate::Origin;
 use crate::parts::FeeParts;
 use crate::room::is_appending;
-use fee_switch::Banks;
+use fee_laws::Banks;
 use fls_model::Flash;
 use memif::JobResult;
 

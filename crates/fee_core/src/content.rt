@@ -6,7 +6,7 @@ ghost use Rattle.fls_model.specs.Read.{IsRead};
 ghost use Rattle.fls_jobs.specs.CallOf.{closed_as};
 ghost use Rattle.fls_jobs.specs.Start.{IsIdle};
 
-use fee_log::Log;
+use fee_laws::Log;
 use fls_jobs::Fls;
 use fls_model::{Flash, FlashAnswer};
 use std::alloc::{AllocError, Global};

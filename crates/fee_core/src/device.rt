@@ -6,8 +6,8 @@ use nv_base::{DeviceNumber, DeviceOp};
 
 impl<F: Flash, O: Origin> MemDevice for Fee<F, O> {
     ghost use Rattle.memif.specs.Calls.{Turns};
-    ghost use Rattle.fee_told.specs.Device.{told_of};
-    ghost use Rattle.fee_told.specs.Turns.{TakesTurn};
+    ghost use Rattle.fee_laws.specs.fee_told.Device.{told_of};
+    ghost use Rattle.fee_laws.specs.fee_told.Turns.{TakesTurn};
     ghost use Rattle.fee_core.specs.Tells.{told_clock};
 
     ghost told = { told_of };

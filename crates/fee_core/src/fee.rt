@@ -1,13 +1,13 @@
 // The device.
 ghost use Rattle.std.specs.Prelude.{◌≡◌, IfOk, length};
 ghost use Rattle.nv_base.specs.Geometry.{IsLegal, HasBanks};
-ghost use Rattle.fee_switch.specs.Banks.{IsMade};
+ghost use Rattle.fee_laws.specs.fee_switch.Banks.{IsMade};
 ghost use Rattle.fee_core.specs.Whole.{unstarted};
 
 use crate::Origin;
 use crate::content::Content;
 use crate::parts::FeeParts;
-use fee_switch::Banks;
+use fee_laws::Banks;
 use fls_jobs::Fls;
 use fls_model::{AttachFault, Flash};
 use memif::JobResult;
@@ -23,7 +23,7 @@ pub struct Fee<F: Flash, O: Origin> {
 }
 
 impl<F: Flash, O: Origin> Model for Fee<F, O> {
-    ghost use Rattle.fee_told.specs.Device.{Device};
+    ghost use Rattle.fee_laws.specs.fee_told.Device.{Device};
     ghost use Rattle.fee_laws.specs.Inside.{device_of};
     ghost use Rattle.fee_core.specs.Whole.{Sound};
 
@@ -91,12 +91,12 @@ impl<F: Flash, O: Origin> Fee<F, O> {
     ghost use Rattle.promise_device.specs.Room.{TellsWorkOver};
     ghost use Rattle.promise_device.specs.Wear.{OperationsAreDue};
     ghost use Rattle.promise_device.specs.SwitchErases.{RestartsAreFew};
-    ghost use Rattle.fee_switch_laws.specs.Space.{HasSpace};
+    ghost use Rattle.fee_laws.specs.fee_switch_laws.Space.{HasSpace};
     ghost use Rattle.fee_laws.specs.Made.{IsMadeOf, part_at};
     ghost use Rattle.fee_laws.specs.SwitchTold.{TellsSwitchOver};
     ghost use Rattle.memif.specs.Told.{First, figures_at};
-    ghost use Rattle.fee_told.specs.Figures.{fixed_for};
-    ghost use Rattle.fee_told.specs.Device.{told_of, clock_of};
+    ghost use Rattle.fee_laws.specs.fee_told.Figures.{fixed_for};
+    ghost use Rattle.fee_laws.specs.fee_told.Device.{told_of, clock_of};
 
     /// Attaches the flash and takes all memory that the device ever needs; a refusal hands the flash back. The device is of
     /// what was picked, and isn't started. `banks` is how many share the sectors, `reserve` the pages that are kept for urgent

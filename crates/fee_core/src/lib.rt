@@ -23,14 +23,13 @@ mod switches;
 mod turns;
 
 pub use fee::Fee;
-pub use fee_course;
-pub use fee_image;
-pub use fee_laws;
-pub use fee_switch_laws;
-pub use fee_told;
-pub use fls_model;
-pub use fls_told;
-pub use memif;
-pub use nv_base;
+pub use fls_model::{AttachFault, Flash, FlashAnswer, MemFlash, mem_flash};
+pub use memif::{
+    DeviceCall, DeviceRefusal, DeviceStep, DeviceTurn, JobResult, MemDevice, MemIf, PlainMark,
+    PlainStore, Rest, erase, make_turns, run_calls, start_up,
+};
+pub use nv_base::{
+    Bytes, DeviceNumber, Entry, Geometry, History, Lengths, Refusal, Reply, ReqResult, Request,
+    bytes_of, lengths_of, refusal_number, result_code,
+};
 pub use origin::Origin;
-pub use promise_device;

@@ -2,16 +2,15 @@
 ghost use Rattle.std.specs.Prelude.{◌≡◌, ◌≤◌, true, false, None, is_some, IsSome, IfSome, take};
 ghost use Rattle.std.specs.Option.{ForSome};
 ghost use Rattle.fls_jobs.specs.Start.{IsIdle};
-ghost use Rattle.fee_log.specs.Log.{work_in};
-ghost use Rattle.fee_log.specs.Step.{IsStepAt, answer_of};
-ghost use Rattle.fee_switch.specs.Banks.{is_worn_out};
-ghost use Rattle.fee_switch.specs.Copy.{CanGoOn};
+ghost use Rattle.fee_laws.specs.fee_log.Log.{work_in};
+ghost use Rattle.fee_laws.specs.fee_log.Step.{IsStepAt, answer_of};
+ghost use Rattle.fee_laws.specs.fee_switch.Banks.{is_worn_out};
+ghost use Rattle.fee_laws.specs.fee_switch.Copy.{CanGoOn};
 ghost use Rattle.fee_core.specs.Operations.{ChangesTarget, IsProgrammed};
 
 use crate::asked::Asked;
 use crate::content::Content;
-use fee_log::LogStep;
-use fee_switch::Banks;
+use fee_laws::{Banks, LogStep};
 use fls_jobs::Fls;
 use fls_model::{Flash, FlashAnswer};
 use nv_base::Trace;

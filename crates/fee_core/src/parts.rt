@@ -2,8 +2,7 @@
 use crate::Origin;
 use crate::asked::Asked;
 use crate::content::Content;
-use fee_laws::FeeJob;
-use fee_switch::Banks;
+use fee_laws::{Banks, FeeJob};
 use fls_jobs::Fls;
 use fls_model::Flash;
 use memif::JobResult;

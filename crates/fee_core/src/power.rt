@@ -5,7 +5,7 @@ ghost use Rattle.fee_core.specs.Whole.{Sound, told_in, clock_in};
 
 use crate::Origin;
 use crate::parts::FeeParts;
-use fee_switch::BankStart;
+use fee_laws::BankStart;
 use fls_model::Flash;
 use memif::{JobResult, StartFault};
 

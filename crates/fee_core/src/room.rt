@@ -1,12 +1,12 @@
 // The room of records.
 ghost use Rattle.std.specs.Prelude.{◌≡◌, ◌≤◌, ◌+◌, nat_le, is_some, Some, None, IfSome};
 ghost use Rattle.nv_base.specs.Pages.{record_pages_of};
-ghost use Rattle.fee_log.specs.Index.{clear_flags};
-ghost use Rattle.fee_log.specs.Log.{work_in};
-ghost use Rattle.fee_told.specs.Figures.{ready_of, turns_owed};
+ghost use Rattle.fee_laws.specs.fee_log.Index.{clear_flags};
+ghost use Rattle.fee_laws.specs.fee_log.Log.{work_in};
+ghost use Rattle.fee_laws.specs.fee_told.Figures.{ready_of, turns_owed};
 ghost use Rattle.fee_course.specs.declared.course.Course.TheVariants.{Erase};
-ghost use Rattle.fee_switch.specs.Banks.{begun_again, left_of};
-ghost use Rattle.fee_switch_laws.specs.Space.{free_pages};
+ghost use Rattle.fee_laws.specs.fee_switch.Banks.{begun_again, left_of};
+ghost use Rattle.fee_laws.specs.fee_switch_laws.Space.{free_pages};
 ghost use Rattle.fee_laws.specs.Inside.{IsActiveOf};
 ghost use Rattle.fee_laws.specs.Record.{head_of};
 ghost use Rattle.fee_laws.specs.Work.{pages_of_op, fits_in, begins_next, turns_beside, switch_turns, is_waiting, takes_append, seal_turns, pages_left, is_owed};
@@ -14,8 +14,7 @@ ghost use Rattle.fee_core.specs.Beginning.{begins_now};
 
 use fee_course::Course;
 use fee_format::pages_of;
-use fee_laws::FeeJob;
-use fee_switch::{Banks, Phase};
+use fee_laws::{Banks, FeeJob, Phase};
 use nv_base::DeviceOp;
 
 /// The pages of an operation's record, none of a read.

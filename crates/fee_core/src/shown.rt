@@ -9,7 +9,7 @@ use crate::parts::FeeParts;
 use crate::room::{pages_of_op, record_turns, switch_turns};
 use fee_course::most_turns;
 use fee_image::Place;
-use fee_switch::Phase;
+use fee_laws::Phase;
 use fls_model::Flash;
 use memif::{JobResult, MemStatus, PlainMark};
 use nv_base::{DeviceNumber, DeviceOp};

@@ -1,8 +1,8 @@
 // The turns of a switch.
 ghost use Rattle.std.specs.Prelude.{◌≡◌, ◌⊎◌, true, false, is_some, None, IfSome, IsSome};
 ghost use Rattle.nv_base.specs.Count.{next_count};
-ghost use Rattle.fee_log.specs.Log.{work_in};
-ghost use Rattle.fee_switch.specs.Banks.{is_worn_out, reads_next};
+ghost use Rattle.fee_laws.specs.fee_log.Log.{work_in};
+ghost use Rattle.fee_laws.specs.fee_switch.Banks.{is_worn_out, reads_next};
 ghost use Rattle.fee_laws.specs.Work.{fits_in};
 ghost use Rattle.fee_laws.specs.Switches.{IsBehind, failed_with};
 ghost use Rattle.fee_core.specs.Turning.{IsUp, Waits};
@@ -11,8 +11,7 @@ ghost use Rattle.fee_core.specs.Whole.{TurnedTo};
 use crate::Origin;
 use crate::operations::change_target;
 use crate::parts::FeeParts;
-use fee_laws::FeeJob;
-use fee_switch::BankBegin;
+use fee_laws::{BankBegin, FeeJob};
 use fls_model::{Flash, FlashAnswer};
 use memif::{DeviceTurn, JobResult};
 

@@ -11,13 +11,13 @@ use Rattle.memif.specs.declared.answer.JobResult.{JobResult}
 use Rattle.memif.specs.Told.{Ended}
 use Rattle.fee_image.specs.RecordList.{pages_of_head}
 use Rattle.fee_format.specs.declared.rec_head.RecHead.{RecHead}
-use Rattle.fee_log.specs.declared.tail.Tail.{Tail}
-use Rattle.fee_log.specs.declared.tail.Tail.TheVariants.{Open, Writes, Owes, Closed}
-use Rattle.fee_log.specs.Log.{work_in}
+use Rattle.fee_switch_laws.specs.fee_log.declared.tail.Tail.{Tail}
+use Rattle.fee_switch_laws.specs.fee_log.declared.tail.Tail.TheVariants.{Open, Writes, Owes, Closed}
+use Rattle.fee_switch_laws.specs.fee_log.Log.{work_in}
 use Rattle.fee_course.specs.declared.course.Course.{Course}
 use Rattle.fee_course.specs.Course.{most_turns}
 use Rattle.fee_course.proofs.Turns.{turns_are_few}
-use Rattle.fee_switch.specs.Banks.{BanksState, index_of, left_of, left_with}
+use Rattle.fee_switch_laws.specs.fee_switch.Banks.{BanksState, index_of, left_of, left_with}
 use Rattle.fee_switch_laws.specs.KeepsRoom.{IsRoomy}
 use Rattle.promise_device.specs.Making.{Making}
 use Rattle.fee_told.specs.Figures.{Work, FitsMark}
@@ -26,7 +26,7 @@ use Rattle.fee_laws.specs.declared.job.FeeJob.{FeeJob}
 use Rattle.fee_laws.specs.Inside.{Parts, mark_of, stand_of, IsActiveOf, IsAtWork, HasSwitch}
 use Rattle.fee_laws.specs.Record.{IsInWork, IsJobOf, IsLengthOf, IsReady}
 use Rattle.fee_laws.specs.Work.{work_of, pages_of_op, pages_left, switch_turns}
-use Rattle.fee_log.specs.Index.{clear_flags}
+use Rattle.fee_switch_laws.specs.fee_log.Index.{clear_flags}
 
 -- THE SWITCH
 -- it is under way where the banks keep room

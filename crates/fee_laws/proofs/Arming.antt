@@ -6,10 +6,10 @@ use Rattle.nv_base.specs.Plan.{Planning, planned}
 use Rattle.memif.specs.Calls.{ClockStays}
 use Rattle.fls_model.specs.Told.{Told, armed}
 use Rattle.promise_device.specs.Making.{Making}
-use Rattle.fls_told.specs.Clock.{MakesNone}
-use Rattle.fls_told.specs.Runs.{CountsCuts}
-use Rattle.fls_told.proofs.Clocks.{clocks_stay}
-use Rattle.fls_told.proofs.Making.{runs_stay}
+use Rattle.fee_told.specs.fls_told.Clock.{MakesNone}
+use Rattle.fee_told.specs.fls_told.Runs.{CountsCuts}
+use Rattle.fee_told.proofs.Clocks.{clocks_stay}
+use Rattle.fee_told.proofs.Making.{runs_stay}
 use Rattle.fee_told.specs.Device.{Device, told_of, clock_of, flash_device}
 use Rattle.nv_base.specs.declared.instance.DeviceNumber.{DeviceNumber}
 use Rattle.fee_laws.specs.Inside.{Parts, device_of, IsDevice, IsSound, ShowsCopies}

@@ -12,7 +12,7 @@ use Rattle.fee_image.specs.Image.{Layout, IsLegalLayout}
 use Rattle.fee_image.specs.Sound.{IsSoundImage}
 use Rattle.fee_image.specs.May.{May}
 use Rattle.fee_image.proofs.Sectors.{layouts_are_legal}
-use Rattle.fls_told.proofs.Clocks.{held_now}
+use Rattle.fee_told.proofs.Clocks.{held_now}
 use Rattle.promise_device.specs.Making.{Making, banks_of}
 use Rattle.promise_device.specs.Bridge.{reading_of}
 use Rattle.promise_device.proofs.Readings.{sound_flashes_compute}

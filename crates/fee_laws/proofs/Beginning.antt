@@ -16,15 +16,15 @@ use Rattle.fee_image.specs.May.{May}
 use Rattle.fee_image.specs.Step.{log_begun, IsRecord}
 use Rattle.fee_image.specs.Banks.{Old, OldBank, Phase, Idle, Erasing, Copying, Sealing}
 use Rattle.fee_image.specs.BankLaws.{TakesAppends}
-use Rattle.fee_log.specs.declared.tail.Tail.{Tail}
-use Rattle.fee_log.specs.declared.tail.Tail.TheVariants.{Open, Writes, Owes, Closed}
-use Rattle.fee_log.specs.Index.{clear_flags, with_flag}
-use Rattle.fee_log.specs.Log.{HasFormat, pages_in, work_in, free_in, free_behind, log_of, tail_begun, tail_with}
+use Rattle.fee_switch_laws.specs.fee_log.declared.tail.Tail.{Tail}
+use Rattle.fee_switch_laws.specs.fee_log.declared.tail.Tail.TheVariants.{Open, Writes, Owes, Closed}
+use Rattle.fee_switch_laws.specs.fee_log.Index.{clear_flags, with_flag}
+use Rattle.fee_switch_laws.specs.fee_log.Log.{HasFormat, pages_in, work_in, free_in, free_behind, log_of, tail_begun, tail_with}
 use Rattle.nv_base.specs.Lengths.{place_of}
-use Rattle.fee_switch.specs.declared.active.ActiveBank.{ActiveBank}
+use Rattle.fee_switch_laws.specs.fee_switch.declared.active.ActiveBank.{ActiveBank}
 use Rattle.fee_course.specs.declared.course.Course.{Course}
 use Rattle.fee_course.specs.declared.course.Course.TheVariants as course
-use Rattle.fee_switch.specs.Banks.{TakesRecord, appended_at, begun_again, left_of, left_with, left_beside}
+use Rattle.fee_switch_laws.specs.fee_switch.Banks.{TakesRecord, appended_at, begun_again, left_of, left_with, left_beside}
 use Rattle.fee_switch_laws.specs.Shown.{old_shown}
 use Rattle.fee_switch_laws.specs.KeepsRoom.{KeepsRoom}
 use Rattle.fee_switch_laws.specs.Space.{free_pages, has_room}
@@ -35,7 +35,7 @@ use Rattle.fee_switch_laws.proofs.Turns.{left_begins}
 use Rattle.promise_device.specs.Making.{Making, banks_of}
 use Rattle.fee_told.specs.Slots.{Memory, IsWorkOf, slots_found}
 use Rattle.fee_told.specs.SlotLaws.{IsHeld, SamePlaces}
-use Rattle.fls_told.proofs.Clocks.{clocks_stay}
+use Rattle.fee_told.proofs.Clocks.{clocks_stay}
 use Rattle.fee_told.specs.Device.{Device, tells_now, told_of, slots_in, clock_of, flash_device, is_switching}
 use Rattle.fee_told.specs.Turns.{is_sealing}
 use Rattle.memif.specs.Clock.{SameClock}

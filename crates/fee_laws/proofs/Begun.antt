@@ -3,10 +3,10 @@ use Rattle.std.proofs.Common.{◌≡◌, ◌≤◌, ◌+◌, ◌-◌, ℕ, Bool,
 use Rattle.std.proofs.lemmas.Bool.{leb-true}
 use Rattle.fee_format.specs.declared.rec_head.RecHead.{RecHead}
 use Rattle.fee_image.specs.RecordList.{pages_of_head}
-use Rattle.fee_log.specs.declared.tail.Tail.{Tail}
-use Rattle.fee_log.specs.declared.tail.Tail.TheVariants.{Open, Writes, Owes, Closed}
-use Rattle.fee_log.specs.Log.{work_in, free_behind, tail_begun}
-use Rattle.fee_switch.specs.Banks.{appended_at}
+use Rattle.fee_switch_laws.specs.fee_log.declared.tail.Tail.{Tail}
+use Rattle.fee_switch_laws.specs.fee_log.declared.tail.Tail.TheVariants.{Open, Writes, Owes, Closed}
+use Rattle.fee_switch_laws.specs.fee_log.Log.{work_in, free_behind, tail_begun}
+use Rattle.fee_switch_laws.specs.fee_switch.Banks.{appended_at}
 use Rattle.fee_switch_laws.specs.Space.{has_room}
 use Rattle.fee_laws.specs.Work.{is_owed, pages_left}
 

@@ -7,11 +7,11 @@ use Rattle.fls_model.specs.Told.{Told}
 use Rattle.fee_format.specs.declared.rec_head.RecHead.{RecHead}
 use Rattle.fee_image.specs.Copies.{Flag, cleared, copied_of}
 use Rattle.fee_image.proofs.Copies.{clearing_widens}
-use Rattle.fee_log.specs.Index.{with_flag}
-use Rattle.fee_log.specs.Log.{work_in}
+use Rattle.fee_switch_laws.specs.fee_log.Index.{with_flag}
+use Rattle.fee_switch_laws.specs.fee_log.Log.{work_in}
 use Rattle.fee_course.specs.declared.course.Course.{Course}
 use Rattle.fee_course.specs.Course.{appended_to}
-use Rattle.fee_switch.specs.Banks.{appended_at}
+use Rattle.fee_switch_laws.specs.fee_switch.Banks.{appended_at}
 use Rattle.promise_device.specs.Making.{Making, banks_of}
 use Rattle.fee_told.specs.Slots.{settled_in}
 use Rattle.fee_told.specs.SlotLaws.{IsHeld}

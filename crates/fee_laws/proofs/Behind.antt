@@ -22,10 +22,10 @@ use Rattle.promise_device.specs.Making.{Making, banks_of}
 use Rattle.promise_device.specs.Traits.{is_such}
 use Rattle.fee_told.specs.Slots.{Memory, HasJob, slots_held, slots_found}
 use Rattle.fee_told.specs.SlotLaws.{IsHeld, SamePlaces}
-use Rattle.fls_told.specs.Device.{slot_with}
-use Rattle.fls_told.specs.Clock.{change_of}
-use Rattle.fls_told.specs.Runs.{HasRun, counts_fault}
-use Rattle.fls_told.proofs.Tells.{tells_keep}
+use Rattle.fee_told.specs.fls_told.Device.{slot_with}
+use Rattle.fee_told.specs.fls_told.Clock.{change_of}
+use Rattle.fee_told.specs.fls_told.Runs.{HasRun, counts_fault}
+use Rattle.fee_told.proofs.Tells.{tells_keep}
 use Rattle.fee_told.specs.Device.{tells, Device, told_of, clock_of, flash_device}
 use Rattle.fee_told.specs.Whole.{HoldsBanks}
 use Rattle.fee_told.proofs.Steps.{places_tell}
@@ -34,7 +34,7 @@ use Rattle.fls_jobs.specs.Start.{IsIdle}
 use Rattle.fls_jobs.specs.State.{FlsState}
 use Rattle.fee_course.specs.declared.course.Course.{Course}
 use Rattle.fee_course.specs.declared.course.Course.TheVariants as course
-use Rattle.fee_switch.specs.Banks.{BanksState, IsSameFlash}
+use Rattle.fee_switch_laws.specs.fee_switch.Banks.{BanksState, IsSameFlash}
 use Rattle.fee_switch_laws.specs.KeepsRoom.{KeepsRoom}
 use Rattle.fee_told.specs.FigureLaws.{IsWork}
 use Rattle.fee_told.proofs.Kept.{same_places}

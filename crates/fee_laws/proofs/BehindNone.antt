@@ -12,17 +12,17 @@ use Rattle.memif.specs.Calls.{PartTurns, JobTurns, IsSealing, TurnsReady, is_rea
 use Rattle.fls_model.specs.Attach.{AreBytesOf}
 use Rattle.fls_model.specs.Told.{Told, ToldBytes, Change, bytes_now}
 use Rattle.fee_image.specs.May.{May}
-use Rattle.fee_switch.specs.Banks.{IsSameFlash}
+use Rattle.fee_switch_laws.specs.fee_switch.Banks.{IsSameFlash}
 use Rattle.fee_switch_laws.specs.KeepsRoom.{KeepsRoom}
 use Rattle.promise_device.specs.Making.{Making, banks_of}
 use Rattle.promise_device.specs.Traits.{is_such}
 use Rattle.fee_told.specs.SlotLaws.{IsHeld}
-use Rattle.fls_told.specs.Device.{asked_ops, flash_part}
-use Rattle.fls_told.specs.Clock.{MakesNone}
-use Rattle.fls_told.specs.Runs.{HasRun, IsWornSince, CountsCuts as RunCounts}
-use Rattle.fls_told.proofs.Clocks.{clocks_pass, now_before}
-use Rattle.fls_told.proofs.Making.{runs_stay}
-use Rattle.fls_told.proofs.Parts.{parts_read}
+use Rattle.fee_told.specs.fls_told.Device.{asked_ops, flash_part}
+use Rattle.fee_told.specs.fls_told.Clock.{MakesNone}
+use Rattle.fee_told.specs.fls_told.Runs.{HasRun, IsWornSince, CountsCuts as RunCounts}
+use Rattle.fee_told.proofs.Clocks.{clocks_pass, now_before}
+use Rattle.fee_told.proofs.Making.{runs_stay}
+use Rattle.fee_told.proofs.Parts.{parts_read}
 use Rattle.fee_told.specs.Device.{Device, tells_now, told_of, clock_of, flash_device}
 use Rattle.fee_told.specs.FigureLaws.{IsWork}
 use Rattle.fee_told.specs.Turns.{TakesTurn}

@@ -10,12 +10,12 @@ use Rattle.fee_format.specs.declared.rec_head.RecordKind.TheVariants as kind
 use Rattle.fee_image.specs.declared.place.Place.{Place}
 use Rattle.fee_image.specs.Places.{is_written}
 use Rattle.fee_image.specs.Copies.{Flag, Each, Copies, is_done, cleared}
-use Rattle.fee_log.specs.Index.{with_flag}
-use Rattle.fee_log.specs.Log.{LogState}
+use Rattle.fee_switch_laws.specs.fee_log.Index.{with_flag}
+use Rattle.fee_switch_laws.specs.fee_log.Log.{LogState}
 use Rattle.fee_course.specs.declared.course.Course.{Course}
 use Rattle.fee_course.specs.declared.course.Course.TheVariants as course
 use Rattle.fee_course.specs.Course.{appended_to}
-use Rattle.fee_switch.specs.Banks.{BanksState, TakesRecord, appended_at}
+use Rattle.fee_switch_laws.specs.fee_switch.Banks.{BanksState, TakesRecord, appended_at}
 use Rattle.fee_switch_laws.specs.Flags.{IsOpenFor}
 use Rattle.fee_switch_laws.specs.Shown.{phase_shown}
 use Rattle.fee_laws.specs.Copied.{flags_of, IsCopyIn, IsCopying}

@@ -8,16 +8,16 @@ use Rattle.memif.specs.Clock.{Clock, SameClock, FindsNow, After, ArePossible}
 use Rattle.fls_model.specs.Told.{Told}
 use Rattle.fee_course.specs.declared.course.Course.{Course}
 use Rattle.fee_course.specs.declared.course.Course.TheVariants.{Erase, Copy, Head, Gate}
-use Rattle.fee_log.specs.declared.tail.Tail.{Tail}
-use Rattle.fee_log.specs.declared.tail.Tail.TheVariants.{Open, Writes, Owes, Closed}
-use Rattle.fee_switch.specs.Banks.{BanksState}
+use Rattle.fee_switch_laws.specs.fee_log.declared.tail.Tail.{Tail}
+use Rattle.fee_switch_laws.specs.fee_log.declared.tail.Tail.TheVariants.{Open, Writes, Owes, Closed}
+use Rattle.fee_switch_laws.specs.fee_switch.Banks.{BanksState}
 use Rattle.promise_device.specs.Making.{Making}
 use Rattle.fee_told.specs.Device.{told_of, clock_of, flash_device}
 use Rattle.fee_told.specs.Figures.{ready_of}
 use Rattle.fee_laws.specs.Inside.{Parts, device_of}
 use Rattle.fee_laws.specs.Work.{switch_turns, seal_turns, pages_free, turns_before}
-use Rattle.fls_told.proofs.Clocks.{tells_first}
-use Rattle.fls_told.specs.Clock.{ToldAlike}
+use Rattle.fee_told.proofs.Clocks.{tells_first}
+use Rattle.fee_told.specs.fls_told.Clock.{ToldAlike}
 
 -- WITHOUT OPEN WORK
 pub nothing_left : (reserve : ℕ) (banks : BanksState) (c : Option Course) → c ≡ None → switch_turns reserve banks None c ≡ 0

@@ -10,12 +10,12 @@ use Rattle.fee_format.specs.declared.rec_head.RecHead.{RecHead}
 use Rattle.fee_image.specs.declared.place.Place.{Place}
 use Rattle.fee_image.specs.Log.{Tail, Open as LogOpen, Writes, Owes, Closed}
 use Rattle.fee_image.specs.Banks.{Old, NoBank, OldBank}
-use Rattle.fee_switch.specs.Banks.{BanksState}
+use Rattle.fee_switch_laws.specs.fee_switch.Banks.{BanksState}
 use Rattle.promise_device.specs.Making.{Making, banks_of}
 use Rattle.fee_told.specs.Slots.{Memory, HasJob, IsWorkOf, slots_held, slots_found}
-use Rattle.fls_told.specs.Runs.{HasRun}
-use Rattle.fls_told.proofs.Clocks.{clocks_stay}
-use Rattle.fls_told.proofs.Making.{runs_stay}
+use Rattle.fee_told.specs.fls_told.Runs.{HasRun}
+use Rattle.fee_told.proofs.Clocks.{clocks_stay}
+use Rattle.fee_told.proofs.Making.{runs_stay}
 use Rattle.fee_told.specs.Device.{Device, tells_now, told_of, slots_told, clock_of, flash_device}
 use Rattle.fee_told.proofs.Steps.{places_tell}
 use Rattle.fee_told.proofs.Whole.{held_finds_now}

@@ -7,11 +7,11 @@ use Rattle.memif.specs.Told.{IfElse, is_open}
 use Rattle.memif.specs.Calls.{Cancels, IsCanceled}
 use Rattle.fls_model.specs.Told.{Told}
 use Rattle.fee_format.specs.declared.rec_head.RecHead.{RecHead}
-use Rattle.fee_log.specs.Log.{work_in}
-use Rattle.fee_log.specs.Step.{given_up}
-use Rattle.fee_switch.specs.Banks.{BanksState}
+use Rattle.fee_switch_laws.specs.fee_log.Log.{work_in}
+use Rattle.fee_switch_laws.specs.fee_log.Step.{given_up}
+use Rattle.fee_switch_laws.specs.fee_switch.Banks.{BanksState}
 use Rattle.promise_device.specs.Making.{Making}
-use Rattle.fls_told.proofs.Clocks.{clocks_stay}
+use Rattle.fee_told.proofs.Clocks.{clocks_stay}
 use Rattle.fee_told.specs.Device.{Device, told_of, clock_of, flash_device}
 use Rattle.fee_told.specs.SlotLaws.{SamePlaces}
 use Rattle.fee_told.proofs.Kept.{same_places}

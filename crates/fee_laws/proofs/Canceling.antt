@@ -7,17 +7,17 @@ use Rattle.memif.specs.Marks.{Keeps, KeepsAll}
 use Rattle.fls_model.specs.Told.{Told, bytes_now}
 use Rattle.fee_image.specs.declared.place.Place.{Place}
 use Rattle.fee_image.specs.Banks.{Old, NoBank, OldBank}
-use Rattle.fee_switch.specs.declared.active.ActiveBank.{ActiveBank}
-use Rattle.fee_log.specs.declared.tail.Tail.{Tail}
-use Rattle.fee_log.specs.declared.tail.Tail.TheVariants as tail
-use Rattle.fee_log.specs.Log.{LogState, work_in, tail_with}
-use Rattle.fee_switch.specs.Banks.{BanksState}
+use Rattle.fee_switch_laws.specs.fee_switch.declared.active.ActiveBank.{ActiveBank}
+use Rattle.fee_switch_laws.specs.fee_log.declared.tail.Tail.{Tail}
+use Rattle.fee_switch_laws.specs.fee_log.declared.tail.Tail.TheVariants as tail
+use Rattle.fee_switch_laws.specs.fee_log.Log.{LogState, work_in, tail_with}
+use Rattle.fee_switch_laws.specs.fee_switch.Banks.{BanksState}
 use Rattle.fee_switch_laws.specs.Shown.{old_shown}
 use Rattle.promise_device.specs.Making.{Making, banks_of}
 use Rattle.fee_told.specs.Slots.{Memory, HasJob, IsWorkOf, slots_held, slots_found}
 use Rattle.fee_told.specs.SlotLaws.{SamePlaces, IsHeld}
-use Rattle.fls_told.specs.Device.{slot_with}
-use Rattle.fls_told.proofs.Tells.{tells_keep}
+use Rattle.fee_told.specs.fls_told.Device.{slot_with}
+use Rattle.fee_told.proofs.Tells.{tells_keep}
 use Rattle.fee_told.specs.Device.{Device, tells_now, told_of, flash_device}
 use Rattle.fee_told.proofs.Kept.{same_places}
 use Rattle.fee_told.proofs.Jobs.{jobs_change}

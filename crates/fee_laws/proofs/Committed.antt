@@ -25,11 +25,11 @@ use Rattle.fee_image.specs.Found.{fits}
 use Rattle.fee_image.specs.Image.{Layout, bank_in}
 use Rattle.fee_image.specs.RecordList.{pages_of_head}
 use Rattle.fee_image.proofs.Copies.{settling_widens}
-use Rattle.fee_log.specs.declared.tail.Tail.{Tail}
-use Rattle.fee_log.specs.declared.tail.Tail.TheVariants.{Open as TailOpen, Writes, Owes, Closed}
-use Rattle.fee_log.specs.Index.{with_flag}
-use Rattle.fee_log.specs.Log.{LogState, tail_with, work_in}
-use Rattle.fee_log.specs.Step.{after_step, commits}
+use Rattle.fee_switch_laws.specs.fee_log.declared.tail.Tail.{Tail}
+use Rattle.fee_switch_laws.specs.fee_log.declared.tail.Tail.TheVariants.{Open as TailOpen, Writes, Owes, Closed}
+use Rattle.fee_switch_laws.specs.fee_log.Index.{with_flag}
+use Rattle.fee_switch_laws.specs.fee_log.Log.{LogState, tail_with, work_in}
+use Rattle.fee_switch_laws.specs.fee_log.Step.{after_step, commits}
 use Rattle.fee_image.specs.Log.{Log, Writes as LogWrites}
 use Rattle.fee_image.specs.declared.place.Place.{Place}
 use Rattle.fee_image.specs.May.{May, IsWider, held_written}
@@ -39,13 +39,13 @@ use Rattle.fee_image.specs.Banks.{Old}
 use Rattle.fee_image.specs.Copies.{Flag, copied_of, cleared, settled_at}
 use Rattle.fee_image.specs.Doubts.{shown_of}
 use Rattle.fee_image.specs.BankLaws.{TakesAppends}
-use Rattle.fee_log.proofs.Within.{within_length}
+use Rattle.fee_switch_laws.proofs.Within.{within_length}
 use Rattle.fee_course.specs.declared.course.Copying.{Copying}
 use Rattle.fee_course.specs.declared.course.Course.{Course}
 use Rattle.fee_course.specs.declared.course.Course.TheVariants as course
 use Rattle.fee_course.specs.Course.{appended_to, turns_left as switch_turns_left}
 use Rattle.fee_course.proofs.Appends.{appends_end}
-use Rattle.fee_switch.specs.Banks.{BanksState, TakesRecord, appended_at, index_of, left_of, left_with}
+use Rattle.fee_switch_laws.specs.fee_switch.Banks.{BanksState, TakesRecord, appended_at, index_of, left_of, left_with}
 use Rattle.fee_switch_laws.specs.KeepsRoom.{IsRoomy}
 use Rattle.fee_switch_laws.specs.Space.{free_pages}
 use Rattle.fee_switch_laws.proofs.Appends.{takes}

@@ -9,8 +9,8 @@ use Rattle.fee_image.specs.Log.{Log}
 use Rattle.fee_image.specs.May.{May}
 use Rattle.fee_image.specs.Step.{page_due, bytes_due, done_of}
 use Rattle.fee_image.specs.Banks.{Old, OldBank}
-use Rattle.fee_log.specs.Log.{LogState, work_in}
-use Rattle.fee_log.specs.Step.{IsPageOf, due_bytes}
+use Rattle.fee_switch_laws.specs.fee_log.Log.{LogState, work_in}
+use Rattle.fee_switch_laws.specs.fee_log.Step.{IsPageOf, due_bytes}
 use Rattle.promise_device.specs.Making.{Making, banks_of}
 use Rattle.fee_told.specs.Slots.{banks_with, may_told, settled_in}
 use Rattle.fee_told.specs.SlotLaws.{IsHeld, IsBehindLog, SamePlaces}

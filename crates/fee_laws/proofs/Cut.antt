@@ -20,7 +20,7 @@ use Rattle.fee_image.specs.Banks.{Old}
 use Rattle.promise_device.specs.Making.{Making, banks_of}
 use Rattle.fee_told.specs.Slots.{Memory, IsWorkOf}
 use Rattle.fee_told.specs.SlotLaws.{IsHeld, SamePlaces}
-use Rattle.fls_told.specs.Runs.{HasRun}
+use Rattle.fee_told.specs.fls_told.Runs.{HasRun}
 use Rattle.fee_told.specs.Device.{Device, told_of, flash_device}
 use Rattle.fee_told.specs.Kept.{IsKept, with_log}
 use Rattle.fee_told.specs.Figures.{Work}

@@ -7,15 +7,15 @@ use Rattle.memif.specs.Told.{Stand}
 use Rattle.memif.specs.Calls.{InOrder, ClockStays, IsCanceled}
 use Rattle.fls_model.specs.Told.{Told, ToldBytes}
 use Rattle.fee_image.specs.Copies.{copied_of}
-use Rattle.fee_log.specs.Log.{work_in}
+use Rattle.fee_switch_laws.specs.fee_log.Log.{work_in}
 use Rattle.fee_course.specs.declared.course.Course.{Course}
 use Rattle.fee_course.specs.Course.{most_turns}
-use Rattle.fee_switch.specs.Banks.{BanksState, IsBanksState}
+use Rattle.fee_switch_laws.specs.fee_switch.Banks.{BanksState, IsBanksState}
 use Rattle.fee_switch_laws.specs.KeepsRoom.{KeepsRoom}
 use Rattle.promise_device.specs.Making.{Making, banks_of}
 use Rattle.fee_told.specs.Slots.{Memory, HasJob}
 use Rattle.fee_told.specs.SlotLaws.{SamePlaces}
-use Rattle.fls_told.proofs.Clocks.{clocks_stay, tells_first}
+use Rattle.fee_told.proofs.Clocks.{clocks_stay, tells_first}
 use Rattle.fee_told.specs.Device.{Device, told_of, clock_of, flash_device}
 use Rattle.fee_told.specs.Figures.{left_of}
 use Rattle.fee_told.proofs.Kept.{same_places}

@@ -10,9 +10,9 @@ use Rattle.memif.specs.Calls.{JobTurns}
 use Rattle.fls_model.specs.declared.flash.FlashAnswer.TheVariants.{Failed}
 use Rattle.fls_model.specs.Told.{Told}
 use Rattle.fls_jobs.specs.State.{FlsState}
-use Rattle.fee_log.specs.Step.{after_step}
+use Rattle.fee_switch_laws.specs.fee_log.Step.{after_step}
 use Rattle.fee_image.specs.Step.{log_failed}
-use Rattle.fee_switch.specs.Banks.{BanksState}
+use Rattle.fee_switch_laws.specs.fee_switch.Banks.{BanksState}
 use Rattle.promise_device.specs.Making.{Making}
 use Rattle.fee_told.specs.Slots.{Memory}
 use Rattle.fee_told.specs.Device.{told_of, clock_of}

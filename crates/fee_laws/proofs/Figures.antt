@@ -4,14 +4,14 @@ use Rattle.std.proofs.Common.{◌≡◌, ◌+◌, ◌-◌, ℕ, Bool, true, fals
 use Rattle.fls_model.specs.declared.flash.FlashAnswer.TheVariants.{Done}
 use Rattle.fee_format.specs.declared.rec_head.RecHead.{RecHead}
 use Rattle.fee_image.specs.RecordList.{pages_of_head}
-use Rattle.fee_log.specs.declared.tail.Tail.{Tail}
-use Rattle.fee_log.specs.declared.tail.Tail.TheVariants.{Open, Writes, Owes, Closed}
-use Rattle.fee_log.specs.Log.{LogState, IsTail, pages_in, work_in}
-use Rattle.fee_log.specs.Step.{after_step, commits}
+use Rattle.fee_switch_laws.specs.fee_log.declared.tail.Tail.{Tail}
+use Rattle.fee_switch_laws.specs.fee_log.declared.tail.Tail.TheVariants.{Open, Writes, Owes, Closed}
+use Rattle.fee_switch_laws.specs.fee_log.Log.{LogState, IsTail, pages_in, work_in}
+use Rattle.fee_switch_laws.specs.fee_log.Step.{after_step, commits}
 use Rattle.fee_course.specs.declared.course.Course.{Course}
 use Rattle.nv_base.specs.Geometry.{sectors_of_bank}
 use Rattle.fee_course.specs.Course.{turns_left}
-use Rattle.fee_switch.specs.Banks.{BanksState, index_of, left_of, left_with, left_beside, begun_again}
+use Rattle.fee_switch_laws.specs.fee_switch.Banks.{BanksState, index_of, left_of, left_with, left_beside, begun_again}
 use Rattle.fee_course.specs.declared.course.Course.TheVariants as course
 use Rattle.fee_switch_laws.specs.Space.{free_pages}
 use Rattle.fee_told.specs.Figures.{turns_owed}

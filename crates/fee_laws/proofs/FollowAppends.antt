@@ -13,15 +13,15 @@ use Rattle.fee_format.specs.declared.rec_head.RecHead.{RecHead}
 use Rattle.fee_format.specs.declared.rec_head.RecordKind.{RecordKind}
 use Rattle.fee_image.specs.Image.{Layout, layout_of, image_page}
 use Rattle.fee_image.specs.BankLaws.{program_of}
-use Rattle.fee_log.specs.Index.{clear_flags}
-use Rattle.fee_log.specs.declared.tail.Tail.{Tail}
-use Rattle.fee_log.specs.declared.tail.Tail.TheVariants.{Open, Writes, Owes, Closed}
-use Rattle.fee_log.specs.Laws.{HoldsState, may_after}
-use Rattle.fee_log.specs.Log.{LogState, IsLogState, IsTail, pages_in, work_in}
-use Rattle.fee_log.specs.Step.{IsPageOf, due_page, due_bytes, op_of, after_step}
-use Rattle.fee_log.proofs.Steps.{answers_hold}
-use Rattle.fee_switch.specs.declared.active.ActiveBank.{ActiveBank}
-use Rattle.fee_switch.specs.Banks.{BanksState, IsBanksState, IsLogOf, TakesRecord}
+use Rattle.fee_switch_laws.specs.fee_log.Index.{clear_flags}
+use Rattle.fee_switch_laws.specs.fee_log.declared.tail.Tail.{Tail}
+use Rattle.fee_switch_laws.specs.fee_log.declared.tail.Tail.TheVariants.{Open, Writes, Owes, Closed}
+use Rattle.fee_switch_laws.specs.fee_log.Laws.{HoldsState, may_after}
+use Rattle.fee_switch_laws.specs.fee_log.Log.{LogState, IsLogState, IsTail, pages_in, work_in}
+use Rattle.fee_switch_laws.specs.fee_log.Step.{IsPageOf, due_page, due_bytes, op_of, after_step}
+use Rattle.fee_switch_laws.proofs.Steps.{answers_hold}
+use Rattle.fee_switch_laws.specs.fee_switch.declared.active.ActiveBank.{ActiveBank}
+use Rattle.fee_switch_laws.specs.fee_switch.Banks.{BanksState, IsBanksState, IsLogOf, TakesRecord}
 use Rattle.fee_course.specs.declared.course.Course.{Course}
 use Rattle.fee_course.specs.Course.{IsShort}
 use Rattle.promise_device.specs.Bridge.{is_program}

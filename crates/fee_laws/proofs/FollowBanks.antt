@@ -12,13 +12,13 @@ use Rattle.fee_image.specs.Image.{Layout, layout_of, bank_in, image_page, BankSt
 use Rattle.fee_image.proofs.Banks.{active_stays}
 use Rattle.fee_image.proofs.Sectors.{layouts_are_legal}
 use Rattle.fee_image.proofs.Frames.{stands_same}
-use Rattle.fee_log.specs.Index.{clear_flags}
-use Rattle.fee_log.specs.Log.{LogState, bank_of, work_in}
-use Rattle.fee_switch.specs.declared.active.ActiveBank.{ActiveBank}
+use Rattle.fee_switch_laws.specs.fee_log.Index.{clear_flags}
+use Rattle.fee_switch_laws.specs.fee_log.Log.{LogState, bank_of, work_in}
+use Rattle.fee_switch_laws.specs.fee_switch.declared.active.ActiveBank.{ActiveBank}
 use Rattle.fee_course.specs.declared.course.Course.{Course}
 use Rattle.fee_course.specs.declared.course.Course.TheVariants.{Erase, Copy, Head, Gate}
 use Rattle.fee_course.specs.Course.{IsShort}
-use Rattle.fee_switch.specs.Banks.{BanksState, IsBanksState, IsLogOf, TakesRecord, appended_at}
+use Rattle.fee_switch_laws.specs.fee_switch.Banks.{BanksState, IsBanksState, IsLogOf, TakesRecord, appended_at}
 use Rattle.fee_switch_laws.specs.Shown.{layout_in}
 use Rattle.promise_device.specs.Bridge.{is_program, may_be_closed}
 use Rattle.promise_device.specs.Wear.{bank_of_op}

@@ -8,16 +8,16 @@ use Rattle.fee_format.specs.declared.bank_head.BankHead.{BankHead}
 use Rattle.fee_format.specs.declared.rec_head.RecHead.{RecHead}
 use Rattle.fee_image.specs.Image.{Layout, active_of, BankStands}
 use Rattle.fee_image.proofs.Banks.{active_computes, no_active_computes}
-use Rattle.fee_log.specs.Index.{with_flag, clear_flags}
-use Rattle.fee_log.specs.Laws.{HoldsState}
-use Rattle.fee_log.specs.Log.{LogState, IsLogState, IsFor, work_in, free_in, begun}
-use Rattle.fee_log.specs.Step.{given_up}
-use Rattle.fee_log.proofs.Holds.{begins_hold, given_up_holds}
-use Rattle.fee_switch.specs.declared.active.ActiveBank.{ActiveBank}
-use Rattle.fee_switch.specs.Active.{active_shown}
+use Rattle.fee_switch_laws.specs.fee_log.Index.{with_flag, clear_flags}
+use Rattle.fee_switch_laws.specs.fee_log.Laws.{HoldsState}
+use Rattle.fee_switch_laws.specs.fee_log.Log.{LogState, IsLogState, IsFor, work_in, free_in, begun}
+use Rattle.fee_switch_laws.specs.fee_log.Step.{given_up}
+use Rattle.fee_switch_laws.proofs.Holds.{begins_hold, given_up_holds}
+use Rattle.fee_switch_laws.specs.fee_switch.declared.active.ActiveBank.{ActiveBank}
+use Rattle.fee_switch_laws.specs.fee_switch.Active.{active_shown}
 use Rattle.fee_course.specs.declared.course.Course.{Course}
 use Rattle.fee_course.specs.declared.course.Course.TheVariants.{Erase}
-use Rattle.fee_switch.specs.Banks.{BanksState, append_begun, begun_again}
+use Rattle.fee_switch_laws.specs.fee_switch.Banks.{BanksState, append_begun, begun_again}
 use Rattle.fee_switch_laws.specs.Shown.{layout_in}
 use Rattle.fee_switch_laws.proofs.RoomAppends.{work_begun}
 use Rattle.fee_switch_laws.proofs.RoomPages.{clear_flags_stay}

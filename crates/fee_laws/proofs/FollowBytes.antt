@@ -15,8 +15,8 @@ use Rattle.fee_format.specs.RecHead.{IsLegalRecHead, kind_byte, rec_head_page}
 use Rattle.fee_format.specs.Pages.{gate_page, body_pages_of}
 use Rattle.fee_format.specs.RecordPages.{filled, body_page, record_page}
 use Rattle.fee_format.proofs.Torn.{byte_small}
-use Rattle.fee_log.specs.Step.{IsPageOf}
-use Rattle.fee_switch.proofs.Targets.{head_small}
+use Rattle.fee_switch_laws.specs.fee_log.Step.{IsPageOf}
+use Rattle.fee_switch_laws.proofs.SwitchTargets.{head_small}
 
 abbrev Small : ℕ → Type 0
 Small x = x < 256

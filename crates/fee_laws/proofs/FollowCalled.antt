@@ -14,11 +14,11 @@ use Rattle.nv_base.proofs.Places.{numbers_are_in_bounds}
 use Rattle.fls_model.specs.Attach.{AreBytesOf}
 use Rattle.fls_model.specs.Told.{Told, ToldBytes, Change}
 use Rattle.fee_format.specs.declared.rec_head.RecHead.{RecHead}
-use Rattle.fee_log.proofs.Soundness.{length_within}
-use Rattle.fee_log.specs.Log.{IsFor, work_in, free_in}
-use Rattle.fee_log.specs.Step.{given_up}
-use Rattle.fee_switch.specs.declared.active.ActiveBank.{ActiveBank}
-use Rattle.fee_switch.specs.Banks.{BanksState, FindsActive, LoadsActive, append_begun, begun_again}
+use Rattle.fee_switch_laws.proofs.Soundness.{length_within}
+use Rattle.fee_switch_laws.specs.fee_log.Log.{IsFor, work_in, free_in}
+use Rattle.fee_switch_laws.specs.fee_log.Step.{given_up}
+use Rattle.fee_switch_laws.specs.fee_switch.declared.active.ActiveBank.{ActiveBank}
+use Rattle.fee_switch_laws.specs.fee_switch.Banks.{BanksState, FindsActive, LoadsActive, append_begun, begun_again}
 use Rattle.fee_course.specs.declared.course.Course.TheVariants as course
 use Rattle.fee_switch_laws.specs.Space.{free_pages}
 use Rattle.promise_device.specs.Making.{Making}

@@ -5,12 +5,12 @@ use Rattle.fls_model.specs.declared.flash.FlashAnswer.{FlashAnswer}
 use Rattle.fls_model.specs.declared.flash.FlashAnswer.TheVariants.{Done, Failed, Off}
 use Rattle.fls_model.specs.Told.{Change}
 use Rattle.fee_format.specs.declared.rec_head.RecHead.{RecHead}
-use Rattle.fee_log.specs.Log.{IsLogState, work_in, begun}
+use Rattle.fee_switch_laws.specs.fee_log.Log.{IsLogState, work_in, begun}
 use Rattle.fee_course.specs.declared.course.Course.{Course}
 use Rattle.fee_course.specs.declared.course.Course.TheVariants.{Copy, Head}
 use Rattle.fee_course.specs.Copies.{next_copy}
-use Rattle.fee_switch.specs.Banks.{BanksState, IsBanksState, after_answer}
-use Rattle.fee_switch.specs.Copy.{begun_where}
+use Rattle.fee_switch_laws.specs.fee_switch.Banks.{BanksState, IsBanksState, after_answer}
+use Rattle.fee_switch_laws.specs.fee_switch.Copy.{begun_where}
 use Rattle.fee_laws.specs.Inside.{body_of}
 use Rattle.fee_laws.specs.Follows.{FollowsBytes, FollowsCopies, FollowsTarget, FollowsBanks, FollowsNext}
 use Rattle.fee_switch_laws.specs.Shown.{layout_in}

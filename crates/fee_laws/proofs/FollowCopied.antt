@@ -9,14 +9,14 @@ use Rattle.fls_model.specs.Op.{MayLeave}
 use Rattle.fls_model.specs.Step.{Leaves}
 use Rattle.fls_model.specs.Told.{Change}
 use Rattle.fee_format.specs.declared.rec_head.RecHead.{RecHead}
-use Rattle.fee_log.specs.declared.tail.Tail.TheVariants.{Writes}
-use Rattle.fee_log.specs.Log.{LogState, IsLogState, work_in}
-use Rattle.fee_log.specs.Step.{IsPageOf, due_bytes, op_of, after_step}
+use Rattle.fee_switch_laws.specs.fee_log.declared.tail.Tail.TheVariants.{Writes}
+use Rattle.fee_switch_laws.specs.fee_log.Log.{LogState, IsLogState, work_in}
+use Rattle.fee_switch_laws.specs.fee_log.Step.{IsPageOf, due_bytes, op_of, after_step}
 use Rattle.fee_course.specs.declared.course.Copying.{Copying}
 use Rattle.fee_course.specs.declared.course.Course.{Course}
 use Rattle.fee_course.specs.declared.course.Course.TheVariants.{Copy, Head}
 use Rattle.fee_course.specs.Course.{flag_due}
-use Rattle.fee_switch.specs.Banks.{BanksState, IsBanksState, flagged_by, advanced_with, after_answer}
+use Rattle.fee_switch_laws.specs.fee_switch.Banks.{BanksState, IsBanksState, flagged_by, advanced_with, after_answer}
 use Rattle.fee_laws.specs.Inside.{body_of}
 use Rattle.fee_laws.specs.Follows.{FollowsBytes, FollowsTarget, FollowsNext}
 use Rattle.fee_switch_laws.specs.Shown.{layout_in}

@@ -18,19 +18,19 @@ use Rattle.fee_image.specs.Places.{places_of}
 use Rattle.fee_image.specs.RecordList.{records_of}
 use Rattle.fee_image.specs.Step.{bytes_of_tail}
 use Rattle.fee_image.specs.Banks.{AreBlank}
-use Rattle.fee_log.specs.declared.tail.Tail.{Tail}
-use Rattle.fee_log.specs.declared.tail.Tail.TheVariants.{Open, Writes}
-use Rattle.fee_log.specs.Laws.{HoldsState}
-use Rattle.fee_log.specs.Log.{LogState, HasFormat, IsLogState, IsTail, IsFor, bank_of, pages_in, free_in, tail_with, work_in, begun, tail_begun}
-use Rattle.fee_log.specs.Step.{IsPageOf, due_bytes, op_of, after_step}
-use Rattle.fee_log.proofs.Holds.{begins_hold}
-use Rattle.fee_log.proofs.Changes.{flag_length}
+use Rattle.fee_switch_laws.specs.fee_log.declared.tail.Tail.{Tail}
+use Rattle.fee_switch_laws.specs.fee_log.declared.tail.Tail.TheVariants.{Open, Writes}
+use Rattle.fee_switch_laws.specs.fee_log.Laws.{HoldsState}
+use Rattle.fee_switch_laws.specs.fee_log.Log.{LogState, HasFormat, IsLogState, IsTail, IsFor, bank_of, pages_in, free_in, tail_with, work_in, begun, tail_begun}
+use Rattle.fee_switch_laws.specs.fee_log.Step.{IsPageOf, due_bytes, op_of, after_step}
+use Rattle.fee_switch_laws.proofs.Holds.{begins_hold}
+use Rattle.fee_switch_laws.proofs.Changes.{flag_length}
 use Rattle.fee_course.specs.declared.copies.Source.{Source}
 use Rattle.fee_course.specs.declared.course.Copying.{Copying}
 use Rattle.fee_course.specs.declared.course.Course.{Course}
 use Rattle.fee_course.specs.declared.course.Course.TheVariants.{Copy, Head}
 use Rattle.fee_course.specs.Course.{settled, page_done, begun as course_begun}
-use Rattle.fee_switch.specs.Banks.{BanksState, IsBanksState, IsLogOf, flagged_at, flagged_by}
+use Rattle.fee_switch_laws.specs.fee_switch.Banks.{BanksState, IsBanksState, IsLogOf, flagged_at, flagged_by}
 use Rattle.fee_switch_laws.specs.Shown.{layout_in}
 use Rattle.fee_switch_laws.proofs.RoomAppends.{work_begun}
 use Rattle.fee_laws.specs.Inside.{body_of}

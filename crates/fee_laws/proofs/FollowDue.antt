@@ -11,11 +11,11 @@ use Rattle.fee_image.specs.Found.{last_record}
 use Rattle.fee_image.specs.Places.{place_of_kind, place_shown, places_of}
 use Rattle.fee_image.specs.RecordList.{Rec}
 use Rattle.fee_image.specs.declared.place.Place.{Place}
-use Rattle.fee_log.specs.Index.{clear_flags}
-use Rattle.fee_log.specs.Log.{work_in}
+use Rattle.fee_switch_laws.specs.fee_log.Index.{clear_flags}
+use Rattle.fee_switch_laws.specs.fee_log.Log.{work_in}
 use Rattle.fee_course.specs.declared.course.Course.TheVariants.{Erase}
 use Rattle.fee_course.specs.Copies.{copies_left, as_appended, as_cleared, turns_of}
-use Rattle.fee_switch.specs.Banks.{BanksState, begun_again, index_of, left_of}
+use Rattle.fee_switch_laws.specs.fee_switch.Banks.{BanksState, begun_again, index_of, left_of}
 use Rattle.promise_device.specs.Room.{copy_turns, copies_due}
 
 -- a copy of the record at a place, and of all

@@ -10,16 +10,16 @@ use Rattle.fee_image.specs.Banks.{AreBlank}
 use Rattle.fee_image.specs.Places.{places_of}
 use Rattle.fee_image.specs.RecordList.{IsTailBlank, records_of}
 use Rattle.fee_image.proofs.Sectors.{sectors_fill_banks}
-use Rattle.fee_log.specs.Index.{clear_flags}
-use Rattle.fee_log.specs.Laws.{HoldsState}
-use Rattle.fee_log.specs.Log.{LogState, IsLogState, bank_of, work_in, erased_state}
-use Rattle.fee_log.proofs.Holds.{erased_holds}
+use Rattle.fee_switch_laws.specs.fee_log.Index.{clear_flags}
+use Rattle.fee_switch_laws.specs.fee_log.Laws.{HoldsState}
+use Rattle.fee_switch_laws.specs.fee_log.Log.{LogState, IsLogState, bank_of, work_in, erased_state}
+use Rattle.fee_switch_laws.proofs.Holds.{erased_holds}
 use Rattle.fee_course.specs.declared.course.Course.{Course}
 use Rattle.fee_course.specs.declared.course.Course.TheVariants.{Erase, Copy, Head}
 use Rattle.fee_course.specs.Course.{settled}
-use Rattle.fee_switch.specs.declared.target.Stage.TheVariants as stage
-use Rattle.fee_switch.specs.Target.{op_at}
-use Rattle.fee_switch.specs.Banks.{BanksState, IsBanksState, target_at, begun_again, advanced, fallen_back}
+use Rattle.fee_switch_laws.specs.fee_switch.declared.target.Stage.TheVariants as stage
+use Rattle.fee_switch_laws.specs.fee_switch.Target.{op_at}
+use Rattle.fee_switch_laws.specs.fee_switch.Banks.{BanksState, IsBanksState, target_at, begun_again, advanced, fallen_back}
 use Rattle.fee_switch_laws.specs.Shown.{layout_in}
 use Rattle.fee_laws.specs.Inside.{body_of}
 use Rattle.fee_laws.specs.Switches.{op_in}

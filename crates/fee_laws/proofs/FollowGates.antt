@@ -15,14 +15,14 @@ use Rattle.fee_format.specs.Pages.{gate_page}
 use Rattle.fee_image.specs.Image.{Layout, bank_in, image_page, BankStands, ComesFirst, IsActive}
 use Rattle.fee_image.proofs.Banks.{active_computes, heads_compute}
 use Rattle.fee_image.proofs.Ranges.{gates_stand}
-use Rattle.fee_log.specs.declared.tail.Tail.TheVariants.{Open}
-use Rattle.fee_log.specs.Log.{work_in, is_closed}
-use Rattle.fee_switch.specs.declared.active.ActiveBank.{ActiveBank}
+use Rattle.fee_switch_laws.specs.fee_log.declared.tail.Tail.TheVariants.{Open}
+use Rattle.fee_switch_laws.specs.fee_log.Log.{work_in, is_closed}
+use Rattle.fee_switch_laws.specs.fee_switch.declared.active.ActiveBank.{ActiveBank}
 use Rattle.fee_course.specs.declared.course.Course.TheVariants.{Gate}
-use Rattle.fee_switch.specs.declared.target.Stage.TheVariants as stage
-use Rattle.fee_switch.specs.Target.{op_at}
-use Rattle.fee_switch.specs.Banks.{BanksState, IsBanksState, target_at, next_generation, is_worn_out, fallen_back, ended}
-use Rattle.fee_switch.proofs.Targets.{page_inside}
+use Rattle.fee_switch_laws.specs.fee_switch.declared.target.Stage.TheVariants as stage
+use Rattle.fee_switch_laws.specs.fee_switch.Target.{op_at}
+use Rattle.fee_switch_laws.specs.fee_switch.Banks.{BanksState, IsBanksState, target_at, next_generation, is_worn_out, fallen_back, ended}
+use Rattle.fee_switch_laws.proofs.SwitchTargets.{page_inside}
 use Rattle.fee_switch_laws.specs.Shown.{layout_in}
 use Rattle.fee_laws.specs.Inside.{body_of}
 use Rattle.promise_device.specs.Wear.{bank_of_op}

@@ -9,10 +9,10 @@ use Rattle.fee_format.specs.Pages.{gate_page}
 use Rattle.fee_image.specs.Image.{Layout, bank_in, image_page}
 use Rattle.fee_image.proofs.Ranges.{programs_stand}
 use Rattle.fee_course.specs.declared.course.Course.TheVariants.{Head, Gate}
-use Rattle.fee_switch.specs.declared.target.Stage.TheVariants as stage
-use Rattle.fee_switch.specs.Target.{op_at}
-use Rattle.fee_switch.specs.Banks.{BanksState, IsBanksState, target_at, next_generation, advanced, fallen_back}
-use Rattle.fee_switch.proofs.Targets.{page_inside}
+use Rattle.fee_switch_laws.specs.fee_switch.declared.target.Stage.TheVariants as stage
+use Rattle.fee_switch_laws.specs.fee_switch.Target.{op_at}
+use Rattle.fee_switch_laws.specs.fee_switch.Banks.{BanksState, IsBanksState, target_at, next_generation, advanced, fallen_back}
+use Rattle.fee_switch_laws.proofs.SwitchTargets.{page_inside}
 use Rattle.fee_switch_laws.specs.Shown.{layout_in}
 use Rattle.promise_device.specs.Wear.{bank_of_op}
 use Rattle.fee_laws.specs.Switches.{op_in}

@@ -12,11 +12,11 @@ use Rattle.fee_image.specs.Log.{HasTail}
 use Rattle.fee_image.specs.May.{May}
 use Rattle.fee_image.proofs.Appends.{appends_leave_one_more}
 use Rattle.fee_image.proofs.Records.{logs_compute}
-use Rattle.fee_log.specs.declared.tail.Tail.{Tail}
-use Rattle.fee_log.specs.declared.tail.Tail.TheVariants as tail
-use Rattle.fee_log.specs.Log.{bank_of, work_in, is_closed, free_behind, free_in, tail_with, pages_with}
-use Rattle.fee_switch.specs.declared.active.ActiveBank.{ActiveBank}
-use Rattle.fee_switch.specs.Active.{active_shown}
+use Rattle.fee_switch_laws.specs.fee_log.declared.tail.Tail.{Tail}
+use Rattle.fee_switch_laws.specs.fee_log.declared.tail.Tail.TheVariants as tail
+use Rattle.fee_switch_laws.specs.fee_log.Log.{bank_of, work_in, is_closed, free_behind, free_in, tail_with, pages_with}
+use Rattle.fee_switch_laws.specs.fee_switch.declared.active.ActiveBank.{ActiveBank}
+use Rattle.fee_switch_laws.specs.fee_switch.Active.{active_shown}
 use Rattle.fee_course.specs.declared.course.Course.{Course}
 use Rattle.fee_switch_laws.specs.Shown.{layout_in}
 use Rattle.fee_switch_laws.specs.Space.{free_pages}

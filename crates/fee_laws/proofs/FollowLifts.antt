@@ -11,10 +11,10 @@ use Rattle.fls_model.specs.Read.{IsRead}
 use Rattle.fls_model.specs.Step.{IsStep, IsAsked, OffOrAsked, Leaves, HasCause}
 use Rattle.fls_model.specs.Told.{Told, ToldBytes, bytes_now}
 use Rattle.fls_jobs.specs.State.{FlsState}
-use Rattle.fee_switch.specs.Banks.{BanksState}
+use Rattle.fee_switch_laws.specs.fee_switch.Banks.{BanksState}
 use Rattle.fee_switch_laws.specs.Shown.{layout_in}
 use Rattle.promise_device.specs.Making.{Making}
-use Rattle.fls_told.specs.Clock.{change_of}
+use Rattle.fee_told.specs.fls_told.Clock.{change_of}
 use Rattle.fee_laws.specs.Inside.{Parts}
 use Rattle.fee_laws.specs.Turn.{IsOn, operated}
 use Rattle.fee_laws.specs.Follows.{FollowsBytes, Follows}

@@ -9,13 +9,13 @@ use Rattle.fls_model.specs.Op.{MayLeave}
 use Rattle.fls_model.specs.Step.{Leaves}
 use Rattle.fls_model.specs.Told.{Change}
 use Rattle.fee_format.specs.declared.rec_head.RecHead.{RecHead}
-use Rattle.fee_log.specs.declared.tail.Tail.TheVariants.{Open, Writes}
-use Rattle.fee_log.specs.Log.{LogState, IsLogState, IsFor, free_in, work_in, begun}
-use Rattle.fee_log.specs.Step.{IsPageOf, due_bytes, op_of, after_step}
+use Rattle.fee_switch_laws.specs.fee_log.declared.tail.Tail.TheVariants.{Open, Writes}
+use Rattle.fee_switch_laws.specs.fee_log.Log.{LogState, IsLogState, IsFor, free_in, work_in, begun}
+use Rattle.fee_switch_laws.specs.fee_log.Step.{IsPageOf, due_bytes, op_of, after_step}
 use Rattle.fee_course.specs.declared.course.Course.{Course}
 use Rattle.fee_course.specs.declared.course.Course.TheVariants.{Copy, Head}
 use Rattle.fee_course.specs.Copies.{next_copy}
-use Rattle.fee_switch.specs.Banks.{BanksState, IsBanksState, IsLogOf, after_answer}
+use Rattle.fee_switch_laws.specs.fee_switch.Banks.{BanksState, IsBanksState, IsLogOf, after_answer}
 use Rattle.fee_switch_laws.proofs.RoomAppends.{work_begun}
 use Rattle.fee_laws.specs.Inside.{body_of}
 use Rattle.fee_laws.specs.Follows.{FollowsBytes, FollowsTarget, FollowsBanks, FollowsNext}

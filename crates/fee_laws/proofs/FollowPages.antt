@@ -16,9 +16,9 @@ use Rattle.fee_image.specs.Log.{HasTail}
 use Rattle.fee_image.specs.May.{May}
 use Rattle.fee_image.proofs.Appends.{appends_leave_one_more, stops_behind}
 use Rattle.fee_image.proofs.Records.{logs_compute}
-use Rattle.fee_log.specs.declared.tail.Tail.{Tail}
-use Rattle.fee_log.specs.declared.tail.Tail.TheVariants as tail
-use Rattle.fee_log.specs.Log.{work_in, is_closed, free_behind, tail_with, pages_with}
+use Rattle.fee_switch_laws.specs.fee_log.declared.tail.Tail.{Tail}
+use Rattle.fee_switch_laws.specs.fee_log.declared.tail.Tail.TheVariants as tail
+use Rattle.fee_switch_laws.specs.fee_log.Log.{work_in, is_closed, free_behind, tail_with, pages_with}
 use Rattle.fee_switch_laws.specs.Space.{has_room}
 use Rattle.promise_device.specs.Making.{Making}
 use Rattle.promise_device.specs.Room.{mark_pages}

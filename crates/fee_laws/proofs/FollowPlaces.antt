@@ -21,14 +21,14 @@ use Rattle.fee_image.proofs.Bodies.{blank_gate}
 use Rattle.fee_image.proofs.Marks.{walk_last, untouched}
 use Rattle.fee_image.proofs.Ranges.{programs_touch_their_bank}
 use Rattle.fee_image.proofs.Records.{logs_compute}
-use Rattle.fee_log.specs.declared.tail.Tail.{Tail}
-use Rattle.fee_log.specs.declared.tail.Tail.TheVariants.{Open, Writes, Owes, Closed}
-use Rattle.fee_log.specs.Laws.{IsDueOn}
-use Rattle.fee_log.specs.Log.{LogState, bank_of, log_of, tail_with, work_in}
-use Rattle.fee_log.specs.Step.{op_of, due_page, due_bytes, after_step, given_up}
-use Rattle.fee_log.proofs.Follows.{work_is_due}
-use Rattle.fee_log.proofs.Steps.{pages_stand}
-use Rattle.fee_log.proofs.Walking.{places_push}
+use Rattle.fee_switch_laws.specs.fee_log.declared.tail.Tail.{Tail}
+use Rattle.fee_switch_laws.specs.fee_log.declared.tail.Tail.TheVariants.{Open, Writes, Owes, Closed}
+use Rattle.fee_switch_laws.specs.fee_log.Laws.{IsDueOn}
+use Rattle.fee_switch_laws.specs.fee_log.Log.{LogState, bank_of, log_of, tail_with, work_in}
+use Rattle.fee_switch_laws.specs.fee_log.Step.{op_of, due_page, due_bytes, after_step, given_up}
+use Rattle.fee_switch_laws.proofs.Follows.{work_is_due}
+use Rattle.fee_switch_laws.proofs.Steps.{pages_stand}
+use Rattle.fee_switch_laws.proofs.Walking.{places_push}
 
 -- A BANK
 -- one that is blank gives none

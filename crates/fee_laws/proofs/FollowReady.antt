@@ -10,14 +10,14 @@ use Rattle.fee_format.specs.declared.bank_head.BankHead.{BankHead}
 use Rattle.fee_image.specs.Image.{Layout, bank_in}
 use Rattle.fee_image.specs.Banks.{Banks, Idle, StandsBehind}
 use Rattle.fee_image.proofs.Shows.{copying_shut}
-use Rattle.fee_log.specs.Log.{work_in, log_of, pages_with}
+use Rattle.fee_switch_laws.specs.fee_log.Log.{work_in, log_of, pages_with}
 use Rattle.fee_course.specs.declared.course.Course.{Course}
 use Rattle.fee_course.specs.declared.course.Course.TheVariants as course
-use Rattle.fee_switch.specs.declared.active.ActiveBank.{ActiveBank}
+use Rattle.fee_switch_laws.specs.fee_switch.declared.active.ActiveBank.{ActiveBank}
 use Rattle.fee_switch_laws.specs.Shown.{old_shown, phase_shown}
 use Rattle.promise_device.specs.Making.{Making, banks_of}
 use Rattle.promise_device.specs.Bridge.{free_in, free_pages as pages_shown, reading_of}
-use Rattle.fls_told.specs.Device.{is_told_sound}
+use Rattle.fee_told.specs.fls_told.Device.{is_told_sound}
 use Rattle.fee_told.specs.Device.{fixed_of, told_of}
 use Rattle.fee_told.specs.Figures.{ready_of}
 use Rattle.fee_told.specs.Slots.{banks_with, may_told}

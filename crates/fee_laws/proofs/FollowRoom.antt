@@ -16,12 +16,12 @@ use Rattle.fee_image.specs.Bank.{Bank}
 use Rattle.fee_image.specs.Image.{bank_in}
 use Rattle.fee_image.specs.Places.{places_of}
 use Rattle.fee_image.specs.RecordList.{Rec, IsClosed, records_of, end_of, pages_of_head}
-use Rattle.fee_log.specs.declared.tail.Tail.{Tail}
-use Rattle.fee_log.specs.Log.{LogState, bank_of, work_in, is_closed, free_in, pages_with}
-use Rattle.fee_switch.specs.declared.active.ActiveBank.{ActiveBank}
-use Rattle.fee_switch.specs.Active.{active_shown}
+use Rattle.fee_switch_laws.specs.fee_log.declared.tail.Tail.{Tail}
+use Rattle.fee_switch_laws.specs.fee_log.Log.{LogState, bank_of, work_in, is_closed, free_in, pages_with}
+use Rattle.fee_switch_laws.specs.fee_switch.declared.active.ActiveBank.{ActiveBank}
+use Rattle.fee_switch_laws.specs.fee_switch.Active.{active_shown}
 use Rattle.fee_course.specs.declared.course.Course.TheVariants as course
-use Rattle.fee_switch.specs.Banks.{begun_again, left_of as switch_left}
+use Rattle.fee_switch_laws.specs.fee_switch.Banks.{begun_again, left_of as switch_left}
 use Rattle.fee_switch_laws.specs.Space.{free_pages}
 use Rattle.promise_device.specs.Making.{Making, banks_of}
 use Rattle.promise_device.specs.Image.{free_in_bank, is_closed_bank}

@@ -13,14 +13,14 @@ use Rattle.fee_image.specs.LogLaws.{loaded_log, IsLoadedTail}
 use Rattle.fee_image.specs.Log.{Log, HoldsLog}
 use Rattle.fee_image.specs.May.{exactly}
 use Rattle.fee_image.proofs.Logs.{loaded_logs_hold, logs_widen}
-use Rattle.fee_log.specs.declared.tail.Tail.{Tail}
-use Rattle.fee_log.specs.declared.tail.Tail.TheVariants.{Open, Writes, Owes, Closed}
-use Rattle.fee_log.specs.Laws.{MayFollow}
-use Rattle.fee_log.specs.Log.{bank_of, log_of, pages_in, tail_with, work_in}
-use Rattle.fee_switch.specs.declared.active.ActiveBank.{ActiveBank}
+use Rattle.fee_switch_laws.specs.fee_log.declared.tail.Tail.{Tail}
+use Rattle.fee_switch_laws.specs.fee_log.declared.tail.Tail.TheVariants.{Open, Writes, Owes, Closed}
+use Rattle.fee_switch_laws.specs.fee_log.Laws.{MayFollow}
+use Rattle.fee_switch_laws.specs.fee_log.Log.{bank_of, log_of, pages_in, tail_with, work_in}
+use Rattle.fee_switch_laws.specs.fee_switch.declared.active.ActiveBank.{ActiveBank}
 use Rattle.fee_course.specs.declared.course.Course.{Course}
-use Rattle.fee_switch.specs.Banks.{BanksState, IsBanksState, FindsActive, LoadsActive}
-use Rattle.fee_switch.specs.Start.{IsLoadedAs}
+use Rattle.fee_switch_laws.specs.fee_switch.Banks.{BanksState, IsBanksState, FindsActive, LoadsActive}
+use Rattle.fee_switch_laws.specs.fee_switch.Start.{IsLoadedAs}
 use Rattle.fee_switch_laws.specs.Shown.{layout_in}
 use Rattle.fee_laws.specs.Inside.{body_of}
 use Rattle.fee_laws.specs.Follows.{anything, FollowsLog, FollowsBanks, FollowsNext, FollowsBytes}

@@ -7,10 +7,10 @@ use Rattle.fee_image.specs.May.{May, IsWider}
 use Rattle.fee_image.specs.Places.{places_of}
 use Rattle.fee_image.proofs.Logs.{logs_stay, logs_widen}
 use Rattle.fee_image.proofs.Reading.{records_stay}
-use Rattle.fee_log.specs.declared.tail.Tail.{Tail}
-use Rattle.fee_log.specs.declared.tail.Tail.TheVariants.{Open, Writes, Owes, Closed}
-use Rattle.fee_log.specs.Laws.{HoldsState, MayFollow}
-use Rattle.fee_log.specs.Log.{LogState, bank_of, pages_in, log_of, tail_with, work_in}
+use Rattle.fee_switch_laws.specs.fee_log.declared.tail.Tail.{Tail}
+use Rattle.fee_switch_laws.specs.fee_log.declared.tail.Tail.TheVariants.{Open, Writes, Owes, Closed}
+use Rattle.fee_switch_laws.specs.fee_log.Laws.{HoldsState, MayFollow}
+use Rattle.fee_switch_laws.specs.fee_log.Log.{LogState, bank_of, pages_in, log_of, tail_with, work_in}
 use Rattle.fee_laws.specs.Follows.{anything}
 
 -- THE PAGES

@@ -8,10 +8,10 @@ use Rattle.fee_format.specs.declared.rec_head.RecHead.{RecHead}
 use Rattle.fee_image.specs.Log.{Log, Writes as LogWrites, Closed as LogClosed}
 use Rattle.fee_image.specs.Places.{noted}
 use Rattle.fee_image.specs.Step.{is_last, log_behind}
-use Rattle.fee_log.specs.declared.tail.Tail.{Tail}
-use Rattle.fee_log.specs.declared.tail.Tail.TheVariants.{Open, Writes, Owes, Closed}
-use Rattle.fee_log.specs.Log.{LogState, log_of, work_in, is_closed, tail_without, tail_begun}
-use Rattle.fee_log.specs.Step.{after_step, given_up}
+use Rattle.fee_switch_laws.specs.fee_log.declared.tail.Tail.{Tail}
+use Rattle.fee_switch_laws.specs.fee_log.declared.tail.Tail.TheVariants.{Open, Writes, Owes, Closed}
+use Rattle.fee_switch_laws.specs.fee_log.Log.{LogState, log_of, work_in, is_closed, tail_without, tail_begun}
+use Rattle.fee_switch_laws.specs.fee_log.Step.{after_step, given_up}
 
 -- THE RECORD IN WORK
 -- none, or the one that was

@@ -6,14 +6,14 @@ use Rattle.nv_base.specs.declared.geometry.Geometry.{Geometry}
 use Rattle.nv_base.specs.declared.instance.DeviceNumber.{DeviceNumber}
 use Rattle.fls_model.specs.Told.{Change}
 use Rattle.fee_image.specs.declared.place.Place.{Place}
-use Rattle.fee_log.specs.Index.{clear_flags}
-use Rattle.fee_log.specs.Log.{LogState, work_in, erased_state}
-use Rattle.fee_switch.specs.declared.active.ActiveBank.{ActiveBank}
+use Rattle.fee_switch_laws.specs.fee_log.Index.{clear_flags}
+use Rattle.fee_switch_laws.specs.fee_log.Log.{LogState, work_in, erased_state}
+use Rattle.fee_switch_laws.specs.fee_switch.declared.active.ActiveBank.{ActiveBank}
 use Rattle.fee_course.specs.declared.course.Course.{Course}
 use Rattle.fee_course.specs.declared.course.Course.TheVariants.{Erase, Copy, Head}
 use Rattle.fee_course.specs.Copies.{next_copy}
 use Rattle.fee_course.specs.Course.{settled}
-use Rattle.fee_switch.specs.Banks.{BanksState, IsBanksState}
+use Rattle.fee_switch_laws.specs.fee_switch.Banks.{BanksState, IsBanksState}
 use Rattle.fee_switch_laws.specs.Shown.{layout_in}
 use Rattle.fee_laws.specs.Inside.{body_of}
 use Rattle.fee_laws.specs.Follows.{FollowsLog, StandsFirst, FollowsTarget, FollowsBanks, FollowsNext, FollowsBytes}

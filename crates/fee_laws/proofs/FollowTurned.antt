@@ -17,22 +17,22 @@ use Rattle.fee_format.specs.declared.rec_head.RecHead.{RecHead}
 use Rattle.fee_format.specs.declared.rec_head.RecordKind.TheVariants as kind
 use Rattle.fee_image.specs.declared.place.Place.{Place}
 use Rattle.fee_image.specs.declared.place.Place.TheVariants as place
-use Rattle.fee_log.specs.Log.{work_in, begun, free_in}
-use Rattle.fee_log.specs.Step.{op_of, after_step}
+use Rattle.fee_switch_laws.specs.fee_log.Log.{work_in, begun, free_in}
+use Rattle.fee_switch_laws.specs.fee_log.Step.{op_of, after_step}
 use Rattle.fee_course.specs.declared.copies.Source.{Source}
 use Rattle.fee_course.specs.declared.course.Course.{Course}
 use Rattle.fee_course.specs.declared.course.Course.TheVariants.{Erase, Copy, Head, Gate}
 use Rattle.fee_course.specs.Course.{IsShort}
 use Rattle.fee_course.specs.Copies.{next_copy}
-use Rattle.fee_switch.specs.declared.target.Stage.TheVariants as stage
-use Rattle.fee_switch.specs.Target.{op_at}
-use Rattle.fee_switch.specs.Banks.{BanksState, TakesRecord, target_at, reads_next, reads_source, reads_place, after_answer}
-use Rattle.fee_switch.specs.Copy.{CanCopy, CanGoOn, BeginsAt, begun_where, head_at}
+use Rattle.fee_switch_laws.specs.fee_switch.declared.target.Stage.TheVariants as stage
+use Rattle.fee_switch_laws.specs.fee_switch.Target.{op_at}
+use Rattle.fee_switch_laws.specs.fee_switch.Banks.{BanksState, TakesRecord, target_at, reads_next, reads_source, reads_place, after_answer}
+use Rattle.fee_switch_laws.specs.fee_switch.Copy.{CanCopy, CanGoOn, BeginsAt, begun_where, head_at}
 use Rattle.fee_switch_laws.specs.Shown.{layout_in}
 use Rattle.fee_switch_laws.specs.KeepsRoom.{IsRoomy, IsTargetLog, IsOpenCopy}
 use Rattle.fee_switch_laws.proofs.RoomReady.{steps_may_be_made}
 use Rattle.promise_device.specs.Making.{Making}
-use Rattle.fls_told.specs.Clock.{change_of}
+use Rattle.fee_told.specs.fls_told.Clock.{change_of}
 use Rattle.fee_laws.specs.Inside.{Parts, body_of}
 use Rattle.fee_laws.specs.Record.{IsInWork}
 use Rattle.fee_laws.specs.Turn.{IsOn, operated}

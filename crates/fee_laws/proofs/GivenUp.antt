@@ -5,14 +5,14 @@ use Rattle.fee_image.specs.declared.place.Place.{Place}
 use Rattle.fee_image.specs.Log.{Log}
 use Rattle.fee_image.specs.Step.{log_given_up, given_up_with}
 use Rattle.fee_image.specs.BankLaws.{TakesAppends}
-use Rattle.fee_switch.specs.declared.active.ActiveBank.{ActiveBank}
-use Rattle.fee_log.specs.declared.tail.Tail.{Tail}
-use Rattle.fee_log.specs.declared.tail.Tail.TheVariants as tail
-use Rattle.fee_log.specs.Log.{LogState, work_in, tail_with, tail_without, log_of, free_behind}
-use Rattle.fee_log.specs.Step.{given_up}
+use Rattle.fee_switch_laws.specs.fee_switch.declared.active.ActiveBank.{ActiveBank}
+use Rattle.fee_switch_laws.specs.fee_log.declared.tail.Tail.{Tail}
+use Rattle.fee_switch_laws.specs.fee_log.declared.tail.Tail.TheVariants as tail
+use Rattle.fee_switch_laws.specs.fee_log.Log.{LogState, work_in, tail_with, tail_without, log_of, free_behind}
+use Rattle.fee_switch_laws.specs.fee_log.Step.{given_up}
 use Rattle.fee_course.specs.declared.course.Course.{Course}
 use Rattle.fee_course.specs.declared.course.Course.TheVariants.{Erase, Copy, Head, Gate}
-use Rattle.fee_switch.specs.Banks.{BanksState}
+use Rattle.fee_switch_laws.specs.fee_switch.Banks.{BanksState}
 use Rattle.fee_switch_laws.specs.Shown.{old_shown, phase_shown}
 use Rattle.fee_told.specs.SlotLaws.{SamePlaces}
 use Rattle.fee_told.specs.Figures.{ready_of}

@@ -8,13 +8,13 @@ use Rattle.fls_model.specs.declared.flash.FlashAnswer.TheVariants.{Done}
 use Rattle.fls_model.specs.Told.{Told}
 use Rattle.fls_jobs.specs.State.{FlsState}
 use Rattle.fee_format.specs.declared.rec_head.RecHead.{RecHead}
-use Rattle.fee_log.specs.Log.{work_in}
-use Rattle.fee_log.specs.Step.{after_step, commits}
+use Rattle.fee_switch_laws.specs.fee_log.Log.{work_in}
+use Rattle.fee_switch_laws.specs.fee_log.Step.{after_step, commits}
 use Rattle.fee_image.specs.RecordList.{pages_of_head}
 use Rattle.fee_switch_laws.proofs.RoomAppends.{pages_keep_room}
 use Rattle.fee_told.specs.Figures.{Work, turns_owed}
 use Rattle.fee_told.specs.FigureLaws.{IsWork}
-use Rattle.fee_switch.specs.Banks.{BanksState, left_of}
+use Rattle.fee_switch_laws.specs.fee_switch.Banks.{BanksState, left_of}
 use Rattle.fee_switch_laws.specs.KeepsRoom.{KeepsRoom}
 use Rattle.promise_device.specs.Making.{Making}
 use Rattle.fee_laws.specs.declared.job.FeeJob.{FeeJob}

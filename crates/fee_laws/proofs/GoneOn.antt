@@ -10,11 +10,11 @@ use Rattle.memif.specs.Calls.{JobTurns, Nearer, TurnsReady, urgent_first}
 use Rattle.fls_model.specs.declared.flash.FlashAnswer.TheVariants.{Done}
 use Rattle.fls_model.specs.Told.{Told}
 use Rattle.fls_jobs.specs.State.{FlsState}
-use Rattle.fee_log.specs.Step.{commits}
+use Rattle.fee_switch_laws.specs.fee_log.Step.{commits}
 use Rattle.fee_course.specs.declared.course.Course.{Course}
 use Rattle.fee_format.specs.declared.rec_head.RecordKind.{RecordKind}
 use Rattle.fee_course.specs.declared.course.Course.TheVariants as course
-use Rattle.fee_switch.specs.Banks.{TakesRecord}
+use Rattle.fee_switch_laws.specs.fee_switch.Banks.{TakesRecord}
 use Rattle.promise_device.specs.Making.{Making}
 use Rattle.fee_told.specs.Device.{told_of, clock_of}
 use Rattle.fee_told.specs.Figures.{Waits, left_of, ready_of}

@@ -14,7 +14,7 @@ use Rattle.fee_format.specs.declared.rec_head.RecordKind.TheVariants as kind
 use Rattle.fee_image.specs.Found.{fits}
 use Rattle.fee_image.specs.May.{held_written}
 use Rattle.fee_laws.specs.Inside.{mark_of}
-use Rattle.fee_log.specs.Log.{LogState}
+use Rattle.fee_switch_laws.specs.fee_log.Log.{LogState}
 use Rattle.fee_laws.specs.declared.job.FeeJob.{FeeJob}
 use Rattle.fee_laws.specs.Record.{kind_of, head_of, IsLengthOf}
 

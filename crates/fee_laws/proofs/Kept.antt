@@ -19,11 +19,11 @@ use Rattle.fee_image.specs.RecordList.{pages_of_head}
 use Rattle.fee_image.specs.Log.{Log, Open as LogOpen, Writes as LogWrites}
 use Rattle.fee_image.specs.May.{May}
 use Rattle.fee_image.specs.Step.{log_done, log_begun, is_last, IsRecord}
-use Rattle.fee_log.specs.declared.tail.Tail.{Tail}
-use Rattle.fee_log.specs.declared.tail.Tail.TheVariants.{Open, Writes, Owes, Closed}
+use Rattle.fee_switch_laws.specs.fee_log.declared.tail.Tail.{Tail}
+use Rattle.fee_switch_laws.specs.fee_log.declared.tail.Tail.TheVariants.{Open, Writes, Owes, Closed}
 use Rattle.fee_image.specs.declared.place.Place.{Place}
-use Rattle.fee_log.specs.Log.{LogState, HasFormat, IsTail, log_of, tail_with, work_in, pages_in}
-use Rattle.fee_log.specs.Step.{IsPageOf, due_bytes, after_step, commits}
+use Rattle.fee_switch_laws.specs.fee_log.Log.{LogState, HasFormat, IsTail, log_of, tail_with, work_in, pages_in}
+use Rattle.fee_switch_laws.specs.fee_log.Step.{IsPageOf, due_bytes, after_step, commits}
 use Rattle.promise_device.specs.Making.{Making, banks_of}
 use Rattle.fee_told.specs.Slots.{Memory, IsWorkOf, slots_held}
 use Rattle.fee_told.specs.SlotLaws.{IsHeld}

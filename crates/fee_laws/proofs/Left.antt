@@ -13,16 +13,16 @@ use Rattle.fls_jobs.specs.State.{FlsState}
 use Rattle.fee_image.specs.Image.{Layout}
 use Rattle.fee_image.specs.May.{May}
 use Rattle.fee_image.specs.Copies.{Flag, copied_of}
-use Rattle.fee_log.specs.Index.{clear_flags}
-use Rattle.fee_log.specs.Log.{work_in}
-use Rattle.fee_log.specs.Step.{after_step}
+use Rattle.fee_switch_laws.specs.fee_log.Index.{clear_flags}
+use Rattle.fee_switch_laws.specs.fee_log.Log.{work_in}
+use Rattle.fee_switch_laws.specs.fee_log.Step.{after_step}
 use Rattle.fee_course.specs.declared.course.Course.{Course}
-use Rattle.fee_switch.specs.Banks.{BanksState}
+use Rattle.fee_switch_laws.specs.fee_switch.Banks.{BanksState}
 use Rattle.fee_switch_laws.specs.KeepsRoom.{KeepsRoom}
 use Rattle.fee_switch_laws.proofs.RoomAppends.{pages_keep_room}
 use Rattle.promise_device.specs.Making.{Making, banks_of}
 use Rattle.fee_told.specs.SlotLaws.{IsHeld}
-use Rattle.fls_told.specs.Runs.{HasRun, KeepsWorn}
+use Rattle.fee_told.specs.fls_told.Runs.{HasRun, KeepsWorn}
 use Rattle.fee_told.specs.Device.{Device, told_of, flash_device}
 use Rattle.fee_told.specs.Kept.{IsKept}
 use Rattle.fee_told.specs.Whole.{CutsKeep}

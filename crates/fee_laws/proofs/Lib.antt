@@ -110,3 +110,7 @@ mod FollowLifts
 pub mod FollowTurned
 pub mod FollowCalled
 pub mod Restarts
+pub use Rattle.fee_switch_laws.proofs.RoomReady as RoomReady
+pub use Rattle.fee_told.proofs.Clocks as Clocks
+pub use Rattle.fee_told.proofs.Runs as Runs
+pub use Rattle.fee_told.proofs.Figures as ToldFigures

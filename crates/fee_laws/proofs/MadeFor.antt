@@ -5,7 +5,7 @@ use Rattle.nv_base.specs.Geometry.{IsLegal}
 use Rattle.memif.specs.declared.answer.JobResult.TheVariants.{JobPending}
 use Rattle.fls_model.specs.Attach.{AreBytesOf}
 use Rattle.fls_jobs.specs.State.{FlsState}
-use Rattle.fee_switch.specs.Banks.{IsBanksState, IsSameFlash}
+use Rattle.fee_switch_laws.specs.fee_switch.Banks.{IsBanksState, IsSameFlash}
 use Rattle.promise_device.specs.Making.{Making}
 use Rattle.fee_laws.specs.Inside.{Parts, IsMadeFor}
 

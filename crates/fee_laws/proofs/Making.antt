@@ -10,10 +10,10 @@ use Rattle.fls_model.specs.Told.{Told, ToldBytes, IfBothTold}
 use Rattle.fls_jobs.specs.Start.{IsIdle}
 use Rattle.promise_device.specs.Making.{Making}
 use Rattle.promise_device.proofs.Readings.{banks_attach_sound}
-use Rattle.fls_told.specs.Runs.{CountsCuts, IsMade, HasRun}
-use Rattle.fls_told.proofs.Making.{runs_begin}
+use Rattle.fee_told.specs.fls_told.Runs.{CountsCuts, IsMade, HasRun}
+use Rattle.fee_told.proofs.Making.{runs_begin}
 use Rattle.fee_told.specs.Device.{Device, told_of, flash_device}
-use Rattle.fee_switch.specs.Banks.{IsMade as AreMade}
+use Rattle.fee_switch_laws.specs.fee_switch.Banks.{IsMade as AreMade}
 use Rattle.fee_course.specs.declared.course.Course.{Course}
 use Rattle.fee_switch_laws.specs.Space.{HasSpace}
 use Rattle.fee_told.proofs.Whole.{unstarted_finds_now}

@@ -10,7 +10,7 @@ use Rattle.fee_image.specs.declared.place.Place.TheVariants.{Unwritten}
 use Rattle.fee_image.specs.Places.{count_at, held_at}
 use Rattle.memif.specs.Told.{Held, more_writes, never_written, at_number, length_of, slot_at}
 use Rattle.fee_told.specs.Slots.{held_all, left_on, slot_of, slots_with, writes_of}
-use Rattle.fee_log.specs.Index.{place_in, at_index, or_else}
+use Rattle.fee_switch_laws.specs.fee_log.Index.{place_in, at_index, or_else}
 
 later : (o : Option ℕ) (p : Place) (ps : List Place) → or_else Unwritten (at_index (p ∷ ps) (option_map (λ (k : ℕ). k + 1) o)) ≡ or_else Unwritten (at_index ps o)
 later None p ps = refl

@@ -13,16 +13,16 @@ use Rattle.memif.specs.Told.{Stand, Ended, Job, Fixed, figures_at, most_of, op_o
 use Rattle.memif.specs.Clock.{FindsNow}
 use Rattle.memif.specs.Calls.{InOrder, Opens, IsPrompt, ClockStays, is_first, record_pages}
 use Rattle.fls_model.specs.Told.{Told, bytes_now, ToldBytes}
-use Rattle.fee_log.specs.Log.{IsLogState, work_in}
+use Rattle.fee_switch_laws.specs.fee_log.Log.{IsLogState, work_in}
 use Rattle.fee_course.specs.Course.{most_turns}
-use Rattle.fee_switch.specs.Banks.{IsBanksState, BanksState}
+use Rattle.fee_switch_laws.specs.fee_switch.Banks.{IsBanksState, BanksState}
 use Rattle.fee_switch_laws.specs.Shown.{old_shown, phase_shown}
 use Rattle.fee_switch_laws.specs.Space.{HasSpace, free_pages}
 use Rattle.promise_device.specs.Making.{Making, banks_of}
 use Rattle.fee_told.specs.Slots.{Memory, HasJob, slots_held, slots_found, settled_in}
 use Rattle.fee_told.specs.SlotLaws.{SamePlaces, IsHeld, Opened}
-use Rattle.fls_told.specs.Device.{slot_with}
-use Rattle.fls_told.proofs.Clocks.{clocks_stay, tells_first}
+use Rattle.fee_told.specs.fls_told.Device.{slot_with}
+use Rattle.fee_told.proofs.Clocks.{clocks_stay, tells_first}
 use Rattle.fee_told.specs.Device.{Device, tells_now, told_of, clock_of, flash_device, is_switching}
 use Rattle.fee_told.specs.Figures.{Work, fixed_for, left_of, turns_of, Waits, ready_of, wait_of}
 use Rattle.fee_told.proofs.Jobs.{jobs_change}

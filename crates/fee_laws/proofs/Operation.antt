@@ -15,19 +15,19 @@ use Rattle.fls_model.specs.Op.{Op, MayLeave}
 use Rattle.fls_model.specs.Step.{IsAsked, IsChanged, Leaves, HasCause}
 use Rattle.fls_model.specs.Told.{Told, ToldBytes, IfBothTold, Change, bytes_now}
 use Rattle.fls_jobs.specs.State.{FlsState}
-use Rattle.fee_switch.specs.Banks.{BanksState}
+use Rattle.fee_switch_laws.specs.fee_switch.Banks.{BanksState}
 use Rattle.promise_device.specs.Making.{Making}
 use Rattle.promise_device.specs.Bridge.{is_program}
 use Rattle.promise_device.specs.Image.{IsOfLastGeneration, is_of_last_generation}
 use Rattle.promise_device.proofs.Readings.{last_generations_compute}
-use Rattle.fls_told.specs.Device.{asked_ops, flash_part}
-use Rattle.fls_told.specs.Clock.{Makes, CutsArePossible, TakesKeptPages, change_of, turn_of}
-use Rattle.fls_told.specs.Parts.{Counts}
-use Rattle.fls_told.specs.Runs.{HasRun, LeavesSound, KeepsWorn, CountsCuts as RunCounts, counts_fault}
-use Rattle.fls_told.specs.Tells.{IsSame, AreTold}
-use Rattle.fls_told.proofs.Clocks.{clocks_tick}
-use Rattle.fls_told.proofs.Making.{runs_go_on}
-use Rattle.fls_told.proofs.Parts.{parts_work}
+use Rattle.fee_told.specs.fls_told.Device.{asked_ops, flash_part}
+use Rattle.fee_told.specs.fls_told.Clock.{Makes, CutsArePossible, TakesKeptPages, change_of, turn_of}
+use Rattle.fee_told.specs.fls_told.Parts.{Counts}
+use Rattle.fee_told.specs.fls_told.Runs.{HasRun, LeavesSound, KeepsWorn, CountsCuts as RunCounts, counts_fault}
+use Rattle.fee_told.specs.fls_told.Tells.{IsSame, AreTold}
+use Rattle.fee_told.proofs.Clocks.{clocks_tick}
+use Rattle.fee_told.proofs.Making.{runs_go_on}
+use Rattle.fee_told.proofs.Parts.{parts_work}
 use Rattle.fee_told.specs.Device.{Device, tells, told_of, clock_of, flash_device}
 use Rattle.fee_told.specs.Whole.{CutsKeep, AreStarted}
 use Rattle.fee_told.proofs.Whole.{cuts_are_told, told_behind}

@@ -10,8 +10,8 @@ use Rattle.memif.specs.declared.answer.JobResult.{JobResult}
 use Rattle.memif.specs.Calls.{InOrder, IsOf, urgent_first, is_first}
 use Rattle.memif.specs.Clock.{FindsNow, ArePossible}
 use Rattle.fls_model.specs.Told.{Told, ToldBytes}
-use Rattle.fee_log.specs.declared.tail.Tail.{Tail}
-use Rattle.fee_log.specs.declared.tail.Tail.TheVariants as tail
+use Rattle.fee_switch_laws.specs.fee_log.declared.tail.Tail.{Tail}
+use Rattle.fee_switch_laws.specs.fee_log.declared.tail.Tail.TheVariants as tail
 use Rattle.promise_device.specs.Making.{Making, banks_of}
 use Rattle.fee_told.specs.Slots.{slots_found}
 use Rattle.fee_told.specs.Device.{Device, tells_now, told_of, slots_in, clock_of, flash_device}
@@ -24,8 +24,8 @@ use Rattle.fee_laws.specs.declared.job.FeeJob.{FeeJob}
 use Rattle.fee_laws.specs.Inside.{Parts, mark_of, stand_of, device_of, fixed_in, HoldsBehind}
 use Rattle.fee_laws.specs.Work.{is_owed, turns_before, seal_turns, waits_of, work_of, pages_free}
 use Rattle.fee_laws.proofs.CallOrder.{few_before}
-use Rattle.fls_told.proofs.Clocks.{tells_first}
-use Rattle.fls_told.specs.Clock.{ToldAlike}
+use Rattle.fee_told.proofs.Clocks.{tells_first}
+use Rattle.fee_told.specs.fls_told.Clock.{ToldAlike}
 
 -- THE ONE PART
 each_first : (p own : ℕ) (all ns : List (DeviceNumber × ℕ)) (n : ℕ) → (at_number no_figures all (map (λ (x : DeviceNumber × ℕ). figures_for p own x.1) ns) n).part ≡ First

@@ -18,14 +18,14 @@ use Rattle.fee_image.specs.Step.{page_due, bytes_due, log_failed, IsDue}
 use Rattle.fee_image.specs.Banks.{Old, OldBank, HoldsOld}
 use Rattle.fee_image.specs.BankLaws.{TakesAppends, program_of}
 use Rattle.fee_image.proofs.Logs.{logs_widen}
-use Rattle.fee_log.specs.declared.tail.Tail.{Tail}
-use Rattle.fee_log.specs.declared.tail.Tail.TheVariants.{Open, Writes, Owes, Closed}
-use Rattle.fee_log.specs.Laws.{MayFollow, HoldsState}
-use Rattle.fee_log.specs.Log.{LogState, IsTail, log_of, work_in, bank_of, pages_in}
-use Rattle.fee_log.specs.Step.{IsPageOf, due_bytes}
-use Rattle.fee_log.proofs.Follows.{work_is_due}
-use Rattle.fee_log.proofs.Steps.{pages_stand}
-use Rattle.fee_switch.specs.declared.active.ActiveBank.{ActiveBank}
+use Rattle.fee_switch_laws.specs.fee_log.declared.tail.Tail.{Tail}
+use Rattle.fee_switch_laws.specs.fee_log.declared.tail.Tail.TheVariants.{Open, Writes, Owes, Closed}
+use Rattle.fee_switch_laws.specs.fee_log.Laws.{MayFollow, HoldsState}
+use Rattle.fee_switch_laws.specs.fee_log.Log.{LogState, IsTail, log_of, work_in, bank_of, pages_in}
+use Rattle.fee_switch_laws.specs.fee_log.Step.{IsPageOf, due_bytes}
+use Rattle.fee_switch_laws.proofs.Follows.{work_is_due}
+use Rattle.fee_switch_laws.proofs.Steps.{pages_stand}
+use Rattle.fee_switch_laws.specs.fee_switch.declared.active.ActiveBank.{ActiveBank}
 use Rattle.fee_switch_laws.specs.Shown.{old_shown}
 use Rattle.fee_switch_laws.proofs.Appends.{takes}
 use Rattle.promise_device.specs.Making.{Making, banks_of}

@@ -17,24 +17,24 @@ use Rattle.fee_format.specs.BankHead.{bank_head_page}
 use Rattle.fee_format.specs.Pages.{gate_page}
 use Rattle.fee_format.specs.declared.rec_head.RecHead.{RecHead}
 use Rattle.fee_image.specs.RecordList.{pages_of_head}
-use Rattle.fee_log.specs.declared.tail.Tail.{Tail}
-use Rattle.fee_log.specs.declared.tail.Tail.TheVariants.{Open, Writes, Owes, Closed}
-use Rattle.fee_log.specs.Log.{LogState, IsLogState, IsTail, work_in, taken_in, free_in, free_behind, pages_in, begun}
-use Rattle.fee_log.specs.Step.{due_page, due_bytes, op_of}
+use Rattle.fee_switch_laws.specs.fee_log.declared.tail.Tail.{Tail}
+use Rattle.fee_switch_laws.specs.fee_log.declared.tail.Tail.TheVariants.{Open, Writes, Owes, Closed}
+use Rattle.fee_switch_laws.specs.fee_log.Log.{LogState, IsLogState, IsTail, work_in, taken_in, free_in, free_behind, pages_in, begun}
+use Rattle.fee_switch_laws.specs.fee_log.Step.{due_page, due_bytes, op_of}
 use Rattle.fee_course.specs.declared.copies.Source.{Source}
 use Rattle.fee_course.specs.declared.course.Copying.{Copying}
 use Rattle.fee_course.specs.declared.course.Course.{Course}
 use Rattle.fee_course.specs.declared.course.Course.TheVariants.{Erase, Copy, Head, Gate}
 use Rattle.fee_course.specs.Copies.{next_copy}
-use Rattle.fee_switch.specs.Banks.{BanksState}
-use Rattle.fee_switch.specs.Copy.{head_at}
+use Rattle.fee_switch_laws.specs.fee_switch.Banks.{BanksState}
+use Rattle.fee_switch_laws.specs.fee_switch.Copy.{head_at}
 use Rattle.fee_switch_laws.specs.KeepsRoom.{IsRoomy, KeepsRoom, IsOpenCopy}
 use Rattle.fee_switch_laws.specs.Space.{free_pages}
 use Rattle.fee_switch_laws.proofs.RoomPages.{among_greatest}
 use Rattle.promise_device.specs.Making.{Making}
 use Rattle.promise_device.specs.Failures.{is_failed}
 use Rattle.promise_device.specs.Traits.{page_in_bank, is_done, leaves_seal, is_kept_page, is_such_page, is_such_op, is_such}
-use Rattle.fls_told.specs.Clock.{TakesKeptPages, change_of}
+use Rattle.fee_told.specs.fls_told.Clock.{TakesKeptPages, change_of}
 use Rattle.fee_told.specs.Device.{flash_device}
 use Rattle.fee_laws.specs.declared.job.FeeJob.{FeeJob}
 use Rattle.fee_laws.specs.Inside.{Parts, device_of, stand_of, IsAtWork}

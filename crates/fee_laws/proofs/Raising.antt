@@ -8,15 +8,15 @@ use Rattle.nv_base.specs.declared.job.DeviceOp.TheVariants.{Read, Write, Invalid
 use Rattle.nv_base.specs.declared.mark.Mark.{Mark}
 use Rattle.memif.specs.Told.{Job, Open, figures_at, most_of, op_of}
 use Rattle.memif.specs.Calls.{record_pages}
-use Rattle.fee_log.specs.declared.tail.Tail.{Tail}
-use Rattle.fee_log.specs.declared.tail.Tail.TheVariants as tail
-use Rattle.fee_log.specs.Index.{clear_flags}
-use Rattle.fee_log.specs.Log.{IsLogState, work_in}
+use Rattle.fee_switch_laws.specs.fee_log.declared.tail.Tail.{Tail}
+use Rattle.fee_switch_laws.specs.fee_log.declared.tail.Tail.TheVariants as tail
+use Rattle.fee_switch_laws.specs.fee_log.Index.{clear_flags}
+use Rattle.fee_switch_laws.specs.fee_log.Log.{IsLogState, work_in}
 use Rattle.fee_course.specs.declared.course.Course.{Course}
 use Rattle.fee_course.specs.declared.course.Course.TheVariants as course
 use Rattle.fee_course.specs.Course.{most_turns}
 use Rattle.fee_course.proofs.Turns.{turns_are_few}
-use Rattle.fee_switch.specs.Banks.{BanksState, begun_again, left_of as switch_left, left_with, left_beside, index_of}
+use Rattle.fee_switch_laws.specs.fee_switch.Banks.{BanksState, begun_again, left_of as switch_left, left_with, left_beside, index_of}
 use Rattle.fee_switch_laws.specs.Space.{free_pages}
 use Rattle.fee_switch_laws.proofs.Turns.{left_rises, left_rises_few}
 use Rattle.fee_told.specs.Figures.{Work, fixed_for, ready_of, left_of, turns_of, FitsMark}

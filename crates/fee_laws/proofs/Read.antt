@@ -19,18 +19,18 @@ use Rattle.fls_model.specs.declared.flash.FlashAnswer.TheVariants.{Done, Failed}
 use Rattle.fls_model.specs.Told.{Told}
 use Rattle.fls_jobs.specs.State.{FlsState}
 use Rattle.fee_image.specs.Image.{Layout, bank_in}
-use Rattle.fee_log.specs.Index.{place_in}
-use Rattle.fee_log.specs.Log.{work_in}
+use Rattle.fee_switch_laws.specs.fee_log.Index.{place_in}
+use Rattle.fee_switch_laws.specs.fee_log.Log.{work_in}
 use Rattle.fee_image.specs.declared.place.Place.{Place}
 use Rattle.fee_image.specs.declared.place.Place.TheVariants.{Content, Invalid, Erased, Unwritten}
 use Rattle.fee_image.specs.Places.{held_at}
 use Rattle.fee_image.specs.Banks.{Old}
 use Rattle.fee_image.specs.Doubts.{shown_of}
-use Rattle.fee_switch.specs.declared.active.ActiveBank.{ActiveBank}
+use Rattle.fee_switch_laws.specs.fee_switch.declared.active.ActiveBank.{ActiveBank}
 use Rattle.fee_switch_laws.specs.Shown.{old_shown}
 use Rattle.promise_device.specs.Making.{Making, banks_of}
 use Rattle.fee_told.specs.Slots.{job_leaves, settled_in, slots_found, slots_held}
-use Rattle.fls_told.proofs.Parts.{rose_more}
+use Rattle.fee_told.proofs.Parts.{rose_more}
 use Rattle.fee_told.specs.Device.{slots_in}
 use Rattle.fee_laws.specs.declared.job.FeeJob.{FeeJob}
 use Rattle.fee_laws.specs.Inside.{Parts, body_of, device_of, memory_of}

@@ -18,13 +18,13 @@ use Rattle.fee_image.specs.May.{May}
 use Rattle.fee_image.specs.Banks.{Old}
 use Rattle.fee_image.specs.Copies.{Flag, copied_of}
 use Rattle.fee_image.specs.Doubts.{shown_of}
-use Rattle.fee_log.specs.declared.tail.Tail.{Tail}
-use Rattle.fee_log.specs.declared.tail.Tail.TheVariants as tail
-use Rattle.fee_log.specs.Log.{LogState, work_in}
-use Rattle.fee_switch.specs.declared.active.ActiveBank.{ActiveBank}
+use Rattle.fee_switch_laws.specs.fee_log.declared.tail.Tail.{Tail}
+use Rattle.fee_switch_laws.specs.fee_log.declared.tail.Tail.TheVariants as tail
+use Rattle.fee_switch_laws.specs.fee_log.Log.{LogState, work_in}
+use Rattle.fee_switch_laws.specs.fee_switch.declared.active.ActiveBank.{ActiveBank}
 use Rattle.fee_course.specs.declared.course.Course.{Course}
 use Rattle.fee_course.specs.declared.course.Course.TheVariants as course
-use Rattle.fee_switch.specs.Banks.{BanksState, begun_again, left_of as switch_left, left_beside}
+use Rattle.fee_switch_laws.specs.fee_switch.Banks.{BanksState, begun_again, left_of as switch_left, left_beside}
 use Rattle.fee_switch_laws.specs.Shown.{old_shown}
 use Rattle.promise_device.specs.Making.{Making, banks_of}
 use Rattle.fee_told.specs.Slots.{Memory, HasJob, job_leaves, left_by, slots_found, slots_with, settled_in}

@@ -20,9 +20,9 @@ use Rattle.fee_course.specs.declared.course.Course.{Course}
 use Rattle.fee_course.specs.declared.course.Course.TheVariants.{Erase, Copy, Head, Gate}
 use Rattle.fee_course.specs.Copies.{next_copy}
 use Rattle.fee_course.specs.Course.{IsShort, begun, settled, after_done, flag_due}
-use Rattle.fee_log.specs.Log.{work_in}
-use Rattle.fee_switch.specs.declared.target.Stage.TheVariants as stage
-use Rattle.fee_switch.specs.Banks.{BanksState, flagged_by, advanced, after_answer}
+use Rattle.fee_switch_laws.specs.fee_log.Log.{work_in}
+use Rattle.fee_switch_laws.specs.fee_switch.declared.target.Stage.TheVariants as stage
+use Rattle.fee_switch_laws.specs.fee_switch.Banks.{BanksState, flagged_by, advanced, after_answer}
 use Rattle.fee_switch_laws.specs.KeepsRoom.{IsOpenCopy, IsRoomy}
 use Rattle.promise_device.specs.Making.{Making}
 use Rattle.promise_device.specs.Traits.{page_in_bank, is_done}
@@ -31,8 +31,8 @@ use Rattle.promise_device.specs.SwitchErases.{RestartsAreFew, one_if, erases_fir
 use Rattle.promise_device.proofs.Places.{own_page, bank_of_erase}
 use Rattle.promise_device.proofs.SwitchErases.{begun_push, again_push, failures_push}
 use Rattle.promise_device.proofs.Wears.{all_two, second_of}
-use Rattle.fls_told.specs.Clock.{change_of}
-use Rattle.fls_told.specs.Runs.{counts_fault}
+use Rattle.fee_told.specs.fls_told.Clock.{change_of}
+use Rattle.fee_told.specs.fls_told.Runs.{counts_fault}
 use Rattle.fee_laws.specs.declared.job.FeeJob.{FeeJob}
 use Rattle.fee_told.specs.Device.{told_of}
 use Rattle.fee_laws.specs.Inside.{Parts, device_of}

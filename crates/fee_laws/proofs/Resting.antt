@@ -8,8 +8,8 @@ use Rattle.memif.specs.Clock.{SameClock, Clock}
 use Rattle.fls_model.specs.Told.{Told}
 use Rattle.fee_course.specs.declared.course.Course.{Course}
 use Rattle.fee_course.specs.declared.course.Course.TheVariants as course
-use Rattle.fee_log.specs.Log.{work_in}
-use Rattle.fee_switch.specs.Banks.{BanksState}
+use Rattle.fee_switch_laws.specs.fee_log.Log.{work_in}
+use Rattle.fee_switch_laws.specs.fee_switch.Banks.{BanksState}
 use Rattle.fee_switch_laws.specs.Shown.{phase_shown}
 use Rattle.promise_device.specs.Making.{Making}
 use Rattle.fee_told.specs.Device.{is_switching, told_of, clock_of}

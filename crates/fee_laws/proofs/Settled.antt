@@ -14,14 +14,14 @@ use Rattle.fee_image.specs.declared.place.Place.{Place}
 use Rattle.fee_image.specs.declared.place.Place.TheVariants.{Content, Invalid, Erased, Unwritten}
 use Rattle.fee_image.specs.Places.{count_at, held_at, is_written, noted, place_at}
 use Rattle.fee_image.specs.Copies.{Flag, Each, Copies, is_done, settled_at}
-use Rattle.fee_switch.specs.declared.active.ActiveBank.{ActiveBank}
+use Rattle.fee_switch_laws.specs.fee_switch.declared.active.ActiveBank.{ActiveBank}
 use Rattle.fee_image.specs.Found.{fits}
-use Rattle.fee_log.specs.Index.{place_in}
-use Rattle.fee_log.specs.Log.{LogState}
+use Rattle.fee_switch_laws.specs.fee_log.Index.{place_in}
+use Rattle.fee_switch_laws.specs.fee_log.Log.{LogState}
 use Rattle.fee_course.specs.declared.course.Copying.{Copying}
 use Rattle.fee_course.specs.declared.course.Course.{Course}
 use Rattle.fee_course.specs.declared.course.Course.TheVariants as course
-use Rattle.fee_switch.specs.Banks.{appended_at}
+use Rattle.fee_switch_laws.specs.fee_switch.Banks.{appended_at}
 use Rattle.fee_switch_laws.specs.Flags.{IsOpenFor}
 use Rattle.fee_switch_laws.specs.Shown.{old_shown}
 use Rattle.fee_switch_laws.proofs.Flags.{is_placed}

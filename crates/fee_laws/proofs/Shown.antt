@@ -14,12 +14,12 @@ use Rattle.fee_format.specs.declared.rec_head.RecordKind.{RecordKind}
 use Rattle.fee_image.specs.RecordList.{pages_of_head}
 use Rattle.fee_image.specs.Log.{Log, Writes as LogWrites}
 use Rattle.fee_image.specs.Banks.{OldBank}
-use Rattle.fee_log.specs.Log.{LogState}
+use Rattle.fee_switch_laws.specs.fee_log.Log.{LogState}
 use Rattle.fee_course.specs.declared.course.Course.{Course}
 use Rattle.fee_course.specs.declared.course.Course.TheVariants as course
-use Rattle.fee_switch.specs.Banks.{BanksState}
+use Rattle.fee_switch_laws.specs.fee_switch.Banks.{BanksState}
 use Rattle.fee_switch_laws.specs.Shown.{old_shown, phase_shown}
-use Rattle.fee_log.specs.Log.{work_in}
+use Rattle.fee_switch_laws.specs.fee_log.Log.{work_in}
 use Rattle.promise_device.specs.Making.{Making}
 use Rattle.fee_told.specs.Slots.{Memory, writes_of, IsWorkOf}
 use Rattle.fee_told.specs.Device.{told_of}

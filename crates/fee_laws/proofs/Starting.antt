@@ -23,30 +23,30 @@ use Rattle.fee_image.specs.Log.{Log}
 use Rattle.fee_image.specs.May.{May}
 use Rattle.fee_image.specs.Banks.{OldBank, Phase, Idle}
 use Rattle.fee_image.proofs.Sectors.{layouts_are_legal}
-use Rattle.fee_switch.specs.declared.active.ActiveBank.{ActiveBank}
-use Rattle.fee_switch.specs.Active.{active_shown}
-use Rattle.fee_log.specs.Log.{work_in, tail_with, log_of}
+use Rattle.fee_switch_laws.specs.fee_switch.declared.active.ActiveBank.{ActiveBank}
+use Rattle.fee_switch_laws.specs.fee_switch.Active.{active_shown}
+use Rattle.fee_switch_laws.specs.fee_log.Log.{work_in, tail_with, log_of}
 use Rattle.fee_course.specs.declared.course.Course.{Course}
-use Rattle.fee_switch.specs.Start.{IsLoadedAs}
-use Rattle.fee_switch.specs.Banks.{BanksState, FindsActive, LoadsActive}
+use Rattle.fee_switch_laws.specs.fee_switch.Start.{IsLoadedAs}
+use Rattle.fee_switch_laws.specs.fee_switch.Banks.{BanksState, FindsActive, LoadsActive}
 use Rattle.fee_switch_laws.specs.Shown.{old_shown, phase_shown}
 use Rattle.promise_device.specs.Making.{Making, banks_of}
 use Rattle.fee_told.specs.Slots.{Memory, slots_held, slots_found, held_of, banks_with, may_told}
 use Rattle.fee_told.specs.SlotLaws.{IsStarted, IsHeld}
-use Rattle.fls_told.specs.Device.{flash_part, slot_with}
-use Rattle.fls_told.specs.Clock.{MakesNone}
-use Rattle.fls_told.specs.Runs.{HasRun}
-use Rattle.fls_told.specs.Tells.{IsSame}
-use Rattle.fls_told.proofs.Clocks.{clocks_stay}
-use Rattle.fls_told.proofs.Making.{runs_stay}
-use Rattle.fls_told.proofs.Parts.{parts_power}
-use Rattle.fls_told.proofs.Tells.{tells_start}
+use Rattle.fee_told.specs.fls_told.Device.{flash_part, slot_with}
+use Rattle.fee_told.specs.fls_told.Clock.{MakesNone}
+use Rattle.fee_told.specs.fls_told.Runs.{HasRun}
+use Rattle.fee_told.specs.fls_told.Tells.{IsSame}
+use Rattle.fee_told.proofs.Clocks.{clocks_stay}
+use Rattle.fee_told.proofs.Making.{runs_stay}
+use Rattle.fee_told.proofs.Parts.{parts_power}
+use Rattle.fee_told.proofs.Tells.{tells_start}
 use Rattle.fee_told.specs.Device.{Device, tells_now, told_of, slots_in, is_switching, clock_of, flash_device}
 use Rattle.fee_told.specs.Jobs.{MayStart, AreStarted}
 use Rattle.fee_told.specs.Whole.{HoldsBanks}
 use Rattle.fee_told.specs.Figures.{left_of}
 use Rattle.fee_format.specs.declared.rec_head.RecHead.{RecHead}
-use Rattle.fee_log.specs.Index.{clear_flags}
+use Rattle.fee_switch_laws.specs.fee_log.Index.{clear_flags}
 use Rattle.fee_switch_laws.specs.Space.{HasSpace}
 use Rattle.fee_switch_laws.specs.KeepsRoom.{IsRoomy}
 use Rattle.fee_told.proofs.Kept.{same_places}

@@ -8,11 +8,11 @@ use Rattle.fls_model.specs.Told.{Told}
 use Rattle.fee_format.specs.declared.rec_head.RecHead.{RecHead}
 use Rattle.fee_image.specs.Step.{log_given_up}
 use Rattle.fee_image.specs.Banks.{OldBank, Phase}
-use Rattle.fee_switch.specs.declared.active.ActiveBank.{ActiveBank}
-use Rattle.fee_log.specs.Log.{work_in, log_of, free_in}
-use Rattle.fee_log.specs.Step.{given_up}
+use Rattle.fee_switch_laws.specs.fee_switch.declared.active.ActiveBank.{ActiveBank}
+use Rattle.fee_switch_laws.specs.fee_log.Log.{work_in, log_of, free_in}
+use Rattle.fee_switch_laws.specs.fee_log.Step.{given_up}
 use Rattle.fee_course.specs.declared.course.Course.{Course}
-use Rattle.fee_switch.specs.Banks.{BanksState, IsBanksState}
+use Rattle.fee_switch_laws.specs.fee_switch.Banks.{BanksState, IsBanksState}
 use Rattle.fee_switch_laws.specs.Shown.{old_shown}
 use Rattle.fee_switch_laws.specs.Space.{free_pages}
 use Rattle.fee_switch_laws.specs.KeepsRoom.{IsRoomy}

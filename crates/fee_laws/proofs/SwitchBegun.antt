@@ -11,12 +11,12 @@ use Rattle.fee_image.specs.May.{May}
 use Rattle.fee_image.specs.Banks.{Old, Idle, Erasing}
 use Rattle.fee_image.specs.Copies.{copied_of}
 use Rattle.fee_image.specs.BankLaws.{IsOther}
-use Rattle.fee_log.specs.Index.{clear_flags}
-use Rattle.fee_log.specs.Log.{LogState, work_in}
-use Rattle.fee_switch.specs.declared.active.ActiveBank.{ActiveBank}
+use Rattle.fee_switch_laws.specs.fee_log.Index.{clear_flags}
+use Rattle.fee_switch_laws.specs.fee_log.Log.{LogState, work_in}
+use Rattle.fee_switch_laws.specs.fee_switch.declared.active.ActiveBank.{ActiveBank}
 use Rattle.fee_course.specs.declared.course.Course.{Course}
 use Rattle.fee_course.specs.declared.course.Course.TheVariants.{Erase}
-use Rattle.fee_switch.specs.Banks.{BanksState, begun_again, left_of, left_beside}
+use Rattle.fee_switch_laws.specs.fee_switch.Banks.{BanksState, begun_again, left_of, left_beside}
 use Rattle.fee_switch_laws.specs.Shown.{old_shown, phase_shown}
 use Rattle.fee_switch_laws.specs.KeepsRoom.{KeepsRoom}
 use Rattle.fee_switch_laws.specs.Space.{free_pages, has_room}
@@ -24,7 +24,7 @@ use Rattle.fee_switch_laws.proofs.RoomSteps.{begins_keep_room}
 use Rattle.promise_device.specs.Making.{Making, banks_of}
 use Rattle.fee_told.specs.Slots.{Memory, slots_found}
 use Rattle.fee_told.specs.SlotLaws.{IsHeld, SamePlaces}
-use Rattle.fls_told.proofs.Clocks.{clocks_stay}
+use Rattle.fee_told.proofs.Clocks.{clocks_stay}
 use Rattle.fee_told.specs.Device.{Device, tells_now, told_of, slots_in, clock_of, flash_device}
 use Rattle.fee_told.specs.Turns.{is_sealing}
 use Rattle.fee_told.specs.Figures.{Work, ready_of, wait_of}

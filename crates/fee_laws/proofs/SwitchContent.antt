@@ -14,12 +14,12 @@ use Rattle.fee_format.specs.declared.rec_head.RecordKind.TheVariants as kind
 use Rattle.fee_image.specs.Image.{Layout}
 use Rattle.fee_image.specs.Banks.{Phase, Erasing, Copying}
 use Rattle.fee_image.specs.Copies.{Each, copied_of}
-use Rattle.fee_log.specs.Index.{clear_flags}
-use Rattle.fee_log.specs.Log.{LogState, log_of, work_in, erased_state}
+use Rattle.fee_switch_laws.specs.fee_log.Index.{clear_flags}
+use Rattle.fee_switch_laws.specs.fee_log.Log.{LogState, log_of, work_in, erased_state}
 use Rattle.fee_course.specs.declared.course.Course.{Course}
 use Rattle.fee_course.specs.declared.course.Course.TheVariants.{Erase}
 use Rattle.fee_course.specs.Course.{after_done}
-use Rattle.fee_switch.specs.Banks.{BanksState, after_answer, left_of}
+use Rattle.fee_switch_laws.specs.fee_switch.Banks.{BanksState, after_answer, left_of}
 use Rattle.fee_switch_laws.specs.Shown.{phase_shown, phase_at}
 use Rattle.fee_switch_laws.specs.KeepsRoom.{KeepsRoom}
 use Rattle.fee_switch_laws.proofs.RoomSteps.{steps_keep_room, steps_lower}
@@ -27,7 +27,7 @@ use Rattle.promise_device.specs.Making.{Making, banks_of}
 use Rattle.fee_told.specs.Slots.{Memory, settled_in}
 use Rattle.fee_told.specs.Kept.{IsKept}
 use Rattle.fee_told.proofs.Switches.{copies_fail}
-use Rattle.fls_told.proofs.Parts.{rose_more}
+use Rattle.fee_told.proofs.Parts.{rose_more}
 use Rattle.fee_told.proofs.Slots.{keeps_same}
 use Rattle.fee_laws.specs.Copied.{flags_of, IsCopying}
 use Rattle.fee_laws.specs.Inside.{Parts, memory_of, body_of, flags_in, ShowsCopies, stand_of}
@@ -38,20 +38,20 @@ use Rattle.fee_laws.proofs.SwitchShown.{no_job, standing}
 use Rattle.nv_base.specs.Geometry.{address_of_page}
 use Rattle.fee_image.specs.Image.{bank_in}
 use Rattle.fee_image.specs.May.{held_written}
-use Rattle.fee_log.specs.declared.tail.Tail.{Tail}
-use Rattle.fee_log.specs.declared.tail.Tail.TheVariants.{Writes}
+use Rattle.fee_switch_laws.specs.fee_log.declared.tail.Tail.{Tail}
+use Rattle.fee_switch_laws.specs.fee_log.declared.tail.Tail.TheVariants.{Writes}
 use Rattle.fee_image.specs.declared.place.Place.{Place}
 use Rattle.fee_image.specs.declared.place.Place.TheVariants as place
-use Rattle.fee_log.specs.Log.{begun}
+use Rattle.fee_switch_laws.specs.fee_log.Log.{begun}
 use Rattle.fee_course.specs.declared.copies.Source.{Source}
 use Rattle.fee_course.specs.declared.course.Course.TheVariants.{Copy}
-use Rattle.fee_switch.specs.Copy.{head_at, IsNext}
+use Rattle.fee_switch_laws.specs.fee_switch.Copy.{head_at, IsNext}
 use Rattle.fee_laws.proofs.Before.{power}
 use Rattle.std.specs.Prelude.{take}
 use Rattle.fee_image.specs.Places.{held_at}
 use Rattle.fee_course.specs.Course.{begun as course_begun}
-use Rattle.fee_switch.specs.Banks.{reads_next, reads_source}
-use Rattle.fee_switch.specs.Copy.{BeginsAt}
+use Rattle.fee_switch_laws.specs.fee_switch.Banks.{reads_next, reads_source}
+use Rattle.fee_switch_laws.specs.fee_switch.Copy.{BeginsAt}
 use Rattle.fee_image.specs.Copies.{Copies}
 use Rattle.fee_laws.specs.Switches.{failed_with}
 use Rattle.fee_laws.proofs.SwitchNext.{found_copies}
@@ -66,14 +66,14 @@ use Rattle.fee_laws.proofs.Before.{now_at}
 use Rattle.fee_laws.proofs.SwitchReadOn.{went_read}
 use Rattle.fee_laws.proofs.SwitchReadFailed.{failed_read}
 use Rattle.fee_laws.proofs.SwitchShown.{flags_hidden}
-use Rattle.fee_switch.specs.declared.active.ActiveBank.{ActiveBank}
+use Rattle.fee_switch_laws.specs.fee_switch.declared.active.ActiveBank.{ActiveBank}
 use Rattle.fls_model.specs.Bytes.{piece}
 use Rattle.fls_model.specs.Read.{IsRead}
 use Rattle.fls_model.specs.Told.{bytes_now}
 use Rattle.memif.specs.Told.{slot_at}
 use Rattle.fee_told.specs.Slots.{slots_held}
 use Rattle.nv_base.specs.declared.mark.Mark.TheVariants as mark
-use Rattle.fee_switch.specs.Copy.{begun_where}
+use Rattle.fee_switch_laws.specs.fee_switch.Copy.{begun_where}
 use Rattle.fee_laws.specs.Switches.{CopiesAreRead, CopiesAreNotRead}
 use Rattle.fee_laws.proofs.SwitchFailed.{last_by, given_by, failed_is, stand_goes}
 use Rattle.fee_laws.proofs.SwitchMark.{begins_at}

@@ -18,10 +18,10 @@ use Rattle.fee_image.specs.May.{May}
 use Rattle.fee_image.specs.Banks.{Phase, Copying}
 use Rattle.fee_image.specs.Copies.{Flag, copied_of}
 use Rattle.fee_image.proofs.Copies.{marking_holds}
-use Rattle.fee_log.specs.Log.{LogState, log_of, work_in}
+use Rattle.fee_switch_laws.specs.fee_log.Log.{LogState, log_of, work_in}
 use Rattle.fee_course.specs.declared.course.Course.{Course}
 use Rattle.fee_course.specs.Course.{settled}
-use Rattle.fee_switch.specs.Banks.{BanksState, after_answer}
+use Rattle.fee_switch_laws.specs.fee_switch.Banks.{BanksState, after_answer}
 use Rattle.fee_switch_laws.specs.Shown.{phase_shown, phase_at}
 use Rattle.fee_switch_laws.proofs.Copies.{settled_stays}
 use Rattle.promise_device.specs.Making.{Making, banks_of}
@@ -43,22 +43,22 @@ use Rattle.fee_image.specs.Step.{log_done, may_done}
 use Rattle.fee_image.specs.BankLaws.{program_of}
 use Rattle.fee_image.specs.Copies.{marked}
 use Rattle.fee_image.specs.declared.place.Place.{Place}
-use Rattle.fee_log.specs.declared.tail.Tail.{Tail}
-use Rattle.fee_log.specs.declared.tail.Tail.TheVariants.{Writes}
-use Rattle.fee_log.specs.Index.{with_flag}
-use Rattle.fee_log.specs.Log.{tail_with}
-use Rattle.fee_log.specs.Step.{op_of}
+use Rattle.fee_switch_laws.specs.fee_log.declared.tail.Tail.{Tail}
+use Rattle.fee_switch_laws.specs.fee_log.declared.tail.Tail.TheVariants.{Writes}
+use Rattle.fee_switch_laws.specs.fee_log.Index.{with_flag}
+use Rattle.fee_switch_laws.specs.fee_log.Log.{tail_with}
+use Rattle.fee_switch_laws.specs.fee_log.Step.{op_of}
 use Rattle.fee_switch_laws.specs.Flags.{IsOpenFor}
 use Rattle.std.proofs.lemmas.Bool.{eq-eqb, eqb-false, ne_eqb}
 use Rattle.std.proofs.lemmas.List.Elements.{All-take}
 use Rattle.std.specs.Prelude.{slice_get, take}
 use Rattle.fee_image.specs.Step.{is_last}
-use Rattle.fee_log.specs.Step.{after_step}
+use Rattle.fee_switch_laws.specs.fee_log.Step.{after_step}
 use Rattle.fee_course.specs.declared.course.Copying.{Copying as InWork}
 use Rattle.fee_course.specs.declared.course.Course.TheVariants.{Copy}
 use Rattle.fee_course.specs.Course.{flag_due, page_done}
 use Rattle.fee_switch_laws.specs.Flags.{CopiesOrNot}
-use Rattle.fee_switch.specs.Banks.{flagged_by, flagged_at}
+use Rattle.fee_switch_laws.specs.fee_switch.Banks.{flagged_by, flagged_at}
 use Rattle.fee_switch_laws.specs.KeepsRoom.{IsOpenCopy, IsTargetLog}
 use Rattle.fee_laws.specs.Switches.{copy_op_of}
 use Rattle.fee_laws.proofs.Tails.{tailed, shown, page_goes_on, page_commits}

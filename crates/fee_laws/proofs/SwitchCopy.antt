@@ -17,11 +17,11 @@ use Rattle.fee_image.specs.May.{May}
 use Rattle.fee_image.specs.Banks.{Copying}
 use Rattle.fee_image.specs.Copies.{Flag, copied_of}
 use Rattle.fee_format.specs.Formats.{new_format}
-use Rattle.fee_log.specs.Log.{LogState, log_of, work_in}
-use Rattle.fee_log.proofs.Follows.{work_is_due}
-use Rattle.fee_log.proofs.Steps.{pages_stand}
+use Rattle.fee_switch_laws.specs.fee_log.Log.{LogState, log_of, work_in}
+use Rattle.fee_switch_laws.proofs.Follows.{work_is_due}
+use Rattle.fee_switch_laws.proofs.Steps.{pages_stand}
 use Rattle.fee_course.specs.declared.course.Course.{Course}
-use Rattle.fee_switch.specs.Banks.{BanksState}
+use Rattle.fee_switch_laws.specs.fee_switch.Banks.{BanksState}
 use Rattle.promise_device.specs.Making.{Making, banks_of}
 use Rattle.fee_told.specs.Slots.{Memory}
 use Rattle.fee_told.specs.SlotLaws.{IsHeld}
@@ -41,16 +41,16 @@ use Rattle.fee_image.specs.May.{IsAmong}
 use Rattle.fee_image.specs.Step.{page_due, bytes_due, bytes_of_tail, log_done, may_done}
 use Rattle.fee_image.specs.BankLaws.{program_of}
 use Rattle.fee_image.specs.Copies.{is_done, shown_by}
-use Rattle.fee_log.specs.declared.tail.Tail.{Tail}
-use Rattle.fee_log.specs.declared.tail.Tail.TheVariants.{Writes}
-use Rattle.fee_log.specs.Laws.{HoldsState, MayFollow}
-use Rattle.fee_log.specs.Log.{IsLogState, IsTail, bank_of, pages_in, tail_with}
-use Rattle.fee_log.specs.Step.{IsPageOf, op_of, due_bytes}
+use Rattle.fee_switch_laws.specs.fee_log.declared.tail.Tail.{Tail}
+use Rattle.fee_switch_laws.specs.fee_log.declared.tail.Tail.TheVariants.{Writes}
+use Rattle.fee_switch_laws.specs.fee_log.Laws.{HoldsState, MayFollow}
+use Rattle.fee_switch_laws.specs.fee_log.Log.{IsLogState, IsTail, bank_of, pages_in, tail_with}
+use Rattle.fee_switch_laws.specs.fee_log.Step.{IsPageOf, op_of, due_bytes}
 use Rattle.fee_switch_laws.specs.Flags.{IsOpenFor}
 use Rattle.fee_laws.proofs.Page.{due_inside}
 use Rattle.fee_laws.proofs.FollowBytes.{record_page_is}
 use Rattle.fee_laws.specs.Inside.{IsMadeFor}
-use Rattle.fee_switch.specs.Banks.{IsBanksState}
+use Rattle.fee_switch_laws.specs.fee_switch.Banks.{IsBanksState}
 
 -- THE TARGET'S LOG
 -- it is in the new format, and over the banks that the device was made for

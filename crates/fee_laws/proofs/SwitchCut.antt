@@ -9,14 +9,14 @@ use Rattle.fls_model.specs.Op.{Op}
 use Rattle.fls_model.specs.Step.{IsStep}
 use Rattle.fls_model.specs.Told.{Told}
 use Rattle.fls_jobs.specs.State.{FlsState}
-use Rattle.fee_log.specs.Log.{LogState}
+use Rattle.fee_switch_laws.specs.fee_log.Log.{LogState}
 use Rattle.fee_course.specs.declared.course.Course.{Course}
-use Rattle.fee_switch.specs.Banks.{BanksState}
+use Rattle.fee_switch_laws.specs.fee_switch.Banks.{BanksState}
 use Rattle.promise_device.specs.Making.{Making, banks_of}
 use Rattle.fee_image.specs.Banks.{Old}
 use Rattle.fee_told.specs.Slots.{Memory, HasJob}
-use Rattle.fls_told.specs.Clock.{TakesKeptPages}
-use Rattle.fls_told.specs.Runs.{HasRun}
+use Rattle.fee_told.specs.fls_told.Clock.{TakesKeptPages}
+use Rattle.fee_told.specs.fls_told.Runs.{HasRun}
 use Rattle.fee_told.specs.Device.{Device, tells, told_of, flash_device}
 use Rattle.fee_told.proofs.Kept.{same_places}
 use Rattle.fee_laws.specs.Inside.{Parts, device_of, IsAtWork, HasSwitch}

@@ -17,23 +17,23 @@ use Rattle.fls_model.specs.Step.{IsStep}
 use Rattle.fls_model.specs.Told.{Told}
 use Rattle.fls_jobs.specs.State.{FlsState}
 use Rattle.fee_format.specs.Formats.{new_format}
-use Rattle.fee_log.specs.declared.tail.Tail.{Tail}
-use Rattle.fee_log.specs.Log.{work_in}
+use Rattle.fee_switch_laws.specs.fee_log.declared.tail.Tail.{Tail}
+use Rattle.fee_switch_laws.specs.fee_log.Log.{work_in}
 use Rattle.fee_course.specs.declared.course.Course.{Course}
 use Rattle.fee_course.specs.declared.course.Course.TheVariants as course
-use Rattle.fee_switch.specs.Banks.{BanksState, left_of}
+use Rattle.fee_switch_laws.specs.fee_switch.Banks.{BanksState, left_of}
 use Rattle.fee_format.specs.declared.rec_head.RecHead.{RecHead}
 use Rattle.fee_format.specs.declared.rec_head.RecordKind.{RecordKind}
 use Rattle.fee_format.specs.declared.rec_head.RecordKind.TheVariants as kind
 use Rattle.nv_base.specs.declared.job.DeviceOp.TheVariants.{Read}
-use Rattle.fee_switch.specs.declared.active.ActiveBank.{ActiveBank}
+use Rattle.fee_switch_laws.specs.fee_switch.declared.active.ActiveBank.{ActiveBank}
 use Rattle.fee_switch_laws.specs.Shown.{old_shown, phase_shown}
 use Rattle.fee_switch_laws.specs.KeepsRoom.{KeepsRoom}
 use Rattle.fee_switch_laws.specs.Space.{free_pages}
 use Rattle.fee_switch_laws.proofs.RoomSteps.{records_have_room, steps_keep_room, switches_make_room}
 use Rattle.promise_device.specs.Making.{Making, banks_of}
 use Rattle.fee_told.specs.Slots.{Memory}
-use Rattle.fls_told.specs.Runs.{HasRun}
+use Rattle.fee_told.specs.fls_told.Runs.{HasRun}
 use Rattle.fee_told.specs.Device.{Device, told_of, clock_of, tells, flash_device}
 use Rattle.fee_told.specs.Figures.{Work, turns_owed, turns_of, wait_of}
 use Rattle.fee_told.specs.Turns.{owes, owes_gate, is_sealing, TakesTurn}
@@ -64,8 +64,8 @@ use Rattle.fee_image.specs.Log.{Log, Open as LogOpen}
 use Rattle.fee_image.specs.May.{May}
 use Rattle.fee_image.specs.Banks.{OldBank, Idle, next_head}
 use Rattle.fee_image.specs.Copies.{copied_of}
-use Rattle.fee_log.specs.declared.tail.Tail.TheVariants.{Open, Writes, Owes, Closed}
-use Rattle.fee_log.specs.Log.{LogState, IsLengthFor, IsFor, log_of, tail_with}
+use Rattle.fee_switch_laws.specs.fee_log.declared.tail.Tail.TheVariants.{Open, Writes, Owes, Closed}
+use Rattle.fee_switch_laws.specs.fee_log.Log.{LogState, IsLengthFor, IsFor, log_of, tail_with}
 use Rattle.fee_course.specs.declared.course.Course.TheVariants.{Gate}
 use Rattle.fee_image.specs.Image.{Layout}
 use Rattle.fls_model.specs.Step.{IsAsked}
@@ -79,7 +79,7 @@ use Rattle.fee_laws.specs.Work.{pages_of_job, pages_left}
 use Rattle.fee_laws.proofs.SwitchFigures.{job_part}
 use Rattle.fee_laws.proofs.SwitchNearer.{before_by, not_sealed}
 use Rattle.fee_laws.proofs.Before.{each_now}
-use Rattle.fee_switch.specs.Banks.{left_with, begun_again, ended, stood, target_after, after_answer}
+use Rattle.fee_switch_laws.specs.fee_switch.Banks.{left_with, begun_again, ended, stood, target_after, after_answer}
 use Rattle.fee_switch_laws.specs.KeepsRoom.{IsTargetLog}
 use Rattle.fee_switch_laws.specs.RoomLaws.{IsBehindSwitch}
 use Rattle.fee_switch_laws.specs.Space.{most_pages, has_room}

@@ -20,12 +20,12 @@ use Rattle.fee_image.specs.BankLaws.{erase_of}
 use Rattle.fee_image.specs.Copies.{Flag, Each, copied_of}
 use Rattle.fee_image.proofs.Copies.{clear_may_be_erased}
 use Rattle.fee_image.proofs.Sectors.{sectors_fill_banks}
-use Rattle.fee_log.specs.Index.{clear_flags}
-use Rattle.fee_log.specs.Log.{LogState, log_of, work_in, erased_state}
+use Rattle.fee_switch_laws.specs.fee_log.Index.{clear_flags}
+use Rattle.fee_switch_laws.specs.fee_log.Log.{LogState, log_of, work_in, erased_state}
 use Rattle.fee_course.specs.declared.course.Course.{Course}
 use Rattle.fee_course.specs.declared.course.Course.TheVariants.{Erase}
 use Rattle.fee_course.specs.Course.{settled, after_done}
-use Rattle.fee_switch.specs.Banks.{BanksState, after_answer}
+use Rattle.fee_switch_laws.specs.fee_switch.Banks.{BanksState, after_answer}
 use Rattle.fee_switch_laws.specs.Shown.{phase_shown, phase_at}
 use Rattle.fee_switch_laws.specs.KeepsRoom.{IsEmptyTarget}
 use Rattle.fee_switch_laws.proofs.Copies.{settled_stays}

@@ -5,10 +5,10 @@ use Rattle.fls_model.specs.declared.flash.FlashAnswer.TheVariants.{Done, Failed,
 use Rattle.fls_model.specs.Told.{Told}
 use Rattle.fls_jobs.specs.State.{FlsState}
 use Rattle.fee_image.specs.Copies.{copied_of}
-use Rattle.fee_log.specs.Log.{work_in}
+use Rattle.fee_switch_laws.specs.fee_log.Log.{work_in}
 use Rattle.fee_course.specs.declared.course.Course.{Course}
 use Rattle.fee_course.specs.declared.course.Course.TheVariants.{Erase}
-use Rattle.fee_switch.specs.Banks.{BanksState}
+use Rattle.fee_switch_laws.specs.fee_switch.Banks.{BanksState}
 use Rattle.fee_switch_laws.specs.Shown.{phase_shown}
 use Rattle.promise_device.specs.Making.{Making, banks_of}
 use Rattle.fee_told.specs.Slots.{Memory}

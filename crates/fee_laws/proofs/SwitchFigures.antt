@@ -8,10 +8,10 @@ use Rattle.nv_base.specs.declared.job.DeviceOp.{DeviceOp}
 use Rattle.nv_base.specs.declared.job.DeviceOp.TheVariants.{Read, Write, Invalidate, Erase}
 use Rattle.nv_base.specs.declared.mark.Mark.{Mark}
 use Rattle.memif.specs.declared.answer.JobResult.{JobResult}
-use Rattle.fee_log.specs.Log.{LogState, work_in}
+use Rattle.fee_switch_laws.specs.fee_log.Log.{LogState, work_in}
 use Rattle.fee_course.specs.declared.course.Course.{Course}
 use Rattle.fee_course.specs.Course.{most_turns}
-use Rattle.fee_switch.specs.Banks.{BanksState, left_of, left_beside}
+use Rattle.fee_switch_laws.specs.fee_switch.Banks.{BanksState, left_of, left_beside}
 use Rattle.fee_switch_laws.specs.Space.{free_pages}
 use Rattle.promise_device.specs.Making.{Making}
 use Rattle.fee_told.specs.Figures.{Work, turns_owed, turns_of, left_of as left_in}

@@ -13,10 +13,10 @@ use Rattle.fee_image.specs.Banks.{Phase, Copying}
 use Rattle.fee_image.specs.Copies.{copied_of}
 use Rattle.fee_format.specs.Formats.{new_format}
 use Rattle.fee_image.proofs.Seals.{copies_change}
-use Rattle.fee_log.specs.Log.{LogState, log_of, work_in}
-use Rattle.fee_log.proofs.Holds.{begins_hold}
+use Rattle.fee_switch_laws.specs.fee_log.Log.{LogState, log_of, work_in}
+use Rattle.fee_switch_laws.proofs.Holds.{begins_hold}
 use Rattle.fee_course.specs.declared.course.Course.{Course}
-use Rattle.fee_switch.specs.Banks.{BanksState}
+use Rattle.fee_switch_laws.specs.fee_switch.Banks.{BanksState}
 use Rattle.fee_switch_laws.specs.Shown.{phase_shown}
 use Rattle.fee_switch_laws.proofs.RoomReady.{steps_may_be_made}
 use Rattle.promise_device.specs.Making.{Making, banks_of}
@@ -33,11 +33,11 @@ use Rattle.fee_image.specs.RecordList.{pages_of_head}
 use Rattle.fee_image.specs.Log.{HoldsLog}
 use Rattle.fee_image.specs.May.{IsAmong, held_written}
 use Rattle.fee_image.specs.Banks.{HoldsPhase}
-use Rattle.fee_log.specs.declared.tail.Tail.{Tail}
-use Rattle.fee_log.specs.declared.tail.Tail.TheVariants.{Writes}
-use Rattle.fee_log.specs.Index.{with_flag}
-use Rattle.fee_log.specs.Laws.{HoldsState, MayFollow}
-use Rattle.fee_log.specs.Log.{HasFormat, IsLogState, IsTail, bank_of, pages_in}
+use Rattle.fee_switch_laws.specs.fee_log.declared.tail.Tail.{Tail}
+use Rattle.fee_switch_laws.specs.fee_log.declared.tail.Tail.TheVariants.{Writes}
+use Rattle.fee_switch_laws.specs.fee_log.Index.{with_flag}
+use Rattle.fee_switch_laws.specs.fee_log.Laws.{HoldsState, MayFollow}
+use Rattle.fee_switch_laws.specs.fee_log.Log.{HasFormat, IsLogState, IsTail, bank_of, pages_in}
 use Rattle.fee_switch_laws.specs.Flags.{IsOpenFor}
 use Rattle.std.proofs.Common.{zero, suc}
 use Rattle.nv_base.specs.Lengths.{AreLengths}
@@ -47,10 +47,10 @@ use Rattle.fee_image.specs.Found.{matches_length}
 use Rattle.fee_image.specs.declared.place.Place.{Place}
 use Rattle.fee_image.specs.declared.place.Place.TheVariants as place
 use Rattle.fee_image.specs.May.{MayCommit}
-use Rattle.fee_log.specs.Log.{begun, tail_begun, free_in, free_behind}
+use Rattle.fee_switch_laws.specs.fee_log.Log.{begun, tail_begun, free_in, free_behind}
 use Rattle.fee_course.specs.declared.copies.Source.{Source}
 use Rattle.fee_course.specs.declared.course.Course.TheVariants.{Copy}
-use Rattle.fee_switch.specs.Copy.{head_at, CanCopy, CanGoOn}
+use Rattle.fee_switch_laws.specs.fee_switch.Copy.{head_at, CanCopy, CanGoOn}
 use Rattle.fee_switch_laws.specs.KeepsRoom.{IsTargetLog}
 use Rattle.fee_laws.proofs.Before.{power}
 use Rattle.fee_laws.proofs.SwitchCopy.{IsOver, copies_over, open_any, both_true}

@@ -13,9 +13,9 @@ use Rattle.fee_image.specs.Image.{Layout, layout_of}
 use Rattle.fee_image.specs.Log.{Log}
 use Rattle.fee_image.specs.May.{May}
 use Rattle.fee_image.specs.Copies.{Flag, copied_of}
-use Rattle.fee_log.specs.Log.{log_of, work_in}
+use Rattle.fee_switch_laws.specs.fee_log.Log.{log_of, work_in}
 use Rattle.fee_course.specs.declared.course.Course.{Course}
-use Rattle.fee_switch.specs.Banks.{BanksState, after_answer}
+use Rattle.fee_switch_laws.specs.fee_switch.Banks.{BanksState, after_answer}
 use Rattle.fee_switch_laws.specs.Shown.{phase_shown}
 use Rattle.fee_switch_laws.proofs.Gates.{gates_stand}
 use Rattle.promise_device.specs.Making.{Making, banks_of}

@@ -13,9 +13,9 @@ use Rattle.fee_image.specs.Log.{Log}
 use Rattle.fee_image.specs.May.{May}
 use Rattle.fee_image.specs.Banks.{Copying}
 use Rattle.fee_image.specs.Copies.{Flag, copied_of}
-use Rattle.fee_log.specs.Log.{LogState, log_of, work_in}
+use Rattle.fee_switch_laws.specs.fee_log.Log.{LogState, log_of, work_in}
 use Rattle.fee_course.specs.declared.course.Course.{Course}
-use Rattle.fee_switch.specs.Banks.{BanksState, after_answer}
+use Rattle.fee_switch_laws.specs.fee_switch.Banks.{BanksState, after_answer}
 use Rattle.fee_switch_laws.specs.Shown.{phase_shown}
 use Rattle.fee_switch_laws.proofs.Targets.{heads_stand}
 use Rattle.promise_device.specs.Making.{Making, banks_of}
@@ -38,9 +38,9 @@ use Rattle.fee_format.specs.declared.bank_head.BankHead.{BankHead}
 use Rattle.fee_format.specs.BankHead.{bank_head_page, last_generation}
 use Rattle.fee_image.specs.Banks.{Holds, HoldsOld, Sealing, generation_of, next_head}
 use Rattle.fee_image.specs.BankLaws.{program_of}
-use Rattle.fee_switch.specs.declared.active.ActiveBank.{ActiveBank}
+use Rattle.fee_switch_laws.specs.fee_switch.declared.active.ActiveBank.{ActiveBank}
 use Rattle.fee_course.specs.declared.course.Course.TheVariants.{Head, Gate}
-use Rattle.fee_switch.specs.Banks.{next_generation, is_worn_out}
+use Rattle.fee_switch_laws.specs.fee_switch.Banks.{next_generation, is_worn_out}
 use Rattle.fee_switch_laws.specs.Shown.{Bodies, HoldsBanks, banks_shown, layout_in, old_shown}
 use Rattle.fee_image.specs.Image.{image_page}
 use Rattle.fee_told.specs.Slots.{AreCopied}

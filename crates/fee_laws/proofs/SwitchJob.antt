@@ -10,11 +10,11 @@ use Rattle.nv_base.specs.declared.job.DeviceOp.TheVariants.{Read, Write, Invalid
 use Rattle.memif.specs.Told.{Stand}
 use Rattle.fls_model.specs.Told.{Told}
 use Rattle.fee_format.specs.declared.rec_head.RecHead.{RecHead}
-use Rattle.fee_log.specs.declared.tail.Tail.{Tail}
-use Rattle.fee_log.specs.declared.tail.Tail.TheVariants as tail
-use Rattle.fee_log.specs.Log.{pages_with, work_in}
+use Rattle.fee_switch_laws.specs.fee_log.declared.tail.Tail.{Tail}
+use Rattle.fee_switch_laws.specs.fee_log.declared.tail.Tail.TheVariants as tail
+use Rattle.fee_switch_laws.specs.fee_log.Log.{pages_with, work_in}
 use Rattle.fee_course.specs.declared.course.Course.{Course}
-use Rattle.fee_switch.specs.Banks.{index_of, left_as, left_beside, left_of as switch_left}
+use Rattle.fee_switch_laws.specs.fee_switch.Banks.{index_of, left_as, left_beside, left_of as switch_left}
 use Rattle.promise_device.specs.Making.{Making}
 use Rattle.promise_device.specs.Room.{job_pages}
 use Rattle.fee_told.specs.Figures.{Work, left_of, turns_of, turns_owed}

@@ -10,16 +10,16 @@ use Rattle.fls_model.specs.Op.{Op}
 use Rattle.fls_model.specs.Step.{IsStep}
 use Rattle.fls_model.specs.Told.{Told}
 use Rattle.fls_jobs.specs.State.{FlsState}
-use Rattle.fee_log.specs.Log.{LogState}
+use Rattle.fee_switch_laws.specs.fee_log.Log.{LogState}
 use Rattle.fee_course.specs.declared.course.Course.{Course}
 use Rattle.fee_course.specs.declared.course.Course.TheVariants.{Erase, Copy, Head, Gate}
 use Rattle.fee_course.specs.Laws.{IsBeforeGate}
-use Rattle.fee_switch.specs.Banks.{BanksState, after_answer, left_of}
+use Rattle.fee_switch_laws.specs.fee_switch.Banks.{BanksState, after_answer, left_of}
 use Rattle.fee_switch_laws.specs.KeepsRoom.{KeepsRoom}
 use Rattle.fee_switch_laws.proofs.RoomSteps.{steps_keep_room, steps_lower}
 use Rattle.promise_device.specs.Making.{Making}
 use Rattle.promise_device.specs.Traits.{is_such}
-use Rattle.fls_told.specs.Clock.{TakesKeptPages, change_of}
+use Rattle.fee_told.specs.fls_told.Clock.{TakesKeptPages, change_of}
 use Rattle.fee_told.specs.Slots.{Memory}
 use Rattle.fee_told.specs.Device.{flash_device}
 use Rattle.fee_laws.specs.Inside.{Parts, device_of, memory_of}

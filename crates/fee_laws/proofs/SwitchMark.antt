@@ -17,10 +17,10 @@ use Rattle.fee_image.specs.May.{May}
 use Rattle.fee_image.specs.Banks.{Phase, Copying}
 use Rattle.fee_image.specs.Copies.{Flag, Each, copied_of}
 use Rattle.fee_image.specs.Bank.{Bank}
-use Rattle.fee_log.specs.Log.{LogState, log_of, work_in}
+use Rattle.fee_switch_laws.specs.fee_log.Log.{LogState, log_of, work_in}
 use Rattle.fee_course.specs.declared.course.Course.{Course}
 use Rattle.fee_course.specs.Course.{after_done}
-use Rattle.fee_switch.specs.Banks.{BanksState, after_answer}
+use Rattle.fee_switch_laws.specs.fee_switch.Banks.{BanksState, after_answer}
 use Rattle.fee_switch_laws.specs.Shown.{phase_shown, phase_at}
 use Rattle.promise_device.specs.Making.{Making, banks_of}
 use Rattle.fee_told.specs.Slots.{Memory, settled_in}
@@ -35,25 +35,25 @@ use Rattle.fee_image.specs.RecordList.{pages_of_head}
 use Rattle.fee_image.specs.May.{held_written, settling}
 use Rattle.fee_image.specs.Step.{log_done, may_done}
 use Rattle.fee_image.specs.BankLaws.{program_of}
-use Rattle.fee_log.specs.declared.tail.Tail.{Tail}
-use Rattle.fee_log.specs.declared.tail.Tail.TheVariants.{Writes}
-use Rattle.fee_log.specs.Log.{IsLogState, tail_with}
-use Rattle.fee_log.specs.Step.{op_of}
+use Rattle.fee_switch_laws.specs.fee_log.declared.tail.Tail.{Tail}
+use Rattle.fee_switch_laws.specs.fee_log.declared.tail.Tail.TheVariants.{Writes}
+use Rattle.fee_switch_laws.specs.fee_log.Log.{IsLogState, tail_with}
+use Rattle.fee_switch_laws.specs.fee_log.Step.{op_of}
 use Rattle.std.specs.Prelude.{slice_index_or}
 use Rattle.std.proofs.lemmas.Bool.{ne_eqb}
 use Rattle.fee_image.specs.declared.place.Place.{Place}
 use Rattle.fee_image.specs.declared.place.Place.TheVariants as place
-use Rattle.fee_log.specs.Log.{begun}
+use Rattle.fee_switch_laws.specs.fee_log.Log.{begun}
 use Rattle.fee_course.specs.declared.copies.Source.{Source}
 use Rattle.fee_course.specs.declared.course.Course.TheVariants.{Copy}
-use Rattle.fee_switch.specs.Copy.{head_at, IsNext}
+use Rattle.fee_switch_laws.specs.fee_switch.Copy.{head_at, IsNext}
 use Rattle.std.specs.Prelude.{take}
-use Rattle.fee_log.specs.Step.{after_step}
+use Rattle.fee_switch_laws.specs.fee_log.Step.{after_step}
 use Rattle.fee_image.specs.Step.{is_last}
 use Rattle.fee_image.specs.Places.{held_at}
 use Rattle.fee_course.specs.Course.{begun as course_begun}
-use Rattle.fee_switch.specs.Banks.{reads_next, reads_place, reads_source}
-use Rattle.fee_switch.specs.Copy.{BeginsAt}
+use Rattle.fee_switch_laws.specs.fee_switch.Banks.{reads_next, reads_place, reads_source}
+use Rattle.fee_switch_laws.specs.fee_switch.Copy.{BeginsAt}
 use Rattle.fee_image.specs.Copies.{Copies}
 use Rattle.fee_laws.specs.Switches.{mark_op_of, mark_op_for, MarksTurn}
 use Rattle.fee_laws.proofs.Tails.{tailed, shown, page_goes_on}

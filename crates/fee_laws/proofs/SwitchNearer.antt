@@ -13,11 +13,11 @@ use Rattle.memif.specs.Marks.{KeepsAll}
 use Rattle.memif.specs.Calls.{JobTurns, Nearer, TurnsReady, is_read, urgent_first}
 use Rattle.fls_model.specs.Told.{Told, Change}
 use Rattle.fls_jobs.specs.State.{FlsState}
-use Rattle.fee_log.specs.declared.tail.Tail.{Tail}
-use Rattle.fee_log.specs.Log.{LogState, work_in}
+use Rattle.fee_switch_laws.specs.fee_log.declared.tail.Tail.{Tail}
+use Rattle.fee_switch_laws.specs.fee_log.Log.{LogState, work_in}
 use Rattle.fee_course.specs.declared.course.Course.{Course}
 use Rattle.fee_course.specs.declared.course.Course.TheVariants as course
-use Rattle.fee_switch.specs.Banks.{BanksState, left_of}
+use Rattle.fee_switch_laws.specs.fee_switch.Banks.{BanksState, left_of}
 use Rattle.fee_switch_laws.specs.Shown.{phase_shown}
 use Rattle.promise_device.specs.Making.{Making}
 use Rattle.fee_told.specs.Device.{told_of, is_switching}

@@ -6,8 +6,8 @@ use Rattle.nv_base.specs.declared.instance.DeviceNumber.{DeviceNumber}
 use Rattle.nv_base.specs.Held.{Held}
 use Rattle.fee_image.specs.Image.{Layout}
 use Rattle.fee_image.specs.Copies.{Flag, Each}
-use Rattle.fee_log.specs.Log.{LogState}
-use Rattle.fee_switch.specs.Banks.{BanksState}
+use Rattle.fee_switch_laws.specs.fee_log.Log.{LogState}
+use Rattle.fee_switch_laws.specs.fee_switch.Banks.{BanksState}
 use Rattle.fee_told.specs.Slots.{settled_in}
 use Rattle.fee_laws.specs.Copied.{flags_of}
 use Rattle.std.specs.Prelude.{◌&&◌, map}
@@ -28,10 +28,10 @@ use Rattle.fee_told.specs.Slots.{held_all}
 use Rattle.std.specs.Prelude.{◌||◌}
 use Rattle.std.proofs.lemmas.Bool.{eq-eqb}
 use Rattle.fee_image.specs.Copies.{Copies}
-use Rattle.fee_switch.specs.declared.active.ActiveBank.{ActiveBank}
+use Rattle.fee_switch_laws.specs.fee_switch.declared.active.ActiveBank.{ActiveBank}
 use Rattle.fee_switch_laws.specs.Shown.{old_shown}
 use Rattle.fee_laws.specs.Inside.{IsActiveOf}
-use Rattle.fee_switch.specs.Copy.{head_at}
+use Rattle.fee_switch_laws.specs.fee_switch.Copy.{head_at}
 
 -- NUMBERS ABOVE ANOTHER
 pub others : (low n : ℕ) (ns : List (DeviceNumber × ℕ)) (ps : List Place) (flags : List Bool) (held : List Held) (P : Flag → Type 0) → AreLengths low ns → n ≤ low → Each (λ f. IsTrue (f.number == n) → P f) (flags_of ns ps flags held)

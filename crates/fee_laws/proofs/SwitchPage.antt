@@ -17,11 +17,11 @@ use Rattle.fee_image.specs.Log.{Log}
 use Rattle.fee_image.specs.May.{May}
 use Rattle.fee_image.specs.Banks.{Erasing, Copying}
 use Rattle.fee_image.specs.Copies.{copied_of}
-use Rattle.fee_log.specs.Index.{clear_flags}
-use Rattle.fee_log.specs.Log.{LogState, work_in, erased_state}
+use Rattle.fee_switch_laws.specs.fee_log.Index.{clear_flags}
+use Rattle.fee_switch_laws.specs.fee_log.Log.{LogState, work_in, erased_state}
 use Rattle.fee_course.specs.declared.course.Course.{Course}
 use Rattle.fee_course.specs.declared.course.Course.TheVariants.{Erase}
-use Rattle.fee_switch.specs.Banks.{BanksState, after_answer}
+use Rattle.fee_switch_laws.specs.fee_switch.Banks.{BanksState, after_answer}
 use Rattle.promise_device.specs.Making.{Making, banks_of}
 use Rattle.fee_told.specs.Slots.{Memory, banks_with, may_told, settled_in}
 use Rattle.fee_told.specs.SlotLaws.{IsHeld, GoesOn}
@@ -36,7 +36,7 @@ use Rattle.fee_laws.proofs.Before.{legal}
 use Rattle.fee_laws.proofs.Switching.{Cutting, Showing}
 use Rattle.fee_laws.proofs.SwitchShown.{no_job, standing}
 use Rattle.fee_image.specs.BankLaws.{program_of}
-use Rattle.fee_switch.specs.declared.active.ActiveBank.{ActiveBank}
+use Rattle.fee_switch_laws.specs.fee_switch.declared.active.ActiveBank.{ActiveBank}
 use Rattle.fee_switch_laws.specs.Shown.{old_shown}
 use Rattle.fee_told.specs.SlotLaws.{IsBehindLog}
 use Rattle.fee_laws.specs.Switches.{failed_with}

@@ -7,9 +7,9 @@ use Rattle.fls_model.specs.Told.{Told}
 use Rattle.fls_jobs.specs.State.{FlsState}
 use Rattle.fee_image.specs.May.{May}
 use Rattle.fee_image.specs.Copies.{copied_of}
-use Rattle.fee_log.specs.Log.{work_in}
+use Rattle.fee_switch_laws.specs.fee_log.Log.{work_in}
 use Rattle.fee_course.specs.declared.course.Course.{Course}
-use Rattle.fee_switch.specs.Banks.{BanksState}
+use Rattle.fee_switch_laws.specs.fee_switch.Banks.{BanksState}
 use Rattle.fee_switch_laws.specs.KeepsRoom.{KeepsRoom}
 use Rattle.promise_device.specs.Making.{Making, banks_of}
 use Rattle.fee_told.specs.SlotLaws.{IsHeld}
@@ -20,7 +20,7 @@ use Rattle.fee_laws.specs.Inside.{Parts, memory_of, flags_in, ShowsCopies, stand
 use Rattle.fee_laws.proofs.Before.{power}
 use Rattle.memif.specs.declared.answer.JobResult.{JobResult}
 use Rattle.memif.specs.Marks.{KeepsAll}
-use Rattle.fls_told.specs.Runs.{HasRun}
+use Rattle.fee_told.specs.fls_told.Runs.{HasRun}
 use Rattle.fee_told.specs.Device.{Device, told_of, tells_now, flash_device}
 use Rattle.fee_told.specs.FigureLaws.{IsWork}
 use Rattle.fee_laws.specs.declared.job.FeeJob.{FeeJob}
@@ -28,7 +28,7 @@ use Rattle.fee_laws.specs.Inside.{device_of, IsAtWork}
 use Rattle.fee_laws.specs.Work.{work_of}
 use Rattle.fee_laws.specs.Turn.{IsOn}
 use Rattle.memif.specs.declared.answer.JobResult.TheVariants.{JobPending}
-use Rattle.fee_switch.specs.Banks.{IsSameFlash}
+use Rattle.fee_switch_laws.specs.fee_switch.Banks.{IsSameFlash}
 use Rattle.fls_model.specs.Told.{bytes_now}
 use Rattle.fee_told.specs.Whole.{AreStarted}
 use Rattle.fee_laws.specs.Inside.{HoldsBehind, TellsCopies}

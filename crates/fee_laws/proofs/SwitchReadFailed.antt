@@ -6,9 +6,9 @@ use Rattle.nv_base.specs.declared.instance.DeviceNumber.{DeviceNumber}
 use Rattle.memif.specs.declared.answer.DeviceTurn.TheVariants as turn
 use Rattle.memif.specs.declared.answer.JobResult.{JobResult}
 use Rattle.fls_model.specs.Told.{Told}
-use Rattle.fee_log.specs.Log.{LogState, work_in}
+use Rattle.fee_switch_laws.specs.fee_log.Log.{LogState, work_in}
 use Rattle.fee_course.specs.declared.course.Course.{Course}
-use Rattle.fee_switch.specs.Banks.{BanksState}
+use Rattle.fee_switch_laws.specs.fee_switch.Banks.{BanksState}
 use Rattle.nv_base.specs.declared.job.DeviceOp.TheVariants.{Read}
 use Rattle.fee_switch_laws.specs.KeepsRoom.{KeepsRoom}
 use Rattle.promise_device.specs.Making.{Making}

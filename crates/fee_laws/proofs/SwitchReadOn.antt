@@ -4,9 +4,9 @@ use Rattle.std.proofs.Common.{◌≡◌, inl, ◌+◌, ℕ, Bool, true, false, L
 use Rattle.nv_base.specs.declared.instance.DeviceNumber.{DeviceNumber}
 use Rattle.memif.specs.declared.answer.DeviceTurn.TheVariants as turn
 use Rattle.fls_model.specs.Told.{Told}
-use Rattle.fee_log.specs.Log.{LogState, work_in}
+use Rattle.fee_switch_laws.specs.fee_log.Log.{LogState, work_in}
 use Rattle.fee_course.specs.declared.course.Course.{Course}
-use Rattle.fee_switch.specs.Banks.{BanksState, left_of}
+use Rattle.fee_switch_laws.specs.fee_switch.Banks.{BanksState, left_of}
 use Rattle.fee_switch_laws.specs.KeepsRoom.{KeepsRoom}
 use Rattle.promise_device.specs.Making.{Making}
 use Rattle.fee_told.specs.Device.{clock_of}

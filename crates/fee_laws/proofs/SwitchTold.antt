@@ -26,19 +26,19 @@ use Rattle.fee_image.specs.declared.place.Place.{Place}
 use Rattle.fee_format.proofs.Tests.{gates_compute}
 use Rattle.fee_image.proofs.Banks.{active_computes}
 use Rattle.fee_image.proofs.Shows.{blank_shut, copying_shut, sealed_active}
-use Rattle.fee_log.specs.Index.{clear_flags}
-use Rattle.fee_log.specs.Log.{LogState, log_of, work_in}
+use Rattle.fee_switch_laws.specs.fee_log.Index.{clear_flags}
+use Rattle.fee_switch_laws.specs.fee_log.Log.{LogState, log_of, work_in}
 use Rattle.fee_course.specs.declared.course.Course.{Course}
 use Rattle.fee_course.specs.declared.course.Course.TheVariants as course
 use Rattle.fee_course.specs.Course.{IsUnderWay, turns_left}
-use Rattle.fee_switch.specs.declared.active.ActiveBank.{ActiveBank}
-use Rattle.fee_switch.specs.Active.{active_shown}
-use Rattle.fee_switch.specs.Banks.{left_as}
+use Rattle.fee_switch_laws.specs.fee_switch.declared.active.ActiveBank.{ActiveBank}
+use Rattle.fee_switch_laws.specs.fee_switch.Active.{active_shown}
+use Rattle.fee_switch_laws.specs.fee_switch.Banks.{left_as}
 use Rattle.fee_switch_laws.specs.Shown.{layout_in, old_shown, phase_at, phase_shown}
 use Rattle.fee_switch_laws.specs.Turns.{IsGoing}
 use Rattle.promise_device.specs.Making.{Making, banks_of}
 use Rattle.promise_device.specs.Bridge.{failed_in, reading_of}
-use Rattle.fls_told.specs.Device.{is_told_sound}
+use Rattle.fee_told.specs.fls_told.Device.{is_told_sound}
 use Rattle.fee_told.specs.Device.{told_of}
 use Rattle.fee_told.specs.Figures.{Work, left_of, turns_owed}
 use Rattle.fee_told.specs.Slots.{Memory, banks_with, held_all, may_told, settled_in}

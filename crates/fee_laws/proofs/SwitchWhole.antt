@@ -12,12 +12,12 @@ use Rattle.fee_image.specs.declared.place.Place.TheVariants as place
 use Rattle.fee_image.specs.May.{IsAmong}
 use Rattle.fee_image.specs.Copies.{Flag, Each, is_done, copied_of, shown_by}
 use Rattle.fee_image.specs.Places.{held_at, is_written}
-use Rattle.fee_log.specs.Log.{LogState, IsLogState}
-use Rattle.fee_log.proofs.Within.{within_length}
+use Rattle.fee_switch_laws.specs.fee_log.Log.{LogState, IsLogState}
+use Rattle.fee_switch_laws.proofs.Within.{within_length}
 use Rattle.fee_course.specs.declared.copies.Source.{Source}
 use Rattle.fee_course.specs.Copies.{next_copy, later}
 use Rattle.fee_switch_laws.specs.Shown.{old_shown}
-use Rattle.fee_switch.specs.declared.active.ActiveBank.{ActiveBank}
+use Rattle.fee_switch_laws.specs.fee_switch.declared.active.ActiveBank.{ActiveBank}
 use Rattle.fee_told.specs.Slots.{held_all, settled_in, AreCopied}
 use Rattle.fee_laws.specs.Copied.{flags_of}
 

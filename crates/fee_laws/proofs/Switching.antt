@@ -12,14 +12,14 @@ use Rattle.fls_jobs.specs.State.{FlsState}
 use Rattle.fee_image.specs.Image.{Layout}
 use Rattle.fee_image.specs.May.{May}
 use Rattle.fee_image.specs.Copies.{copied_of}
-use Rattle.fee_log.specs.Log.{work_in}
+use Rattle.fee_switch_laws.specs.fee_log.Log.{work_in}
 use Rattle.fee_course.specs.declared.course.Course.{Course}
-use Rattle.fee_switch.specs.Banks.{BanksState}
+use Rattle.fee_switch_laws.specs.fee_switch.Banks.{BanksState}
 use Rattle.promise_device.specs.Making.{Making, banks_of}
 use Rattle.fee_told.specs.Slots.{Memory}
 use Rattle.fee_told.specs.SlotLaws.{IsHeld}
-use Rattle.fls_told.specs.Clock.{change_of}
-use Rattle.fls_told.specs.Runs.{HasRun, KeepsWorn, counts_fault}
+use Rattle.fee_told.specs.fls_told.Clock.{change_of}
+use Rattle.fee_told.specs.fls_told.Runs.{HasRun, KeepsWorn, counts_fault}
 use Rattle.fee_told.specs.Device.{Device, tells, told_of, flash_device}
 use Rattle.fee_told.specs.Kept.{IsKept}
 use Rattle.fee_told.specs.Whole.{CutsKeep, IsKeptSo}

@@ -8,10 +8,10 @@ use Rattle.fee_image.specs.RecordList.{pages_of_head}
 use Rattle.fee_image.specs.Log.{Log, Open as LogOpen, Closed as LogClosed, Writes as LogWrites}
 use Rattle.fee_image.specs.Places.{noted}
 use Rattle.fee_image.specs.Step.{log_begun, log_done, log_failed, is_last}
-use Rattle.fee_log.specs.declared.tail.Tail.{Tail}
-use Rattle.fee_log.specs.declared.tail.Tail.TheVariants.{Open, Writes, Owes, Closed}
-use Rattle.fee_log.specs.Log.{LogState, log_of, tail_without, with_log, work_in, free_in, pages_in, free_behind}
-use Rattle.fee_log.specs.Step.{after_step, commits}
+use Rattle.fee_switch_laws.specs.fee_log.declared.tail.Tail.{Tail}
+use Rattle.fee_switch_laws.specs.fee_log.declared.tail.Tail.TheVariants.{Open, Writes, Owes, Closed}
+use Rattle.fee_switch_laws.specs.fee_log.Log.{LogState, log_of, tail_without, with_log, work_in, free_in, pages_in, free_behind}
+use Rattle.fee_switch_laws.specs.fee_log.Step.{after_step, commits}
 use Rattle.fee_laws.specs.Inside.{body_of}
 
 -- the log with another tail

@@ -20,13 +20,13 @@ use Rattle.fls_model.specs.Told.{Told, Change}
 use Rattle.fls_jobs.specs.State.{FlsState}
 use Rattle.fee_course.specs.declared.course.Course.{Course}
 use Rattle.fee_course.specs.declared.course.Course.TheVariants as course
-use Rattle.fee_switch.specs.Banks.{BanksState}
+use Rattle.fee_switch_laws.specs.fee_switch.Banks.{BanksState}
 use Rattle.fee_switch_laws.specs.Shown.{phase_shown}
 use Rattle.promise_device.specs.Making.{Making}
 use Rattle.promise_device.specs.Traits.{is_such}
-use Rattle.fls_told.specs.Clock.{TakesKeptPages, change_of, turn_of}
-use Rattle.fls_told.specs.Runs.{counts_fault}
-use Rattle.fls_told.proofs.Parts.{parts_cut}
+use Rattle.fee_told.specs.fls_told.Clock.{TakesKeptPages, change_of, turn_of}
+use Rattle.fee_told.specs.fls_told.Runs.{counts_fault}
+use Rattle.fee_told.proofs.Parts.{parts_cut}
 use Rattle.fee_told.specs.Device.{Device, told_of, clock_of, flash_device, is_switching}
 use Rattle.fee_told.specs.Figures.{ready_of}
 use Rattle.fee_told.specs.Turns.{TakesTurn}

@@ -14,14 +14,14 @@ use Rattle.fee_image.specs.RecordList.{IsClosed, end_of}
 use Rattle.fee_image.specs.Banks.{Erasing, Banks, StandsBehind}
 use Rattle.fee_image.specs.BankLaws.{erase_of}
 use Rattle.fee_image.specs.Laws.{place_of_sector}
-use Rattle.fee_log.specs.Log.{work_in, log_of}
+use Rattle.fee_switch_laws.specs.fee_log.Log.{work_in, log_of}
 use Rattle.fee_course.specs.declared.course.Course.{Course}
 use Rattle.fee_course.specs.declared.course.Course.TheVariants.{Erase}
 use Rattle.fee_course.specs.Copies.{greatest}
 use Rattle.fee_course.specs.Course.{IsShort}
-use Rattle.fee_switch.specs.declared.active.ActiveBank.{ActiveBank}
-use Rattle.fee_switch.specs.Active.{active_shown}
-use Rattle.fee_switch.specs.Banks.{is_worn_out, target_after}
+use Rattle.fee_switch_laws.specs.fee_switch.declared.active.ActiveBank.{ActiveBank}
+use Rattle.fee_switch_laws.specs.fee_switch.Active.{active_shown}
+use Rattle.fee_switch_laws.specs.fee_switch.Banks.{is_worn_out, target_after}
 use Rattle.fee_switch_laws.specs.KeepsRoom.{IsRoomy}
 use Rattle.fee_switch_laws.specs.Shown.{old_shown, phase_shown}
 use Rattle.fee_switch_laws.specs.Space.{most_pages, free_pages}
@@ -29,7 +29,7 @@ use Rattle.promise_device.specs.Making.{Making, banks_of}
 use Rattle.promise_device.specs.Bridge.{reading_of}
 use Rattle.promise_device.specs.Wear.{longest_record, most_wanted, bank_behind, bank_of_op, failed_in, may_erase, is_in_order, has_place, is_due_there, is_due_by}
 use Rattle.promise_device.proofs.Wears.{all_two, one_of, may_erases}
-use Rattle.fls_told.specs.Device.{is_told_sound}
+use Rattle.fee_told.specs.fls_told.Device.{is_told_sound}
 use Rattle.fee_told.specs.Slots.{banks_with, may_told}
 use Rattle.fee_told.specs.SlotLaws.{IsHeld}
 use Rattle.fee_laws.specs.Inside.{Parts, HasSwitch, body_of, memory_of}

@@ -8,7 +8,7 @@ use Rattle.nv_base.specs.Pages.{record_pages_of}
 use Rattle.nv_base.specs.declared.job.DeviceOp.{DeviceOp}
 use Rattle.nv_base.specs.declared.job.DeviceOp.TheVariants.{Read, Write, Invalidate, Erase}
 use Rattle.fee_switch_laws.specs.Space.{free_pages, has_room}
-use Rattle.fee_switch.specs.Banks.{BanksState}
+use Rattle.fee_switch_laws.specs.fee_switch.Banks.{BanksState}
 use Rattle.fee_laws.specs.declared.job.FeeJob.{FeeJob}
 use Rattle.fee_laws.specs.Record.{IsLengthOf}
 use Rattle.fee_laws.specs.Work.{pages_of_op, is_waiting, fits_in, begins_next, takes_append}

@@ -10,12 +10,12 @@ use Rattle.fee_image.specs.Bank.{Bank}
 use Rattle.fee_image.specs.Image.{layout_of, bank_in}
 use Rattle.fee_image.specs.Log.{IsOpen, HasTail}
 use Rattle.fee_image.specs.RecordList.{IsClosed, IsTailBlank, end_of}
-use Rattle.fee_log.specs.Laws.{HoldsState}
-use Rattle.fee_log.specs.Log.{bank_of, work_in, tail_with, taken_in}
-use Rattle.fee_log.specs.declared.tail.Tail.{Tail}
-use Rattle.fee_log.specs.declared.tail.Tail.TheVariants.{Open}
+use Rattle.fee_switch_laws.specs.fee_log.Laws.{HoldsState}
+use Rattle.fee_switch_laws.specs.fee_log.Log.{bank_of, work_in, tail_with, taken_in}
+use Rattle.fee_switch_laws.specs.fee_log.declared.tail.Tail.{Tail}
+use Rattle.fee_switch_laws.specs.fee_log.declared.tail.Tail.TheVariants.{Open}
 use Rattle.fee_course.specs.declared.course.Course.TheVariants.{Gate}
-use Rattle.fee_switch.specs.Banks.{BanksState, IsBanksState}
+use Rattle.fee_switch_laws.specs.fee_switch.Banks.{BanksState, IsBanksState}
 use Rattle.fee_switch_laws.specs.KeepsRoom.{IsRoomy}
 use Rattle.fee_switch_laws.specs.Space.{all_pages, most_pages}
 use Rattle.promise_device.specs.Making.{Making, banks_of}

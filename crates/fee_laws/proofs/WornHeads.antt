@@ -12,18 +12,18 @@ use Rattle.fee_format.proofs.Tests.{eq_is, bytes_are}
 use Rattle.fee_image.specs.Image.{Layout, image_page, active_of}
 use Rattle.fee_image.specs.Banks.{Copying, Banks, IsCopying, StandsBehind}
 use Rattle.fee_image.proofs.Shows.{blank_shut}
-use Rattle.fee_log.specs.Log.{work_in, log_of}
+use Rattle.fee_switch_laws.specs.fee_log.Log.{work_in, log_of}
 use Rattle.fee_course.specs.declared.course.Course.{Course}
 use Rattle.fee_course.specs.declared.course.Course.TheVariants.{Head}
-use Rattle.fee_switch.specs.declared.active.ActiveBank.{ActiveBank}
-use Rattle.fee_switch.specs.Active.{active_shown}
-use Rattle.fee_switch.specs.Banks.{is_worn_out, next_generation}
+use Rattle.fee_switch_laws.specs.fee_switch.declared.active.ActiveBank.{ActiveBank}
+use Rattle.fee_switch_laws.specs.fee_switch.Active.{active_shown}
+use Rattle.fee_switch_laws.specs.fee_switch.Banks.{is_worn_out, next_generation}
 use Rattle.fee_switch_laws.specs.Shown.{old_shown, phase_shown}
 use Rattle.promise_device.specs.Making.{Making, banks_of}
 use Rattle.promise_device.specs.Bridge.{reading_of}
 use Rattle.promise_device.specs.Wear.{bank_behind, generation_in, head_behind, has_blank_front, is_next_head, is_head_due}
 use Rattle.promise_device.proofs.Wears.{all_two, unlike}
-use Rattle.fls_told.specs.Device.{is_told_sound}
+use Rattle.fee_told.specs.fls_told.Device.{is_told_sound}
 use Rattle.fee_told.specs.Slots.{banks_with, may_told}
 use Rattle.fee_told.specs.SlotLaws.{IsHeld}
 use Rattle.fee_laws.specs.Inside.{Parts, HasSwitch, body_of, memory_of}

@@ -7,9 +7,9 @@ use Rattle.nv_base.specs.declared.instance.DeviceNumber.{DeviceNumber}
 use Rattle.fls_model.specs.Told.{Told, bytes_now}
 use Rattle.fee_image.specs.Image.{Layout, bank_in, active_of}
 use Rattle.fee_image.specs.Banks.{Idle, Banks, StandsBehind}
-use Rattle.fee_switch.specs.declared.active.ActiveBank.{ActiveBank}
-use Rattle.fee_switch.specs.Active.{active_shown}
-use Rattle.fee_log.specs.Log.{work_in, is_closed, free_behind, free_in, pages_in, log_of}
+use Rattle.fee_switch_laws.specs.fee_switch.declared.active.ActiveBank.{ActiveBank}
+use Rattle.fee_switch_laws.specs.fee_switch.Active.{active_shown}
+use Rattle.fee_switch_laws.specs.fee_log.Log.{work_in, is_closed, free_behind, free_in, pages_in, log_of}
 use Rattle.fee_switch_laws.specs.Shown.{old_shown}
 use Rattle.fee_switch_laws.specs.Space.{free_pages}
 use Rattle.promise_device.specs.Making.{Making, banks_of}

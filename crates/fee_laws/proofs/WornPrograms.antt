@@ -8,11 +8,11 @@ use Rattle.fls_model.specs.Told.{Change}
 use Rattle.fee_format.specs.Pages.{page_at, blank_page}
 use Rattle.fee_image.specs.Bank.{Bank, page_of}
 use Rattle.fee_image.specs.Log.{HasTail}
-use Rattle.fee_log.specs.declared.tail.Tail.{Tail}
-use Rattle.fee_log.specs.declared.tail.Tail.TheVariants.{Open, Writes, Owes, Closed}
-use Rattle.fee_log.specs.Laws.{HoldsState}
-use Rattle.fee_log.specs.Log.{LogState, IsLogState, bank_of, work_in, tail_with}
-use Rattle.fee_log.specs.Step.{IsPageOf, due_page, due_bytes, op_of}
+use Rattle.fee_switch_laws.specs.fee_log.declared.tail.Tail.{Tail}
+use Rattle.fee_switch_laws.specs.fee_log.declared.tail.Tail.TheVariants.{Open, Writes, Owes, Closed}
+use Rattle.fee_switch_laws.specs.fee_log.Laws.{HoldsState}
+use Rattle.fee_switch_laws.specs.fee_log.Log.{LogState, IsLogState, bank_of, work_in, tail_with}
+use Rattle.fee_switch_laws.specs.fee_log.Step.{IsPageOf, due_page, due_bytes, op_of}
 use Rattle.promise_device.specs.Making.{Making}
 use Rattle.promise_device.specs.Traits.{page_in_bank}
 use Rattle.promise_device.specs.Wear.{finds_blank, leaves_room, is_page_due, is_front_due, has_place, is_due_there, is_due_by}

@@ -13,20 +13,20 @@ use Rattle.fee_format.specs.BankHead.{bank_head_page}
 use Rattle.fee_format.specs.Pages.{gate_page, same_bytes}
 use Rattle.fee_format.proofs.Tests.{bytes_are}
 use Rattle.fee_format.specs.declared.rec_head.RecHead.{RecHead}
-use Rattle.fee_log.specs.Log.{work_in, begun}
-use Rattle.fee_log.specs.Step.{IsPageOf, due_bytes}
+use Rattle.fee_switch_laws.specs.fee_log.Log.{work_in, begun}
+use Rattle.fee_switch_laws.specs.fee_log.Step.{IsPageOf, due_bytes}
 use Rattle.fee_course.specs.declared.course.Course.{Course}
 use Rattle.fee_course.specs.declared.course.Course.TheVariants.{Erase, Copy, Head, Gate}
-use Rattle.fee_switch.specs.declared.target.Stage.TheVariants as stage
-use Rattle.fee_switch.specs.Banks.{BanksState, next_generation, reads_next}
+use Rattle.fee_switch_laws.specs.fee_switch.declared.target.Stage.TheVariants as stage
+use Rattle.fee_switch_laws.specs.fee_switch.Banks.{BanksState, next_generation, reads_next}
 use Rattle.fee_switch_laws.specs.KeepsRoom.{IsOpenCopy, IsRoomy}
 use Rattle.fee_switch_laws.proofs.RoomAppends.{work_begun}
 use Rattle.promise_device.specs.Making.{Making}
 use Rattle.promise_device.specs.Bridge.{reading_of}
 use Rattle.promise_device.specs.Wear.{finds_blank, is_repeated, leaves_room, comes_behind, is_front_due, has_place, is_due_there, is_due_by}
 use Rattle.promise_device.proofs.Wears.{all_two, one_of, due_go_on}
-use Rattle.fls_told.specs.Clock.{change_of}
-use Rattle.fls_told.specs.Device.{is_told_sound}
+use Rattle.fee_told.specs.fls_told.Clock.{change_of}
+use Rattle.fee_told.specs.fls_told.Device.{is_told_sound}
 use Rattle.fee_laws.specs.declared.job.FeeJob.{FeeJob}
 use Rattle.fee_laws.specs.Inside.{Parts, body_of}
 use Rattle.fee_laws.specs.Record.{IsInWork}

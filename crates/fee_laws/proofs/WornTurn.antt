@@ -19,11 +19,11 @@ use Rattle.fee_format.specs.declared.bank_head.BankHead.{BankHead}
 use Rattle.fee_format.specs.BankHead.{last_generation}
 use Rattle.fee_image.specs.Image.{active_of}
 use Rattle.fee_image.specs.May.{May}
-use Rattle.fee_log.specs.Log.{work_in}
-use Rattle.fee_switch.specs.declared.active.ActiveBank.{ActiveBank}
-use Rattle.fee_switch.specs.Active.{active_shown}
+use Rattle.fee_switch_laws.specs.fee_log.Log.{work_in}
+use Rattle.fee_switch_laws.specs.fee_switch.declared.active.ActiveBank.{ActiveBank}
+use Rattle.fee_switch_laws.specs.fee_switch.Active.{active_shown}
 use Rattle.fee_course.specs.declared.course.Course.{Course}
-use Rattle.fee_switch.specs.Banks.{is_worn_out}
+use Rattle.fee_switch_laws.specs.fee_switch.Banks.{is_worn_out}
 use Rattle.fee_switch_laws.specs.Space.{free_pages}
 use Rattle.promise_device.specs.Making.{Making, banks_of}
 use Rattle.promise_device.specs.Bridge.{may_be_closed, is_program, wanted_pages}
@@ -31,9 +31,9 @@ use Rattle.promise_device.specs.Image.{HasNoRoomFor, has_no_room_for, IsOfLastGe
 use Rattle.promise_device.proofs.Readings.{last_generations_compute, full_banks_compute}
 use Rattle.fee_told.specs.Slots.{HasJob}
 use Rattle.fee_told.specs.SlotLaws.{IsHeld}
-use Rattle.fls_told.specs.Device.{asked_ops}
-use Rattle.fls_told.specs.Runs.{HasRun, IsWornSince}
-use Rattle.fls_told.proofs.Clocks.{worn_now}
+use Rattle.fee_told.specs.fls_told.Device.{asked_ops}
+use Rattle.fee_told.specs.fls_told.Runs.{HasRun, IsWornSince}
+use Rattle.fee_told.proofs.Clocks.{worn_now}
 use Rattle.fee_told.specs.Device.{Device, tells_now, told_of, clock_of, flash_device, is_switching}
 use Rattle.fee_told.specs.Kept.{IsKept}
 use Rattle.fee_told.specs.Figures.{left_of as turns_left, ready_of, turns_of, wait_of}

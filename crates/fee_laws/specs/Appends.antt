@@ -10,8 +10,8 @@ use Rattle.fls_model.specs.Op.{Op}
 use Rattle.fls_model.specs.Step.{IsStep}
 use Rattle.fls_model.specs.Told.{Told}
 use Rattle.fls_jobs.specs.State.{FlsState}
-use Rattle.fee_log.specs.Log.{work_in}
-use Rattle.fee_log.specs.Step.{IsPageOf, due_bytes, op_of, after_step, commits}
+use Rattle.fee_switch_laws.specs.fee_log.Log.{work_in}
+use Rattle.fee_switch_laws.specs.fee_log.Step.{IsPageOf, due_bytes, op_of, after_step, commits}
 use Rattle.promise_device.specs.Making.{Making}
 use Rattle.fee_laws.specs.Inside.{Parts, body_of}
 use Rattle.fee_laws.specs.Turn.{IsOn, Drives, operated, ended_as, Turned}

@@ -7,9 +7,9 @@ use Rattle.memif.specs.Clock.{Clock, SameClock}
 use Rattle.memif.specs.Calls.{Turns}
 use Rattle.fls_model.specs.Told.{Told}
 use Rattle.fee_format.specs.declared.rec_head.RecordKind.{RecordKind}
-use Rattle.fee_log.specs.Log.{IsFor, work_in}
+use Rattle.fee_switch_laws.specs.fee_log.Log.{IsFor, work_in}
 use Rattle.fee_course.specs.declared.course.Course.TheVariants.{Erase}
-use Rattle.fee_switch.specs.Banks.{TakesRecord, append_begun, begun_again, is_worn_out}
+use Rattle.fee_switch_laws.specs.fee_switch.Banks.{TakesRecord, append_begun, begun_again, is_worn_out}
 use Rattle.promise_device.specs.Making.{Making}
 use Rattle.fee_told.specs.Device.{told_of, clock_of}
 use Rattle.fee_told.specs.Turns.{is_sealing, TakesTurn}

@@ -9,9 +9,9 @@ use Rattle.fls_model.specs.Attach.{IsAttached}
 use Rattle.fls_model.specs.Told.{Told}
 use Rattle.fls_jobs.specs.Start.{IsIdle}
 use Rattle.fls_jobs.specs.declared.answer.FlsResult.{FlsResult}
-use Rattle.fee_log.specs.Index.{clear_flags}
-use Rattle.fee_log.specs.Log.{IsLogState, work_in}
-use Rattle.fee_switch.specs.Banks.{BanksState, IsBanksState, IsMade, FindsActive, LoadsActive}
+use Rattle.fee_switch_laws.specs.fee_log.Index.{clear_flags}
+use Rattle.fee_switch_laws.specs.fee_log.Log.{IsLogState, work_in}
+use Rattle.fee_switch_laws.specs.fee_switch.Banks.{BanksState, IsBanksState, IsMade, FindsActive, LoadsActive}
 use Rattle.fee_switch_laws.specs.Space.{HasSpace, free_pages}
 use Rattle.promise_device.specs.Making.{Making}
 use Rattle.fee_told.specs.Device.{told_of, clock_of}

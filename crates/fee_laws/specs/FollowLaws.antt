@@ -10,16 +10,16 @@ use Rattle.fls_model.specs.Told.{Told, bytes_now}
 use Rattle.fls_jobs.specs.State.{FlsState}
 use Rattle.fee_image.specs.Image.{bank_in}
 use Rattle.fee_image.specs.RecordList.{IsClosed, end_of}
-use Rattle.fee_log.specs.Log.{IsLogState, work_in, is_closed}
-use Rattle.fee_log.specs.Step.{given_up}
+use Rattle.fee_switch_laws.specs.fee_log.Log.{IsLogState, work_in, is_closed}
+use Rattle.fee_switch_laws.specs.fee_log.Step.{given_up}
 use Rattle.fee_course.specs.declared.course.Course.{Course}
 use Rattle.fee_course.specs.declared.course.Course.TheVariants.{Copy}
-use Rattle.fee_switch.specs.Banks.{BanksState, IsBanksState, FindsActive, LoadsActive, reads_next, after_answer}
+use Rattle.fee_switch_laws.specs.fee_switch.Banks.{BanksState, IsBanksState, FindsActive, LoadsActive, reads_next, after_answer}
 use Rattle.fee_switch_laws.specs.Shown.{layout_in}
 use Rattle.promise_device.specs.Making.{Making}
 use Rattle.promise_device.specs.Bridge.{may_be_closed, free_pages, reading_of}
 use Rattle.promise_device.specs.Room.{TellsWork}
-use Rattle.fls_told.specs.Device.{is_told_sound}
+use Rattle.fee_told.specs.fls_told.Device.{is_told_sound}
 use Rattle.fee_told.specs.Device.{told_of}
 use Rattle.fee_laws.specs.declared.job.FeeJob.{FeeJob}
 use Rattle.fee_laws.specs.Inside.{Parts, device_of}

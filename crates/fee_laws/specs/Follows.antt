@@ -12,15 +12,15 @@ use Rattle.fee_image.specs.RecordList.{IsClosed, records_of, end_of}
 use Rattle.fee_image.specs.May.{May}
 use Rattle.fee_image.specs.Banks.{AreBlank}
 use Rattle.fee_image.specs.Laws.{place_of_sector}
-use Rattle.fee_log.specs.Index.{clear_flags}
-use Rattle.fee_log.specs.Laws.{HoldsState}
-use Rattle.fee_log.specs.Log.{LogState, bank_of, work_in, is_closed}
-use Rattle.fee_switch.specs.declared.active.ActiveBank.{ActiveBank}
-use Rattle.fee_switch.specs.Active.{active_shown}
+use Rattle.fee_switch_laws.specs.fee_log.Index.{clear_flags}
+use Rattle.fee_switch_laws.specs.fee_log.Laws.{HoldsState}
+use Rattle.fee_switch_laws.specs.fee_log.Log.{LogState, bank_of, work_in, is_closed}
+use Rattle.fee_switch_laws.specs.fee_switch.declared.active.ActiveBank.{ActiveBank}
+use Rattle.fee_switch_laws.specs.fee_switch.Active.{active_shown}
 use Rattle.fee_course.specs.declared.course.Course.{Course}
 use Rattle.fee_course.specs.declared.course.Course.TheVariants.{Erase, Copy, Head, Gate}
-use Rattle.fee_switch.specs.Banks.{BanksState, next_generation}
-use Rattle.fee_switch.specs.declared.target.Stage.TheVariants as stage
+use Rattle.fee_switch_laws.specs.fee_switch.Banks.{BanksState, next_generation}
+use Rattle.fee_switch_laws.specs.fee_switch.declared.target.Stage.TheVariants as stage
 use Rattle.fee_switch_laws.specs.Shown.{layout_in}
 use Rattle.promise_device.specs.Bridge.{may_be_closed}
 use Rattle.promise_device.specs.Wear.{failed_in, is_repeated, is_in_order, comes_behind}

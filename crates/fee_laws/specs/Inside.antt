@@ -19,12 +19,12 @@ use Rattle.fls_jobs.specs.State.{FlsState}
 use Rattle.fee_format.specs.declared.rec_head.RecHead.{RecHead}
 use Rattle.fee_image.specs.May.{May}
 use Rattle.fee_image.specs.Copies.{Flag, copied_of}
-use Rattle.fee_log.specs.Index.{clear_flags}
-use Rattle.fee_log.specs.Log.{work_in, erased_state}
-use Rattle.fee_switch.specs.declared.active.ActiveBank.{ActiveBank}
+use Rattle.fee_switch_laws.specs.fee_log.Index.{clear_flags}
+use Rattle.fee_switch_laws.specs.fee_log.Log.{work_in, erased_state}
+use Rattle.fee_switch_laws.specs.fee_switch.declared.active.ActiveBank.{ActiveBank}
 use Rattle.fee_course.specs.declared.course.Course.{Course}
 use Rattle.fee_course.specs.declared.course.Course.TheVariants as course
-use Rattle.fee_switch.specs.Banks.{BanksState, is_worn_out}
+use Rattle.fee_switch_laws.specs.fee_switch.Banks.{BanksState, is_worn_out}
 use Rattle.fee_switch_laws.specs.Shown.{old_shown, phase_shown}
 use Rattle.fee_switch_laws.specs.Turns.{IsGoing}
 use Rattle.fee_switch_laws.specs.KeepsRoom.{KeepsRoom}
@@ -33,7 +33,7 @@ use Rattle.promise_device.specs.Making.{Making, banks_of}
 use Rattle.promise_device.specs.Traits.{is_such}
 use Rattle.fee_told.specs.Slots.{Memory, HasJob, settled_in}
 use Rattle.fee_told.specs.SlotLaws.{IsHeld, SamePlaces}
-use Rattle.fls_told.specs.Runs.{HasRun}
+use Rattle.fee_told.specs.fls_told.Runs.{HasRun}
 use Rattle.fee_told.specs.Device.{Device, tells_now, told_of, clock_of, flash_device}
 use Rattle.fee_told.specs.Whole.{HoldsBanks}
 use Rattle.fee_told.specs.Figures.{fixed_for, left_of, ready_of, wait_of}

@@ -17,3 +17,8 @@ pub mod FollowLaws
 pub mod SwitchTold
 pub mod Wears
 pub mod Restarts
+pub use Rattle.fee_switch_laws.specs.fee_log as fee_log
+pub use Rattle.fee_switch_laws.specs.fee_switch as fee_switch
+pub use Rattle.fee_switch_laws.specs as fee_switch_laws
+pub use Rattle.fee_told.specs.fls_told as fls_told
+pub use Rattle.fee_told.specs as fee_told

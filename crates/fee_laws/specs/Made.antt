@@ -5,7 +5,7 @@ use Rattle.memif.specs.declared.answer.JobResult.TheVariants.{JobOk}
 use Rattle.memif.specs.Told.{PartTold, Ended, nothing_open}
 use Rattle.fls_model.specs.Told.{Told}
 use Rattle.promise_device.specs.Making.{Making}
-use Rattle.fls_told.specs.Runs.{IsMade}
+use Rattle.fee_told.specs.fls_told.Runs.{IsMade}
 use Rattle.fee_told.specs.Device.{Device, told_of, flash_device}
 
 -- the part of a device over a flash that told this, before its first call

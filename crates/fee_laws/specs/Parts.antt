@@ -4,9 +4,9 @@ use Rattle.nv_base.specs.Plan.{dropped}
 use Rattle.memif.specs.declared.answer.JobResult.TheVariants.{JobOk, JobCanceled}
 use Rattle.fls_model.specs.Told.{armed}
 use Rattle.fls_jobs.specs.declared.answer.FlsResult.{FlsResult}
-use Rattle.fee_log.specs.Log.{work_in}
-use Rattle.fee_log.specs.Step.{given_up}
-use Rattle.fee_switch.specs.Banks.{BanksState}
+use Rattle.fee_switch_laws.specs.fee_log.Log.{work_in}
+use Rattle.fee_switch_laws.specs.fee_log.Step.{given_up}
+use Rattle.fee_switch_laws.specs.fee_switch.Banks.{BanksState}
 use Rattle.fee_laws.specs.declared.job.FeeJob.{FeeJob}
 use Rattle.fee_laws.specs.Inside.{Parts}
 

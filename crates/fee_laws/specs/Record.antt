@@ -7,9 +7,9 @@ use Rattle.memif.specs.Told.{length_of}
 use Rattle.fee_format.specs.declared.rec_head.RecHead.{RecHead}
 use Rattle.fee_format.specs.declared.rec_head.RecordKind.{RecordKind}
 use Rattle.fee_format.specs.declared.rec_head.RecordKind.TheVariants as kind
-use Rattle.fee_log.specs.Index.{with_flag}
-use Rattle.fee_log.specs.Log.{LogState, head_next, work_in}
-use Rattle.fee_switch.specs.Banks.{BanksState, TakesRecord, course_appended}
+use Rattle.fee_switch_laws.specs.fee_log.Index.{with_flag}
+use Rattle.fee_switch_laws.specs.fee_log.Log.{LogState, head_next, work_in}
+use Rattle.fee_switch_laws.specs.fee_switch.Banks.{BanksState, TakesRecord, course_appended}
 use Rattle.fee_laws.specs.declared.job.FeeJob.{FeeJob}
 use Rattle.fee_laws.specs.Work.{begins_next, seal_turns}
 

@@ -14,14 +14,14 @@ use Rattle.fee_image.specs.Found.{last_held}
 use Rattle.fee_image.specs.Image.{bank_in, image_page, active_of}
 use Rattle.fee_image.specs.Places.{places_of}
 use Rattle.fee_image.specs.RecordList.{Rec, records_of}
-use Rattle.fee_log.specs.Index.{clear_flags}
+use Rattle.fee_switch_laws.specs.fee_log.Index.{clear_flags}
 use Rattle.fee_course.specs.declared.course.Course.{Course}
 use Rattle.fee_course.specs.declared.course.Course.TheVariants.{Erase, Gate}
 use Rattle.fee_course.specs.Course.{IsUnderWay, turns_left}
 use Rattle.promise_device.specs.Making.{Making, banks_of}
 use Rattle.promise_device.specs.Bridge.{failed_in, reading_of}
 use Rattle.promise_device.specs.Room.{job_pages}
-use Rattle.fls_told.specs.Device.{is_told_sound}
+use Rattle.fee_told.specs.fls_told.Device.{is_told_sound}
 
 -- THE ACTIVE BANK
 -- its records, and whether a program of it failed since it was erased; none without one

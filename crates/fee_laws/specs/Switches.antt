@@ -13,17 +13,17 @@ use Rattle.fls_model.specs.Told.{Told}
 use Rattle.fls_jobs.specs.State.{FlsState}
 use Rattle.fee_format.specs.declared.rec_head.RecHead.{RecHead}
 use Rattle.fee_image.specs.declared.place.Place.{Place}
-use Rattle.fee_log.specs.Log.{LogState, IsLogState, work_in, begun}
-use Rattle.fee_log.specs.Step.{op_of}
+use Rattle.fee_switch_laws.specs.fee_log.Log.{LogState, IsLogState, work_in, begun}
+use Rattle.fee_switch_laws.specs.fee_log.Step.{op_of}
 use Rattle.fee_course.specs.declared.copies.Source.{Source}
 use Rattle.fee_course.specs.declared.course.Course.{Course}
 use Rattle.fee_course.specs.declared.course.Course.TheVariants.{Erase, Copy, Head, Gate}
 use Rattle.fee_course.specs.Copies.{next_copy}
-use Rattle.fee_switch.specs.declared.target.Stage.{Stage}
-use Rattle.fee_switch.specs.declared.target.Stage.TheVariants as stage
-use Rattle.fee_switch.specs.Target.{op_at}
-use Rattle.fee_switch.specs.Banks.{BanksState, target_at, reads_next, after_answer}
-use Rattle.fee_switch.specs.Copy.{MakesNext, head_at}
+use Rattle.fee_switch_laws.specs.fee_switch.declared.target.Stage.{Stage}
+use Rattle.fee_switch_laws.specs.fee_switch.declared.target.Stage.TheVariants as stage
+use Rattle.fee_switch_laws.specs.fee_switch.Target.{op_at}
+use Rattle.fee_switch_laws.specs.fee_switch.Banks.{BanksState, target_at, reads_next, after_answer}
+use Rattle.fee_switch_laws.specs.fee_switch.Copy.{MakesNext, head_at}
 use Rattle.promise_device.specs.Making.{Making}
 use Rattle.fee_laws.specs.declared.job.FeeJob.{FeeJob}
 use Rattle.fee_laws.specs.Inside.{Parts}

@@ -9,11 +9,11 @@ use Rattle.fls_model.specs.declared.flash.FlashAnswer.{FlashAnswer}
 use Rattle.fls_model.specs.Op.{Op}
 use Rattle.fls_model.specs.Told.{Told}
 use Rattle.fls_jobs.specs.State.{FlsState, IsDriverState}
-use Rattle.fee_log.specs.Log.{IsLogState}
-use Rattle.fee_switch.specs.Banks.{BanksState, IsBanksState}
+use Rattle.fee_switch_laws.specs.fee_log.Log.{IsLogState}
+use Rattle.fee_switch_laws.specs.fee_switch.Banks.{BanksState, IsBanksState}
 use Rattle.promise_device.specs.Making.{Making}
-use Rattle.fls_told.specs.Clock.{change_of}
-use Rattle.fls_told.specs.Runs.{counts_fault}
+use Rattle.fee_told.specs.fls_told.Clock.{change_of}
+use Rattle.fee_told.specs.fls_told.Runs.{counts_fault}
 use Rattle.fee_told.specs.Device.{told_of, clock_of}
 use Rattle.fee_told.specs.Turns.{TakesTurn}
 use Rattle.fee_laws.specs.Inside.{Parts, device_of, IsSound}

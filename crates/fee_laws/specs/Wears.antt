@@ -5,12 +5,12 @@ use Rattle.fls_model.specs.declared.flash.FlashAnswer.{FlashAnswer}
 use Rattle.fls_model.specs.Told.{Told, Change, bytes_now}
 use Rattle.fls_jobs.specs.State.{FlsState}
 use Rattle.fee_course.specs.declared.course.Course.{Course}
-use Rattle.fee_switch.specs.Banks.{BanksState, reads_next}
+use Rattle.fee_switch_laws.specs.fee_switch.Banks.{BanksState, reads_next}
 use Rattle.promise_device.specs.Making.{Making}
 use Rattle.promise_device.specs.Bridge.{reading_of}
 use Rattle.promise_device.specs.Wear.{are_due}
-use Rattle.fls_told.specs.Clock.{change_of}
-use Rattle.fls_told.specs.Device.{is_told_sound}
+use Rattle.fee_told.specs.fls_told.Clock.{change_of}
+use Rattle.fee_told.specs.fls_told.Device.{is_told_sound}
 use Rattle.fee_laws.specs.Inside.{Parts}
 use Rattle.fee_laws.specs.Appends.{IsAppending, after_page}
 use Rattle.fee_laws.specs.Switches.{IsStepping, step_op}

@@ -4,13 +4,13 @@ use Rattle.nv_base.specs.Pages.{record_pages_of}
 use Rattle.nv_base.specs.declared.job.DeviceOp.{DeviceOp}
 use Rattle.nv_base.specs.declared.job.DeviceOp.TheVariants.{Read, Write, Invalidate, Erase}
 use Rattle.fee_image.specs.RecordList.{pages_of_head}
-use Rattle.fee_log.specs.declared.tail.Tail.{Tail}
-use Rattle.fee_log.specs.declared.tail.Tail.TheVariants.{Writes, Owes}
-use Rattle.fee_log.specs.Log.{work_in}
+use Rattle.fee_switch_laws.specs.fee_log.declared.tail.Tail.{Tail}
+use Rattle.fee_switch_laws.specs.fee_log.declared.tail.Tail.TheVariants.{Writes, Owes}
+use Rattle.fee_switch_laws.specs.fee_log.Log.{work_in}
 use Rattle.fee_course.specs.declared.course.Course.{Course}
 use Rattle.fee_course.specs.declared.course.Course.TheVariants as course
 use Rattle.fee_switch_laws.specs.Space.{free_pages, has_room}
-use Rattle.fee_switch.specs.Banks.{BanksState, begun_again, left_of as switch_left, left_beside}
+use Rattle.fee_switch_laws.specs.fee_switch.Banks.{BanksState, begun_again, left_of as switch_left, left_beside}
 use Rattle.fee_told.specs.Figures.{Work, Waits, turns_owed}
 use Rattle.fee_laws.specs.declared.job.FeeJob.{FeeJob}
 

@@ -7,10 +7,10 @@ use Rattle.memif.specs.declared.answer.JobResult.TheVariants.{JobFailed}
 use Rattle.fls_model.specs.Told.{Told}
 use Rattle.fee_image.specs.Image.{bank_in, active_of}
 use Rattle.fee_image.specs.RecordList.{IsClosed, end_of}
-use Rattle.fee_log.specs.Log.{work_in, is_closed}
-use Rattle.fee_switch.specs.declared.active.ActiveBank.{ActiveBank}
-use Rattle.fee_switch.specs.Active.{active_shown}
-use Rattle.fee_switch.specs.Banks.{is_worn_out}
+use Rattle.fee_switch_laws.specs.fee_log.Log.{work_in, is_closed}
+use Rattle.fee_switch_laws.specs.fee_switch.declared.active.ActiveBank.{ActiveBank}
+use Rattle.fee_switch_laws.specs.fee_switch.Active.{active_shown}
+use Rattle.fee_switch_laws.specs.fee_switch.Banks.{is_worn_out}
 use Rattle.fee_switch_laws.specs.Space.{free_pages}
 use Rattle.promise_device.specs.Making.{Making, banks_of}
 use Rattle.promise_device.specs.Bridge.{may_be_closed}

@@ -8,4 +8,5 @@
 
 mod job;
 
+pub use fee_switch_laws::{BankBegin, BankStart, Banks, Log, LogStep, Phase};
 pub use job::FeeJob;

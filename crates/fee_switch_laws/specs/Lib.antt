@@ -11,3 +11,5 @@ pub mod FlagLaws
 pub mod KeepsRoom
 pub mod RoomLaws
 pub mod Space
+pub use Rattle.fee_log.specs as fee_log
+pub use Rattle.fee_switch.specs as fee_switch

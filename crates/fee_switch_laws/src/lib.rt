@@ -5,3 +5,6 @@
 //! be made and makes room for the record that waits. They are lemmas, and no function stands here; which call comes next
 //! is left to the crates above.
 #![tactic(auto)]
+
+pub use fee_log::{Log, LogStep};
+pub use fee_switch::{BankBegin, BankStart, Banks, Phase};

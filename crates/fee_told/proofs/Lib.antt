@@ -10,3 +10,8 @@ pub mod Jobs
 pub mod Kept
 pub mod Switches
 pub mod Whole
+pub use Rattle.fls_told.proofs.Clocks as Clocks
+pub use Rattle.fls_told.proofs.Making as Making
+pub use Rattle.fls_told.proofs.Parts as Parts
+pub use Rattle.fls_told.proofs.Tells as Tells
+pub use Rattle.fls_told.proofs.Runs as Runs

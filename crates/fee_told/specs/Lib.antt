@@ -11,3 +11,4 @@ pub mod Jobs
 pub mod Kept
 pub mod Switches
 pub mod Whole
+pub use Rattle.fls_told.specs as fls_told

@@ -8,6 +8,10 @@ mod making;
 
 pub use ea_slots;
 pub use fee_core;
-pub use fee_core::{fls_model, memif, nv_base};
+pub use fee_core::{
+    DeviceCall, DeviceNumber, DeviceRefusal, DeviceStep, DeviceTurn, Flash, Geometry, JobResult,
+    Lengths, MemDevice, MemFlash, MemIf, PlainMark, PlainStore, Rest, bytes_of, erase, lengths_of,
+    make_turns, mem_flash, run_calls, start_up,
+};
 pub use making::{FlashAndEeprom, Shapes, both_of, make};
 pub use memif_pair;

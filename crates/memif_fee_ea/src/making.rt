@@ -11,9 +11,7 @@ ghost use Rattle.memif_fee_ea.specs.Made.{AreMade, IsMadeOf, IsRefused};
 ghost use Rattle.memif_fee_ea.specs.Numbers.{are_apart};
 
 use ea_slots::Ea;
-use fee_core::Fee;
-use fee_core::fls_model::{AttachFault, Flash};
-use fee_core::nv_base::{Geometry, Lengths};
+use fee_core::{AttachFault, Fee, Flash, Geometry, Lengths};
 use memif_pair::Both;
 use memif_pair::memif::MemIf;
 use std::alloc::Global;

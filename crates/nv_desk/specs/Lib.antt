@@ -13,3 +13,5 @@ pub use Rattle.nv_recorder.specs.FoundMarks as FoundMarks
 pub use Rattle.nv_recorder.specs.Latest as Latest
 pub use Rattle.nv_recorder.specs.Recorder as Recorder
 pub use Rattle.nv_recorder.specs.Request as Request
+pub use Rattle.job_pending.specs as job_pending
+pub use Rattle.nv_desk_state.specs as nv_desk_state

@@ -6,8 +6,8 @@ use Rattle.block_machine.specs.Blocks.{desc_of, block_at, is_synchronized, asked
 use Rattle.block_machine.specs.Sweeps.{is_picked, member_kind, member_request, member_job}
 use Rattle.block_machine.specs.Next.{Next, Nothing, PickJob, BeginSweep, PickMember, PostMember, EndSweep, next_in, next_by, next_of, next_member}
 use Rattle.block_machine.specs.Legal.{IsDriving, HandIsFree, TakesBy, MayPick, IsAllowed}
-use Rattle.job_pending.specs.Take.{taken_with}
-use Rattle.job_pending.specs.declared.take.Take.{Take}
+use Rattle.nv_desk.specs.job_pending.Take.{taken_with}
+use Rattle.nv_desk.specs.job_pending.declared.take.Take.{Take}
 use Rattle.nv_desk.specs.Desk.{DeskState, state_of}
 use Rattle.nv_desk.specs.Picks.{took_of}
 use Rattle.nv_desk.specs.Members.{MayPickMember}

@@ -3,7 +3,7 @@ ghost use Rattle.std.specs.Prelude.{◌≡◌, ◌-◌, ℕ, [], length, get_or,
 ghost use Rattle.block_machine.specs.State.{Job as MachineJob};
 ghost use Rattle.block_machine.specs.Blocks.{job_block, names_ram};
 ghost use Rattle.block_machine.specs.Next.{next_of};
-ghost use Rattle.nv_desk_state.specs.Next.{IsNextEntry};
+ghost use Rattle.nv_desk.specs.nv_desk_state.Next.{IsNextEntry};
 ghost use Rattle.nv_desk.specs.Desk.{state_of};
 ghost use Rattle.nv_desk_copies.specs.Front.{StagesAll, AreSynchronized, CopiesStay, given_at, given_in};
 ghost use Rattle.nv_desk_copies.specs.Takes.{copies_out_next, IsCopied};
@@ -16,8 +16,7 @@ use crate::skipped::post_skipped;
 use crate::{Staging, Unread};
 use block_machine::block_config::Config;
 use block_machine::nv_base::{Entry, GivenFrom, ReqResult};
-use nv_desk::{Desk, Event, Last, longest_content};
-use nv_desk_state::NextEntry;
+use nv_desk::{Desk, Event, Last, NextEntry, longest_content};
 use ram_blocks::SyncCalls;
 use std::alloc::{AllocError, Global};
 

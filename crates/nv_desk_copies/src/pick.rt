@@ -5,8 +5,8 @@ ghost use Rattle.block_machine.specs.Blocks.{asked_store, desc_of, block_at, is_
 ghost use Rattle.block_machine.specs.Legal.{TakesBy, TakesForWrite, TakesCopy};
 ghost use Rattle.block_machine.specs.Sweeps.{member_job, member_kind};
 ghost use Rattle.block_machine.specs.Next.{next_in, next_of, PickMember};
-ghost use Rattle.job_pending.specs.Take.{taken_with};
-ghost use Rattle.nv_desk_state.specs.Next.{IsNextEntry};
+ghost use Rattle.nv_desk.specs.job_pending.Take.{taken_with};
+ghost use Rattle.nv_desk.specs.nv_desk_state.Next.{IsNextEntry};
 ghost use Rattle.nv_desk.specs.Desk.{state_of};
 ghost use Rattle.nv_desk.specs.Picks.{took_of};
 ghost use Rattle.nv_desk_copies.specs.Front.{StagesAll, AreSynchronized, CopiesStay, OnlyRefusals};
@@ -17,9 +17,7 @@ use crate::Staging;
 use crate::synchronized::{is_synchronized, tries};
 use block_machine::block_config::Config;
 use block_machine::nv_base::{JobKind, Request};
-use job_pending::{Job, Take};
-use nv_desk::Desk;
-use nv_desk_state::{NextEntry, length};
+use nv_desk::{Desk, Job, NextEntry, Take, length};
 use ram_blocks::{SyncCalls, Tried};
 
 /// Picks what comes next, which is this.

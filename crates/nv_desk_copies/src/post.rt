@@ -13,8 +13,7 @@ use crate::given::{defaults_of, stage_given};
 use crate::over::{End, hand_over};
 use block_machine::block_config::Config;
 use block_machine::nv_base::{GivenFrom, JobKind, ReqResult};
-use job_pending::{Job, names_ram};
-use nv_desk::Desk;
+use nv_desk::{Desk, Job, names_ram};
 use ram_blocks::SyncCalls;
 
 /// Posts the job in hand, whose program ended with this result and source. It answers the job's block, where it is a read to the

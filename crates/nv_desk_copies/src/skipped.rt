@@ -6,7 +6,7 @@ ghost use Rattle.block_machine.specs.Results.{own_of, unpicked_result};
 ghost use Rattle.block_machine.specs.Sweeps.{sweep_result};
 ghost use Rattle.block_machine.specs.Next.{next_of, PostMember, EndSweep};
 ghost use Rattle.ram_blocks.specs.Told.{Told};
-ghost use Rattle.nv_desk_state.specs.Next.{IsNextEntry};
+ghost use Rattle.nv_desk.specs.nv_desk_state.Next.{IsNextEntry};
 ghost use Rattle.nv_desk.specs.Desk.{state_of};
 ghost use Rattle.nv_desk.specs.AllBlocks.{MayFinish};
 ghost use Rattle.nv_desk_copies.specs.Front.{StagesAll, AreSynchronized, CopiesStay};
@@ -16,8 +16,7 @@ use crate::Staging;
 use crate::given::stage_given;
 use crate::over::{End, hand_over};
 use block_machine::nv_base::{GivenFrom, ReqResult};
-use nv_desk::Desk;
-use nv_desk_state::NextEntry;
+use nv_desk::{Desk, NextEntry};
 use ram_blocks::SyncCalls;
 
 /// The Post without a Pick that comes next, which is this: of a member of a request on all blocks, or of id 0.

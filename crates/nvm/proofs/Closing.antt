@@ -9,11 +9,11 @@ use Rattle.nvm_flash.specs.promise_device.Bridge.{Bridges, reading_of, cuts_of}
 use Rattle.nvm_flash.specs.fee_told.Device.{told_of, clock_of}
 use Rattle.nvm_flash.specs.fee_core.Tells.{told_clock}
 use Rattle.nvm_flash.specs.fee_laws.Made.{part_at}
-use Rattle.nvm_flash.proofs.promise_device.Readings.{sound_starts_compute}
+use Rattle.nvm_flash.proofs.Readings.{sound_starts_compute}
 use Rattle.nvm_flash.specs.promise_run.Run.{Course, has_cutter}
 use Rattle.nvm_flash.specs.promise_run.Promise.{making_of}
 use Rattle.nvm_flash.specs.promise_run.Halves.{beyond_end}
-use Rattle.nvm_flash.proofs.promise_run.Composition.{begins_well, halves_make_the_promise}
+use Rattle.nvm_flash.proofs.Composition.{begins_well, halves_make_the_promise}
 use Rattle.nvm_flash.specs.Made.{IsOrigin, IsBack, one_part}
 use Rattle.nvm.specs.Closing.{UnitState, Closes, run_of}
 use Rattle.nvm.specs.Turned.{HasTurned}

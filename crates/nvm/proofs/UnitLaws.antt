@@ -36,12 +36,12 @@ use Rattle.nvm_flash.specs.nvm_core.BehindDevice.{asked_by}
 use Rattle.nvm_flash.specs.nvm_core.StartUps.{DownKeepsAsTold, Restarts, StartsUp, StartsKeep}
 use Rattle.nvm_flash.specs.Made.{IsBack, IsMadeStack, IsOrigin, one_part}
 use Rattle.nvm.specs.Closing.{UnitState, Closes}
-use Rattle.nvm_flash.proofs.memif.Turning.{told_before}
+use Rattle.nvm_flash.proofs.Turning.{told_before}
 use Rattle.nvm_flash.proofs.FirstStart.{begins_up}
 use Rattle.nvm.proofs.Closing.{closes}
 use Rattle.nvm.proofs.Plans.{armed_takes, device_takes}
 use Rattle.nvm.proofs.UnitTurns.{begun_turned, copied_turned}
-use Rattle.nvm_flash.proofs.nvm_device_laws.DownCalls.{over_with}
+use Rattle.nvm_flash.proofs.DownCalls.{over_with}
 use Rattle.nvm.specs.Turned.{HasTurned}
 use Rattle.nvm.specs.Unit.{HasRun, IsDown, IsUnit, Stays, UnitHalf, UnitTurns, left_behind, takes_of}
 

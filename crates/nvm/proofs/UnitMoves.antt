@@ -5,7 +5,7 @@ use Rattle.nvm_flash.specs.nv_base.Count.{Rose}
 use Rattle.nvm_flash.specs.memif.Told.{DeviceTold, PartTold, faults_of}
 use Rattle.nvm_flash.specs.memif.Clock.{Clock}
 use Rattle.nvm_flash.specs.memif.Trials.{Lasts}
-use Rattle.nvm_flash.proofs.memif.Turning.{same_clock, same_told}
+use Rattle.nvm_flash.proofs.Turning.{same_clock, same_told}
 use Rattle.nvm_flash.specs.fls_model.Told.{Told, Change}
 use Rattle.nvm_flash.specs.nv_desk.Desk.{DeskState}
 use Rattle.nvm_flash.specs.nvm_device_laws.Turn.{TellsSlots}
@@ -17,7 +17,7 @@ use Rattle.nvm_flash.specs.promise_run.Promise.{making_of}
 use Rattle.nvm_flash.specs.promise_run.Run.{Run, Course, End, FlashFault, Played}
 use Rattle.nvm_flash.specs.promise_run.DeviceTurns.{HasMovesTo}
 use Rattle.nvm_flash.specs.promise_run.Turns.{Moment, Move, AreMoves, entries_of, moment_behind, state_begun}
-use Rattle.nvm_flash.proofs.promise_run.DeviceTurns.{keeps_turns}
+use Rattle.nvm_flash.proofs.DeviceTurns.{keeps_turns}
 use Rattle.nvm_moves.specs.Moved.{MovesBy}
 use Rattle.nvm_moves.specs.Seen.{moment_seen}
 use Rattle.nvm_moves.proofs.Beginning.{moves_came}

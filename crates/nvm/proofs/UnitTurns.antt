@@ -8,7 +8,7 @@ use Rattle.nvm_flash.specs.memif.Clock.{Clock, Seals}
 use Rattle.nvm_flash.specs.memif.Calls.{Arms, FreesReady, InOrder, IsSealing}
 use Rattle.nvm_flash.specs.memif.Marks.{ComesFrom}
 use Rattle.nvm_flash.specs.memif.Trials.{Lasts}
-use Rattle.nvm_flash.proofs.memif.Turning.{lasts_more, same_lasts, told_before}
+use Rattle.nvm_flash.proofs.Turning.{lasts_more, same_lasts, told_before}
 use Rattle.nvm_flash.specs.block_config.Config.{Configuration}
 use Rattle.nvm_flash.specs.block_config.Rules.{IsLegalConfig}
 use Rattle.nvm_flash.specs.block_machine.Words.{Instance, Mark, Entry, Request, Reply, Ask, Found}
@@ -55,10 +55,10 @@ use Rattle.nvm_flash.specs.Made.{IsMadeStack, one_part}
 use Rattle.nvm_flash.specs.Turns.{fixed_by}
 use Rattle.nvm_flash.proofs.Costs.{costs_are_figures, reads_take_one}
 use Rattle.nvm_flash.proofs.JobTurns.{job_turns_are_figures, write_pages_are_figures}
-use Rattle.nvm_flash.proofs.nvm_core.DeviceWork.{none_some, risen}
-use Rattle.nvm_flash.proofs.nvm_core.StartWork.{first_leaves}
-use Rattle.nvm_flash.proofs.nvm_core.Trying.{part_rises}
-use Rattle.nvm_flash.proofs.nvm_core.TurnWork.{closed_tries}
+use Rattle.nvm_flash.proofs.DeviceWork.{none_some, risen}
+use Rattle.nvm_flash.proofs.StartWork.{first_leaves}
+use Rattle.nvm_flash.proofs.Trying.{part_rises}
+use Rattle.nvm_flash.proofs.TurnWork.{closed_tries}
 use Rattle.nvm_moves.specs.Beginning.{BeginsMoves}
 use Rattle.nvm_moves.specs.Along.{Along, Cursor}
 use Rattle.nvm_moves.specs.Seen.{all_with, frame_of, moment_by, moment_seen}

@@ -10,23 +10,12 @@
 mod unit;
 mod unit_stack;
 
-pub use fls_files;
-pub use nvm_flash;
-pub use nvm_flash::block_config::{Config, ConfigFault, read};
-pub use nvm_flash::fee_core::Origin;
-pub use nvm_flash::fls_devices::Cutter;
-pub use nvm_flash::fls_model::{AttachFault, Flash, FlashAnswer, MemFlash, mem_flash};
-pub use nvm_flash::memif::MemDevice;
-pub use nvm_flash::nv_base::{
-    Bytes, Entry, Geometry, History, Refusal, Reply, ReqResult, Request, bytes_of, refusal_number,
-    result_code,
+pub use nvm_flash::{
+    AskFault, AttachFault, BlockDesc, BlockKind, Buffer, Bytes, Config, ConfigFault, Cutter,
+    ENDLESS, Entry, Event, Flash, FlashAnswer, FlashStack, FoundAnswer, FoundMarks, Geometry,
+    History, Last, LentRequest, MakeFault, MarkKind, MemDevice, MemFlash, Origin, RamKind, Refusal,
+    Renewed, Reply, ReqResult, Request, RequestKind, TakenKind, Turned, bytes_of, longest_content,
+    make_stack, mem_flash, read, refusal_number, result_code, start_stack,
 };
-pub use nvm_flash::nv_desk::{
-    AskFault, Buffer, Event, FoundMarks, Last, LentRequest, MarkKind, RequestKind, TakenKind,
-    longest_content,
-};
-pub use nvm_flash::nvm_core::Renewed;
-pub use nvm_flash::nvm_laws::{FoundAnswer, Turned};
-pub use nvm_flash::{MakeFault, fls_devices};
 pub use unit::{Unit, run_unit};
 pub use unit_stack::UnitStack;

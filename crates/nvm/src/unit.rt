@@ -9,12 +9,9 @@ ghost use Rattle.nvm_flash.specs.Made.{ComesBack, IsMadeStack, IsOrigin};
 ghost use Rattle.nvm.specs.Unit.{HasRun, Stays, takes_of};
 
 use crate::unit_stack::UnitStack;
-use nvm_flash::block_config::Config;
-use nvm_flash::fee_core::Origin;
-use nvm_flash::fls_model::Flash;
-use nvm_flash::memif::MemDevice;
-use nvm_flash::nv_desk::ENDLESS;
-use nvm_flash::{FlashStack, MakeFault, make_stack, start_stack};
+use nvm_flash::{
+    Config, ENDLESS, Flash, FlashStack, MakeFault, MemDevice, Origin, make_stack, start_stack,
+};
 use std::alloc::Global;
 use std::marker::Brand;
 

@@ -32,13 +32,10 @@ ghost use Rattle.nvm.specs.Closing.{Closes};
 ghost use Rattle.nvm.specs.Turned.{AsksMove, PlansMove, TurnsMove};
 ghost use Rattle.nvm.specs.Unit.{IsUnit, Stands, Stays, UnitTurns, left_behind, takes_of};
 
-use nvm_flash::fee_core::Origin;
-use nvm_flash::fls_model::Flash;
-use nvm_flash::memif::MemDevice;
-use nvm_flash::nv_base::{Entry, Reply, ReqResult, Request};
-use nvm_flash::nv_desk::{AskFault, LentRequest};
-use nvm_flash::nvm_laws::{FoundAnswer, Turned};
-use nvm_flash::{FlashStack, give_back};
+use nvm_flash::{
+    AskFault, Entry, Flash, FlashStack, FoundAnswer, LentRequest, MemDevice, Origin, Reply,
+    ReqResult, Request, Turned, give_back,
+};
 use std::alloc::Global;
 use std::marker::Model;
 

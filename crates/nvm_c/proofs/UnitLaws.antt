@@ -23,7 +23,7 @@ use Rattle.nvm.specs.nvm_flash.declared.device.MakeFault.TheVariants.{Memory}
 use Rattle.nvm.specs.nvm_flash.nvm_laws.declared.turned.Turned.{Turned}
 use Rattle.nvm.specs.nvm_flash.nvm_laws.declared.turned.FoundAnswer.{FoundAnswer}
 use Rattle.nvm.specs.nvm_flash.nvm_laws.declared.turned.FoundAnswer.TheVariants as found
-use Rattle.nvm.proofs.nvm_flash.Returning.{comes_back as back_so}
+use Rattle.nvm.proofs.Returning.{comes_back as back_so}
 use Rattle.nvm.specs.Turned.{unit_seen}
 use Rattle.nvm.specs.Unit.{Stays, UnitTurns, takes_of}
 use Rattle.nvm.specs.nvm_moves.Seen.{frame_in, frame_of}

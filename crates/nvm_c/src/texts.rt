@@ -2,8 +2,7 @@
 ghost use Rattle.std.specs.Prelude.{◌≡◌};
 ghost use Rattle.nvm_c.specs.Texts.{IsChecked, facts_of, flag, kind_number, ram_number};
 
-use nvm::nvm_flash::block_config::{BlockDesc, BlockKind, RamKind};
-use nvm::{ConfigFault, read};
+use nvm::{BlockDesc, BlockKind, ConfigFault, RamKind, read};
 use std::alloc::Global;
 
 /// What a configuration says of a block, by the keys of its text. A flag is 0 or 1.

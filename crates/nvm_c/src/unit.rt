@@ -17,11 +17,9 @@ ghost use Rattle.nvm_c.specs.Work.{PlansCut, PlansNone};
 
 use crate::texts::{BlockFacts, facts_of};
 use lent_flash::{Lent, LentFlash};
-use nvm::nvm_flash::FlashStack;
-use nvm::nvm_flash::fee_core::Origin;
 use nvm::{
-    AskFault, Buffer, Bytes, Config, Entry, Event, FoundAnswer, FoundMarks, Last, LentRequest,
-    Reply, ReqResult, Request, RequestKind, Turned, UnitStack, bytes_of,
+    AskFault, Buffer, Bytes, Config, Entry, Event, FlashStack, FoundAnswer, FoundMarks, Last,
+    LentRequest, Origin, Reply, ReqResult, Request, RequestKind, Turned, UnitStack, bytes_of,
 };
 use nvm_script::entry_text;
 use std::alloc::{AllocError, Global};

@@ -10,10 +10,7 @@ ghost use Rattle.nvm_c.specs.Unit.{Opens};
 
 use crate::unit::{LentStack, LentUnit};
 use lent_flash::LentFlash;
-use nvm::nvm_flash::fee_core::Origin;
-use nvm::nvm_flash::nv_desk::ENDLESS;
-use nvm::nvm_flash::{make_stack, start_stack};
-use nvm::{Config, MakeFault, MemDevice, UnitStack};
+use nvm::{Config, ENDLESS, MakeFault, MemDevice, Origin, UnitStack, make_stack, start_stack};
 use std::alloc::Global;
 
 /// The unit of a configuration over a flash, of which so many power cuts can be planned, behind its first start-up.

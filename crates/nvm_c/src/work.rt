@@ -9,9 +9,8 @@ use crate::texts::BlockFacts;
 use crate::unit::LentUnit;
 use crate::unit_opening::open;
 use lent_flash::{Lent, LentFlash};
-use nvm::nvm_flash::fee_core::Origin;
 use nvm::{
-    AskFault, Buffer, Bytes, Config, FoundAnswer, MakeFault, Reply, ReqResult, Request,
+    AskFault, Buffer, Bytes, Config, FoundAnswer, MakeFault, Origin, Reply, ReqResult, Request,
     RequestKind, Turned, longest_content,
 };
 use std::alloc::Global;

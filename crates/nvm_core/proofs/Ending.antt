@@ -23,8 +23,8 @@ use Rattle.nvm_laws.specs.job_progress.Goes.{Names}
 use Rattle.nvm_laws.specs.nv_desk.Desk.{DeskState, state_of}
 use Rattle.nvm_laws.specs.block_config.Rules.{IsLegalConfig}
 use Rattle.nvm_laws.specs.Halves.{Adds}
-use Rattle.nvm_laws.proofs.job_progress.Going.{steps_name}
-use Rattle.nvm_laws.proofs.job_progress.Writing.{writes_are_allowed, same_block, same_index}
+use Rattle.nvm_laws.proofs.Going.{steps_name}
+use Rattle.nvm_laws.proofs.Writing.{writes_are_allowed, same_block, same_index}
 use Rattle.nvm_core.specs.BehindDevice.{IsAtWork}
 use Rattle.nvm_core.proofs.Starting.{op_by, works_on}
 use Rattle.nvm_laws.specs.nv_base.declared.job.JobStep.TheVariants as step

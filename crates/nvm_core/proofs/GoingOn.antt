@@ -17,7 +17,7 @@ use Rattle.nvm_laws.specs.AtDevice.{GoesOn}
 use Rattle.nvm_laws.specs.Keeps.{StaysKept}
 use Rattle.nvm_laws.specs.Turns.{wish_for}
 use Rattle.nvm_laws.specs.Work.{stack_work}
-use Rattle.nvm_laws.proofs.job_progress.Going.{steps_name, starts_go_on}
+use Rattle.nvm_laws.proofs.Going.{steps_name, starts_go_on}
 use Rattle.nvm_laws.proofs.nvm_figures.DrainWork.{starts_dont_add}
 use Rattle.nvm_laws.proofs.nvm_figures.Figures.{starts_dont_raise}
 use Rattle.nvm_core.specs.OperationStart.{IsStarted, LeavesDevice, StartKeeps}

@@ -19,7 +19,7 @@ use Rattle.nvm_laws.specs.nv_desk_copies.Posts.{IsEndOf, IsPosted, answer_of, Is
 use Rattle.nvm_laws.specs.job_progress.Hand.{HandState}
 use Rattle.nvm_laws.specs.job_progress.JobInHand.{IsInHand, GivesWhole, HandFits}
 use Rattle.nvm_laws.specs.Halves.{Adds, AddsPost}
-use Rattle.nvm_laws.proofs.job_progress.Fitting.{ends_are_explained}
+use Rattle.nvm_laws.proofs.Fitting.{ends_are_explained}
 use Rattle.nvm_core.specs.Reads.{NotesReads, noted_by}
 
 -- what the device gave is whole

@@ -7,9 +7,9 @@ use Rattle.nvm_laws.specs.memif.Clock.{Clock}
 use Rattle.nvm_laws.specs.block_machine.Words.{Instance, Found}
 use Rattle.nvm_laws.specs.block_machine.Next.{Next, next_of}
 use Rattle.nvm_laws.specs.block_machine.Next.{Nothing as NoNext}
-use Rattle.nv_desk_state.specs.declared.next.NextEntry.{NextEntry}
-use Rattle.nv_desk_state.specs.declared.next.NextEntry.TheVariants as next
-use Rattle.nv_desk_state.specs.Next.{IsNextEntry}
+use Rattle.nvm_laws.specs.nv_desk.nv_desk_state.declared.next.NextEntry.{NextEntry}
+use Rattle.nvm_laws.specs.nv_desk.nv_desk_state.declared.next.NextEntry.TheVariants as next
+use Rattle.nvm_laws.specs.nv_desk.nv_desk_state.Next.{IsNextEntry}
 use Rattle.nvm_laws.specs.nv_desk.Desk.{DeskState, first_desk, state_of}
 use Rattle.nvm_laws.specs.job_progress.Hand.{HandState}
 use Rattle.nvm_laws.specs.Halves.{IsAtRest}

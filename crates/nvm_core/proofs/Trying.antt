@@ -20,11 +20,11 @@ use Rattle.nvm_laws.specs.job_programs.Program.{Program, is_failed}
 use Rattle.nvm_laws.specs.job_programs.Failures.{failed_tries}
 use Rattle.nvm_laws.specs.nvm_device_laws.Outcomes.{outcome_by}
 use Rattle.nvm_laws.specs.nvm_device_laws.Tries.{Counted, IsWornOut, AreTriesPaid, tries_of_done}
-use Rattle.nvm_laws.proofs.nvm_device_laws.PaidTries.{no_tries, tries_stay, tries_go_on}
+use Rattle.nvm_laws.proofs.PaidTries.{no_tries, tries_stay, tries_go_on}
 use Rattle.nvm_laws.specs.job_progress.Hand.{HandState, ended}
 use Rattle.nvm_laws.specs.job_progress.JobInHand.{IsAt, IsInHand, job_for}
-use Rattle.nvm_laws.proofs.job_programs.Outcomes.{after_is}
-use Rattle.nvm_laws.proofs.nvm_device_laws.DeviceTries.{failed_job, some_outcome}
+use Rattle.nvm_laws.proofs.Outcomes.{after_is}
+use Rattle.nvm_laws.proofs.DeviceTries.{failed_job, some_outcome}
 use Rattle.nvm_core.specs.Paying.{counted_of, TriesSince, OwesSince}
 use Rattle.nvm_core.proofs.Working.{rose_of}
 

@@ -25,7 +25,7 @@ use Rattle.nvm_core.specs.BehindDevice.{TurnsDevice}
 use Rattle.nvm_core.specs.OperationStart.{LeavesDevice}
 use Rattle.nvm_core.specs.Operations.{number_tried}
 use Rattle.nvm_laws.proofs.block_laws.HistoryLaws.{histories_go_on}
-use Rattle.nvm_laws.proofs.job_progress.Powering.{finished_are_closed}
+use Rattle.nvm_laws.proofs.Powering.{finished_are_closed}
 use Rattle.nvm_laws.specs.promise_blocks.Moves.{Move, entry_list, is_picked}
 use Rattle.nvm_laws.specs.promise_blocks.Work.{IsWorked, is_posted, tries_of}
 use Rattle.nvm_core.specs.DeviceWork.{IsSimple, costs_in, moment_in, tries_left, work_in}

@@ -20,8 +20,8 @@ use Rattle.nvm_laws.specs.Ties.{IsTied}
 use Rattle.nvm_laws.specs.Turns.{hand_in}
 use Rattle.nvm_laws.specs.Halves.{Adds, AddsPick}
 use Rattle.nvm_laws.proofs.block_laws.HistoryLaws.{histories_step}
-use Rattle.nvm_laws.proofs.job_progress.Powering.{jobs_keep_power}
-use Rattle.nvm_laws.proofs.job_progress.Beginning.{picks_take_jobs, hands_begin}
+use Rattle.nvm_laws.proofs.Powering.{jobs_keep_power}
+use Rattle.nvm_laws.proofs.Beginning.{picks_take_jobs, hands_begin}
 use Rattle.nvm_core.specs.Choice.{HasHand, HasNone, IsPickable}
 use Rattle.nvm_core.specs.declared.choice.Case.{Case}
 

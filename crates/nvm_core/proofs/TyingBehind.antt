@@ -29,10 +29,10 @@ use Rattle.nvm_laws.specs.job_progress.Goes.{ReadsWhole, state_by}
 use Rattle.nvm_laws.specs.Ties.{IsTied}
 use Rattle.nvm_laws.specs.Turns.{AddsBy, entry_by, hand_by}
 use Rattle.nvm_laws.proofs.block_laws.HistoryLaws.{histories_step}
-use Rattle.nvm_laws.proofs.job_progress.Asking.{offs_keep_hands, devices_stand_in}
-use Rattle.nvm_laws.proofs.job_progress.Powering.{jobs_keep_power}
-use Rattle.nvm_laws.proofs.job_progress.Going.{steps_name}
-use Rattle.nvm_laws.proofs.job_progress.Writing.{hands_go_on, same_block}
+use Rattle.nvm_laws.proofs.JobAsking.{offs_keep_hands, devices_stand_in}
+use Rattle.nvm_laws.proofs.Powering.{jobs_keep_power}
+use Rattle.nvm_laws.proofs.Going.{steps_name}
+use Rattle.nvm_laws.proofs.Writing.{hands_go_on, same_block}
 use Rattle.nvm_core.specs.BehindDevice.{GivesBy, IsBehindTurn, StandTurns}
 use Rattle.nvm_laws.proofs.block_laws.InstanceNumbers.{own_length}
 

@@ -7,7 +7,7 @@ use Rattle.nvm_laws.specs.block_machine.Next.{Next, next_of}
 use Rattle.nvm_laws.specs.block_machine.Next.{Nothing as NoNext}
 use Rattle.nvm_laws.specs.nv_desk.Desk.{DeskState, state_of}
 use Rattle.nvm_laws.specs.nv_desk.Picks.{IsInterruption}
-use Rattle.nv_desk_state.specs.Next.{IsNextEntry}
+use Rattle.nvm_laws.specs.nv_desk.nv_desk_state.Next.{IsNextEntry}
 use Rattle.nvm_laws.specs.nv_desk_copies.Picks.{IsFree, IsPickNext}
 use Rattle.nvm_laws.specs.nv_desk_copies.Posts.{IsPostNext}
 use Rattle.nvm_laws.specs.job_progress.Hand.{HandState, is_finished, began, refused}

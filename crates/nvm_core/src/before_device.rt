@@ -16,11 +16,8 @@ use crate::choice::{Case, case_of};
 use crate::pick::{interrupt, pick};
 use crate::post::{post, skip};
 use crate::work::{go_on, is_at_work};
-use nvm_laws::job_progress::Hand;
 use nvm_laws::memif::MemDevice;
-use nvm_laws::nv_desk_copies::Front;
-use nvm_laws::ram_blocks::SyncCalls;
-use nvm_laws::{Act, Turned};
+use nvm_laws::{Act, Front, Hand, SyncCalls, Turned};
 
 /// Does the first of these: where the power is off, nothing; the Post of a finished job; the Pick of an immediate job over
 /// a standard one; the start of the next operation of the job in hand; the Pick, or the Post without a Pick, that comes

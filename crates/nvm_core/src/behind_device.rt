@@ -8,10 +8,8 @@ ghost use Rattle.nvm_laws.specs.Turns.{AddsBy, hand_by};
 ghost use Rattle.nvm_core.specs.BehindDevice.{IsBehindTurn, TakesTurn};
 
 use crate::operation_end::end_operation;
-use nvm_laws::Turned;
-use nvm_laws::job_progress::Hand;
 use nvm_laws::memif::{DeviceTurn, MemDevice};
-use nvm_laws::nv_desk::Desk;
+use nvm_laws::{Desk, Hand, Turned};
 
 /// Takes the answer of the device's turn: adds a Wrote where the job in hand wrote its mark, or an Off where the power went
 /// off. It doesn't change the device, and takes no memory.

@@ -3,9 +3,7 @@ ghost use Rattle.nvm_laws.specs.block_machine.Next.{next_of};
 ghost use Rattle.nvm_laws.specs.nv_desk.Desk.{state_of};
 ghost use Rattle.nvm_core.specs.Choice.{IsCase, IsNextCase};
 
-use nv_desk_state::NextEntry;
-use nvm_laws::job_progress::Hand;
-use nvm_laws::nv_desk::Desk;
+use nvm_laws::{Desk, Hand, NextEntry};
 
 /// The cases of a turn, in their order.
 #[derive(Clone, Copy)]

@@ -8,10 +8,8 @@ ghost use Rattle.nvm_laws.specs.Turns.{AddsBy, hand_by};
 ghost use Rattle.nvm_core.specs.BehindDevice.{TurnsDevice, asked_by};
 
 use crate::second_half;
-use nvm_laws::Turned;
-use nvm_laws::job_progress::Hand;
 use nvm_laws::memif::MemDevice;
-use nvm_laws::nv_desk::Desk;
+use nvm_laws::{Desk, Hand, Turned};
 
 /// A turn of the device with the second half behind it, where the machine's power is on and the device is at the operation of the
 /// job in hand, if one is in hand. It takes no memory.

@@ -8,8 +8,8 @@ ghost use Rattle.nvm_core.specs.FoundStart.{IsListed, StartKeeps};
 ghost use Rattle.nvm_core.specs.Stack.{HasRooms, IsRoom};
 
 use nvm_found::{FoundMarks, find};
+use nvm_laws::Desk;
 use nvm_laws::memif::MemDevice;
-use nvm_laws::nv_desk::Desk;
 use std::alloc::{AllocError, Global};
 
 /// Memory for the marks of a start-up, and for a list of them, where entries are kept.

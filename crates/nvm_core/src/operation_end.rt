@@ -7,11 +7,9 @@ ghost use Rattle.nvm_laws.specs.nv_desk.Driver.{MayAdd, mark_now};
 ghost use Rattle.nvm_laws.specs.Turns.{AddsBy, hand_by};
 ghost use Rattle.nvm_core.specs.BehindDevice.{IsAtWork};
 
-use nvm_laws::job_progress::Hand;
 use nvm_laws::memif::{JobResult, MemDevice};
-use nvm_laws::nv_base::{Entry, Instance, JobStep, Outcome};
-use nvm_laws::nv_desk::Desk;
 use nvm_laws::nvm_figures::outcome_of;
+use nvm_laws::{Desk, Entry, Hand, Instance, JobStep, Outcome};
 
 /// Ends the operation of the job in hand, if the device's turn ended it: a Wrote is added where it wrote its mark.
 pub(crate) fn end_operation<D: MemDevice>(desk: &mut Desk, hand: &mut Hand, device: &D)

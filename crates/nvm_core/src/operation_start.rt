@@ -3,8 +3,7 @@ ghost use Rattle.nvm_laws.specs.memif.Clock.{SameClock};
 ghost use Rattle.nvm_core.specs.OperationStart.{IsOfHand, IsStarted, IsWritten, StartKeeps, WriteKeeps};
 
 use nvm_laws::memif::{DeviceRefusal, MemDevice};
-use nvm_laws::nv_base::{DeviceNumber, DeviceOp, Instance, number_of};
-use nvm_laws::nv_desk::Desk;
+use nvm_laws::{Desk, DeviceNumber, DeviceOp, Instance, number_of};
 
 /// Starts an operation that the job in hand names.
 #[tactic(auto, using(nvm_laws::proofs::memif::Turning::same_clock))]

@@ -6,7 +6,7 @@ ghost use Rattle.nvm_laws.specs.memif.Calls.{IsCanceled};
 ghost use Rattle.nvm_laws.specs.block_machine.Blocks.{job_block, kind_of};
 ghost use Rattle.nvm_laws.specs.block_machine.Results.{took_none};
 ghost use Rattle.nvm_laws.specs.block_machine.Next.{next_of};
-ghost use Rattle.nv_desk_state.specs.Next.{IsNextEntry};
+ghost use Rattle.nvm_laws.specs.nv_desk.nv_desk_state.Next.{IsNextEntry};
 ghost use Rattle.nvm_laws.specs.nv_desk.Desk.{state_of};
 ghost use Rattle.nvm_laws.specs.nv_desk.Picks.{IsInterruption};
 ghost use Rattle.nvm_laws.specs.nv_desk_copies.Front.{StagesAll, AreSynchronized, CopiesStay};
@@ -22,14 +22,8 @@ ghost use Rattle.nvm_core.specs.Lowers.{IsWithinMost};
 ghost use Rattle.nvm_core.specs.Reads.{NotesReads};
 ghost use Rattle.nvm_core.specs.OperationStart.{LeavesDevice};
 
-use job_pending::Job;
-use nv_desk_state::NextEntry;
-use nvm_laws::block_config::BlockDesc;
-use nvm_laws::job_progress::Hand;
 use nvm_laws::memif::MemDevice;
-use nvm_laws::nv_desk::Desk;
-use nvm_laws::nv_desk_copies::Front;
-use nvm_laws::ram_blocks::SyncCalls;
+use nvm_laws::{BlockDesc, Desk, Front, Hand, Job, NextEntry, SyncCalls};
 
 /// An immediate job is picked over the standard one in hand.
 pub(crate) fn interrupt<D: MemDevice, C: SyncCalls>(

@@ -16,12 +16,8 @@ ghost use Rattle.nvm_core.specs.Choice.{HasHand, HasNone};
 ghost use Rattle.nvm_core.specs.Lowers.{posts_left};
 ghost use Rattle.nvm_core.specs.Reads.{NotesReads};
 
-use nv_desk_state::NextEntry;
-use nvm_laws::job_progress::Hand;
 use nvm_laws::memif::MemDevice;
-use nvm_laws::nv_base::{GivenFrom, JobStep, ReqResult};
-use nvm_laws::nv_desk_copies::Front;
-use nvm_laws::ram_blocks::SyncCalls;
+use nvm_laws::{Front, GivenFrom, Hand, JobStep, NextEntry, ReqResult, SyncCalls};
 
 /// The Post of a finished job.
 pub(crate) fn post<D: MemDevice, C: SyncCalls>(

@@ -5,11 +5,8 @@ ghost use Rattle.nvm_laws.specs.Halves.{IsAtRest};
 ghost use Rattle.nvm_core.specs.Renewal.{Renews, RenewalKeeps};
 
 use crate::{Stack, room_for};
-use nv_desk_state::NextEntry;
-use nvm_laws::FoundAnswer;
 use nvm_laws::memif::{MemDevice, MemStatus};
-use nvm_laws::nv_base::History;
-use nvm_laws::ram_blocks::SyncCalls;
+use nvm_laws::{FoundAnswer, History, NextEntry, SyncCalls};
 use std::alloc::Global;
 
 /// What became of a new history: it began with its start-up, or that failed by a counted fault, and this is the history so far;

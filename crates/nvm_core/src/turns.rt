@@ -12,8 +12,7 @@ ghost use Rattle.nvm_core.specs.Paying.{TurnPays};
 
 use crate::{Stack, device_turn, first_half};
 use nvm_laws::memif::MemDevice;
-use nvm_laws::ram_blocks::SyncCalls;
-use nvm_laws::{Act, Turned};
+use nvm_laws::{Act, SyncCalls, Turned};
 
 impl<D: MemDevice, C: SyncCalls + Drop> Stack<D, C> {
     /// One turn of the main function: the first of what is to be done, and nothing else. It makes at most one turn of the

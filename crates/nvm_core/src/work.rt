@@ -15,10 +15,8 @@ ghost use Rattle.nvm_core.specs.Choice.{HasHand};
 ghost use Rattle.nvm_core.specs.OperationStart.{LeavesDevice};
 
 use crate::operation_start::start_on;
-use nvm_laws::job_progress::Hand;
 use nvm_laws::memif::{MemDevice, MemStatus};
-use nvm_laws::nv_base::JobStep;
-use nvm_laws::nv_desk::Desk;
+use nvm_laws::{Desk, Hand, JobStep};
 
 /// The job in hand goes on: its next operation is open at the device.
 pub(crate) fn go_on<D: MemDevice>(desk: &Desk, hand: &mut Option<Hand>, device: &mut D)

@@ -11,7 +11,7 @@ use Rattle.fee_core.specs.fls_model.Told.{Change}
 use Rattle.fls_devices.specs.Journal.{Harmed, has_reached, HasPart, HaveParts, change_of, before_all, without_part, merged}
 use Rattle.fls_devices.specs.Part.{off_of}
 use Rattle.fee_core.specs.promise_device.FlashRun.{AreSeen, next_bytes}
-use Rattle.fee_core.proofs.promise_device.FlashRun.{seen_all}
+use Rattle.fee_core.proofs.FlashRun.{seen_all}
 
 -- THE ANSWERS
 off_is : (a : FlashAnswer) → off_of a ≡ true → a ≡ Off

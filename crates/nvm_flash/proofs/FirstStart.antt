@@ -24,8 +24,8 @@ use Rattle.nvm_core.specs.StartUps.{StartsUp, StartsKeep}
 use Rattle.nvm_core.specs.nvm_laws.Keeps.{StackKeepsAsTold, KeepsAsTold, KeepsWhileDown}
 use Rattle.nvm_core.specs.nvm_laws.declared.turned.FoundAnswer.TheVariants as found
 use Rattle.promise_run.specs.Halves.{beyond_end}
-use Rattle.nvm_core.proofs.nvm_laws.StartingUp.{stacks_begin}
-use Rattle.fee_core.proofs.promise_device.FlashRun.{seen_more}
+use Rattle.nvm_core.proofs.StartingUp.{stacks_begin}
+use Rattle.fee_core.proofs.FlashRun.{seen_more}
 use Rattle.nvm_flash.specs.Made.{IsOrigin, IsMadeStack, AreOfFirst, one_part}
 
 -- THE FIRST START-UP

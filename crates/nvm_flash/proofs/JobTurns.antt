@@ -16,8 +16,8 @@ use Rattle.nvm_core.specs.block_config.Config.{Configuration}
 use Rattle.nvm_core.specs.block_config.Lengths.{length_at, block_lengths, stored_lengths, lengths_by, lengths_of}
 use Rattle.nvm_core.specs.block_config.Rules.{IsDatasetCount, IsLegalBlock, AreBlocks, IsLegalConfig}
 use Rattle.nvm_core.specs.block_config.Sizes.{instances_of, size_of}
-use Rattle.nvm_core.proofs.block_config.Devices.{lengths_are_first}
-use Rattle.nvm_core.proofs.block_config.Numbering.{length-lengths_from}
+use Rattle.nvm_core.proofs.Devices.{lengths_are_first}
+use Rattle.nvm_core.proofs.Numbering.{length-lengths_from}
 use Rattle.fee_core.specs.memif.Told.{Figures, at_number, figures_at, length_of, most_of, no_figures}
 use Rattle.nvm_core.specs.block_machine.Words.{Instance, JobKind, ReadJob, WriteJob, RestoreJob, EraseJob, InvalidateJob, ReadAllJob, WriteAllJob}
 use Rattle.nvm_core.specs.block_machine.Blocks.{desc_of, indices_of, job_block, kind_of}

@@ -6,3 +6,21 @@ pub mod CutterRuns
 pub mod CutterSeen
 pub mod CutterUnmade
 pub mod FirstStart
+pub use Rattle.nvm_core.proofs.Called as Called
+pub use Rattle.fee_core.proofs.Readings as Readings
+pub use Rattle.promise_run.proofs.Composition as Composition
+pub use Rattle.fee_core.proofs.Turning as Turning
+pub use Rattle.nvm_core.proofs.DownCalls as DownCalls
+pub use Rattle.promise_run.proofs.DeviceTurns as DeviceTurns
+pub use Rattle.nvm_core.proofs.DeviceWork as DeviceWork
+pub use Rattle.nvm_core.proofs.StartWork as StartWork
+pub use Rattle.nvm_core.proofs.Trying as Trying
+pub use Rattle.nvm_core.proofs.TurnWork as TurnWork
+pub use Rattle.promise_run.proofs.Callers as Callers
+pub use Rattle.fee_core.proofs.Soundness as Soundness
+pub use Rattle.promise_run.proofs.InRoom as InRoom
+pub use Rattle.promise_run.proofs.Texts as Texts
+pub use Rattle.promise_run.proofs.BankTurns as BankTurns
+pub use Rattle.promise_run.proofs.CalmPosts as CalmPosts
+pub use Rattle.promise_run.proofs.Counted as Counted
+pub use Rattle.promise_run.proofs.RunHalves as RunHalves

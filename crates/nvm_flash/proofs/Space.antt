@@ -13,7 +13,7 @@ use Rattle.nvm_core.specs.block_config.Lengths.{length_at, block_lengths, stored
 use Rattle.nvm_core.specs.block_config.Rules.{IsLegalConfig}
 use Rattle.nvm_core.specs.block_config.Sizes as sizes
 use Rattle.nvm_core.specs.block_config.Sizes.{instances_of, size_of, measures_of}
-use Rattle.nvm_core.proofs.block_config.Devices.{lengths_are_first}
+use Rattle.nvm_core.proofs.Devices.{lengths_are_first}
 use Rattle.fee_core.specs.fee_course.Copies.{greatest}
 use Rattle.fee_core.specs.fee_switch_laws.Space.{HasSpace, all_pages}
 

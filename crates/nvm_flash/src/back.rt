@@ -6,8 +6,7 @@ ghost use Rattle.fee_core.specs.fee_laws.Made.{part_at};
 ghost use Rattle.fee_core.specs.fls_model.Told.{Told};
 ghost use Rattle.nvm_flash.specs.Made.{IsBack, IsOrigin};
 
-use fee_core::fls_model::Flash;
-use fee_core::{Fee, Origin};
+use fee_core::{Fee, Flash, Origin};
 use fls_devices::Cutter;
 
 /// Gives the flash of a device back.

@@ -6,10 +6,9 @@ ghost use Rattle.fee_core.specs.fee_laws.Made.{IsMadeOf};
 ghost use Rattle.nvm_flash.specs.Made.{AreOfFirst, ComesBack, IsOrigin, fault_of};
 ghost use Rattle.nvm_flash.specs.Turns.{fixed_by};
 
-use fee_core::fls_model::{AttachFault, Flash};
-use fee_core::{Fee, Origin};
+use fee_core::{AttachFault, Fee, Flash, Origin};
 use fls_devices::Cutter;
-use nvm_core::block_config::Config;
+use nvm_core::Config;
 use std::alloc::Global;
 use thiserror::Error;
 

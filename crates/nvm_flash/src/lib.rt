@@ -12,15 +12,16 @@ mod stack;
 
 pub use back::give_back;
 pub use device::{MakeFault, make_device};
-pub use fee_core;
 pub use fee_core::{
-    fee_image, fee_laws, fee_told, fls_model, fls_told, memif, nv_base, promise_device,
+    AttachFault, Bytes, Entry, Fee, Flash, FlashAnswer, Geometry, History, MemDevice, MemFlash,
+    Origin, PlainStore, Refusal, Reply, ReqResult, Request, bytes_of, mem_flash, refusal_number,
+    result_code,
 };
-pub use fls_devices;
-pub use nvm_core;
+pub use fls_devices::{Cutter, FaultScript};
 pub use nvm_core::{
-    block_config, block_machine, job_progress, nv_desk, nvm_device_laws, nvm_figures, nvm_laws,
-    promise_blocks, ram_blocks,
+    AskFault, BlockDesc, BlockKind, Buffer, Config, ConfigFault, ENDLESS, Event, FoundAnswer,
+    FoundMarks, Last, LentRequest, MarkKind, PlainSync, RamKind, Renewed, RequestKind, Stack,
+    TakenKind, Turned, longest_content, read,
 };
-pub use promise_run;
+pub use promise_run::CAP;
 pub use stack::{FlashStack, make_stack, make_stack_with, start_stack, start_stack_with};

@@ -9,13 +9,9 @@ ghost use Rattle.nvm_flash.specs.Made.{ComesBack, IsMadeStack, IsMadeWith, IsOri
 
 use crate::back::give_back;
 use crate::device::{MakeFault, make_device};
-use fee_core::fls_model::Flash;
-use fee_core::{Fee, Origin};
+use fee_core::{Fee, Flash, Origin};
 use fls_devices::Cutter;
-use nvm_core::Stack;
-use nvm_core::block_config::Config;
-use nvm_core::nvm_laws::FoundAnswer;
-use nvm_core::ram_blocks::{PlainSync, SyncCalls};
+use nvm_core::{Config, FoundAnswer, PlainSync, Stack, SyncCalls};
 use std::alloc::Global;
 
 /// A stack over a flash whose power may be cut.

@@ -10,16 +10,22 @@ mod cases;
 mod turned;
 
 pub use block_laws;
-pub use block_machine;
-pub use block_machine::{block_config, nv_base};
+pub use block_machine::block_config::{
+    BlockDesc, BlockKind, Config, ConfigFault, RamKind, demo, read,
+};
+pub use block_machine::nv_base::{
+    AllocFailed, Bytes, DeviceNumber, DeviceOp, Entry, Geometry, GivenFrom, History, Instance,
+    JobKind, JobStep, Lengths, Outcome, Reply, ReqResult, Request, Taken, bytes_of, lengths_of,
+    number_of, result_code,
+};
 pub use cases::due_cases;
-pub use job_programs;
-pub use job_progress;
+pub use job_progress::Hand;
 pub use memif;
-pub use nv_desk_copies;
-pub use nv_desk_copies::nv_desk;
-pub use nvm_device_laws;
+pub use nv_desk_copies::Front;
+pub use nv_desk_copies::nv_desk::{
+    AskFault, Buffer, Desk, ENDLESS, Event, FoundMarks, Job, Last, LentRequest, MarkKind,
+    NextEntry, RequestKind, TakenKind, longest_content,
+};
 pub use nvm_figures;
-pub use promise_blocks;
-pub use ram_blocks;
+pub use ram_blocks::{Copied, PlainSync, RamBlocks, RamFlags, SyncCalls};
 pub use turned::{Act, FoundAnswer, Turned};

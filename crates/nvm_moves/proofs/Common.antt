@@ -11,7 +11,7 @@ pub use Rattle.nvm_core.specs.block_machine.Blocks.{job_block, block_at, rank_of
 pub use Rattle.nvm_core.specs.block_machine.Next.{Next, PickJob, next_of, BeginSweep, EndSweep, next_member, Nothing, PostMember, PickMember, next_in, next_in_sweep}
 pub use Rattle.nvm_core.specs.block_machine.Steps.{after_from, picked, wrote, after, step, changed, changed_by, accepted_by, asked, posted, posted_next}
 pub use Rattle.nvm_core.specs.promise_blocks.Work.{has_risen, Costs, Work, IsWorked, is_posted, AreWorked, Effort, tries_of}
-pub use Rattle.nvm_core.proofs.job_progress.Asking.{asked_hand, pending_stay}
+pub use Rattle.nvm_core.proofs.Asking.{asked_hand, pending_stay}
 pub use Rattle.promise_run.specs.Turns.{Moment, Move, EachMove, PostsPicked, entry_list, is_asked, is_found, is_picked, CountFailed, EndsCanceled, entries_of, moment_behind, found_behind, Among, turns_beside, ArePaidSince, BeginWhatIsDue, EachMoveSince, PostsUrgent, StaysAtRest, TakeKept, urgent_block, BeginsAt, AreMovesMade, BeginsIn, turns_in_all, HasImmediate, IsPaidSince, IsMoveMade, IsPostedWithin, ends, fails, is_off as is_off_entry, posts_other, IsPostedSoon}
 pub use Rattle.nvm_moves.specs.Along.{Along, Bound, Cursor, Frame, bound_of, left_behind, next_by, one_less, renewed, cursor_behind}
 pub use Rattle.nvm_moves.specs.Moved.{FitsHand, IsLawful, AreAsked, IsBound, IsTurnTold, IsHalfTold, IsPaidAt, IsAt, HasMoved, MovesBy, IsStartTold, IsStillTold, GrowsBy, ArePending, AreAsksMade, AreAsksTold, Owes, PostsAt}
@@ -57,7 +57,7 @@ pub use Rattle.nvm_moves.specs.Seen.{Begun, IsOn, Seen, all_with, frame_in, mome
 pub use Rattle.nvm_moves.specs.Served.{IsDueWithin, AreServed, DueAt, IsServable, IsAskedDue, ServesBy, due_by}
 pub use Rattle.std.specs.Option.{option_map_or}
 pub use Rattle.std.proofs.lemmas.List.{append-nil, length-map, length-set}
-pub use Rattle.nvm_core.proofs.memif.Turning.{same_clock, same_told, works_fixed, lasts_more, same_lasts}
+pub use Rattle.nvm_core.proofs.Turning.{same_clock, same_told, works_fixed, lasts_more, same_lasts}
 pub use Rattle.nvm_core.specs.block_machine.StartUp.{at_first, started_block}
 pub use Rattle.nvm_core.specs.nvm_device_laws.Tries.{is_hand_urgent}
 pub use Rattle.nvm_core.specs.nvm_figures.Left.{most_turns, stack_left, ahead, most_at, over_tries, over_unstarted}
@@ -68,7 +68,7 @@ pub use Rattle.nvm_core.proofs.TurnWork.{closed_tries, half_begins, hand_is_open
 pub use Rattle.nvm_core.specs.memif.declared.answer.JobResult.{JobResult}
 pub use Rattle.nvm_core.specs.memif.declared.answer.JobResult.TheVariants.{JobOk}
 pub use Rattle.nvm_core.specs.nvm_device_laws.Turn.{settled_by, wrote_by, TellsSlots}
-pub use Rattle.nvm_core.proofs.nvm_laws.Traits.{none_first, urgent_in_hand, device_turns_keep_seal, device_turns_take_kept, first_halves_keep_seal}
+pub use Rattle.nvm_core.proofs.LawTraits.{none_first, urgent_in_hand, device_turns_keep_seal, device_turns_take_kept, first_halves_keep_seal}
 pub use Rattle.nvm_core.proofs.DueWrites.{more_due, takes_one, IsTurning, nearer_for, of_block_behind, turn_serves}
 pub use Rattle.std.specs.List.{enumerate_from, list_all}
 pub use Rattle.std.proofs.lemmas.List.FromFn.{length-enumerate_from}
@@ -82,10 +82,10 @@ pub use Rattle.nvm_core.specs.block_machine.Sweeps.{sweep_result}
 pub use Rattle.nvm_core.specs.block_machine.Results.{Answer}
 pub use Rattle.std.proofs.lemmas.Bool.Decides.{leb_tells}
 pub use Rattle.nvm_core.specs.nvm_figures.Urgent.{pages_of}
-pub use Rattle.nvm_core.proofs.nvm_laws.DueBlocks.{same_pages}
+pub use Rattle.nvm_core.proofs.DueBlocks.{same_pages}
 pub use Rattle.nvm_core.specs.block_laws.Consistent.{Each}
 pub use Rattle.nvm_core.proofs.block_laws.NextLaws.{next_is_waiting, none_waits}
-pub use Rattle.nvm_core.proofs.nvm_laws.DueAsking.{accepted_are_due, many_held, many_next}
+pub use Rattle.nvm_core.proofs.DueAsking.{accepted_are_due, many_held, many_next}
 pub use Rattle.nvm_core.proofs.JobNumbers.{accepted_of_block, jobs_below, stays_of_block}
 pub use Rattle.script_walks.proofs.Jobs.{each_right}
 pub use Rattle.nvm_core.specs.memif.declared.answer.DeviceTurn.{DeviceTurn}
@@ -95,15 +95,15 @@ pub use Rattle.nvm_core.proofs.TurnsMade.{half_adds}
 pub use Rattle.nvm_core.proofs.Working.{device_counts}
 pub use Rattle.std.proofs.Math.Nat.{mul-le-mul_right, suc-mul}
 pub use Rattle.nvm_core.proofs.TriesLeft.{begun_takes, tries_bounded, turned_few, few_ahead}
-pub use Rattle.nvm_core.proofs.nvm_figures.Figures.{was_closed}
+pub use Rattle.nvm_core.proofs.Figures.{was_closed}
 pub use Rattle.nvm_core.specs.nv_base.Marks.{number_of}
 pub use Rattle.nvm_core.specs.nv_base.declared.job.Outcome.TheVariants.{First}
 pub use Rattle.nvm_core.specs.job_programs.Program.{Program, after_by, is_again, operation, tried, works}
-pub use Rattle.nvm_core.proofs.nvm_figures.Tries.{next_ahead, start_takes}
+pub use Rattle.nvm_core.proofs.Tries.{next_ahead, start_takes}
 pub use Rattle.nvm_core.specs.nvm_device_laws.Outcomes.{outcome_by}
-pub use Rattle.nvm_core.proofs.job_progress.AtOperation.{at_operation}
+pub use Rattle.nvm_core.proofs.JobAtOperation.{at_operation}
 pub use Rattle.nvm_core.specs.block_machine.Prices.{price_in_faults}
-pub use Rattle.nvm_core.proofs.nvm_laws.Paying.{asked_urgency}
+pub use Rattle.nvm_core.proofs.LawPaying.{asked_urgency}
 pub use Rattle.nvm_core.proofs.Trying.{since_stays, part_rises}
 pub use Rattle.promise_run.proofs.TakenPages.{found_more}
 pub use Rattle.promise_run.proofs.Paid.{since_too}
@@ -113,6 +113,6 @@ pub use Rattle.nvm_core.specs.StartUps.{StartsUp}
 pub use Rattle.nvm_core.proofs.StartWork.{start_leaves}
 pub use Rattle.promise_run.proofs.StartUps.{turns_start_none}
 pub use Rattle.nvm_core.specs.job_progress.Asks.{is_of_jobs}
-pub use Rattle.nvm_core.proofs.job_progress.Powering.{jobs_keep_power}
+pub use Rattle.nvm_core.proofs.JobPowering.{jobs_keep_power}
 pub use Rattle.promise_run.proofs.WorkedMoves.{worked_by}
 pub use Rattle.promise_run.proofs.Power.{asked_power, picked_power, wrote_power}

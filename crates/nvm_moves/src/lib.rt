@@ -4,13 +4,8 @@
 //! lists join. All are lemmas, and nothing here runs: which call makes which moves is left to the crates above.
 #![tactic(auto)]
 
-pub use nvm_core::Stack;
-pub use nvm_core::block_config::Config;
-pub use nvm_core::memif::MemDevice;
-pub use nvm_core::nv_base::{
-    Bytes, Entry, History, Reply, ReqResult, Request, bytes_of, result_code,
+pub use nvm_core::{
+    AskFault, Bytes, Config, Desk, Entry, Event, FoundAnswer, Front, History, Last, LentRequest,
+    MemDevice, PlainSync, Reply, ReqResult, Request, RequestKind, Stack, SyncCalls, Turned,
+    bytes_of, result_code,
 };
-pub use nvm_core::nv_desk::{AskFault, Desk, Event, Last, LentRequest, RequestKind};
-pub use nvm_core::nv_desk_copies::Front;
-pub use nvm_core::nvm_laws::{FoundAnswer, Turned};
-pub use nvm_core::ram_blocks::{PlainSync, SyncCalls};

@@ -4,7 +4,7 @@ use crate::faults::{Failing, Fault};
 use crate::spots::{Spot, spots, with_line, with_plan};
 use crate::trials::{Share, Trial, Trials};
 use nvm_script::first_line;
-use nvm_top::nvm_flash::block_config::read;
+use nvm_top::nvm_flash::read;
 use std::alloc::{AllocError, AllocGlobal, Global};
 use std::sync::Wait;
 use std::thread::Threads;

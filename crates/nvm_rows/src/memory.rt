@@ -8,12 +8,7 @@ ghost use Rattle.script_player.specs.ram_blocks.Plain.{plain_blocks_of};
 use anyhow::bail;
 use nv_base::History;
 use nvm_script::{Mode, StepList, entry_text, first_line, read_script};
-use nvm_top::nvm_flash::block_config::{Config, read};
-use nvm_top::nvm_flash::memif::PlainStore;
-use nvm_top::nvm_flash::nvm_core::Stack;
-use nvm_top::nvm_flash::nvm_laws::FoundAnswer;
-use nvm_top::nvm_flash::promise_run::CAP;
-use nvm_top::nvm_flash::ram_blocks::PlainSync;
+use nvm_top::nvm_flash::{CAP, Config, FoundAnswer, PlainStore, PlainSync, Stack, read};
 use script_player::{PlainStack, cuts_of, make_steps};
 use std::alloc::{AllocError, Global};
 

@@ -6,14 +6,10 @@ use anyhow::{Context, bail};
 use fls_model::{MemFlash, mem_flash};
 use nv_base::{Bytes, Request};
 use nvm_script::{StepKind, StepList, summary_text};
-use nvm_top::nvm_flash::block_config::{Config, read};
-use nvm_top::nvm_flash::fee_core::Origin;
-use nvm_top::nvm_flash::memif::MemDevice;
-use nvm_top::nvm_flash::nvm_core::Stack;
-use nvm_top::nvm_flash::nvm_laws::{FoundAnswer, Turned};
-use nvm_top::nvm_flash::promise_run::CAP;
-use nvm_top::nvm_flash::ram_blocks::PlainSync;
-use nvm_top::nvm_flash::{give_back, make_stack};
+use nvm_top::nvm_flash::{
+    CAP, Config, FoundAnswer, MemDevice, Origin, PlainSync, Stack, Turned, give_back, make_stack,
+    read,
+};
 use script_soak::soak_steps;
 use std::alloc::Global;
 use std::marker::Brand;

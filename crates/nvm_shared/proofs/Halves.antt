@@ -23,8 +23,8 @@ use Rattle.nvm_core.specs.Due.{now_of}
 use Rattle.nvm_core.proofs.TurnedBehind.{asked_is, has_turned, turns_device}
 use Rattle.nvm_core.proofs.Serving.{nearer_by}
 use Rattle.nvm_core.proofs.Working.{turned_works}
-use Rattle.nvm_core.proofs.nvm_laws.Working.{hands_are_small}
-use Rattle.nvm_core.proofs.nvm_laws.Keeping.{stays_more}
+use Rattle.nvm_core.proofs.LawWorking.{hands_are_small}
+use Rattle.nvm_core.proofs.Keeping.{stays_more}
 use Rattle.nvm_shared.specs.Behind.{HandIsPending}
 use Rattle.nvm_shared.specs.declared.terms.Terms.{Terms}
 use Rattle.nvm_shared.specs.Locked.{LockedState, desk_with}

@@ -6,7 +6,7 @@ use Rattle.nvm_core.specs.nv_base.Result.{code_of}
 use Rattle.nvm_core.specs.block_machine.Words.{Pending, Accepted, Refused, StatusIs, IndexIs, Entry, Ask, Pick, Wrote, Post, Off, Found, Configuration}
 use Rattle.nvm_core.specs.block_machine.State.{State}
 use Rattle.nvm_core.specs.block_machine.Steps.{step}
-use Rattle.nvm_core.proofs.job_progress.Powering.{jobs_keep_power}
+use Rattle.nvm_core.proofs.JobPowering.{jobs_keep_power}
 use Rattle.nvm_shared.specs.StatusWords.{off_word, told_at, pending_block, gives_by, gives}
 use Rattle.nvm_shared.proofs.WordsTold.{told_if}
 use Rattle.nvm_shared.proofs.Standing.{asks_leave_power}

@@ -15,9 +15,9 @@ use Rattle.nvm_core.specs.job_progress.Hand.{HandState}
 use Rattle.nvm_core.specs.job_progress.JobInHand.{IsPaired}
 use Rattle.nvm_core.specs.nvm_laws.Ties.{IsTied}
 use Rattle.nvm_core.proofs.block_laws.HistoryLaws.{histories_step}
-use Rattle.nvm_core.proofs.job_progress.Asking.{asks_keep_hands, pending_stay}
-use Rattle.nvm_core.proofs.nvm_laws.Asking.{asks_keep}
-use Rattle.nvm_core.proofs.nvm_laws.Keeping.{stays_more, stays_still}
+use Rattle.nvm_core.proofs.Asking.{asks_keep_hands, pending_stay}
+use Rattle.nvm_core.proofs.LawAsking.{asks_keep}
+use Rattle.nvm_core.proofs.Keeping.{stays_more, stays_still}
 use Rattle.nvm_shared.specs.Written.{AreWritten}
 use Rattle.nvm_shared.specs.Behind.{AreAsks, AsksLeavePower, HandIsPending, StandsBehind, AsksStandBehind, with_more}
 

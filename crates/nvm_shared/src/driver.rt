@@ -19,10 +19,7 @@ ghost use Rattle.nvm_shared.specs.Driving.{DriverState, IsDriverOf, BeginsTurn, 
 
 use crate::noted::{NotedCopies, hold_picked, see_asked};
 use crate::shared::{Shared, StackPass};
-use nvm_core::job_progress::Hand;
-use nvm_core::memif::{DeviceTurn, MemDevice};
-use nvm_core::nvm_laws::{Act, Turned};
-use nvm_core::ram_blocks::SyncCalls;
+use nvm_core::{Act, DeviceTurn, Hand, MemDevice, SyncCalls, Turned};
 use std::marker::Model;
 use std::sync::Wait;
 

@@ -32,14 +32,10 @@ ghost use Rattle.nvm_core.specs.Stack.{stack_with};
 use crate::telling::{Telling, Tells};
 use crate::terms::Terms;
 use crate::{picked_last, told_last};
-use nvm_core::job_progress::Hand;
-use nvm_core::memif::{DeviceTurn, MemDevice};
-use nvm_core::nv_base::{Entry, Reply, Request};
-use nvm_core::nv_desk::{AskFault, Last};
-use nvm_core::nv_desk_copies::Front;
-use nvm_core::nvm_laws::{Act, Turned};
-use nvm_core::ram_blocks::SyncCalls;
-use nvm_core::{first_half, second_half};
+use nvm_core::{
+    Act, AskFault, DeviceTurn, Entry, Front, Hand, Last, MemDevice, Reply, Request, SyncCalls,
+    Turned, first_half, second_half,
+};
 use std::alloc::{AllocError, Global};
 use std::marker::Model;
 use turn_gate::Kept;

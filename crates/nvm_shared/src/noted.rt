@@ -10,7 +10,7 @@ ghost use Rattle.nvm_shared.specs.Noted.{GoOn, HasSeen, MirrorsGoOn, SeesBlock, 
 
 use crate::known::{Known, Naming};
 use crate::shared::{Shared, StackPass};
-use nvm_core::ram_blocks::{PlainSync, SyncCalls};
+use nvm_core::{PlainSync, SyncCalls};
 use ram_mirrors_sync::{MirrorSync, Note, hold_note};
 use std::sync::Wait;
 

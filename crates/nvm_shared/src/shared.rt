@@ -17,9 +17,7 @@ ghost use Rattle.nvm_shared.specs.Passes.{Asked, IsUserOf, IsExtended, LearnsMor
 
 use crate::OFF_WORD;
 use crate::locked::Locked;
-use nvm_core::nv_base::{Reply, Request};
-use nvm_core::nv_desk::AskFault;
-use nvm_core::nv_desk_copies::Front;
+use nvm_core::{AskFault, Front, Reply, Request};
 use std::alloc::Global;
 use std::marker::Model;
 use std::snapshot::Snapshot;

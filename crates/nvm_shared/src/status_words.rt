@@ -5,8 +5,9 @@ ghost use Rattle.nvm_core.specs.nv_desk.Latest.{last_of};
 ghost use Rattle.nvm_core.specs.nv_desk.Request.{request_lent};
 ghost use Rattle.nvm_shared.specs.StatusWords.{told_by, picked_by, told_at, pending_block};
 
-use nvm_core::nv_base::{Entry, Reply, ReqResult, Request, result_code};
-use nvm_core::nv_desk::{Event, Last, LentRequest, RequestKind};
+use nvm_core::{
+    Entry, Event, Last, LentRequest, Reply, ReqResult, Request, RequestKind, result_code,
+};
 
 /// The word of the power, behind those of the blocks. An Off gives it status 1.
 pub const OFF_WORD: u32 = 513;

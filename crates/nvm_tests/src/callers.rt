@@ -14,11 +14,10 @@ use crate::flagged_device::FlaggedDevice;
 use crate::flags::Flags;
 use crate::untold::make_untold;
 use nvm_callers::{Ending, Hold, NoHold, NoStores, Stores, run_callers};
-use nvm_laws::block_config::{Config, demo};
 use nvm_laws::memif::{MemDevice, PlainStore};
-use nvm_laws::nv_base::{Entry, History, Reply, Request, bytes_of};
-use nvm_laws::nv_desk::Desk;
-use nvm_laws::ram_blocks::{PlainSync, SyncCalls};
+use nvm_laws::{
+    Config, Desk, Entry, History, PlainSync, Reply, Request, SyncCalls, bytes_of, demo,
+};
 use nvm_shared::{Driver, NotedCopies, Shared, StackPass};
 use script_callers::{Deed, DeedList, Program};
 use std::alloc::{AllocError, Global};

@@ -1,7 +1,7 @@
 // A flash in a file.
 use fls_files::{ByteFile, FileFlash, ImageFault, ImageFile, mem_file};
-use nvm_flash::fls_model::{AttachFault, Flash};
-use nvm_laws::nv_base::Geometry;
+use nvm_flash::{AttachFault, Flash};
+use nvm_laws::Geometry;
 use std::alloc::Global;
 use std::fs;
 use std::os::unix::fs::symlink;

@@ -1,7 +1,7 @@
 // The driver of a flash in memory of the smallest geometry.
 use fls_jobs::{Fls, FlsResult};
-use nvm_flash::fls_model::{MemFlash, mem_flash};
-use nvm_laws::nv_base::Geometry;
+use nvm_flash::{MemFlash, mem_flash};
+use nvm_laws::Geometry;
 use std::alloc::Global;
 
 const SMALLEST: Geometry = Geometry {

@@ -1,13 +1,11 @@
 // A device over banks whose flash fails in its first write, and faults over planned cuts.
 ghost use Rattle.nvm_flash.specs.Made.{IsOrigin};
 
-use nvm_flash::fee_core::Origin;
-use nvm_flash::fls_devices::{Cutter, FaultScript};
-use nvm_flash::fls_model::{AttachFault, Flash, FlashAnswer, mem_flash};
-use nvm_flash::{give_back, make_device};
-use nvm_laws::block_config::{Config, demo};
+use nvm_flash::{
+    AttachFault, Cutter, FaultScript, Flash, FlashAnswer, Origin, give_back, make_device, mem_flash,
+};
 use nvm_laws::memif::{JobResult, MemDevice, PlainMark, make_turns, start_up};
-use nvm_laws::nv_base::{DeviceNumber, Geometry};
+use nvm_laws::{Config, DeviceNumber, Geometry, demo};
 use std::alloc::Global;
 use std::marker::Brand;
 

@@ -1,9 +1,7 @@
 // What the errors of the library's face print.
-use nvm_flash::MakeFault;
-use nvm_flash::fls_model::AttachFault;
-use nvm_laws::block_config::ConfigFault;
+use nvm_flash::{AttachFault, MakeFault};
 use nvm_laws::memif::{DeviceRefusal, StartFault};
-use nvm_laws::nv_desk::AskFault;
+use nvm_laws::{AskFault, ConfigFault};
 use nvm_shared::ShareFault;
 use std::error::Error;
 use std::fmt::InlineText;

@@ -1,8 +1,10 @@
 // Jobs that are finished over a device in memory.
-use nvm_laws::block_config::{BlockDesc, BlockKind, Config, demo};
 use nvm_laws::memif::{DeviceRefusal, PlainStore, start_up};
-use nvm_laws::nv_base::{DeviceNumber, GivenFrom, JobKind, JobStep, ReqResult, lengths_of};
 use nvm_laws::nvm_figures::{AtWork, Brought, Finish, JobEnd, finish_job, turns_left};
+use nvm_laws::{
+    BlockDesc, BlockKind, Config, DeviceNumber, GivenFrom, JobKind, JobStep, ReqResult, demo,
+    lengths_of,
+};
 use plain_blocks::PlainProgram;
 use redundant_blocks::RedundantProgram;
 use std::alloc::{AllocError, Global};

@@ -5,7 +5,7 @@ use crate::flags::Flags;
 use nvm_laws::memif::{
     DeviceRefusal, DeviceTurn, JobResult, MemDevice, MemStatus, PlainMark, PlainStore, StartFault,
 };
-use nvm_laws::nv_base::{DeviceNumber, DeviceOp};
+use nvm_laws::{DeviceNumber, DeviceOp};
 
 /// A device in memory whose first turn sets the first flag, and looks for the second.
 #[derive(Drop)]

@@ -1,7 +1,6 @@
 // A sweep: each call once.
 use multi_jobs::{MemberFacts, Sweep, SweepStep};
-use nvm_laws::block_config::{Config, demo};
-use nvm_laws::nv_base::JobKind;
+use nvm_laws::{Config, JobKind, demo};
 use std::alloc::Global;
 
 const FACTS: MemberFacts = MemberFacts {

@@ -1,6 +1,5 @@
 // RAM blocks and copies: each call once.
-use nvm_laws::block_config::{Config, read};
-use nvm_laws::ram_blocks::{Copied, PlainSync, RamBlocks, RamFlags, SyncCalls};
+use nvm_laws::{Config, Copied, PlainSync, RamBlocks, RamFlags, SyncCalls, read};
 use std::alloc::Global;
 
 const BLOCKS: &str =

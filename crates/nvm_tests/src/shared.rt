@@ -6,11 +6,8 @@ ghost use Rattle.nvm_shared.specs.Passes.{IsUserOf};
 ghost use Rattle.nvm_shared.specs.Driving.{IsDriverOf};
 
 use crate::untold::make_untold;
-use nvm_laws::Turned;
-use nvm_laws::block_config::{Config, read};
 use nvm_laws::memif::{MemDevice, PlainStore};
-use nvm_laws::nv_base::{Reply, Request};
-use nvm_laws::ram_blocks::PlainSync;
+use nvm_laws::{Config, PlainSync, Reply, Request, Turned, read};
 use nvm_shared::{Driver, NotedCopies, Shared, StackPass};
 use std::alloc::{AllocError, Global};
 use std::sync::Wait;

@@ -3,8 +3,7 @@ ghost use Rattle.std.specs.Prelude.{◌≡◌, true};
 ghost use Rattle.ram_mirrors_sync.specs.Blocks.{AreEndsOf, AreIn, AreSidesOf, IsSideIn};
 
 use crate::found::{Found, LOOKS};
-use nvm_laws::block_config::{Config, read};
-use nvm_laws::ram_blocks::{Copied, SyncCalls};
+use nvm_laws::{Config, Copied, SyncCalls, read};
 use ram_mirrors_sync::{Ends, MirrorSync, Mirrors, Side, Sides, close, make};
 use std::alloc::Global;
 use std::thread;

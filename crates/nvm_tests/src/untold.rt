@@ -5,9 +5,8 @@ ghost use Rattle.nvm_laws.specs.nv_desk_copies.Front.{AreSynchronized};
 ghost use Rattle.nvm_shared.specs.Opening.{IsMade};
 ghost use Rattle.nvm_flash.specs.nvm_core.Stack.{first_stack};
 
-use nvm_laws::block_config::Config;
 use nvm_laws::memif::MemDevice;
-use nvm_laws::ram_blocks::SyncCalls;
+use nvm_laws::{Config, SyncCalls};
 use nvm_shared::{Driver, NotShared, Shared, StackPass, make};
 use std::alloc::Global;
 

@@ -47,16 +47,16 @@ use Rattle.nvm_flash.specs.job_progress.JobInHand.{IsPaired, program_for}
 use Rattle.nvm_flash.specs.promise_run.Operations.{costs_of}
 use Rattle.nvm_flash.proofs.Costs.{costs_are_figures, reads_take_one}
 use Rattle.nvm_flash.specs.nvm_core.DeviceWork.{IsSimple, costs_in, work_in}
-use Rattle.nvm_flash.proofs.nvm_core.StartWork.{first_leaves}
+use Rattle.nvm_flash.proofs.StartWork.{first_leaves}
 use Rattle.nvm_flash.specs.nvm_figures.Left.{most_turns}
 use Rattle.nvm_flash.specs.Turns.{fixed_by}
 use Rattle.nvm_flash.proofs.JobTurns.{job_turns_are_figures, write_pages_are_figures}
 use Rattle.nvm_flash.specs.promise_run.JobTurns.{job_turns}
 use Rattle.nvm_flash.proofs.FirstStart.{told_bridge}
 use Rattle.script_player.proofs.Fresh.{is_fresh}
-use Rattle.nvm_flash.proofs.nvm_device_laws.DownCalls.{over_with}
-use Rattle.nvm_flash.proofs.promise_device.Readings.{sound_starts_compute}
-use Rattle.nvm_flash.proofs.promise_run.Composition.{begins_well}
+use Rattle.nvm_flash.proofs.DownCalls.{over_with}
+use Rattle.nvm_flash.proofs.Readings.{sound_starts_compute}
+use Rattle.nvm_flash.proofs.Composition.{begins_well}
 use Rattle.nvm_flash.specs.Made.{IsOrigin, IsMadeStack, AreOfFirst, ComesBack, IsBack, one_part}
 use Rattle.nvm_flash.specs.promise_device.SwitchErases.{RestartsAreFew}
 use Rattle.nvm_flash.specs.promise_blocks.Operations.{founds}

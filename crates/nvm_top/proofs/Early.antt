@@ -19,7 +19,7 @@ use Rattle.nvm_flash.specs.promise_run.Completeness.{Completeness}
 use Rattle.nvm_flash.specs.promise_run.JobTurns.{job_turns}
 use Rattle.nvm_top.specs.Play.{IsFlashStop}
 use Rattle.nvm_flash.specs.promise_run.Turns.{AreMadeIn, EndsBy, KeepsTurns}
-use Rattle.nvm_flash.proofs.promise_run.Callers.{callers_are_served}
+use Rattle.nvm_flash.proofs.Callers.{callers_are_served}
 use Rattle.nvm_lines.specs.declared.status.Status.{Status}
 use Rattle.nvm_lines.specs.declared.status.Status.TheVariants as status
 use Rattle.nvm_top.specs.declared.runs.RunText.{RunText}

@@ -13,8 +13,8 @@ use Rattle.nvm_flash.specs.promise_run.Call.{Call, IsRunOf}
 use Rattle.nvm_flash.specs.promise_run.JobTurns.{job_turns}
 use Rattle.nvm_flash.specs.promise_run.Promise.{making_of}
 use Rattle.nvm_flash.specs.promise_run.Run.{Run}
-use Rattle.nvm_flash.proofs.fee_image.Soundness.{blank_is_sound}
-use Rattle.nvm_flash.proofs.promise_run.InRoom.{room_suffices, turns_make_few}
+use Rattle.nvm_flash.proofs.Soundness.{blank_is_sound}
+use Rattle.nvm_flash.proofs.InRoom.{room_suffices, turns_make_few}
 use Rattle.nvm_lines.specs.declared.status.Status.{Status}
 use Rattle.nvm_lines.specs.declared.status.Status.TheVariants as status
 use Rattle.nvm_top.specs.Commands.{Ended, KeepsCommand, KeepsPlay}

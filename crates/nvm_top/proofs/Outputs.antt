@@ -2,7 +2,7 @@
 use Rattle.nvm_flash.specs.promise_run.Call.{Call}
 use Rattle.nvm_flash.specs.promise_run.Run.{Run}
 use Rattle.nvm_flash.specs.promise_run.Texts.{IsLegalRunOf}
-use Rattle.nvm_flash.proofs.promise_run.Texts.{calls_tell_histories}
+use Rattle.nvm_flash.proofs.Texts.{calls_tell_histories}
 use Rattle.nvm_top.specs.Outputs.{IsToldRunOf, OutputsTellHistories}
 
 legal_run : (call : Call) (r : Run) → IsToldRunOf call r → IsLegalRunOf call r

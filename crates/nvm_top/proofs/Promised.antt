@@ -24,11 +24,11 @@ use Rattle.nvm_flash.specs.promise_run.JobTurns.{job_turns}
 use Rattle.nvm_top.specs.Play.{IsRightSize}
 use Rattle.nvm_flash.specs.promise_run.Turns.{Moment, FindWorkAtDrains, all_moves, entries_of, CutsCome}
 use Rattle.nvm_flash.specs.promise_run.DeviceTurns.{HasMovesTo}
-use Rattle.nvm_flash.proofs.promise_run.DeviceTurns.{keeps_turns}
+use Rattle.nvm_flash.proofs.DeviceTurns.{keeps_turns}
 use Rattle.nvm_flash.specs.promise_run.BankTurns.{BeginsUnused}
-use Rattle.nvm_flash.proofs.promise_run.BankTurns.{starts_sound, erases_have_causes}
-use Rattle.nvm_flash.proofs.promise_run.CalmPosts.{calm_posts}
-use Rattle.nvm_flash.proofs.promise_run.Counted.{all_behind}
+use Rattle.nvm_flash.proofs.BankTurns.{starts_sound, erases_have_causes}
+use Rattle.nvm_flash.proofs.CalmPosts.{calm_posts}
+use Rattle.nvm_flash.proofs.Counted.{all_behind}
 use Rattle.nvm_flash.specs.promise_device.Bridge.{IsWornOut}
 use Rattle.nvm_callers.specs.nvm_moves.Beginning.{BeginsMoves}
 use Rattle.nvm_callers.specs.nvm_moves.Seen.{Seen, moment_seen}

@@ -34,10 +34,10 @@ use Rattle.nvm_flash.specs.promise_run.Promise.{making_of}
 use Rattle.nvm_flash.specs.promise_run.Run.{Run, Course, Ran, Follows, HasOrder, End, Whole, FlashFault, HistoryFull, Memory, RunsBy, cap}
 use Rattle.nvm_flash.specs.promise_run.RunHalves.{KeepsCallers, offs_in, tells_no_refusal}
 use Rattle.nvm_flash.specs.Made.{IsBack, one_part}
-use Rattle.nvm_flash.proofs.promise_device.Readings.{sound_starts_compute}
-use Rattle.nvm_flash.proofs.promise_run.BankTurns.{starts_sound, erases_have_causes}
-use Rattle.nvm_flash.proofs.promise_run.Composition.{begins_well}
-use Rattle.nvm_flash.proofs.promise_run.RunHalves.{as_asked, unplanned, uncut_bridges, callers_keep_promise}
+use Rattle.nvm_flash.proofs.Readings.{sound_starts_compute}
+use Rattle.nvm_flash.proofs.BankTurns.{starts_sound, erases_have_causes}
+use Rattle.nvm_flash.proofs.Composition.{begins_well}
+use Rattle.nvm_flash.proofs.RunHalves.{as_asked, unplanned, uncut_bridges, callers_keep_promise}
 use Rattle.nvm_script.specs.declared.script.Mode.TheVariants as mode
 use Rattle.nvm_callers.specs.Ran.{KeepsOrder, WasRun, end_of}
 use Rattle.nvm_callers.specs.Added.{IsUncut}
@@ -65,8 +65,8 @@ use Rattle.nvm_top.proofs.EndsTold.{ends_told, status_at}
 use Rattle.nvm_top.proofs.Promised.{counted_from}
 use Rattle.nvm_flash.specs.promise_run.DeviceTurns.{HasMovesTo}
 use Rattle.nvm_flash.specs.promise_run.Turns.{Moment, Move}
-use Rattle.nvm_flash.proofs.promise_run.DeviceTurns.{keeps_turns}
-use Rattle.nvm_flash.proofs.memif.Turning.{same_clock, same_told}
+use Rattle.nvm_flash.proofs.DeviceTurns.{keeps_turns}
+use Rattle.nvm_flash.proofs.Turning.{same_clock, same_told}
 use Rattle.nvm_callers.specs.nvm_moves.Beginning.{BeginsMoves}
 use Rattle.nvm_callers.specs.nvm_moves.Seen.{moment_by}
 use Rattle.nvm_callers.specs.driver_moves.Driving.{seen_at}

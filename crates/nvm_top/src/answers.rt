@@ -8,8 +8,7 @@ ghost use Rattle.uds_script.specs.Lines.{uds_line};
 ghost use Rattle.uds_script.specs.Requests.{HaveBytes};
 ghost use Rattle.nvm_top.specs.Uds.{BreaksOffIn, HasPieces, WritesLines, answer_lines, line_served, lines_of_history, status_served, stopped_serving};
 
-use nvm_flash::block_config::Config;
-use nvm_flash::nv_base::{Bytes, History};
+use nvm_flash::{Bytes, Config, History};
 use nvm_lines::nv_streams::Sink;
 use nvm_lines::{OutputFault, Status, Stop, put_line, report, write_end, write_entries};
 use script_player::uds_gateway::{ServeStop, piece_answer};

@@ -6,8 +6,7 @@ ghost use Rattle.nvm_flash.specs.fls_model.Attach.{IsAttach};
 ghost use Rattle.nvm_top.specs.Play.{IsPlayEnd, IsAttachStop};
 ghost use Rattle.nvm_lines.specs.Stop.{status_of};
 
-use nvm_flash::fls_model::AttachFault;
-use nvm_flash::nv_base::Geometry;
+use nvm_flash::{AttachFault, Geometry};
 use nvm_lines::Stop;
 
 /// The stop of an attach that failed.

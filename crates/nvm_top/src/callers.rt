@@ -7,7 +7,7 @@ ghost use Rattle.nvm_top.specs.Ends.{HasScript};
 ghost use Rattle.nvm_top.specs.Reading.{IsEarly, IsScriptStop, IsStepsStop};
 
 use crate::script::{Script, script_of};
-use nvm_flash::block_config::Config;
+use nvm_flash::Config;
 use nvm_lines::nv_streams::Source;
 use nvm_lines::{LIMIT, Stop, read_input};
 use nvm_script::{Mode, StepList};

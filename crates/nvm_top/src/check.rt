@@ -7,7 +7,7 @@ ghost use Rattle.nvm_top.specs.Measures.{IsMeasured};
 ghost use Rattle.nvm_lines.specs.Output.{Writes};
 
 use crate::measures::measures_line;
-use nvm_flash::block_config::Config;
+use nvm_flash::Config;
 use nvm_lines::nv_streams::{Sink, Source};
 use nvm_lines::{Status, put_line, read_configuration, report};
 use std::alloc::Global;

@@ -10,7 +10,7 @@ use crate::play::play;
 use crate::run::run;
 use crate::soak::soak;
 use crate::uds::uds;
-use nvm_flash::fls_model::Flash;
+use nvm_flash::Flash;
 use nvm_lines::nv_streams::{Sink, Source};
 use nvm_lines::{Status, Stop, report};
 use nvm_words::{CommandKind, command_of};

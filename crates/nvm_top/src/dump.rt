@@ -12,8 +12,7 @@ ghost use Rattle.nvm_top.specs.Play.{IsBeforeStart};
 
 use crate::image::read_image;
 use fee_dump::dump_text;
-use nvm_flash::fls_model::Flash;
-use nvm_flash::nv_base::Geometry;
+use nvm_flash::{Flash, Geometry};
 use nvm_lines::nv_streams::{Sink, Source};
 use nvm_lines::{Status, put_lines, read_configuration, report};
 use std::alloc::Global;

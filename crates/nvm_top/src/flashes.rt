@@ -12,10 +12,7 @@ ghost use Rattle.nvm_top.specs.Play.{IsRightSize};
 ghost use Rattle.nvm_callers.specs.nvm_moves.Beginning.{BeginsMoves};
 ghost use Rattle.nvm_top.specs.Stack.{IsStarted, KeepsPlayed};
 
-use nvm_flash::block_config::Config;
-use nvm_flash::memif::MemDevice;
-use nvm_flash::nvm_core::Stack;
-use nvm_flash::ram_blocks::PlainSync;
+use nvm_flash::{Config, MemDevice, PlainSync, Stack};
 use nvm_lines::Stop;
 use std::alloc::Global;
 

@@ -7,7 +7,7 @@ ghost use Rattle.uds_script.specs.Requests.{IsRequests};
 ghost use Rattle.nvm_top.specs.Reading.{IsEarly};
 ghost use Rattle.nvm_top.specs.Uds.{HasRequests, IsGatewayStop, IsRequestsStop, IsUdsStop};
 
-use nvm_flash::block_config::Config;
+use nvm_flash::Config;
 use nvm_lines::nv_streams::Source;
 use nvm_lines::{LIMIT, Stop, read_config, read_input};
 use nvm_script::ScriptFault;

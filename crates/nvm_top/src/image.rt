@@ -9,8 +9,7 @@ ghost use Rattle.nvm_top.specs.Reading.{IsSectorStop};
 ghost use Rattle.nvm_lines.specs.Stop.{status_of};
 
 use crate::attach::attach_stop;
-use nvm_flash::fls_model::{Flash, FlashAnswer};
-use nvm_flash::nv_base::Geometry;
+use nvm_flash::{Flash, FlashAnswer, Geometry};
 use nvm_lines::Stop;
 use std::alloc::Global;
 

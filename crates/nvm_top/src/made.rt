@@ -8,7 +8,7 @@ ghost use Rattle.nvm_top.specs.Play.{IsRightSize};
 
 use crate::flashes::Flashes;
 use crate::script::Script;
-use nvm_flash::memif::MemDevice;
+use nvm_flash::MemDevice;
 use nvm_lines::Stop;
 use script_player::{PlainStack, StepFault, cuts_of, make_steps};
 use std::alloc::Global;

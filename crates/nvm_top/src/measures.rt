@@ -2,7 +2,7 @@
 ghost use Rattle.std.specs.Prelude.{◌≡◌, IfOk, string_bytes};
 ghost use Rattle.nvm_top.specs.Measures.{measures_line as measures_text};
 
-use nvm_flash::block_config::Config;
+use nvm_flash::Config;
 use std::alloc::{AllocError, Global};
 
 /// The line that tells how many blocks and instances a configuration has, how many pages a bank needs and how many it

@@ -6,7 +6,7 @@ ghost use Rattle.nvm_top.specs.Commands.{ended};
 ghost use Rattle.nvm_top.specs.Program.{IsExecuted};
 
 use crate::commands::command;
-use nvm_flash::fls_model::{Flash, mem_flash};
+use nvm_flash::{Flash, mem_flash};
 use nvm_lines::Status;
 use nvm_lines::nv_streams::{Sink, Source};
 use nvm_words::{CommandKind, command_of, image_path};

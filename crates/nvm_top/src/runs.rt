@@ -4,7 +4,7 @@ ghost use Rattle.nvm_flash.specs.nv_base.Count.{Rose};
 ghost use Rattle.nvm_top.specs.Promised.{WritesText, entries_in};
 ghost use Rattle.nvm_top.specs.Runs.{run_of, status_of_run, lines_written};
 
-use nvm_flash::nv_base::History;
+use nvm_flash::History;
 use nvm_lines::nv_streams::Sink;
 use nvm_lines::{Status, Stop, put_lines, report, write_end, write_history};
 use nvm_script::summary_text;

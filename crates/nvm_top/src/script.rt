@@ -6,7 +6,7 @@ ghost use Rattle.nvm_script.specs.Script.{IsScript, later_lines};
 ghost use Rattle.nvm_top.specs.Ends.{HasScript};
 ghost use Rattle.nvm_top.specs.Reading.{AreMadeIn, IsEarly, IsLineStop, IsScriptStop, IsStepsStop};
 
-use nvm_flash::block_config::Config;
+use nvm_flash::Config;
 use nvm_lines::nv_streams::Source;
 use nvm_lines::{LIMIT, Stop, read_config, read_input};
 use nvm_script::{Mode, ScriptFault, StepList, read_script};

@@ -6,9 +6,7 @@ ghost use Rattle.nvm_top.specs.Flashes.{WereServed};
 ghost use Rattle.nvm_top.specs.Play.{IsRightSize};
 
 use crate::flashes::Flashes;
-use nvm_flash::block_config::Config;
-use nvm_flash::memif::MemDevice;
-use nvm_flash::nv_base::Bytes;
+use nvm_flash::{Bytes, Config, MemDevice};
 use nvm_lines::Stop;
 use script_player::uds_gateway::ServeStop;
 use script_player::{PlainStack, serve_requests};

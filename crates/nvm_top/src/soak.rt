@@ -14,7 +14,7 @@ ghost use Rattle.nvm_top.specs.Soak.{IsSoakStop, SoakStopsBy};
 use crate::play::play_flash;
 use crate::runs::RunText;
 use crate::script::{Script, take_script};
-use nvm_flash::fls_model::Flash;
+use nvm_flash::Flash;
 use nvm_lines::nv_streams::{Sink, Source};
 use nvm_lines::{Status, Stop, report};
 use nvm_script::Mode;

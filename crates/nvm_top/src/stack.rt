@@ -14,14 +14,10 @@ ghost use Rattle.nvm_top.specs.Stack.{stop_of_make};
 ghost use Rattle.nvm_flash.specs.Made.{one_part};
 
 use crate::flashes::Flashes;
-use nvm_flash::block_config::Config;
-use nvm_flash::fee_core::{Fee, Origin};
-use nvm_flash::fls_devices::Cutter;
-use nvm_flash::fls_model::Flash;
-use nvm_flash::memif::MemDevice;
-use nvm_flash::nv_base::Geometry;
-use nvm_flash::promise_run::CAP;
-use nvm_flash::{FlashStack, MakeFault, give_back, make_stack, start_stack};
+use nvm_flash::{
+    CAP, Config, Cutter, Fee, Flash, FlashStack, Geometry, MakeFault, MemDevice, Origin, give_back,
+    make_stack, start_stack,
+};
 use nvm_lines::Stop;
 use std::alloc::Global;
 use std::marker::PhantomData;

@@ -1,7 +1,7 @@
 // The numbers and bytes of a history.
 ghost use Rattle.script_player.specs.script_walks.Texts.{AreValues};
 
-use nvm_flash::nv_base::History;
+use nvm_flash::History;
 use nvm_script::entry_value;
 
 /// The numbers of a history's entries and the bytes of their contents are those of their types, as its text needs them.

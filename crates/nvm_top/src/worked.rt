@@ -4,7 +4,7 @@ ghost use Rattle.nvm_words.specs.Words.{command_of, is_play};
 ghost use Rattle.nvm_top.specs.Worked.{CutsLeaveAt, memory_call};
 
 use crate::commands::play_command;
-use nvm_flash::fls_model::{MemFlash, mem_flash};
+use nvm_flash::{MemFlash, mem_flash};
 use nvm_lines::Status;
 use nvm_lines::nv_streams::{Sink, Source};
 use std::alloc::{AllocError, Global};

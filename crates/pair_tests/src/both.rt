@@ -12,18 +12,13 @@ ghost use Rattle.memif_fee_ea.specs.memif_pair.Both.{told_as};
 ghost use Rattle.nvm_laws.specs.block_config.DemoConfig.{demo_config};
 
 use memif_fee_ea::memif_pair::Both;
-use memif_fee_ea::{FlashAndEeprom, Shapes, ea_slots, make};
-use nvm_flash::fee_core;
-use nvm_flash::fls_devices::Cutter;
-use nvm_flash::fls_model::{Flash, MemFlash, mem_flash};
-use nvm_flash::nvm_core::Stack;
-use nvm_laws::block_config::{Config, demo};
+use memif_fee_ea::{FlashAndEeprom, Shapes, ea_slots, fee_core, make};
+use nvm_flash::{Cutter, Flash, MemFlash, Stack, mem_flash};
 use nvm_laws::memif::{MemDevice, MemIf, PlainStore};
-use nvm_laws::nv_base::{
-    DeviceNumber, Geometry, Lengths, Reply, ReqResult, Request, bytes_of, lengths_of,
+use nvm_laws::{
+    Config, DeviceNumber, FoundAnswer, Geometry, Lengths, PlainSync, Reply, ReqResult, Request,
+    Turned, bytes_of, demo, lengths_of,
 };
-use nvm_laws::ram_blocks::PlainSync;
-use nvm_laws::{FoundAnswer, Turned};
 use std::alloc::{AllocError, Global};
 use std::marker::Brand;
 

@@ -1,5 +1,5 @@
 // The line of an entry that no case of the commands shows.
-use nvm_laws::nv_base::{Bytes, Entry, JobKind, Taken};
+use nvm_laws::{Bytes, Entry, JobKind, Taken};
 use nvm_script::entry_text;
 use std::alloc::{AllocError, Global};
 

@@ -2,7 +2,7 @@ use Rattle.std.specs.Prelude.{is_some}
 use Rattle.fee_format.specs.declared.rec_head.RecHead.{RecHead}
 use Rattle.std.proofs.Common.{◌≡◌, Option, true, sym, ap, ◌∙◌}
 use Rattle.nv_base.specs.declared.geometry.Geometry.{Geometry}
-use Rattle.fee_log.specs.Log.{LogState, left_in, work_in}
+use Rattle.fee_laws.specs.fee_log.Log.{LogState, left_in, work_in}
 use Rattle.fee_laws.specs.Work.{pages_of_op}
 use Rattle.fee_core.proofs.Leaving.{record_left}
 use Rattle.fee_core.proofs.room.record_turns.Goals as goal

@@ -1,6 +1,6 @@
 use Rattle.std.proofs.Common.{None}
 use Rattle.block_machine.specs.Sweeps.{member_kind}
-use Rattle.job_pending.specs.Take.{taken_with}
+use Rattle.nv_desk.specs.job_pending.Take.{taken_with}
 use Rattle.nv_desk.specs.Desk.{state_of}
 use Rattle.nv_desk.specs.Picks.{took_of}
 use Rattle.nv_desk_copies.proofs.Taking.{picks_of, member_copied, may_pick_member, member_allowed}

@@ -1,6 +1,6 @@
 use Rattle.std.proofs.Common.{◌≡◌, ◌∙◌, Bool, true, false, None, refl, sym}
 use Rattle.block_machine.specs.Results.{took_none}
-use Rattle.job_pending.specs.Take.{result_without}
+use Rattle.nv_desk.specs.job_pending.Take.{result_without}
 use Rattle.nv_desk.specs.Desk.{state_of}
 use Rattle.nv_desk_copies.specs.Front.{given_if}
 use Rattle.nv_desk_copies.specs.Posts.{answer_in}

@@ -2,7 +2,7 @@ use Rattle.std.proofs.Common.{ap, subst, sym, ◌∙◌}
 use Rattle.nvm_flash.specs.memif.Calls.{InOrder}
 use Rattle.nvm_flash.specs.fee_core.Tells.{told_clock}
 use Rattle.nvm_flash.specs.fee_told.Device.{Device, told_of}
-use Rattle.nvm_flash.proofs.nvm_device_laws.Called.{begins_kept}
+use Rattle.nvm_flash.proofs.Called.{begins_kept}
 use Rattle.nvm.specs.Closing.{UnitState}
 use Rattle.nvm.specs.Unit.{Stays, takes_of}
 use Rattle.nvm.proofs.UnitLaws.{begun_takes, begun_unit, starts_stay}

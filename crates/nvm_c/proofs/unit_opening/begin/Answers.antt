@@ -1,5 +1,5 @@
 use Rattle.std.proofs.Common.{ap, sym, ◌∙◌, subst, arith}
-use Rattle.nvm.proofs.nvm_flash.nvm_device_laws.Called.{begins_kept}
+use Rattle.nvm.proofs.Called.{begins_kept}
 use Rattle.nvm.specs.memif.Calls.{InOrder}
 use Rattle.nvm.specs.nvm_flash.fee_core.Tells.{told_clock}
 use Rattle.nvm.specs.nvm_flash.fee_told.Device.{Device, told_of}

@@ -2,7 +2,7 @@ use Rattle.std.proofs.Common.{◌∙◌, Some, None, ap, refl}
 use Rattle.nvm_laws.specs.block_machine.Words.{Post}
 use Rattle.nvm_laws.specs.block_machine.Blocks.{desc_of, job_block}
 use Rattle.nvm_laws.specs.nv_desk.Desk.{state_of}
-use Rattle.nvm_laws.proofs.job_progress.Powering.{jobs_keep_power, posts_leave_none, finished_are_closed}
+use Rattle.nvm_laws.proofs.Powering.{jobs_keep_power, posts_leave_none, finished_are_closed}
 use Rattle.nvm_laws.proofs.Posting.{posts_keep}
 use Rattle.nvm_laws.proofs.Working.{entries_lower_work}
 use Rattle.nvm_core.proofs.TyingBefore.{drives, held_in, tied_behind}

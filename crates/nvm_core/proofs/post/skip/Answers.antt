@@ -3,7 +3,7 @@ use Rattle.nvm_laws.specs.block_machine.Words.{Post}
 use Rattle.nvm_laws.specs.block_machine.Next.{next_of}
 use Rattle.nvm_laws.specs.nv_desk.Desk.{state_of}
 use Rattle.nvm_laws.specs.memif.Told.{ops_of}
-use Rattle.nvm_laws.proofs.job_progress.Powering.{jobs_keep_power, posts_leave_none}
+use Rattle.nvm_laws.proofs.Powering.{jobs_keep_power, posts_leave_none}
 use Rattle.nvm_laws.proofs.Posting.{skipped_keep}
 use Rattle.nvm_laws.proofs.Working.{entries_lower_work}
 use Rattle.nvm_core.proofs.TyingBefore.{drives, none_in, tied_behind}

@@ -1,7 +1,7 @@
 use Rattle.std.proofs.Common.{◌∙◌, sym, subst}
 use Rattle.nvm_laws.specs.block_config.Rules.{IsLegalConfig}
 use Rattle.nvm_laws.specs.nv_desk.Desk.{state_of}
-use Rattle.nvm_laws.proofs.job_progress.Going.{steps_name}
+use Rattle.nvm_laws.proofs.Going.{steps_name}
 use Rattle.nvm_laws.proofs.Refusing.{refusals_dont_come}
 use Rattle.nvm_core.proofs.GoingOn.{goes_on}
 use Rattle.nvm_core.proofs.WorkingBefore.{working_of, open_of, not_both}

@@ -1,7 +1,7 @@
 use Rattle.std.proofs.Common.{List, subst}
 use Rattle.std.proofs.lemmas.Result.{IfOk-weaker}
 use Rattle.nvm_core.specs.ram_blocks.declared.plain_block.PlainBlock.{PlainBlock}
-use Rattle.nvm_core.proofs.ram_blocks.FreshCopies.{are_synchronized}
+use Rattle.nvm_core.proofs.FreshCopies.{are_synchronized}
 use Rattle.nvm_flash.specs.Made.{IsMadeStack, IsMadeWith}
 use Rattle.nvm_flash.proofs.stack.make_plain.Goals as goal
 

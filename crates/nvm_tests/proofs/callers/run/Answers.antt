@@ -1,4 +1,4 @@
-use Rattle.nvm_laws.proofs.ram_blocks.FreshCopies.{are_synchronized}
+use Rattle.nvm_laws.proofs.FreshCopies.{are_synchronized}
 use Rattle.nvm_tests.proofs.callers.run.Goals as goal
 
 pub make_untold-requires-clause-synchronized : goal.make_untold-requires-clause-synchronized

@@ -1,5 +1,5 @@
 use Rattle.std.proofs.Common.{ap}
-use Rattle.nvm_laws.proofs.ram_blocks.FreshCopies.{are_synchronized}
+use Rattle.nvm_laws.proofs.FreshCopies.{are_synchronized}
 use Rattle.nvm_tests.proofs.shared.is_shared.Goals as goal
 
 pub make_untold-requires-clause-synchronized : goal.make_untold-requires-clause-synchronized

@@ -2,7 +2,7 @@ use Rattle.std.proofs.Common.{subst}
 use Rattle.nvm_flash.specs.fee_told.Device.{Device, told_of}
 use Rattle.nvm_flash.specs.fee_core.Tells.{told_clock}
 use Rattle.nvm_flash.specs.memif.Calls.{InOrder}
-use Rattle.nvm_flash.proofs.nvm_device_laws.Called.{begins_kept}
+use Rattle.nvm_flash.proofs.Called.{begins_kept}
 use Rattle.nvm_flash.proofs.FirstStart.{begins_up}
 use Rattle.nvm_top.proofs.Driven.{if_ok}
 use Rattle.nvm_top.proofs.stack.begin.Goals as goal

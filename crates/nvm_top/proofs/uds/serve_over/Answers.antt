@@ -3,7 +3,7 @@ use Rattle.nvm_flash.specs.block_config.Config.{Configuration}
 use Rattle.nvm_flash.specs.fee_told.Device.{told_of}
 use Rattle.nvm_flash.specs.fee_core.Tells.{told_clock}
 use Rattle.nvm_flash.specs.fee_laws.Made.{part_at}
-use Rattle.nvm_flash.proofs.promise_run.Composition.{halves_make_the_promise}
+use Rattle.nvm_flash.proofs.Composition.{halves_make_the_promise}
 use Rattle.nvm_flash.specs.block_machine.Words.{Entry}
 use Rattle.script_player.specs.script_walks.Texts.{AreValues}
 use Rattle.script_player.specs.PlainTold.{told_by}

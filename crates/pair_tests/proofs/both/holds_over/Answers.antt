@@ -1,4 +1,4 @@
-use Rattle.nvm_laws.proofs.ram_blocks.FreshCopies.{are_synchronized}
+use Rattle.nvm_laws.proofs.FreshCopies.{are_synchronized}
 use Rattle.pair_tests.proofs.both.holds_over.Goals as goal
 
 pub make-requires-2-clause-synchronized : goal.make-requires-2-clause-synchronized

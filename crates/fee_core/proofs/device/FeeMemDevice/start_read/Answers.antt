@@ -1,6 +1,6 @@
 use Rattle.std.proofs.Common.{Some, None, false, subst}
 use Rattle.memif.specs.Calls.{Accepts}
-use Rattle.fee_told.specs.Device.{Device, told_of}
+use Rattle.fee_laws.specs.fee_told.Device.{Device, told_of}
 use Rattle.fee_laws.specs.Inside.{device_of}
 use Rattle.fee_core.specs.Tells.{told_clock}
 use Rattle.fee_core.proofs.Telling.{stays_told}

@@ -1,6 +1,6 @@
 use Rattle.std.proofs.Common.{subst}
 use Rattle.memif.specs.Calls.{FreesReady, RoomIsLeft}
-use Rattle.fee_told.specs.Device.{Device, clock_of, told_of}
+use Rattle.fee_laws.specs.fee_told.Device.{Device, clock_of, told_of}
 use Rattle.fee_core.proofs.device.FeeMemDevice.status.Goals as goal
 
 pub returns-clause-ready : goal.returns-clause-ready

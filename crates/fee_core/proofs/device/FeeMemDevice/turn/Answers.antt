@@ -1,7 +1,7 @@
 use Rattle.std.proofs.Common.{subst}
 use Rattle.memif.specs.Calls.{Turns}
-use Rattle.fee_told.specs.Device.{Device, told_of}
-use Rattle.fee_told.specs.Turns.{TakesTurn}
+use Rattle.fee_laws.specs.fee_told.Device.{Device, told_of}
+use Rattle.fee_laws.specs.fee_told.Turns.{TakesTurn}
 use Rattle.fee_laws.specs.Inside.{device_of}
 use Rattle.fee_core.specs.Tells.{told_clock}
 use Rattle.fee_core.proofs.Telling.{turns_told}

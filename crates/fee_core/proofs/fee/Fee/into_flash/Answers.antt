@@ -7,10 +7,10 @@ use Rattle.fls_model.specs.Told.{Told, changes_in}
 use Rattle.promise_device.specs.Bridge.{Bridges, reading_of}
 use Rattle.promise_device.specs.Room.{TellsWorkOver}
 use Rattle.promise_device.specs.Wear.{OperationsAreDue}
-use Rattle.fee_log.specs.Log.{IsLogState}
-use Rattle.fee_switch.specs.Banks.{IsBanksState}
-use Rattle.fls_told.proofs.Runs.{runs_bridge}
-use Rattle.fee_told.specs.Device.{Device, told_of, clock_of, flash_device}
+use Rattle.fee_laws.specs.fee_log.Log.{IsLogState}
+use Rattle.fee_laws.specs.fee_switch.Banks.{IsBanksState}
+use Rattle.fee_laws.proofs.Runs.{runs_bridge}
+use Rattle.fee_laws.specs.fee_told.Device.{Device, told_of, clock_of, flash_device}
 use Rattle.fee_laws.specs.Inside.{device_of}
 use Rattle.fee_laws.specs.Made.{part_at}
 use Rattle.fee_laws.specs.SwitchTold.{TellsSwitchOver}

@@ -3,8 +3,8 @@ use Rattle.nv_base.specs.Geometry.{IsLegal, sectors_of_bank}
 use Rattle.nv_base.specs.declared.geometry.Geometry.{Geometry}
 use Rattle.memif.specs.declared.answer.JobResult.TheVariants.{JobOk}
 use Rattle.memif.specs.Told.{Ended}
-use Rattle.fee_told.specs.Figures.{Work}
-use Rattle.fee_told.proofs.Figures.{left_fits}
+use Rattle.fee_laws.specs.fee_told.Figures.{Work}
+use Rattle.fee_laws.proofs.ToldFigures.{left_fits}
 use Rattle.fee_laws.specs.Work.{pages_of_op}
 use Rattle.fee_core.specs.Whole.{Sound}
 use Rattle.fee_core.proofs.Looking.{figure_of, most_is, one_is, own_turns, shape_is, switch_is}

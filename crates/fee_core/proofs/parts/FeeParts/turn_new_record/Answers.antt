@@ -1,7 +1,7 @@
 use Rattle.std.specs.Prelude.{IsSome}
 use Rattle.std.proofs.Common.{◌≡◌, sym, subst}
-use Rattle.fee_log.specs.Log.{work_in}
-use Rattle.fee_switch.specs.Banks.{BanksState, append_begun}
+use Rattle.fee_laws.specs.fee_log.Log.{work_in}
+use Rattle.fee_laws.specs.fee_switch.Banks.{BanksState, append_begun}
 use Rattle.fee_core.proofs.Begun.{begun_turned, begun_up, begun_work, can_append, record_begun}
 use Rattle.fee_core.proofs.Standing.{stands}
 use Rattle.fee_core.proofs.parts.FeeParts.turn_new_record.Goals as goal

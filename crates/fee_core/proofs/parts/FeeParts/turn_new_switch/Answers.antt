@@ -1,7 +1,7 @@
 use Rattle.std.specs.Prelude.{is_some}
 use Rattle.std.proofs.Common.{inr, refl, sym, ap, ◌∙◌, subst}
-use Rattle.fee_log.specs.Log.{work_in}
-use Rattle.fee_switch.specs.Banks.{BanksState, is_worn_out}
+use Rattle.fee_laws.specs.fee_log.Log.{work_in}
+use Rattle.fee_laws.specs.fee_switch.Banks.{BanksState, is_worn_out}
 use Rattle.fee_laws.specs.Work.{fits_in}
 use Rattle.fee_core.specs.Turning.{IsUp, Waits}
 use Rattle.fee_core.specs.Whole.{Whole, TurnedTo}

@@ -1,6 +1,6 @@
 use Rattle.std.proofs.Common.{inl, inr, refl, sym, ap, ◌∙◌, subst}
-use Rattle.fee_log.specs.Index.{place_in}
-use Rattle.fee_log.specs.Log.{LogState}
+use Rattle.fee_laws.specs.fee_log.Index.{place_in}
+use Rattle.fee_laws.specs.fee_log.Log.{LogState}
 use Rattle.fee_laws.specs.Reads.{IsErasedAt}
 use Rattle.fee_laws.proofs.Read.{marks_are_read}
 use Rattle.fee_core.proofs.Reading.{read_within, reading, asked_for, content_read, read_fails}

@@ -1,7 +1,7 @@
 use Rattle.std.proofs.Common.{◌≡◌, true, false, refl, sym, ap, ◌∙◌, subst}
 use Rattle.nv_base.specs.declared.geometry.Geometry.{Geometry}
 use Rattle.memif.specs.declared.answer.JobResult.TheVariants.{JobOk, JobFailed}
-use Rattle.fee_log.specs.Step.{commits}
+use Rattle.fee_laws.specs.fee_log.Step.{commits}
 use Rattle.fee_laws.specs.Turn.{ended_as}
 use Rattle.fee_laws.proofs.Committed.{appends_commit}
 use Rattle.fee_laws.proofs.Cut.{appends_are_cut}

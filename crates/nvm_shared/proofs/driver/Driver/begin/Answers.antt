@@ -7,9 +7,9 @@ use Rattle.nvm_core.specs.nv_desk.Desk.{DeskState, state_of}
 use Rattle.nvm_core.specs.nvm_laws.Ties.{IsTied}
 use Rattle.nvm_core.specs.nvm_laws.Keeps.{StackKeepsAsTold, StaysKept}
 use Rattle.nvm_core.specs.nvm_laws.DueLaws.{NextIsPending}
-use Rattle.nvm_core.proofs.nv_desk_copies.Taking.{waits}
-use Rattle.nvm_core.proofs.nvm_laws.DueHalves.{first_halves_serve}
-use Rattle.nvm_core.proofs.nvm_laws.Keeping.{stays_more}
+use Rattle.nvm_core.proofs.Taking.{waits}
+use Rattle.nvm_core.proofs.DueHalves.{first_halves_serve}
+use Rattle.nvm_core.proofs.Keeping.{stays_more}
 use Rattle.nvm_shared.specs.Behind.{HandIsPending, with_more}
 use Rattle.nvm_core.specs.nvm_laws.Work.{program_in_hand}
 use Rattle.nvm_core.specs.Lowers.{HalfLeft}

@@ -1,6 +1,6 @@
 use Rattle.std.proofs.Common.{refl, subst}
-use Rattle.nvm_core.proofs.nvm_laws.Turning.{device_turns_keep}
-use Rattle.nvm_core.proofs.nvm_device_laws.Cutting.{cuts_keep}
+use Rattle.nvm_core.proofs.LawTurning.{device_turns_keep}
+use Rattle.nvm_core.proofs.Cutting.{cuts_keep}
 use Rattle.nvm_shared.proofs.Standing.{asks_stand_behind}
 use Rattle.nvm_shared.specs.Driving.{DriverState, IsTurned}
 use Rattle.nvm_shared.proofs.driver.Driver.device_turn.Goals as goal

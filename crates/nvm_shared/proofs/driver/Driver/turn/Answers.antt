@@ -1,11 +1,11 @@
 use Rattle.std.proofs.Common.{◌≡◌, ℕ, inl, inr, refl, sym, ap, subst, ◌∙◌, arith}
 use Rattle.nvm_core.specs.nv_base.Count.{Rose}
 use Rattle.nvm_core.specs.memif.Told.{DeviceTold}
-use Rattle.nvm_core.proofs.memif.Turning.{lasts_more}
+use Rattle.nvm_core.proofs.Turning.{lasts_more}
 use Rattle.nvm_core.specs.nvm_device_laws.Cuts.{CutsInATurnKeep}
 use Rattle.turn_gate.specs.Pass.{knows}
-use Rattle.nvm_core.proofs.nvm_laws.DueAsking.{requests_keep_due, requests_keep_due_in_hand}
-use Rattle.nvm_core.proofs.nvm_laws.Keeping.{stays_more}
+use Rattle.nvm_core.proofs.DueAsking.{requests_keep_due, requests_keep_due_in_hand}
+use Rattle.nvm_core.proofs.Keeping.{stays_more}
 use Rattle.nvm_shared.specs.Locked.{desk_with}
 use Rattle.nvm_shared.specs.Behind.{with_more}
 use Rattle.nvm_core.proofs.Leaving.{ended_takes, turn_takes}
