@@ -41,7 +41,7 @@ uint8_t nvm_turn(nvm_handle *handle);
    nothing changed: as many were planned as nvm_open was told, or nth is 0. */
 uint8_t nvm_cut(nvm_handle *handle, uint32_t nth, uint32_t keep);
 
-/* 0 the start-up stands, 1 it failed, 3 the history is full, 4 no memory. */
+/* 0 the start-up stands, 1 it failed, 3 the history is full. It takes no memory. */
 uint8_t nvm_restart(nvm_handle *handle);
 
 /* Looks, which change nothing. A content goes to the front of into where there is room for it; size is always its own. 0 it was

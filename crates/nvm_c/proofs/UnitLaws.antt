@@ -1,5 +1,5 @@
 -- The stack of a unit: what is told of it behind its calls, and what its flash comes back with.
-use Rattle.std.proofs.Common.{rules, ◌≡◌, ◌≤◌, ◌++◌, ◌∷◌, [], ℕ, Bool, true, false, IsTrue, List, Option, Some, None, Result, Ok, Err, IsSome, refl, sym, ap, ◌∙◌, subst, inl, inr, arith}
+use Rattle.std.proofs.Common.{rules, ◌≡◌, ◌≢◌, ◌≤◌, ◌++◌, ◌∷◌, [], ℕ, Bool, true, false, IsTrue, List, Option, Some, None, Result, Ok, Err, IsSome, refl, sym, ap, ◌∙◌, subst, inl, inr, arith}
 use Rattle.std.specs.Prelude.{IfErr, IfOk, IsErrOf, ◌↔◌}
 use Rattle.nvm.specs.block_config.Config.{Configuration}
 use Rattle.nvm.specs.block_machine.Reply.{fits}
@@ -107,13 +107,13 @@ restarts_frame s t found.Failed fails =
 restarts_frame s t found.NoRoom stays = ap (λ (x : UnitState). frame_in false x.desk.config (told_of x.device).fixed) stays.0
 restarts_frame s t found.Memory stays = ap (λ (x : UnitState). frame_in false x.desk.config (told_of x.device).fixed) stays
 
-restarts_none : (s t : UnitState) (answer : FoundAnswer) → Restarts told_of answer s t → IsSameAt answer s t
-restarts_none s t found.NoRoom stays = stays.0
-restarts_none s t found.Memory stays = stays
-restarts_none s t answer restarts = tt
+restarts_none : (s t : UnitState) (answer : FoundAnswer) → Restarts told_of answer s t → answer ≢ found.Memory → IsSameAt answer s t
+restarts_none s t found.NoRoom stays other = stays.0
+restarts_none s t found.Memory stays other = other refl
+restarts_none s t answer restarts other = tt
 
-pub start_call : (s t : UnitState) (answer : FoundAnswer) → Restarts told_of answer s t → IsStartCall answer s t
-start_call s t answer restarts = record { told = restarts_told told_of s t answer restarts; frame = restarts_frame s t answer restarts; none = restarts_none s t answer restarts }
+pub start_call : (s t : UnitState) (answer : FoundAnswer) → Restarts told_of answer s t → answer ≢ found.Memory → IsStartCall answer s t
+start_call s t answer restarts other = record { told = restarts_told told_of s t answer restarts; frame = restarts_frame s t answer restarts; none = restarts_none s t answer restarts other }
 
 -- and whether it stands
 abbrev pub up_behind : FoundAnswer → Bool → Bool

@@ -52,10 +52,10 @@ pub record IsTurnCall (answer : Turned) (s t : UnitState) : Type 0 where
   pub told : Turns answer (unit_told s) (unit_told t)
   pub moved : TurnsMove s t
 
--- for want of room or memory nothing changed
+-- for want of room nothing changed, and there is no want of memory
 abbrev pub IsSameAt : FoundAnswer → UnitState → UnitState → Type 0
 IsSameAt found.NoRoom s t = t ≡ s
-IsSameAt found.Memory s t = t ≡ s
+IsSameAt found.Memory s t = ⊥
 IsSameAt answer s t = Unit {0}
 
 -- a further start-up, behind which jobs have as many turns as before

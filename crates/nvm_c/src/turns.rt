@@ -135,8 +135,8 @@ fn found_code(found: FoundAnswer) -> u8
     }
 }
 
-/// A further start-up, as behind a power cut: what is pending is lost. 0: it stands. 1: it failed. 3: the history is full. 4: there
-/// is no memory.
+/// A further start-up, as behind a power cut: what is pending is lost. 0: it stands. 1: it failed. 3: the history is full. It takes
+/// no memory.
 #[unsafe(no_mangle)]
 pub extern "C" fn nvm_restart(alloc: Global, handle: &mut Handle) -> u8
     requires open { IsSome handle.old.kept }

@@ -43,7 +43,7 @@ use Rattle.nvm_callers.specs.Ran.{KeepsOrder, WasRun, end_of}
 use Rattle.nvm_callers.specs.Added.{IsUncut}
 use Rattle.nvm_callers.specs.declared.ending.Ending.{Ending}
 use Rattle.nvm_callers.specs.declared.ending.Ending.TheVariants as ending
-use Rattle.script_player.proofs.InHand.{power_on}
+use Rattle.script_player.proofs.uds_gateway.Power.{is_on}
 use Rattle.script_player.specs.PlainTold.{plan_from, told_by}
 use Rattle.script_player.specs.PlainPaying.{seen_by}
 use Rattle.script_player.specs.script_walks.Looks.{CopyIsShown, Look}
@@ -310,7 +310,7 @@ keeps_run c steps end h inner exit entry d back w values size = record {
   refusals = λ id. as_asked c id at_first h w.no_refusal;
   off = (offs_in h, unplanned 0 h, back.bridges.cuts (offs_in h) w.offs);
   counted = subst (λ (ks : List ℕ). CountsAll r.flash ks) w.came back.bridges.operations.counted;
-  complete = λ calm. record { ends = w.no_fault; rests = λ other. rests_by (is_at_rest (after c h)) (after c h).off (w.ends other) (power_on c h calm.entries) };
+  complete = λ calm. record { ends = w.no_fault; rests = λ other. rests_by (is_at_rest (after c h)) (after c h).off (w.ends other) (is_on c at_first h calm.entries refl) };
   exit = λ _. record { geometry = back.geometry; off = λ is. w.power (back.bridges.off is); plan = back.no_plan };
   turns =
       keeps_turns r true (part_at entry) (told_of d) (told_of d) (told_clock d) (told_clock d) (same_told (told_of d) (told_clock d) (told_of d) (told_clock d) refl (same_clock (told_clock d))) refl (λ told. told) bridge (Ran steps w.looks) w.first w.moves

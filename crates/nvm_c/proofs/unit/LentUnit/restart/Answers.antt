@@ -25,12 +25,12 @@ invariant_of-self-in-NoRoom g c =
 
 pub returns-in-Ready : goal.returns-in-Ready
 returns-in-Ready g c =
-    subst (λ (x : UnitState). IsStartCall c.restart-found.result x c.restart-found.new.self) c.self.view_is (start_call c.self.inside.unit c.restart-found.new.self c.restart-found.result c.restart-found.ensures.restarts)
+    subst (λ (x : UnitState). IsStartCall c.restart-found.result x c.restart-found.new.self) c.self.view_is (start_call c.self.inside.unit c.restart-found.new.self c.restart-found.result c.restart-found.ensures.restarts (c.restart-found.ensures.counted c.self.invariant.counted))
 
 pub returns-in-Failed : goal.returns-in-Failed
 returns-in-Failed g c =
-    subst (λ (x : UnitState). IsStartCall c.restart-found.result x c.restart-found.new.self) c.self.view_is (start_call c.self.inside.unit c.restart-found.new.self c.restart-found.result c.restart-found.ensures.restarts)
+    subst (λ (x : UnitState). IsStartCall c.restart-found.result x c.restart-found.new.self) c.self.view_is (start_call c.self.inside.unit c.restart-found.new.self c.restart-found.result c.restart-found.ensures.restarts (c.restart-found.ensures.counted c.self.invariant.counted))
 
 pub returns-in-NoRoom : goal.returns-in-NoRoom
 returns-in-NoRoom g c =
-    subst (λ (x : UnitState). IsStartCall c.restart-found.result x c.restart-found.new.self) c.self.view_is (start_call c.self.inside.unit c.restart-found.new.self c.restart-found.result c.restart-found.ensures.restarts)
+    subst (λ (x : UnitState). IsStartCall c.restart-found.result x c.restart-found.new.self) c.self.view_is (start_call c.self.inside.unit c.restart-found.new.self c.restart-found.result c.restart-found.ensures.restarts (c.restart-found.ensures.counted c.self.invariant.counted))
