@@ -1,5 +1,5 @@
 /* What a unit takes of memory beside its flash, which is used where it lies: each byte is counted that the C library's heap is asked for. A unit
-   may take what docs/COST.md has: room for one read, its blocks' contents, once more those of permanent RAM, two of the longest content, a page, so
+   may take what docs/COST.md has: room for one read, its blocks' contents, once more those of permanent RAM, three of the longest content, a page, so
    much for each block and each stored instance with its content twice, and 8 KB; an opening no less than its text asks for. A reset takes nothing,
    and leaves as many bytes as it found. */
 #include "heap.h"
@@ -9,7 +9,7 @@
 #include <string.h>
 
 /* What a block and a stored instance may take, and all that grows with nothing. */
-enum { TEXT = 65536, MOST_LENGTH = 4096, MOST_READ = 4096, A_BLOCK = 600, A_BLOCK_OF_TEXT = 1024, AN_INSTANCE = 80, BANKS = 2, FIXED = 8192, RESETS = 3 };
+enum { TEXT = 65536, MOST_LENGTH = 4096, MOST_READ = 4096, A_BLOCK = 600, A_BLOCK_OF_TEXT = 1400, AN_INSTANCE = 96, BANKS = 2, FIXED = 8192, RESETS = 3 };
 
 /* A unit of so many blocks of one length, the last one of another. */
 typedef struct {
@@ -48,14 +48,14 @@ static size_t found(const unit *it) {
 static size_t allowed(const unit *it) {
     size_t contents = (size_t)(it->count - 1) * it->length + it->longest, flash = (size_t)it->sector * it->sectors;
     size_t bank = flash / BANKS;
-    return (bank < MOST_READ ? bank : MOST_READ) + contents * (it->is_permanent ? 2u : 1u) + 2u * it->longest + it->page + (size_t)A_BLOCK * it->count + found(it)
+    return (bank < MOST_READ ? bank : MOST_READ) + contents * (it->is_permanent ? 2u : 1u) + 3u * it->longest + it->page + (size_t)A_BLOCK * it->count + found(it)
            + FIXED;
 }
 
 /* What stands at most while a unit opens: what it takes, or before that what the reading of its text takes. */
 static size_t allowed_to_open(const unit *it) {
-    size_t unit = allowed(it), text = (size_t)A_BLOCK_OF_TEXT * it->count + FIXED;
-    return unit > text ? unit : text;
+    size_t taken = allowed(it), text = (size_t)A_BLOCK_OF_TEXT * it->count + FIXED;
+    return taken > text ? taken : text;
 }
 
 /* Each block is written once, so that a further start-up finds all of them; and what is read stands in the last entry. */

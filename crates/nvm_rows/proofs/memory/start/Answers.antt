@@ -1,7 +1,7 @@
 use Rattle.std.proofs.Common.{ap, sym, ◌∙◌}
 use Rattle.script_player.specs.ram_blocks.Plain.{plain_blocks_of}
 use Rattle.script_player.proofs.Fresh.{is_fresh}
-use Rattle.nvm_top.proofs.nvm_flash.ram_blocks.FreshCopies.{are_synchronized}
+use Rattle.script_player.proofs.uds_gateway.FreshCopies.{are_synchronized}
 use Rattle.nvm_rows.proofs.memory.start.Goals as goal
 
 pub make-requires-3-clause-synchronized : goal.make-requires-3-clause-synchronized
