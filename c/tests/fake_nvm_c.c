@@ -198,7 +198,7 @@ uint8_t nvm_restart(nvm_handle *handle) {
     (void)handle;
     is_down = (unsigned)fails();
     if (!is_down) start_up();
-    return is_down ? 4 : 0;
+    return is_down ? 1 : 0;
 }
 
 void nvm_close(nvm_handle *handle, nvm_memory *back) {

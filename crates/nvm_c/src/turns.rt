@@ -12,7 +12,7 @@ use std::alloc::Global;
 /// Opens a unit over memory that C lends until it closes it: the stack of a configuration, of whose flash so many power cuts can
 /// be planned, behind its first start-up. 0: it is open. Else the memory comes back at once, in `back`. 1: the text is no
 /// configuration, and the bytes are as they were. 2: the memory hasn't the flash's size, and they are as they were. 3: the flash
-/// failed, as this one never does. 4: there is no memory.
+/// failed, as this one never does. 4: there is no memory. 5: the configuration has a second device, and the bytes are as they were.
 #[unsafe(no_mangle)]
 pub extern "C" fn nvm_open(
     alloc: Global,
