@@ -1,8 +1,11 @@
 -- Queues whose jobs go in the order in which they came.
-use Rattle.std.proofs.Common.{◌≡◌, ℕ, zero, suc, ◌-◌, ◌==◌, ◌&&◌, ◌||◌, nat_lt, not, Bool, true, false, if◌then◌else◌, List, [], ◌∷◌, ◌++◌, length, drop, fold, slice_get, refl, sym, subst, ap, ◌∙◌, arith, Option, Some, None}
+use Rattle.std.proofs.Common.{◌≡◌, ℕ, zero, suc, ◌+◌, ◌-◌, ◌<◌, ◌==◌, ◌&&◌, ◌||◌, nat_lt, not, Bool, true, false, if◌then◌else◌, List, [], ◌∷◌, ◌++◌, length, take, drop, fold, slice_get, refl, sym, subst, ap, ◌∙◌, arith, add-one, Option, Some, None}
 use Rattle.std.specs.Prelude.{IfSome}
 use Rattle.std.proofs.lemmas.Bool.{ne_eqb, eq-eqb, le-ltb}
-use Rattle.std.proofs.lemmas.Option.{slice_get_within, slice_get-get_or}
+use Rattle.std.proofs.lemmas.Option.{slice_get_within, slice_get-get_or, get_or_from_slice_get}
+use Rattle.std.proofs.lemmas.List.{length-take-le}
+use Rattle.std.proofs.Math.Seq.{take-suc}
+use Rattle.circular_buffer.proofs.Places.{slice_get-take}
 use Rattle.circular_buffer.specs.Buffer.{Buffer, buffer}
 use Rattle.block_machine.specs.Order.{goes_before}
 use Rattle.job_queues.specs.declared.waiting.Waiting.{Waiting}
@@ -48,6 +51,19 @@ pub in_order_behind : (a b : Waiting) (ws : List Waiting) → InOrder ws → sli
 in_order_behind a b ws o is l =
     let within = slice_get_within ws (length ws - 1) a is in
     behind_at a b (length ws - 1) ws o is (omega (arith, within)) l
+
+-- of a list whose start is in order, one job more
+pub in_order_next : (a b : Waiting) (i : ℕ) (ws : List Waiting) → 0 < i → slice_get ws (i - 1) ≡ Some a → slice_get ws i ≡ Some b → Leads a b → InOrder (take i ws) → InOrder (take (i + 1) ws)
+in_order_next a b i ws some is next l o =
+    let within = slice_get_within ws i b next in
+    let long : length (take i ws) ≡ i = length-take-le i ws (omega (arith, within)) in
+    let more : take (i + 1) ws ≡ take i ws ++ b ∷ [] = ap (λ n. take n ws) (add-one i) ∙ take-suc ws i b within ∙ ap (λ x. take i ws ++ x ∷ []) (get_or_from_slice_get ws i b b next) in
+    let last : slice_get (take i ws) (length (take i ws) - 1) ≡ Some a = ap (λ n. slice_get (take i ws) (n - 1)) long ∙ slice_get-take i ws (i - 1) (omega (arith, some)) ∙ is in
+    subst (λ (xs : List Waiting). InOrder xs) (sym more) (in_order_behind a b (take i ws) o last l)
+
+pub in_order_one : (ws : List Waiting) → InOrder (take 1 ws)
+in_order_one [] = tt
+in_order_one (w ∷ ws) = (tt, tt)
 
 -- and behind none any job
 no_last : (ws : List Waiting) → slice_get ws (length ws - 1) ≡ None → ws ≡ []

@@ -5,7 +5,7 @@ ghost use Rattle.job_queues.specs.InOrder.{InOrder};
 ghost use Rattle.job_queues.specs.Jobs.{without};
 
 use crate::Waiting;
-use crate::ring::{first_of, job_of, take_out};
+use crate::ring::{first_of, is_in_order, job_of, take_out};
 use circular_buffer::HeapCircularBuffer;
 use std::alloc::{AllocError, Global};
 use std::marker::Model;
@@ -89,6 +89,7 @@ impl Queue {
         }
         let first = first_of(&self.ring)?;
         take_out(&mut self.ring, first.number);
+        self.in_order = is_in_order(&self.ring);
         Some(first)
     }
 

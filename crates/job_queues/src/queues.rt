@@ -95,7 +95,7 @@ impl Queues {
 
     /// Takes the job that goes before all others. None exactly where both queues are empty. It looks at the first job of
     /// the immediate queue, or where that is empty of the standard queue, and moves no other. Where that queue's jobs
-    /// didn't come in the order in which they go, it looks at each twice, and turns that queue once, which
+    /// didn't come in the order in which they go, it looks at each three times at most, and turns that queue once, which
     /// closes the gap, where the one that goes isn't the first that came.
     pub fn next(&mut self) -> Option<Waiting>
         ensures first { result ≡ first_in self.old }

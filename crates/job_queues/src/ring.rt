@@ -1,8 +1,9 @@
 // One queue: a ring of jobs, in the order in which they came.
-ghost use Rattle.std.specs.Prelude.{◌≡◌, ◌==◌, IsTrue, not, drop, find, fold};
+ghost use Rattle.std.specs.Prelude.{◌≡◌, ◌==◌, ◌+◌, ◌<◌, IsTrue, not, take, drop, find, fold};
 ghost use Rattle.std.specs.List.{list_all};
 ghost use Rattle.job_queues.specs.Order.{first_of, first_of_two};
 ghost use Rattle.job_queues.specs.Jobs.{without, turned};
+ghost use Rattle.job_queues.specs.InOrder.{InOrder};
 
 use crate::Waiting;
 use circular_buffer::HeapCircularBuffer;
@@ -33,6 +34,33 @@ fn first_of_two(first: Option<Waiting>, job: Waiting) -> Option<Waiting>
     match first {
         Some(first) if !job.goes_before(&first) => Some(first),
         _ => Some(job),
+    }
+}
+
+/// Whether each job leads those behind it. It looks no further than at the first one that doesn't.
+#[tactic(auto, using(crate::proofs::InOrder::in_order_one))]
+pub fn is_in_order(ring: &HeapCircularBuffer<Waiting>) -> bool
+    ensures { IsTrue result → InOrder ring.now.items }
+{
+    for at in 1..ring.len() {
+        if !is_led(ring, at) {
+            return false;
+        }
+    }
+    true
+}
+
+// Whether the job before it leads the one at an index.
+fn is_led(ring: &HeapCircularBuffer<Waiting>, at: usize) -> bool
+    requires { 0 < at }
+    ensures { IsTrue result → InOrder (take at ring.now.items) → InOrder (take (at + 1) ring.now.items) }
+{
+    let Some(job) = ring.get(at - 1) else {
+        return false;
+    };
+    match ring.get(at) {
+        Some(behind) => job.leads(behind),
+        None => false,
     }
 }
 
