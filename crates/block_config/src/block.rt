@@ -28,17 +28,13 @@ pub enum RamKind {
 #[derive(Drop)]
 pub struct BlockDesc {
     pub kind: BlockKind,
+    pub ram: RamKind,
     /// Bytes of a content.
     pub length: u16,
     /// 0 is immediate, 255 the lowest.
     pub priority: u8,
-    pub ram: RamKind,
-    /// What a restore gives, where there is something.
-    pub defaults: Option<Bytes>,
     /// Stored datasets of a dataset, 0 for the other kinds.
     pub nv: u8,
-    /// ROM datasets, whose indices follow those of the stored ones.
-    pub rom: RomList,
     /// A member of ReadAll.
     pub readall: bool,
     /// A member of WriteAll.
@@ -55,6 +51,10 @@ pub struct BlockDesc {
     pub repeats: u8,
     /// The device that stores it: 0, or 1 for the second one.
     pub device: u8,
+    /// What a restore gives, where there is something.
+    pub defaults: Option<Bytes>,
+    /// ROM datasets, whose indices follow those of the stored ones.
+    pub rom: RomList,
 }
 
 impl BlockKind {

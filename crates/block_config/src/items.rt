@@ -67,7 +67,7 @@ pub fn blocks_of(alloc: Global, id: u16, items: &[Item]) -> Result<Vec<BlockDesc
     requires { All (λ item. keeps 18 (view item) ≡ true) items.now }
     ensures { IfOk result (λ blocks. blocks.items ≡ manager_block id ∷ map block_of (map view items.now)) }
 {
-    let mut blocks = Vec::new(alloc);
+    let mut blocks = Vec::with_capacity(alloc, items.len() + 1)?;
     blocks.push(manager_block(alloc, id)?)?;
     for item in items {
         blocks.push(block_of(alloc, item)?)?;

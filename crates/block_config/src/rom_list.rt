@@ -35,7 +35,7 @@ impl RomList {
     pub(crate) fn copied(&self, alloc: Global) -> Result<RomList, AllocError>
         ensures { IfOk result (λ r. r ≡ self.now) }
     {
-        let mut items = Vec::new(alloc);
+        let mut items = Vec::with_capacity(alloc, self.items.len())?;
         for content in &self.items {
             items.push(bytes_of(alloc, content.as_slice())?)?;
         }
