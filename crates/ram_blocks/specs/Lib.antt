@@ -1,5 +1,6 @@
 pub mod Copies
 pub mod Kept
+pub mod Places
 pub mod Plain
 pub mod Ram
 pub mod Told

@@ -98,7 +98,7 @@ impl RamBlocks {
     pub fn make(alloc: Global, config: &Config) -> Result<RamBlocks, AllocError>
         ensures { IfOk result (λ r. r ≡ kept_of config.now) }
     {
-        let mut blocks = Vec::new(alloc);
+        let mut blocks = Vec::with_capacity(alloc, usize::from(config.blocks()) + 1)?;
         blocks.push(ram_of(alloc, 0, None)?)?;
         for i in 0..config.blocks() {
             blocks.push(ram_of(alloc, i + 1, config.block(i + 1))?)?;

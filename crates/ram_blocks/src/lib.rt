@@ -9,6 +9,7 @@
 mod cases;
 mod kept;
 mod plain_block;
+mod plain_place;
 mod plain_sync;
 mod sync_calls;
 mod tries;

@@ -4,7 +4,7 @@ ghost use Rattle.ram_blocks.specs.Copies.{next_number};
 ghost use Rattle.ram_blocks.specs.Told.{IsSynchronized, told_at};
 ghost use Rattle.ram_blocks.specs.Plain.{told_of, store_of, no_plain, stored, refusing, plain_of, plain_by, plain_blocks_of};
 
-use crate::plain_block::PlainBlock;
+use crate::plain_place::PlainPlace;
 use crate::{Copied, SyncCalls};
 use block_machine::block_config::{BlockDesc, Config, RamKind};
 use block_machine::nv_base::{Bytes, bytes_of};
@@ -15,7 +15,7 @@ use std::marker::Model;
 /// Contracts see a block for each id.
 #[derive(Drop)]
 pub struct PlainSync {
-    blocks: Vec<PlainBlock>,
+    blocks: Vec<PlainPlace>,
 }
 
 impl Model for PlainSync {
@@ -35,7 +35,7 @@ impl PlainSync {
     pub fn make(alloc: Global, config: &Config) -> Result<PlainSync, AllocError>
         ensures { IfOk result (λ p. p ≡ plain_blocks_of config.now) }
     {
-        let mut blocks = Vec::new(alloc);
+        let mut blocks = Vec::with_capacity(alloc, usize::from(config.blocks()) + 1)?;
         blocks.push(plain_of(alloc, None)?)?;
         for i in 0..config.blocks() {
             blocks.push(plain_of(alloc, config.block(i + 1))?)?;
@@ -48,7 +48,7 @@ impl PlainSync {
         ensures { result ≡ option_map (λ s. s.bytes) (told_at (map told_of self.now) block) }
     {
         match self.blocks.get(usize::from(block)) {
-            Some(one) if one.content.len() != 0 => Some(one.content.len()),
+            Some(one) if one.len() != 0 => Some(one.len()),
             _ => None,
         }
     }
@@ -73,14 +73,15 @@ impl PlainSync {
 }
 
 // A block before the first store, of which the application holds the defaults, or zeros.
-fn plain_of(alloc: Global, desc: Option<&BlockDesc>) -> Result<PlainBlock, AllocError>
-    ensures { IfOk result (λ b. b ≡ plain_by (option_copied desc.entry)) }
+fn plain_of(alloc: Global, desc: Option<&BlockDesc>) -> Result<PlainPlace, AllocError>
+    ensures { IfOk result (λ p. p ≡ plain_by (option_copied desc.entry)) }
 {
-    let content = match desc {
-        Some(desc) if desc.ram == RamKind::Sync => first_content(alloc, desc)?,
-        _ => Bytes::zeros(alloc, 0)?,
-    };
-    PlainBlock::with(alloc, content)
+    match desc {
+        Some(desc) if desc.ram == RamKind::Sync => {
+            PlainPlace::synchronized(alloc, first_content(alloc, desc)?)
+        }
+        _ => Ok(PlainPlace::other()),
+    }
 }
 
 // The defaults of a block, or zeros.
@@ -112,7 +113,7 @@ impl SyncCalls for PlainSync {
 
     fn refusals(&self, block: u16) -> u64 {
         match self.blocks.get(usize::from(block)) {
-            Some(one) if one.content.len() != 0 => one.refusals,
+            Some(one) if one.len() != 0 => one.refusals(),
             _ => 0,
         }
     }
