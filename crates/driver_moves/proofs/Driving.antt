@@ -13,7 +13,7 @@ use Rattle.nvm_moves.specs.nvm_laws.declared.turned.Turned.{Turned}
 use Rattle.nvm_moves.specs.nvm_laws.declared.turned.Turned.TheVariants as turned
 use Rattle.nvm_moves.specs.nvm_laws.declared.turned.Act.TheVariants.{Device, Ended}
 use Rattle.nvm_moves.specs.nvm_core.OperationStart.{LeavesDevice}
-use Rattle.nvm_moves.specs.nvm_core.Stack.{StackState, PowersOff}
+use Rattle.nvm_moves.specs.nvm_core.Stack.{StackState}
 use Rattle.nvm_moves.specs.nvm_core.Turns as core
 use Rattle.nvm_moves.specs.nvm_core.Turns.{IsFirstHalf}
 use Rattle.nvm_moves.specs.nvm_core.Work.{left_with, TakesTurns}
@@ -24,12 +24,12 @@ use Rattle.nvm_shared.specs.Driving.{BeginsTurn, DriverState, EndsTurn, SeesRequ
 use Rattle.nvm_moves.specs.promise_run.Turns.{is_asked}
 use Rattle.nvm_moves.specs.Seen.{Begun, Seen}
 use Rattle.nvm_moves.specs.Moved.{ArePending, AreAsked, HasMoved}
-use Rattle.nvm_moves.proofs.Moved.{asks_moved, half_moved, has_moved_more, still_moved, turn_moved}
-use Rattle.nvm_moves.proofs.Halves.{device_is_told, ended_is_told, half_is_told, never_late, unfinished}
+use Rattle.nvm_moves.proofs.Moved.{asks_moved, half_moved, has_moved_more, none_moves, turn_moved}
+use Rattle.nvm_moves.proofs.Halves.{ended_adds, device_is_told, ended_is_told, half_is_told, never_late, unfinished}
 use Rattle.nvm_moves.proofs.DeviceWorks.{on_by}
-use Rattle.nvm_moves.proofs.TurnEntries.{half_adds_one, on_behind}
+use Rattle.nvm_moves.proofs.TurnEntries.{on_behind}
 use Rattle.driver_moves.specs.Driving.{IsUncut, seen_of}
-use Rattle.driver_moves.proofs.Uncut.{asks_power, asks_uncut, device_uncut, fixed_stays, half_uncut, is_on}
+use Rattle.driver_moves.proofs.Uncut.{asks_power, asks_uncut, device_uncut, half_uncut, is_on}
 
 -- through nothing
 lasts_still : (d : DeviceTold) (c : Clock) → Lasts d c d c
@@ -91,22 +91,7 @@ module _ {D C : Type 0} (told : D → DeviceTold) (clock : D → Clock) where
 
   -- nothing
   pub none_moved : (desk : DeskState) (s : DriverState D C) → HasMoved true (At desk s) (At desk s)
-  none_moved desk s =
-      still_moved true (At desk s) (At desk s) (record {
-        desk = refl;
-        hand = refl;
-        begun = refl;
-        moment = refl;
-        left = refl;
-        in_all = refl;
-        work = refl;
-        fixed = refl;
-        lasts = lasts_still (told s.device) (clock s.device);
-        stays = record { told = λ tells. tells; kept = λ before kept. kept };
-        uncut = λ uncut. uncut;
-        seals = λ since sealed. sealed;
-        dues = λ one id turns due. due;
-      })
+  none_moved desk s = (none_moves true (At desk s)).moved
 
   -- what `count` sees
   pub sees_moved : (desk desk_new : DeskState) (s : DriverState D C) → SeesRequests told clock desk desk_new s → NextIsPending desk.config (state_of desk) → HandIsPending (state_of desk) → IsTied desk s.hand (told s.device)
@@ -140,12 +125,12 @@ module _ {D C : Type 0} (told : D → DeviceTold) (clock : D → Clock) where
     ended_moved : BeginsTurn told clock copies is_store looked (Ended answer) desk desk_new old new → HasMoved true (At desk old) (At desk_new new)
     ended_moved begins =
         let asked = with_more desk begins.asks in
-        let (e, adds, none) = half_adds_one answer _ _ asked desk_new _ _ (told new.device) begins.half.half in
+        let off : answer ≡ turned.Off → (state_of asked).off ≡ true = λ is. subst (λ (d : DeskState). (state_of d).off ≡ true) (same_desk (stack_of asked old) (stack_of desk_new new) answer is begins.half) (begins.off (ap Ended is)) in
+        let (e, adds, none) = ended_adds told clock copies is_store looked (stack_of asked old) (stack_of desk_new new) answer off begins.half in
         let uncut = half_uncut asked desk_new (told old.device) (told new.device) begins.half.device (λ off. on_behind _ asked desk_new e adds none ∙ off) in
         has_moved_more true (At desk old) (At asked old) (At desk_new new) (asks_told begins.asks (At desk old) begins.are begins.replied begins.stands tied begins.ready (next, held))
         (turn_moved (At asked old) (At desk_new new) true
-        (ended_is_told told clock copies is_store looked (stack_of asked old) (stack_of desk_new new) (IsUncut asked (told old.device)) (IsUncut desk_new (told new.device)) uncut begins.kept begins.tied begins.clock_stays answer
-        (λ is. subst (λ (d : DeskState). (state_of d).off ≡ true) (same_desk (stack_of asked old) (stack_of desk_new new) answer is begins.half) (begins.off (ap Ended is)))
+        (ended_is_told told clock copies is_store looked (stack_of asked old) (stack_of desk_new new) (IsUncut asked (told old.device)) (IsUncut desk_new (told new.device)) uncut begins.kept begins.tied begins.clock_stays answer off
         (taken (stack_of desk old) (stack_of asked old) (stack_of desk_new new) answer refl refl takes) begins.order (is_on desk_new (told new.device)) begins.served begins.half))
 
     -- with the device's turn

@@ -3,7 +3,6 @@ use Rattle.std.proofs.Common.{◌≡◌, true, false, List, [], ◌∷◌, ◌++
 use Rattle.std.proofs.lemmas.Bool.{cases_Bool}
 use Rattle.nvm_moves.specs.memif.Told.{DeviceTold, Fixed, PartTold, ops_of}
 use Rattle.nvm_moves.specs.memif.Clock.{Clock}
-use Rattle.nvm_moves.specs.memif.declared.answer.DeviceTurn.TheVariants as turn
 use Rattle.nvm_moves.specs.block_machine.Words.{Entry, Ask, Off, Configuration}
 use Rattle.nvm_moves.specs.block_machine.State.{State}
 use Rattle.nvm_moves.specs.block_machine.StartUp.{at_first}
@@ -14,7 +13,7 @@ use Rattle.nvm_moves.specs.nvm_laws.declared.turned.Turned.{Turned}
 use Rattle.nvm_moves.specs.nvm_laws.declared.turned.Turned.TheVariants as turned
 use Rattle.nvm_moves.specs.nvm_core.BehindDevice.{TurnsDevice, asked_by}
 use Rattle.nvm_moves.specs.nvm_core.OperationStart.{LeavesDevice}
-use Rattle.nvm_moves.proofs.TurnedBehind.{has_turned}
+use Rattle.nvm_moves.proofs.Halves.{device_fixed}
 use Rattle.nvm_moves.proofs.HistoryLaws.{histories_go_on, histories_step}
 use Rattle.nvm_shared.specs.Behind.{AreAsks, with_more}
 use Rattle.nvm_shared.specs.Unplanned.{IsUnplanned, StaysUnplanned}
@@ -50,11 +49,7 @@ half_uncut desk desk_new d d_new leaves power uncut =
 
 -- THE DEVICE'S TURN
 pub fixed_stays : (answer : Turned) (old new : DeviceTold) (clock clock_new : Clock) → TurnsDevice answer old clock new clock_new → new.fixed ≡ old.fixed
-fixed_stays turned.Idle old new clock clock_new is = (has_turned turn.Idle old clock new clock_new is).fixed
-fixed_stays turned.Worked old new clock clock_new is = (has_turned turn.Worked old clock new clock_new is).fixed
-fixed_stays turned.Off old new clock clock_new is = (has_turned turn.Off old clock new clock_new is).fixed
-fixed_stays turned.Picked old new clock clock_new is = absurd is
-fixed_stays turned.Posted old new clock clock_new is = absurd is
+fixed_stays answer old new clock clock_new is = device_fixed answer old clock new clock_new is
 
 -- where the device went off the machine's power is, by the Off
 off_told : (answer : Turned) (old new : DeskState) (d d_new : DeviceTold) → AddsBy (asked_by answer d.stand d_new.stand (ops_of d_new)) old new → d.first.off ≡ false → StaysUnplanned answer d.first d_new.first → d_new.first.off ≡ true → (state_of new).off ≡ true

@@ -1,17 +1,16 @@
 -- What each call of a unit adds to its moves.
-use Rattle.std.specs.Prelude.{IfOk, IfSome, OnErr, map, ◌==◌, ◌||◌, nat_lt, min, if◌then◌else◌}
+use Rattle.std.specs.Prelude.{IfOk, OnErr, map, ◌||◌, nat_lt, min, if◌then◌else◌}
 use Rattle.std.proofs.Common.{◌≡◌, ◌⊎◌, ◌≤◌, ◌+◌, ℕ, Bool, true, false, List, [], ◌∷◌, ◌++◌, Option, Some, None, Result, Ok, Err, refl, sym, ap, ◌∙◌, subst, inl, inr, arith}
-use Rattle.std.proofs.lemmas.List.{append_cancel_left}
 use Rattle.nvm_flash.specs.nv_base.Count.{Rose, last_count}
-use Rattle.nvm_flash.specs.memif.Told.{DeviceTold, Fixed, Part, PartTold, Stand, Open, Ended as EndedJob, faults_of, figures_at, is_off, is_open, most_open, ops_of, plans}
-use Rattle.nvm_flash.specs.memif.Clock.{Clock, Seals}
-use Rattle.nvm_flash.specs.memif.Calls.{Arms, FreesReady, InOrder, IsSealing}
+use Rattle.nvm_flash.specs.memif.Told.{DeviceTold, Fixed, Part, PartTold, Stand, Open, Ended as EndedJob, faults_of, figures_at, is_off, is_open, most_open, ops_of}
+use Rattle.nvm_flash.specs.memif.Clock.{Clock}
+use Rattle.nvm_flash.specs.memif.Calls.{Arms, FreesReady, InOrder}
 use Rattle.nvm_flash.specs.memif.Marks.{ComesFrom}
 use Rattle.nvm_flash.specs.memif.Trials.{Lasts}
-use Rattle.nvm_flash.proofs.Turning.{lasts_more, same_lasts, told_before}
+use Rattle.nvm_flash.proofs.Turning.{lasts_more, told_before}
 use Rattle.nvm_flash.specs.block_config.Config.{Configuration}
 use Rattle.nvm_flash.specs.block_config.Rules.{IsLegalConfig}
-use Rattle.nvm_flash.specs.block_machine.Words.{Instance, Mark, Entry, Request, Reply, Ask, Found}
+use Rattle.nvm_flash.specs.block_machine.Words.{Instance, Mark, Request, Reply, Ask, Found}
 use Rattle.nvm_flash.specs.block_machine.State.{State, Job}
 use Rattle.nvm_flash.specs.fls_model.Told.{Told}
 use Rattle.nvm_flash.specs.fee_core.Tells.{told_clock}
@@ -28,7 +27,6 @@ use Rattle.nvm_flash.specs.job_progress.Hand.{HandState}
 use Rattle.nvm_flash.specs.job_progress.JobInHand.{program_for}
 use Rattle.nvm_flash.specs.nvm_figures.Left.{most_turns}
 use Rattle.nvm_flash.specs.nvm_device_laws.Turn.{TellsSlots}
-use Rattle.nvm_flash.specs.nvm_laws.Due.{IsDue}
 use Rattle.nvm_flash.specs.nvm_laws.DueCalls.{KeepsDue, TurnServesDue}
 use Rattle.nvm_flash.specs.nvm_laws.Keeps.{StackKeepsAsTold, DownKeepsAsTold, StaysKept}
 use Rattle.nvm_flash.specs.nvm_laws.StartUps.{StacksComeDown}
@@ -37,20 +35,18 @@ use Rattle.nvm_flash.specs.nvm_laws.Traits.{KeepsSeal, TakesKeptInHand}
 use Rattle.nvm_flash.specs.nvm_laws.declared.turned.Turned.{Turned}
 use Rattle.nvm_flash.specs.nvm_laws.declared.turned.FoundAnswer.{FoundAnswer}
 use Rattle.nvm_flash.specs.nvm_laws.declared.turned.FoundAnswer.TheVariants as found
-use Rattle.nvm_flash.specs.nvm_core.BehindDevice.{asked_by}
 use Rattle.nvm_flash.specs.nvm_core.DeviceWork.{IsSimple, costs_in, tries_left, work_in}
 use Rattle.nvm_flash.specs.nvm_core.Due.{now_of}
-use Rattle.nvm_flash.specs.nvm_core.DueWrites.{free_turns, pages_in}
-use Rattle.nvm_flash.specs.nvm_core.JobNumbers.{IsOfBlock}
+use Rattle.nvm_flash.specs.nvm_core.DueWrites.{pages_in}
 use Rattle.nvm_flash.specs.nvm_core.Operations.{left_on}
 use Rattle.nvm_flash.specs.nvm_core.Paying.{OwesSince, TurnPays, has_urgent, worn_so_far}
 use Rattle.nvm_flash.specs.nvm_core.Stack.{PowersOff}
 use Rattle.nvm_flash.specs.nvm_core.StartUps.{Restarts, StartsUp, StartsKeep}
-use Rattle.nvm_flash.specs.nvm_core.Work.{TakesTurns, left_with}
+use Rattle.nvm_flash.specs.nvm_core.Work.{TakesTurns}
 use Rattle.nvm_flash.specs.promise_run.JobTurns.{job_turns}
 use Rattle.nvm_flash.specs.promise_run.Operations.{costs_of}
 use Rattle.nvm_flash.specs.promise_run.Promise.{making_of}
-use Rattle.nvm_flash.specs.promise_run.Turns.{Moment, Move, AreMoves, IsTurnMade, entry_list, is_asked, is_found, moment_behind}
+use Rattle.nvm_flash.specs.promise_run.Turns.{Moment, Move, AreMoves, IsTurnMade, is_asked, is_found, moment_behind}
 use Rattle.nvm_flash.specs.Made.{IsMadeStack, one_part}
 use Rattle.nvm_flash.specs.Turns.{fixed_by}
 use Rattle.nvm_flash.proofs.Costs.{costs_are_figures, reads_take_one}
@@ -61,12 +57,11 @@ use Rattle.nvm_flash.proofs.Trying.{part_rises}
 use Rattle.nvm_flash.proofs.TurnWork.{closed_tries}
 use Rattle.nvm_moves.specs.Beginning.{BeginsMoves}
 use Rattle.nvm_moves.specs.Along.{Along, Cursor}
-use Rattle.nvm_moves.specs.Seen.{all_with, frame_of, moment_by, moment_seen}
+use Rattle.nvm_moves.specs.Seen.{frame_of, moment_by, moment_seen}
 use Rattle.nvm_moves.specs.Worked.{KeepsToWork}
 use Rattle.nvm_moves.specs.Moved.{GrowsBy, IsAt, IsLawful, MovesBy}
-use Rattle.nvm_moves.proofs.Moved.{moment_then, moves_more, none_moves, start_moves, still_moves}
-use Rattle.nvm_moves.proofs.StackMoves.{stack_asks, stack_starts, stack_turns}
-use Rattle.nvm_moves.proofs.TurnEntries.{IsOfTurn, device_adds_one, half_adds_one, isnt_asked, isnt_found}
+use Rattle.nvm_moves.proofs.Moved.{moment_then, moves_more, none_moves, start_moves}
+use Rattle.nvm_moves.proofs.StackMoves.{stack_arms, stack_asks, stack_starts, stack_turns}
 use Rattle.nvm.specs.Closing.{UnitState}
 use Rattle.nvm.specs.Steps.{one_each, step_of}
 use Rattle.nvm.specs.Turned.{AsksMove, HasFallen, HasStood, HasTurned, TurnsMove, unit_seen}
@@ -110,31 +105,7 @@ module _ (s t : UnitState) (caller : ℕ) (request : Request) (was : HasTurned s
   asked_turned (Err fault) ok err = subst HasTurned (sym err) was
 
 -- A TURN
-one_entry : (before h : List Entry) (e f : Option Entry) → h ≡ before ++ entry_list e → h ≡ before ++ entry_list f → e ≡ f
-one_entry before h e f one two = by e f (append_cancel_left before (entry_list e) (entry_list f) (sym one ∙ two))
-  where
-    by : (x y : Option Entry) → entry_list x ≡ entry_list y → x ≡ y
-    by None None is = refl
-    by None (Some b) is = cc is
-    by (Some a) None is = cc is
-    by (Some a) (Some b) is = let same : a ≡ b = cc is in ap (λ (z : Entry). Some z) same
-
-of_turn : (ops : ℕ) (e : Option Entry) → IfSome e (IsOfTurn ops) → (is_asked e ≡ false) × (is_found e ≡ false)
-of_turn ops None of = (refl, refl)
-of_turn ops (Some e) of = (isnt_asked ops e of, isnt_found ops (Some e) of)
-
 module _ (s t : UnitState) where
-  adds_one : (answer : Turned) → UnitTurns answer s t → (e : Option Entry) × (t.desk.entries ≡ s.desk.entries ++ entry_list e) × (is_asked e ≡ false) × (is_found e ≡ false)
-  adds_one answer (inl half) =
-      let (e, one, on) = half_adds_one answer _ _ s.desk t.desk _ _ (told_of t.device) half.half in
-      let other = of_turn (ops_of (told_of t.device)) e one.of in
-      (e, ap (λ (d : DeskState). d.entries) one.adds, other.0, other.1)
-  adds_one answer (inr (between, half, second)) =
-      let e = asked_by answer (told_of between.device).stand (told_of t.device).stand (ops_of (told_of t.device)) in
-      let one = device_adds_one answer (told_of between.device).stand (told_of t.device).stand (ops_of (told_of t.device)) between.desk t.desk second.adds in
-      let other = of_turn (ops_of (told_of t.device)) e one.of in
-      (e, ap (λ (d : DeskState). d.entries) one.adds ∙ ap (λ (d : DeskState). d.entries ++ entry_list e) half.half.0.0, other.0, other.1)
-
   -- it is one of a turn
   pub made_turn : (m : Move) → is_asked m.entry ≡ false → MovesBy false (m ∷ []) (unit_seen s) (unit_seen t) → IsTurnMade (moment_seen (unit_seen s)) m
   made_turn m asked by = elim (lawful.0.made) [
@@ -154,130 +125,24 @@ module _ (s t : UnitState) where
   pub turned_moves : (answer : Turned) → UnitTurns answer s t → s.ready ≡ true → StaysKept s.desk s.hand (told_of s.device) (told_clock s.device) t.desk t.hand (told_of t.device) (told_clock t.device)
       → faults_of (told_of s.device) ≤ faults_of (told_of t.device) → TakesTurns told_of answer s t → Lasts (told_of s.device) (told_clock s.device) (told_of t.device) (told_clock t.device) → TurnPays told_of told_clock s t
       → TurnServesDue (now_of told_of s) (now_of told_of t) → KeepsSeal (told_of s.device) (told_clock s.device) (told_of t.device) (told_clock t.device) → TakesKeptInHand s.desk (told_of s.device) (told_of t.device) (told_clock t.device)
-      → IsTied s.desk s.hand (told_of s.device) → (t.ready ≡ true → IsTied t.desk t.hand (told_of t.device)) → (t.ready ≡ true → PowersOff t.desk (told_of t.device)) → InOrder (told_of s.device) (told_clock s.device) → InOrder (told_of t.device) (told_clock t.device) → TurnsMove s t
+      → IsTied s.desk s.hand (told_of s.device) → (t.ready ≡ true → IsTied t.desk t.hand (told_of t.device)) → (t.ready ≡ true → PowersOff t.desk (told_of t.device)) → InOrder (told_of s.device) (told_clock s.device) → InOrder (told_of t.device) (told_clock t.device)
+      → (moves : TurnsMove s t) × (is_asked moves.0 ≡ false) × (is_found moves.0 ≡ false)
   turned_moves answer turns ready keeps counted left lasts pays due seals kept tied tied_new power order order_new =
-      stack_turns told_of told_clock (λ (copies : List PlainBlock). map copy_told copies) is_now (λ before behind b n. Unit {0}) answer s t turns ready keeps counted left lasts pays due seals kept tied tied_new power order order_new
+      let (e, adds, other, by) =
+      stack_turns told_of told_clock (λ (copies : List PlainBlock). map copy_told copies) is_now (λ before behind b n. Unit {0}) answer s t turns ready keeps counted left lasts pays due seals kept tied tied_new power order order_new in
+      ((e, adds, by), other.0, other.1)
 
-  pub turned_turned : (answer : Turned) → UnitTurns answer s t → HasTurned s → s.ready ≡ true → t.ready ≡ true → TurnsMove s t → HasTurned t
-  turned_turned answer turns was ready ready_new (e, adds, by) =
-      let (f, same, asked, found) = adds_one answer turns in
-      let is : e ≡ f = one_entry s.desk.entries t.desk.entries e f adds same in
-      let no_ask : is_asked e ≡ false = ap is_asked is ∙ asked in
+  pub turned_turned : HasTurned s → s.ready ≡ true → t.ready ≡ true → (moves : TurnsMove s t) × (is_asked moves.0 ≡ false) × (is_found moves.0 ≡ false) → HasTurned t
+  turned_turned was ready ready_new ((e, adds, by), asked, found) =
       let m : Move = record { entry = e; behind = moment_seen (unit_seen t) } in
-      goes_on s t (m ∷ []) was ready ready_new by (turn_call (moment_seen (unit_seen s)) m no_ask (ap is_found is ∙ found) (made_turn m no_ask by))
+      goes_on s t (m ∷ []) was ready ready_new by (turn_call (moment_seen (unit_seen s)) m asked found (made_turn m asked by))
 
 -- A PLAN
--- of any part: it changes nothing else that is told
-abbrev armed_as : (one two : Bool) (nth keep : ℕ) → DeviceTold → DeviceTold
-armed_as one two nth keep d = if one then record d { first = plans nth keep d.first } else (if two then record d { second = plans nth keep d.second } else d)
-
-record IsAlike (old new : DeviceTold) : Type 0 where
-  off : is_off new ≡ is_off old
-  first_off : new.first.off ≡ old.first.off
-  ops : new.ops ≡ old.ops
-  fixed : new.fixed ≡ old.fixed
-  moment : moment_by None new ≡ moment_by None old
-  work : (hand : Option HandState) → work_in hand new ≡ work_in hand old
-  left : (h : Option HandState) → left_with h new ≡ left_with h old
-  in_all : (h : Option HandState) → all_with h new ≡ all_with h old
-  first_faults : new.first.faults ≡ old.first.faults
-  second_faults : new.second.faults ≡ old.second.faults
-  sealing : IsSealing old → IsSealing new
-
-armed_alike : (one two : Bool) (nth keep : ℕ) (d : DeviceTold) → IsAlike d (armed_as one two nth keep d)
-armed_alike true two nth keep d = record {
-  off = refl;
-  first_off = refl;
-  ops = refl;
-  fixed = refl;
-  moment = refl;
-  work = λ hand. refl;
-  left = λ h. by h;
-  in_all = λ h. all h;
-  first_faults = refl;
-  second_faults = refl;
-  sealing = λ is. record { switching = is.switching; ready = is.ready };
-}
-  where
-    by : (h : Option HandState) → left_with h (armed_as true two nth keep d) ≡ left_with h d
-    by None = refl
-    by (Some x) = refl
-
-    all : (h : Option HandState) → all_with h (armed_as true two nth keep d) ≡ all_with h d
-    all None = refl
-    all (Some x) = refl
-armed_alike false true nth keep d = record {
-  off = refl;
-  first_off = refl;
-  ops = refl;
-  fixed = refl;
-  moment = refl;
-  work = λ hand. refl;
-  left = λ h. by h;
-  in_all = λ h. all h;
-  first_faults = refl;
-  second_faults = refl;
-  sealing = λ is. record { switching = is.switching; ready = is.ready };
-}
-  where
-    by : (h : Option HandState) → left_with h (armed_as false true nth keep d) ≡ left_with h d
-    by None = refl
-    by (Some x) = refl
-
-    all : (h : Option HandState) → all_with h (armed_as false true nth keep d) ≡ all_with h d
-    all None = refl
-    all (Some x) = refl
-armed_alike false false nth keep d = record {
-  off = refl;
-  first_off = refl;
-  ops = refl;
-  fixed = refl;
-  moment = refl;
-  work = λ hand. refl;
-  left = λ h. refl;
-  in_all = λ h. refl;
-  first_faults = refl;
-  second_faults = refl;
-  sealing = λ is. is;
-}
-
-arms_keep_seal : (which nth keep : ℕ) (old : DeviceTold) (clock : Clock) (new : DeviceTold) (clock_new : Clock) → Arms which nth keep old clock new clock_new → KeepsSeal old clock new clock_new
-arms_keep_seal which nth keep old clock new clock_new (is, stays) since sealed on k later last few seals =
-    let alike = armed_alike (which == 0) (which == 1) nth keep old in
-    let ops : new.ops ≡ old.ops = ap (λ (d : DeviceTold). d.ops) is ∙ alike.ops in
-    subst IsSealing (sym is) (alike.sealing (sealed (sym (ap is_off is ∙ alike.off) ∙ on) k later (omega (arith, ops, last)) (omega (arith, ops, few)) ((stays.same.was Seals k).0 seals)))
-
 pub armed_moves : (which nth keep : ℕ) (s t : UnitState) → t ≡ record s { device = t.device } → Arms which nth keep (told_of s.device) (told_clock s.device) (told_of t.device) (told_clock t.device)
     → StaysKept s.desk s.hand (told_of s.device) (told_clock s.device) t.desk t.hand (told_of t.device) (told_clock t.device) → KeepsDue (now_of told_of s) (now_of told_of t) → MovesBy false [] (unit_seen s) (unit_seen t)
 armed_moves which nth keep s t only arms keeps due =
-    let desk = ap (λ (x : UnitState). x.desk) only in
-    let hand = ap (λ (x : UnitState). x.hand) only in
-    let d = told_of s.device in
-    let alike = armed_alike (which == 0) (which == 1) nth keep d in
-    still_moves false (unit_seen s) (unit_seen t) (record {
-      desk = desk;
-      hand = hand;
-      begun = refl;
-      moment = ap (moment_by None) arms.0 ∙ alike.moment;
-      left = ap (λ (h : Option HandState). left_with h (told_of t.device)) hand ∙ ap (left_with s.hand) arms.0 ∙ alike.left s.hand;
-      in_all = ap (λ (h : Option HandState). all_with h (told_of t.device)) hand ∙ ap (all_with s.hand) arms.0 ∙ alike.in_all s.hand;
-      work = ap (λ (h : Option HandState). work_in h (told_of t.device)) hand ∙ ap (work_in s.hand) arms.0 ∙ alike.work s.hand;
-      fixed = ap (λ (x : DeviceTold). x.fixed) arms.0 ∙ alike.fixed;
-      lasts = same_lasts d (told_clock s.device) (told_of t.device) (told_clock t.device) (ap (λ (x : DeviceTold). x.ops) arms.0 ∙ alike.ops) (ap (λ (x : DeviceTold). x.first.faults) arms.0 ∙ alike.first_faults) (ap (λ (x : DeviceTold). x.second.faults) arms.0 ∙ alike.second_faults)
-          arms.1.same;
-      stays = record { told = keeps.told; kept = keeps.kept };
-      uncut = λ on. record {
-        one = ap (λ (x : DeviceTold). x.fixed.two) arms.0 ∙ ap (λ (f : Fixed). f.two) alike.fixed ∙ on.one;
-        power = λ off. ap (λ (x : DeskState). (state_of x).off) desk ∙ on.power (sym (ap (λ (x : DeviceTold). x.first.off) arms.0 ∙ alike.first_off) ∙ off);
-      };
-      seals = arms_keep_seal which nth keep d (told_clock s.device) (told_of t.device) (told_clock t.device) arms;
-      dues = λ one id turns is. record {
-        number = is.number;
-        due = subst (λ (h : Option HandState). IsDue is.number (turns + free_turns one h) (now_of told_of t)) (sym hand) (due is.number (turns + free_turns one s.hand) is.due);
-        block = subst (λ (x : DeskState). IsOfBlock is.number id (state_of x)) (sym desk) is.block;
-        on = ap (λ (x : DeskState). (state_of x).off) desk ∙ is.on;
-      };
-    })
+    stack_arms told_of told_clock s t (λ (before : Part → PartTold). StackKeepsAsTold before s.desk s.hand (told_of s.device) (told_clock s.device)) (λ (before : Part → PartTold). StackKeepsAsTold before t.desk t.hand (told_of t.device) (told_clock t.device)) keeps.kept
+    which nth keep only arms keeps.told due
 
 pub armed_turned : (s t : UnitState) → HasTurned s → s.ready ≡ true → t ≡ record s { device = t.device } → MovesBy false [] (unit_seen s) (unit_seen t) → HasTurned t
 armed_turned s t was ready only by = goes_on s t [] was ready (ap (λ (x : UnitState). x.ready) only ∙ ready) by tt

@@ -1,5 +1,5 @@
 -- A law along moves, one behind another.
-use Rattle.nvm_moves.proofs.Common.{◌≡◌, ◌≤◌, ℕ, List, [], ◌∷◌, ◌++◌, refl, sym, ap, ◌∙◌, arith, append_assoc, Entry, after_from, histories_go_on, Moment, Move, entry_list, entries_of, moment_behind, Cursor, Frame, next_by, cursor_behind, Along}
+use Rattle.nvm_moves.proofs.Common.{◌≡◌, ◌≤◌, ℕ, List, [], ◌∷◌, ◌++◌, refl, sym, ap, ◌∙◌, arith, append_assoc, Entry, after_from, histories_go_on, Move, entry_list, entries_of, moment_behind, Cursor, Frame, next_by, cursor_behind, Along}
 
 -- THE CURSOR
 pub cursor_more : (c : Frame) (k : Cursor) (a b : List Move) → cursor_behind c k (a ++ b) ≡ cursor_behind c (cursor_behind c k a) b
@@ -13,10 +13,6 @@ cursor_now c k (m ∷ ms) = cursor_now c (next_by c k m) ms
 pub cursor_state : (c : Frame) (k : Cursor) (ms : List Move) → (cursor_behind c k ms).state ≡ after_from c.config k.state (entries_of ms)
 cursor_state c k [] = refl
 cursor_state c k (m ∷ ms) = cursor_state c (next_by c k m) ms ∙ sym (histories_go_on c.config k.state (entry_list m.entry) (entries_of ms))
-
-pub moment_more : (before : Moment) (a b : List Move) → moment_behind before (a ++ b) ≡ moment_behind (moment_behind before a) b
-moment_more before [] b = refl
-moment_more before (m ∷ ms) b = moment_more m.behind ms b
 
 pub entries_more : (a b : List Move) → entries_of (a ++ b) ≡ entries_of a ++ entries_of b
 entries_more [] b = refl

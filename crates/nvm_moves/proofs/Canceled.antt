@@ -1,7 +1,6 @@
 -- Where a WriteAll that was canceled is all that is pending, what is due is its end.
-use Rattle.nvm_moves.proofs.Common.{option_to_list, ◌≡◌, ℕ, Bool, true, false, List, [], ◌∷◌, ◌++◌, Option, Some, None, if◌then◌else◌, refl, sym, ap, ◌∙◌, subst, ReqResult, JobKind, ReadAllJob, WriteAllJob, Taken, Entry, Pick, Post, Configuration, State, Job, Sweep, Next, BeginSweep, EndSweep, next_member, next_of, MayPick, is_due, begins_with_pick_or_post, EndsCanceled, Canceled, TookNothing, jobs_of, sweep_result, IsAllowed, MayPost, MayPostNext, Answer}
+use Rattle.nvm_moves.proofs.Common.{option_to_list, ◌≡◌, ℕ, Bool, true, false, List, [], ◌∷◌, ◌++◌, Option, Some, None, if◌then◌else◌, refl, sym, ap, ◌∙◌, subst, ReqResult, JobKind, ReadAllJob, WriteAllJob, Taken, Entry, Pick, Post, Configuration, State, Job, Sweep, Next, BeginSweep, EndSweep, next_member, next_of, MayPick, is_due, begins_with_pick_or_post, EndsCanceled, Canceled, TookNothing, jobs_of, sweep_result, IsAllowed, MayPost, MayPostNext, Answer, next_at, some_none}
 use Rattle.std.proofs.Common.{IsTrue}
-use Rattle.nvm_moves.proofs.Resting.{next_at, some_none}
 
 -- the entry that ends it
 abbrev end_of : (under_way : Bool) → ℕ → Entry

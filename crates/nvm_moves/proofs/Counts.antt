@@ -4,22 +4,17 @@ use Rattle.nvm_moves.proofs.Common.{◌⊎◌, inl, inr, ℕ, ◌+◌, ◌<◌, 
 pub rose_or : (a b : ℕ) → Rose a b ⊎ ¬ Rose a b
 rose_or a b = elim (leb_tells b a) [
   | inl past ↦ elim (leb_tells last_count a) [
-    | inl full ↦ elim (leb_tells a b) [
-      | inl same ↦ inl (inr (full.1, same.1))
-      | inr less ↦ inr (λ rose. fell a b rose less.1)
-    ]
-    | inr few ↦ inr (λ rose. neither a b rose past.1 few.1)
+    | inl full ↦ elim (leb_tells a b) [ inl same ↦ inl (inr (full.1, same.1)) | inr less ↦ inr (never (inr less.1)) ]
+    | inr few ↦ inr (never (inl (past.1, few.1)))
   ]
   | inr more ↦ inl (inl more.1)
 ]
   where
-    fell : (a b : ℕ) → Rose a b → b < a → ⊥
-    fell a b (inl up) less = omega (arith, up, less)
-    fell a b (inr full) less = omega (arith, full.1, less)
-
-    neither : (a b : ℕ) → Rose a b → b ≤ a → a < last_count → ⊥
-    neither a b (inl up) past few = omega (arith, up, past)
-    neither a b (inr full) past few = omega (arith, full.0, few)
+    never : ((b ≤ a) × (a < last_count)) ⊎ (b < a) → Rose a b → ⊥
+    never (inl (past, few)) (inl up) = omega (arith, up, past)
+    never (inl (past, few)) (inr full) = omega (arith, full.0, few)
+    never (inr less) (inl up) = omega (arith, up, less)
+    never (inr less) (inr full) = omega (arith, full.1, less)
 
 -- one count of a sum that doesn't fall
 pub rose_in : (a b s t : ℕ) → s ≤ t → Rose a b → Rose (min (a + s) last_count) (min (b + t) last_count)

@@ -1,7 +1,7 @@
 -- What is due, while requests come beside one device.
-use Rattle.nvm_moves.proofs.Common.{IfSome, IsTrue, not, option_to_list, ◌≡◌, inl, inr, ℕ, zero, suc, ◌+◌, ◌≤◌, arith, Bool, true, false, List, [], ◌∷◌, ◌++◌, length, Option, Some, None, refl, sym, ap, ◌∙◌, subst, append_assoc, and_parts, DeviceTold, Request, Write, Reply, Accepted, Entry, Ask, Configuration, State, Job, is_pending, job_block, rank_of, status_of, reply_of, next_in, step, DeskState, state_of, HandState, IsDue, post_first, with_entries, IsOfBlock, AreFirst, IsDueFor, free_turns, pages_in, histories_step, asked_hand, more_due, Moment, Move, urgent_block, not_true, AreServed, IsAskedDue, IsDueWithin, list_all, Each, AreReplied, NextIsPending, entries_are_counted, next_is_waiting, accepted_are_due, many_held, many_next, accepted_of_block, jobs_below, stays_of_block, each_right, urgent_is}
-use Rattle.nvm_moves.proofs.Served.{served_as}
-use Rattle.nvm_moves.proofs.AskedBlocks.{accepted_pending, ask_leaves_power, is_sized, pending_on}
+use Rattle.nvm_moves.proofs.Common.{IfSome, IsTrue, not, option_to_list, ◌≡◌, inl, inr, ℕ, zero, suc, ◌+◌, ◌≤◌, arith, Bool, true, false, List, [], ◌∷◌, ◌++◌, length, Option, Some, None, refl, sym, ap, ◌∙◌, subst, append_assoc, and_parts, DeviceTold, Request, Write, Reply, Accepted, Entry, Ask, Configuration, State, Job, is_pending, job_block, rank_of, status_of, reply_of, next_in, step, DeskState, state_of, HandState, IsDue, post_first, with_entries, IsOfBlock, AreFirst, IsDueFor, free_turns, pages_in, histories_step, asked_hand, more_due, Moment, Move, urgent_block, not_true, AreServed, IsAskedDue, IsDueWithin, list_all, Each, AreReplied, NextIsPending, entries_are_counted, next_is_waiting, accepted_are_due, many_held, many_next, accepted_of_block, jobs_below, stays_of_block, each_right, urgent_is, asked_stays, is_sized}
+use Rattle.nvm_moves.proofs.Served.{served_as, served_more}
+use Rattle.nvm_moves.proofs.AskedBlocks.{accepted_pending, pending_on}
 use Rattle.nvm_moves.proofs.TurnEntries.{none_more}
 
 -- A DESK WITH MORE
@@ -50,7 +50,7 @@ module _ (hand : Option HandState) (d : DeviceTold) where
         number = was.number;
         due = due_on desk caller r reply was.number id turns is was.block was.pending was.due;
         block = subst (IsOfBlock was.number id) (sym behind) (stays_of_block c (state_of desk) (Some e) was.number id was.block);
-        on = ap (λ (s : State). s.off) behind ∙ (ask_leaves_power c (state_of desk) caller r reply).1 ∙ was.on;
+        on = ap (λ (s : State). s.off) behind ∙ (asked_stays c (state_of desk) r reply).off ∙ was.on;
         pending = ap (λ (s : State). is_pending (status_of s id)) behind ∙ pending_on c desk.cap (state_of desk) caller r reply id is was.pending;
       }
 
@@ -63,7 +63,7 @@ module _ (hand : Option HandState) (d : DeviceTold) where
         number,
         many_held hand d number turns desk (e ∷ []) (is, tt) due,
         subst (IsOfBlock number id) (sym behind) (stays_of_block desk.config (state_of desk) (Some e) number id of),
-        ap (λ (s : State). s.off) behind ∙ (ask_leaves_power desk.config (state_of desk) caller r reply).1 ∙ on,
+        ap (λ (s : State). s.off) behind ∙ (asked_stays desk.config (state_of desk) r reply).off ∙ on,
       )
   within_on desk caller r reply one id turns is (inr (less, first, sooner, due)) = inr (less, first, sooner, asked_on desk caller r reply id less is due)
 
@@ -103,7 +103,7 @@ module _ (hand : Option HandState) (d : DeviceTold) (first : AreFirst d.fixed) (
         due = due;
         block = subst (λ (n : ℕ). IsOfBlock n id (state_of (with_entries desk (e ∷ [])))) count
             (subst (IsOfBlock s.count id) (sym behind) (accepted_of_block c s ask.caller id ask.content ask.store (jobs_below c desk.entries)));
-        on = ap (λ (x : State). x.off) behind ∙ (ask_leaves_power c s ask.caller write Accepted).1 ∙ ask.on;
+        on = ap (λ (x : State). x.off) behind ∙ (asked_stays c s write Accepted).off ∙ ask.on;
         pending = ap (λ (x : State). is_pending (status_of x id)) behind ∙ accepted_pending c desk.cap s ask.caller id ask.content ask.store (is_sized c desk.entries) started ask.immediate;
       })
 
@@ -112,6 +112,16 @@ module _ (hand : Option HandState) (d : DeviceTold) (first : AreFirst d.fixed) (
 abbrev pub asked_moves : Moment → List Entry → List Move
 asked_moves now [] = []
 asked_moves now (e ∷ es) = record { entry = Some e; behind = now } ∷ asked_moves now es
+
+-- one of them, where what is due stays so, and so is what it makes due
+ask_served : (hand : Option HandState) (d : DeviceTold) → AreFirst d.fixed → (more : ℕ) (free : ℕ → ℕ → ℕ → Type 0) (since : ℕ) (now : Moment) (desk : DeskState) (caller : ℕ) (r : Request) (reply : Reply) (P Q : Bool → ℕ → ℕ → Type 0) → IsTrue (state_of desk).started
+    → IsRoomy (free since now.ops) desk.config (state_of desk) d → ((one : Bool) (id turns : ℕ) → P one id turns → Q one id turns)
+    → ((id turns : ℕ) → IsAskedDue id (turns + 4 + post_first hand) (with_entries desk (Ask caller r reply ∷ [])) hand d → Q true id (turns + more))
+    → AreServed more desk.config (pages_in d.fixed desk.config) free P Q since now (state_of desk) (asked_moves now (Ask caller r reply ∷ []))
+ask_served hand d first more free since now desk caller r reply P Q started roomy keeps takes = record {
+  dues = λ one id turns due. inr (inl (refl, keeps one id turns due));
+  urgent = (λ id urgent room. takes id (pages_in d.fixed desk.config (state_of desk) id) (asked_due hand d first (free since now.ops) desk caller r reply id started roomy urgent room), tt);
+}
 
 module _ (hand : Option HandState) (d : DeviceTold) (first : AreFirst d.fixed) (more : ℕ) (free : ℕ → ℕ → ℕ → Type 0) (since : ℕ) (now : Moment)
     -- what is due at each desk: it stays so, and so is what is accepted
@@ -128,21 +138,15 @@ module _ (hand : Option HandState) (d : DeviceTold) (first : AreFirst d.fixed) (
       let e = Ask caller r reply in
       let next = with_entries desk (e ∷ []) in
       let behind = state_more desk e in
-      let power = ask_leaves_power c s caller r reply in
+      let power = asked_stays c s r reply in
       let rest : AreServed more c (pages_in d.fixed c) free (P next) (P (with_entries desk (e ∷ es))) since now (step c s e) (asked_moves now es) =
       subst (λ (x : DeskState). AreServed more c (pages_in d.fixed c) free (P next) (P x) since now (step c s e) (asked_moves now es)) (one_more desk e es)
       (subst (λ (x : State). AreServed more c (pages_in d.fixed c) free (P next) (P (with_entries next es)) since now x (asked_moves now es)) behind
-      (asks_served next es (subst (λ (x : State). AreReplied c desk.cap x es) (sym behind) replied.1) (ap (λ (x : State). x.started) behind ∙ power.0 ∙ started)
+      (asks_served next es (subst (λ (x : State). AreReplied c desk.cap x es) (sym behind) replied.1) (ap (λ (x : State). x.started) behind ∙ power.started ∙ started)
       (subst (λ (x : State). IsRoomy (free since now.ops) c x d) (sym behind)
-      (λ on standard. roomy (sym power.1 ∙ on) (subst (λ (o : Option Job). IfSome o (λ j. (rank_of c j).immediate ≡ false)) (asked_hand c s r reply) standard))))) in
-      record {
-        dues = λ one id turns due. inr (inl (refl, rest.dues one id turns (keeps desk caller r reply one id turns replied.0 due)));
-        urgent = (
-          λ id urgent room. rest.dues true id (pages_in d.fixed c s id + more)
-              (takes next id (pages_in d.fixed c s id) (asked_due hand d first (free since now.ops) desk caller r reply id started roomy urgent room)),
-          rest.urgent,
-        );
-      }
+      (λ on standard. roomy (sym power.off ∙ on) (subst (λ (o : Option Job). IfSome o (λ j. (rank_of c j).immediate ≡ false)) (asked_hand c s r reply) standard))))) in
+      served_more more c (pages_in d.fixed c) free (P desk) (P next) (P (with_entries desk (e ∷ es))) since now s (asked_moves now (e ∷ [])) (asked_moves now es)
+      (ask_served hand d first more free since now desk caller r reply (P desk) (P next) started roomy (λ one id turns due. keeps desk caller r reply one id turns replied.0 due) (takes next)) rest
   asks_served desk (e ∷ es) replied started roomy = absurd replied
 
 -- BETWEEN TURNS, AND WITHIN ONE
@@ -185,24 +189,14 @@ pub one_served : (hand : Option HandState) (d : DeviceTold) → AreFirst d.fixed
     (state_of desk) (asked_moves now (Ask caller r reply ∷ []))
 one_served hand d first more free since now desk caller r reply started roomy least keeps =
     let c = desk.config in
-    let s = state_of desk in
     let e = Ask caller r reply in
     let behind = state_more desk e in
-    record {
-      dues = λ one id turns was. inr (inl (
-        refl,
-        record {
-          number = was.number;
-          due = keeps was.number (turns + free_turns one hand) was.due;
-          block = subst (IsOfBlock was.number id) (sym behind) (stays_of_block c s (Some e) was.number id was.block);
-          on = ap (λ (x : State). x.off) behind ∙ (ask_leaves_power c s caller r reply).1 ∙ was.on;
-        },
-      ));
-      urgent = (
-        λ id urgent room.
-            let pages = pages_in d.fixed c s id in
-            let due = more_asked id (pages + 4 + post_first hand) (pages + more + post_first hand) (with_entries desk (e ∷ [])) hand d (omega (arith, least)) (asked_due hand d first (free since now.ops) desk caller r reply id started roomy urgent room) in
-            record { number = due.number; due = due.due; block = due.block; on = due.on },
-        tt,
-      );
-    }
+    ask_served hand d first more free since now desk caller r reply _ _ started roomy
+    (λ one id turns was. record {
+      number = was.number;
+      due = keeps was.number (turns + free_turns one hand) was.due;
+      block = subst (IsOfBlock was.number id) (sym behind) (stays_of_block c (state_of desk) (Some e) was.number id was.block);
+      on = ap (λ (x : State). x.off) behind ∙ (asked_stays c (state_of desk) r reply).off ∙ was.on;
+    })
+    (λ id pages was. let due = more_asked id (pages + 4 + post_first hand) (pages + more + post_first hand) (with_entries desk (e ∷ [])) hand d (omega (arith, least)) was in
+    record { number = due.number; due = due.due; block = due.block; on = due.on })

@@ -1,17 +1,16 @@
 -- A turn's halves, and a whole turn of a stack, as moves.
-use Rattle.nvm_moves.proofs.Common.{AreFirst, DueAt, IsPostedSoon, IfSome, IsTrue, is_none, not, ◌||◌, ◌≡◌, ◌⊎◌, inl, inr, ℕ, ◌+◌, ◌<◌, ◌≤◌, Bool, true, false, List, [], ◌∷◌, Option, Some, None, refl, sym, ap, ◌∙◌, subst, arith, Rose, DeviceTold, Fixed, Stand, faults_of, nothing_open, Clock, InOrder, RoomIsLeft, Entry, Pick, Post, Off, Taken, Configuration, State, Job, job_block, Next, Nothing, PostMember, EndSweep, next_of, MayPick, IsPostedNext, IsHalf, GoesOn, with_entries, DeskState, state_of, HandState, IsPaired, Told, IsTied, IsDue, IsDueInHand, IsNearer, post_first, TurnServesDue, StaysKept, AddsBy, hand_by, Turned, Ended, has_turned, TurnsDevice, asked_by, StackState, IsFirstHalf, OwesSince, has_urgent, worn_so_far, TurnPays, KeepsSeal, TakesKeptInHand, Lasts, half_lasts, device_lasts, Worn, IsWorked, is_posted, IsSimple, costs_in, work_in, now_of, IsDueFor, free_turns, IsOfBlock, LeavesDevice, is_finished, left_with, IsWithin, TakesTurns, histories_step, is_due, is_at_rest, begins_with_pick_or_post, Moment, Move, EndsCanceled, entry_list, is_asked, is_found, is_picked, not_true, bound_of, Begun, IsOn, Seen, all_with, frame_in, moment_by, most_by, IsDueWithin, HadPages, FitsHand, IsBound, IsTurnTold, IsHalfTold, next_count, is_device_off, SameClock, Turns, DeviceTurn, AtDevice, IsServed, StackKeepsAsTold, Act, Device, device_turns_keep_seal, device_turns_take_kept, first_halves_keep_seal, half_pays, device_owes, device_urgency, device_adds, asked_free, device_picks_none, asked_picks_none, IsNoPick, half_takes_none, half_works, half_adds, Effort, moment_of, device_counts, left_of, BeginsIn}
+use Rattle.nvm_moves.proofs.Common.{LeavesTurns, AreFirst, DueAt, IsPostedSoon, IfSome, IsTrue, is_none, not, ◌||◌, ◌≡◌, ◌⊎◌, inl, inr, ℕ, ◌+◌, ◌<◌, ◌≤◌, Bool, true, false, List, [], ◌∷◌, Option, Some, None, refl, sym, ap, ◌∙◌, subst, arith, Rose, DeviceTold, Fixed, Stand, faults_of, nothing_open, Clock, InOrder, RoomIsLeft, Entry, Pick, Post, Off, Taken, Configuration, State, Job, job_block, Next, Nothing, PostMember, EndSweep, next_of, MayPick, IsPosted, IsPostedNext, Answer, IsHalf, GoesOn, with_entries, DeskState, state_of, HandState, IsPaired, Told, IsTied, IsDue, IsDueInHand, IsNearer, post_first, TurnServesDue, StaysKept, AddsBy, hand_by, Turned, Ended, has_turned, TurnsDevice, asked_by, StackState, IsFirstHalf, OwesSince, has_urgent, worn_so_far, TurnPays, KeepsSeal, TakesKeptInHand, Lasts, half_lasts, device_lasts, Worn, IsWorked, is_posted, IsSimple, costs_in, work_in, now_of, IsDueFor, free_turns, IsOfBlock, LeavesDevice, left_with, IsWithin, TakesTurns, histories_step, is_due, is_at_rest, begins_with_pick_or_post, Moment, Move, EndsCanceled, entry_list, is_asked, is_found, is_picked, not_true, bound_of, Begun, IsOn, Seen, all_with, frame_in, moment_by, most_by, IsDueWithin, HadPages, FitsHand, IsBound, IsTurnTold, IsHalfTold, next_count, is_device_off, SameClock, Turns, DeviceTurn, AtDevice, IsServed, StackKeepsAsTold, Act, Device, device_turns_keep_seal, device_turns_take_kept, first_halves_keep_seal, half_pays, device_owes, device_urgency, device_adds, asked_free, device_picks_none, asked_picks_none, IsNoPick, half_takes_none, half_works, half_adds, Effort, moment_of, device_counts, BeginsIn, at_rest, due_hand, due_off, due_rest, rests_next}
 use Rattle.nvm_core.specs.memif.Told.{ops_of}
 use Rattle.nvm_core.specs.memif.declared.answer.DeviceTurn.TheVariants as turn
 use Rattle.nvm_core.specs.nvm_laws.declared.turned.Turned.TheVariants as turned
 use Rattle.nvm_core.specs.Turns as core
-use Rattle.nvm_moves.proofs.Most.{begun_most, held_bounded, most_is, some_by, turned_most, within_of}
+use Rattle.nvm_moves.proofs.Most.{begun_most, held_bounded, most_is, turned_most, within_of}
 use Rattle.nvm_moves.proofs.InAll.{all_bounded, turn_falls}
 use Rattle.promise_run.specs.Turns.{is_off}
 use Rattle.nvm_moves.proofs.Canceled.{allowed_ends, held_ends, late_ends}
 use Rattle.nvm_moves.proofs.DeviceDue.{device_soon}
 use Rattle.nvm_moves.proofs.DeviceWorks.{device_works, on_by}
 use Rattle.nvm_moves.proofs.TurnServed.{ended_soon, turn_soon}
-use Rattle.nvm_moves.proofs.Resting.{at_rest, due_hand, due_off, due_rest, rests_next}
 use Rattle.nvm_moves.proofs.TurnEntries.{AddsOne, IsOfTurn, asked_posts, device_adds_one, isnt_asked, isnt_found, none_more}
 
 pub as_turn : (answer : Turned) (old : DeviceTold) (clock : Clock) (new : DeviceTold) (clock_new : Clock) → TurnsDevice answer old clock new clock_new → (a : DeviceTurn) × Turns a old clock new clock_new
@@ -19,6 +18,9 @@ as_turn turned.Idle old clock new clock_new turns = (turn.Idle, turns)
 as_turn turned.Worked old clock new clock_new turns = (turn.Worked, turns)
 as_turn turned.Off old clock new clock_new turns = (turn.Off, turns)
 as_turn answer old clock new clock_new turns = absurd turns
+
+pub device_fixed : (answer : Turned) (old : DeviceTold) (clock : Clock) (new : DeviceTold) (clock_new : Clock) → TurnsDevice answer old clock new clock_new → new.fixed ≡ old.fixed
+device_fixed answer old clock new clock_new turns = let (a, is) = as_turn answer old clock new clock_new turns in (has_turned a old clock new clock_new is).fixed
 
 one_by : (a b : ℕ) → (b ≡ a) ⊎ (b ≡ next_count a) → b ≤ a + 1
 one_by a b (inl same) = omega (arith, same)
@@ -55,6 +57,10 @@ begins_by false = refl
 not_late : (t u : Bool) → t ≡ false → IsTrue (not t || u)
 not_late t u late = rw late refl
 
+some_in : (o : Option Job) → is_none o ≡ false → (j : Job) × (o ≡ Some j)
+some_in None some = absurd (cc some)
+some_in (Some j) some = (j, refl)
+
 not_out : {o : Option Job} → o ≡ None → is_none o ≡ false → ⊥
 not_out {o} out held = let no_ : true ≡ false = sym (ap is_none out) ∙ held in cc no_
 
@@ -84,33 +90,25 @@ pub record IsEntryOf (W : Type 0) (ops : ℕ) (old new : DeskState) (hand hand_n
   pub rests : IsTrue (is_at_rest (state_of old)) → (e ≡ None) × (hand_new ≡ hand) × (d_new ≡ d)
 
 module _ (W : Type 0) (ops : ℕ) (old new : DeskState) (hand hand_new : Option HandState) (d d_new : DeviceTold) where
+  post_entry : (Premise : Type 0) (block : ℕ) (ram : Bool) (ended : Answer) (before after : List Told) → Premise → (state_of old).hand ≡ None → (state_of new).hand ≡ None → (IsTrue (is_at_rest (state_of old)) → ⊥)
+      → IsPosted Premise block ram ended ops old new before after → (e : Option Entry) × IsEntryOf W ops old new hand hand_new d d_new e
+  post_entry Premise block ram ended before after premise none out busy is = (
+    Some (Post block is.result is.given is.refused ops),
+    record {
+      one = record { adds = is.adds; of = record { told = refl; kind = inl refl } };
+      turns = (refl, refl);
+      begins = (begins_by (is_due (state_of old)), allowed_ends old.config old.cap (state_of old) (Post block is.result is.given is.refused ops) (is.allowed premise) refl);
+      picks = λ picked. absurd (cc picked);
+      on = refl;
+      fits = fits_none _ (state_of old).hand none;
+      drops = λ other on held. not_out out held;
+      rests = λ rest. absurd (busy rest);
+    },
+  )
+
   posts_next : (n : Next) (before after : List Told) → (state_of old).hand ≡ None → (state_of new).hand ≡ None → next_of old.config (state_of old) ≡ n → IsPostedNext n ops old new before after → (e : Option Entry) × IsEntryOf W ops old new hand hand_new d d_new e
-  posts_next (PostMember sw id) before after none out n is = (
-    Some (Post id is.result is.given is.refused ops),
-    record {
-      one = record { adds = is.adds; of = record { told = refl; kind = inl refl } };
-      turns = (refl, refl);
-      begins = (begins_by (is_due (state_of old)), allowed_ends old.config old.cap (state_of old) (Post id is.result is.given is.refused ops) (is.allowed tt) refl);
-      picks = λ picked. absurd (cc picked);
-      on = refl;
-      fits = fits_none _ (state_of old).hand none;
-      drops = λ other on held. not_out out held;
-      rests = λ rest. absurd (let same : PostMember sw id ≡ Nothing = sym n ∙ (rests_next old.config (state_of old) rest).1 in cc same);
-    },
-  )
-  posts_next (EndSweep sw) before after none out n is = (
-    Some (Post 0 is.result is.given is.refused ops),
-    record {
-      one = record { adds = is.adds; of = record { told = refl; kind = inl refl } };
-      turns = (refl, refl);
-      begins = (begins_by (is_due (state_of old)), allowed_ends old.config old.cap (state_of old) (Post 0 is.result is.given is.refused ops) (is.allowed tt) refl);
-      picks = λ picked. absurd (cc picked);
-      on = refl;
-      fits = fits_none _ (state_of old).hand none;
-      drops = λ other on held. not_out out held;
-      rests = λ rest. absurd (let same : EndSweep sw ≡ Nothing = sym n ∙ (rests_next old.config (state_of old) rest).1 in cc same);
-    },
-  )
+  posts_next (PostMember sw id) before after none out n is = post_entry _ id _ _ before after tt none out (λ rest. let same : PostMember sw id ≡ Nothing = sym n ∙ (rests_next old.config (state_of old) rest).1 in cc same) is
+  posts_next (EndSweep sw) before after none out n is = post_entry _ 0 _ _ before after tt none out (λ rest. let same : EndSweep sw ≡ Nothing = sym n ∙ (rests_next old.config (state_of old) rest).1 in cc same) is
   posts_next _ before after none out n is = absurd is
 
   pub half_entry : (answer : Turned) (Holds : ℕ → Taken → Type 0) (Fits : Type 0) (before after : List Told) → (answer ≡ turned.Off → (state_of old).off ≡ true) → (answer ≡ turned.Picked → W) → (answer ≡ turned.Posted → (state_of new).hand ≡ None) → ops ≡ ops_of d_new
@@ -167,7 +165,7 @@ unfinished None new d d_new goes = (refl, ap post_first goes.0)
 unfinished (Some h) new d d_new goes = (rw goes.0 refl, ap post_first goes.1 ∙ (rw goes.0 refl))
 
 -- something is pending, or something was open
-never_idle : (c : Configuration) (s : State) (hand new : Option HandState) (d b : DeviceTold) → GoesOn hand d new b → IsPaired c s new b → nothing_open b ≡ false → IsTrue (is_at_rest s) → not (nothing_open d) ≡ false → ⊥
+pub never_idle : (c : Configuration) (s : State) (hand new : Option HandState) (d b : DeviceTold) → GoesOn hand d new b → IsPaired c s new b → nothing_open b ≡ false → IsTrue (is_at_rest s) → not (nothing_open d) ≡ false → ⊥
 never_idle c s None new d b goes paired busy rest idle =
     let shut : not (nothing_open d) ≡ true = ap not (ap nothing_open (sym goes.1) ∙ busy) in let no_ : true ≡ false = sym shut ∙ idle in cc no_
 never_idle c s (Some h) new d b goes paired busy rest idle =
@@ -230,55 +228,41 @@ module _ {D C : Type 0} (told : D → DeviceTold) (clock : D → Clock) (copies 
             all_bounded new.desk.config (state_of new.desk) new.hand (told new.device) (clock new.device) order paired j is,
           ))
 
-  -- a job that stays in hand keeps its most, of which at most all are left, whatever failed
-  abbrev IsHeld : Option HandState → Fixed → StackState D C → Type 0
-  IsHeld hand f new = (n : ℕ) × (most_by None hand f ≡ Some n) × (left_with new.hand (told new.device) ≤ n) × (most_by None new.hand (told new.device).fixed ≡ Some n)
-
-  held_behind : (f : Fixed) (hand between : Option HandState) (d b : DeviceTold) (new : StackState D C) → GoesOn hand d between b → new.hand ≡ hand_by b.stand (told new.device).stand between → (told new.device).fixed ≡ f
-      → InOrder (told new.device) (clock new.device) → IsPaired new.desk.config (state_of new.desk) new.hand (told new.device) → is_none (state_of new.desk).hand ≡ false → IsHeld hand f new
-  held_behind f hand between d b new goes turns_to fixed order paired held = by (state_of new.desk).hand refl held
-    where
-      same : most_by None new.hand (told new.device).fixed ≡ most_by None hand f
-      same =
-          ap (λ (g : Fixed). most_by None new.hand g) fixed ∙ ap (λ (h : Option HandState). most_by None h f) turns_to ∙ turned_most f b.stand (told new.device).stand between
-          ∙ begun_most f hand between d b goes
-
-      by : (o : Option Job) → (state_of new.desk).hand ≡ o → is_none o ≡ false → IsHeld hand f new
-      by None is some = absurd (cc some)
-      by (Some j) is some =
-          let (n, most, few) = held_bounded new.desk.config (state_of new.desk) new.hand (told new.device) (clock new.device) order paired j is in (n, sym same ∙ most, few, most)
-
-  held_some : (new : StackState D C) → is_none (state_of new.desk).hand ≡ false → IsPaired new.desk.config (state_of new.desk) new.hand (told new.device) → 0 < left_with new.hand (told new.device)
-  held_some new held paired = by new.hand refl
-    where
-      by : (h : Option HandState) → new.hand ≡ h → 0 < left_with new.hand (told new.device)
-      by None is = absurd (not_out (subst (λ (x : Option HandState). IsPaired new.desk.config (state_of new.desk) x (told new.device)) is paired).0 held)
-      by (Some h) is = subst (λ (x : Option HandState). 0 < left_with x (told new.device)) (sym is) (some_by (is_finished h.step) h.program (told new.device))
-
-  fewer_by : (answer : Turned) (left : ℕ) (old new : StackState D C) → nothing_open (told old.device) ≡ false
-      → (answer ≡ turned.Worked → (left_with new.hand (told new.device) < left) ⊎ Rose (faults_of (told old.device)) (faults_of (told new.device))) → (Rose (faults_of (told old.device)) (faults_of (told new.device)) → ⊥)
-      → TurnsDevice answer (told old.device) (clock old.device) (told new.device) (clock new.device)
-      → AddsBy (asked_by answer (told old.device).stand (told new.device).stand (ops_of (told new.device))) old.desk new.desk → (state_of new.desk).off ≡ false → left_with new.hand (told new.device) < left
-  fewer_by turned.Worked left old new shut takes none turns adds on = elim (takes refl) [ inl less ↦ less | inr rose ↦ absurd (none rose) ]
-  fewer_by turned.Off left old new shut takes none turns adds on =
+  -- where the device's turn leaves a job in hand, since the turn began
+  device_leaves : (V : Type 0) (answer : Turned) (f : Fixed) (hand between : Option HandState) (d : DeviceTold) (old new : StackState D C) → LeavesDevice d (told old.device) → GoesOn hand d between (told old.device)
+      → IsPaired old.desk.config (state_of old.desk) between (told old.device) → nothing_open (told old.device) ≡ false
+      → (answer ≡ turned.Worked → (left_with new.hand (told new.device) < left_with hand d) ⊎ Rose (faults_of (told old.device)) (faults_of (told new.device)))
+      → TurnsDevice answer (told old.device) (clock old.device) (told new.device) (clock new.device) → AddsBy (asked_by answer (told old.device).stand (told new.device).stand (ops_of (told new.device))) old.desk new.desk
+      → new.hand ≡ hand_by (told old.device).stand (told new.device).stand between → (told new.device).fixed ≡ f → (told new.device).fixed ≡ d.fixed → InOrder (told new.device) (clock new.device)
+      → IsPaired new.desk.config (state_of new.desk) new.hand (told new.device) → (state_of new.desk).off ≡ false → is_none (state_of new.desk).hand ≡ false
+      → LeavesTurns (most_by None hand f) (left_with hand d) (all_with hand d) (Rose (faults_of (told old.device)) (faults_of (told new.device)) → ⊥) (seen None V new)
+  device_leaves V turned.Worked f hand between d old new leaves goes paired shut takes turns adds hands fixed same order paired_new on held =
+      let (j, is) = some_in (state_of new.desk).hand held in
+      let (n, most, few, some) = held_bounded new.desk.config (state_of new.desk) new.hand (told new.device) (clock new.device) order paired_new j is in
+      let (left, falls) =
+      turn_falls old.desk.config (state_of old.desk) hand between d (told old.device) (told new.device) (clock old.device) (clock new.device) leaves goes paired turns same order new.desk.config (state_of new.desk) new.hand hands paired_new held in
+      record {
+        most = n;
+        was = sym (ap (λ (g : Fixed). most_by None new.hand g) fixed ∙ ap (λ (h : Option HandState). most_by None h f) hands ∙ turned_most f (told old.device).stand (told new.device).stand between
+            ∙ begun_most f hand between d (told old.device) goes) ∙ most;
+        is = most;
+        within = few;
+        some = (some, left);
+        in_all = falls;
+        fewer = λ calm. elim (takes refl) [ inl less ↦ less | inr rose ↦ absurd (calm rose) ];
+      }
+  device_leaves V turned.Off f hand between d old new leaves goes paired shut takes turns adds hands fixed same order paired_new on held =
       let off : (state_of new.desk).off ≡ true = ap (λ (x : DeskState). (state_of x).off) adds.0 ∙ ap (λ (s : State). s.off) (histories_step old.desk.config old.desk.entries (Off (ops_of (told new.device)))) in
       absurd (let no_ : true ≡ false = sym off ∙ on in cc no_)
-  fewer_by turned.Idle left old new shut takes none turns adds on = absurd (let no_ : true ≡ false = sym turns.0.0 ∙ shut in cc no_)
-  fewer_by answer left old new shut takes none turns adds on = absurd turns
+  device_leaves V turned.Idle f hand between d old new leaves goes paired shut takes turns adds hands fixed same order paired_new on held = absurd (let no_ : true ≡ false = sym turns.0.0 ∙ shut in cc no_)
+  device_leaves V answer f hand between d old new leaves goes paired shut takes turns adds hands fixed same order paired_new on held = absurd turns
 
-  -- in all it takes one, whatever fails
-  lowers_by : (answer : Turned) (hand between : Option HandState) (d : DeviceTold) (old new : StackState D C) → LeavesDevice d (told old.device) → GoesOn hand d between (told old.device)
-      → IsPaired old.desk.config (state_of old.desk) between (told old.device) → nothing_open (told old.device) ≡ false → TurnsDevice answer (told old.device) (clock old.device) (told new.device) (clock new.device)
-      → AddsBy (asked_by answer (told old.device).stand (told new.device).stand (ops_of (told new.device))) old.desk new.desk → (told new.device).fixed ≡ d.fixed → InOrder (told new.device) (clock new.device)
-      → new.hand ≡ hand_by (told old.device).stand (told new.device).stand between → IsPaired new.desk.config (state_of new.desk) new.hand (told new.device) → (state_of new.desk).off ≡ false → is_none (state_of new.desk).hand ≡ false
-      → (0 < all_with new.hand (told new.device)) × (all_with new.hand (told new.device) < all_with hand d)
-  lowers_by turned.Worked hand between d old new leaves goes paired shut turns adds fixed order hands paired_new on held =
-      turn_falls old.desk.config (state_of old.desk) hand between d (told old.device) (told new.device) (clock old.device) (clock new.device) leaves goes paired turns fixed order new.desk.config (state_of new.desk) new.hand hands paired_new held
-  lowers_by turned.Off hand between d old new leaves goes paired shut turns adds fixed order hands paired_new on held =
-      let off : (state_of new.desk).off ≡ true = ap (λ (x : DeskState). (state_of x).off) adds.0 ∙ ap (λ (s : State). s.off) (histories_step old.desk.config old.desk.entries (Off (ops_of (told new.device)))) in
-      absurd (let no_ : true ≡ false = sym off ∙ on in cc no_)
-  lowers_by turned.Idle hand between d old new leaves goes paired shut turns adds fixed order hands paired_new on held = absurd (let no_ : true ≡ false = sym turns.0.0 ∙ shut in cc no_)
-  lowers_by answer hand between d old new leaves goes paired shut turns adds fixed order hands paired_new on held = absurd turns
+  -- a first half that ends a turn adds one entry at most, and no Off
+  pub ended_adds : (old new : StackState D C) (answer : Turned) → (answer ≡ turned.Off → (state_of old.desk).off ≡ true) → IsFirstHalf told copies is_store looked (Ended answer) old new
+      → (e : Option Entry) × AddsOne (ops_of (told new.device)) old.desk new.desk e × (is_off e ≡ false)
+  ended_adds old new answer off half =
+      let (e, is) = half_entry (Unit {0}) (ops_of (told new.device)) old.desk new.desk old.hand new.hand (told old.device) (told new.device) answer _ _ _ _ off (λ picked. tt) (posted_out old new answer half) refl half.half half.at_device in
+      (e, is.one, is.on)
 
   module _ (old new : StackState D C) (U V : Type 0) (uncut : U → V) (stays : StaysKept old.desk old.hand (told old.device) (clock old.device) new.desk new.hand (told new.device) (clock new.device)) where
     -- what a first half that ends the turn adds comes soon
@@ -300,9 +284,7 @@ module _ {D C : Type 0} (told : D → DeviceTold) (clock : D → Clock) (copies 
           entry = e;
           fits = is.fits;
           most = λ picked. most_behind old new e (is.picks picked) adds.adds half.device half.tied.paired order;
-          held = λ other on held. absurd (is.drops other on held);
-          fewer = λ other none on held. absurd (is.drops other on held);
-          lowers = λ other on held. absurd (is.drops other on held);
+          leaves = λ other on held. absurd (is.drops other on held);
           turns = is.turns;
           ended = refl;
           begins = (state_of old.desk, inr refl, is.begins);
@@ -401,14 +383,9 @@ module _ {D C : Type 0} (told : D → DeviceTold) (clock : D → Clock) (copies 
           entry = e;
           fits = device_fits (state_of old.desk) answer d.stand d_new.stand (ops_of d_new);
           most = λ picked. absurd (not_picked answer d.stand d_new.stand (ops_of d_new) picked);
-          held = λ other on held. held_behind d.fixed b.hand old.hand b.device d new begun.goes hand (has_turned a d (clock old.device) d_new (clock new.device) is).fixed is.1 paired_new held;
-          fewer = λ other none on held. (
-            held_some new held paired_new,
-            fewer_by answer (left_with b.hand b.device) old new begun.busy takes none turns adds on,
-          );
-          lowers = λ other on held.
-              lowers_by answer b.hand old.hand b.device old new begun.leaves begun.goes begun.paired begun.busy turns adds
-              ((has_turned a d (clock old.device) d_new (clock new.device) is).fixed ∙ fixed) is.1 hand paired_new on held;
+          leaves = λ other on held.
+              device_leaves V answer d.fixed b.hand old.hand b.device old new begun.leaves begun.goes begun.paired begun.busy takes turns adds hand (device_fixed answer d (clock old.device) d_new (clock new.device) turns)
+              (device_fixed answer d (clock old.device) d_new (clock new.device) turns ∙ fixed) is.1 paired_new on held;
           turns = turns_by (ops_of d_new) e one.of;
           ended = refl;
           begins = (b.state, inl (b, refl, refl), (not_late (is_due b.state) (begins_with_pick_or_post (entry_list e)) begun.late, late_ends b.state e begun.late));
@@ -416,7 +393,7 @@ module _ {D C : Type 0} (told : D → DeviceTold) (clock : D → Clock) (copies 
           adds = one.adds;
           one = makes_one a d (clock old.device) d_new (clock new.device) is;
           told = told_by (ops_of d_new) e one.of;
-          fixed = (has_turned a d (clock old.device) d_new (clock new.device) is).fixed;
+          fixed = device_fixed answer d (clock old.device) d_new (clock new.device) turns;
           counted = more;
           lasts = lasts;
           stays = record { told = stays.told; kept = stays.kept };
@@ -460,24 +437,18 @@ module _ {D C : Type 0} (told : D → DeviceTold) (clock : D → Clock) (copies 
         let most = makes_one a d (clock between.device) d_new (clock new.device) is in
         let ops : d.ops ≡ (told old.device).ops = ap (λ (x : DeviceTold). x.ops) half.device in
         let paired_between : IsPaired old.desk.config (state_of old.desk) between.hand d = subst (λ (x : DeskState). IsPaired x.config (state_of x) between.hand d) half.half.0.0 half.tied.paired in
+        let faults : faults_of d ≡ faults_of (told old.device) = ap faults_of half.device in
+        let fixed : d_new.fixed ≡ (told old.device).fixed = device_fixed answer d (clock between.device) d_new (clock new.device) rest.turns ∙ ap (λ (x : DeviceTold). x.fixed) half.device in
         let whole : AddsOne d_new.ops old.desk new.desk e = subst (λ (x : DeskState). AddsOne d_new.ops x new.desk e) half.half.0.0 one in
         record {
           entry = e;
           fits = device_fits (state_of old.desk) answer d.stand d_new.stand (ops_of d_new);
           most = λ picked. absurd (not_picked answer d.stand d_new.stand (ops_of d_new) picked);
-          held = λ other on held.
-              held_behind (told old.device).fixed old.hand between.hand (told old.device) d new half.at_device rest.hand
-              ((has_turned a d (clock between.device) d_new (clock new.device) is).fixed ∙ ap (λ (x : DeviceTold). x.fixed) half.device) order_new paired_new held;
-          fewer = λ other none on held. (
-            held_some new held paired_new,
-            fewer_by answer (left_of told old) between new half.half.1 (λ is. elim (subst (λ (a : Turned). TakesTurns told a old new) is takes) [
-              | inl less ↦ inl less
-              | inr rose ↦ inr (subst (λ (n : ℕ). Rose n (faults_of d_new)) (sym (ap faults_of half.device)) rose)
-            ]) (λ rose. none (subst (λ (n : ℕ). Rose n (faults_of d_new)) (ap faults_of half.device) rose)) rest.turns rest.adds on,
-          );
-          lowers = λ other on held.
-              lowers_by answer old.hand between.hand (told old.device) between new half.device half.at_device half.tied.paired half.half.1 rest.turns rest.adds
-              ((has_turned a d (clock between.device) d_new (clock new.device) is).fixed ∙ ap (λ (x : DeviceTold). x.fixed) half.device) order_new rest.hand paired_new on held;
+          leaves = λ other on held.
+              subst (λ (n : ℕ). LeavesTurns (most_by None old.hand (told old.device).fixed) (left_with old.hand (told old.device)) (all_with old.hand (told old.device)) (Rose n (faults_of d_new) → ⊥) (seen None V new)) faults
+              (device_leaves V answer (told old.device).fixed old.hand between.hand (told old.device) between new half.device half.at_device half.tied.paired half.half.1
+              (λ is. subst (λ (n : ℕ). (left_with new.hand d_new < left_with old.hand (told old.device)) ⊎ Rose n (faults_of d_new)) (sym faults) (subst (λ (a : Turned). TakesTurns told a old new) is takes))
+              rest.turns rest.adds rest.hand fixed fixed order_new paired_new on held);
           turns = turns_by (ops_of d_new) e one.of;
           ended = refl;
           begins =
@@ -487,7 +458,7 @@ module _ {D C : Type 0} (told : D → DeviceTold) (clock : D → Clock) (copies 
           adds = whole.adds;
           one = omega (arith, most, ops);
           told = told_by (ops_of d_new) e one.of;
-          fixed = (has_turned a d (clock between.device) d_new (clock new.device) is).fixed ∙ ap (λ (x : DeviceTold). x.fixed) half.device;
+          fixed = fixed;
           counted = counted;
           lasts = lasts;
           stays = record { told = stays.told; kept = stays.kept };

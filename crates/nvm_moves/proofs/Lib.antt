@@ -3,7 +3,7 @@ pub mod Along
 pub mod Consequences
 pub mod TurnEntries
 mod Counts
-pub mod AskedBlocks
+mod AskedBlocks
 pub mod Served
 mod DueAsked
 mod DeviceServed
@@ -13,7 +13,6 @@ mod DeviceDue
 pub mod DeviceWorks
 mod WorkedMoves
 pub mod Moved
-pub mod Resting
 mod Canceled
 pub mod Most
 pub mod InAll
@@ -39,6 +38,7 @@ pub use Rattle.nvm_core.proofs.FreshCopies as FreshCopies
 pub use Rattle.script_walks.proofs.First as FirstStores
 pub use Rattle.script_walks.proofs.Jobs as WalkedJobs
 pub use Rattle.script_walks.proofs.Newest as NewestStores
+pub use Rattle.script_walks.proofs.Resting as Resting
 pub use Rattle.script_walks.proofs.Turns as WalkedTurns
 pub use Rattle.script_walks.proofs.Walks as Walks
 pub use Rattle.promise_run.proofs.Counted as Counted

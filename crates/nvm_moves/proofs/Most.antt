@@ -13,7 +13,7 @@ most_of_job c s h d f j is hand =
 abbrev pub Within : Configuration → State → ℕ → Fixed → Type 0
 Within c s left f = (j : Job) → s.hand ≡ Some j → (0 < left) × (left ≤ most_turns f (program_for c s j))
 
-pub some_by : (t : Bool) (p : Program) (d : DeviceTold) → 0 < (if t then stack_left None d + 1 else stack_left (Some p) d)
+some_by : (t : Bool) (p : Program) (d : DeviceTold) → 0 < (if t then stack_left None d + 1 else stack_left (Some p) d)
 some_by true p d = omega arith
 some_by false p d = omega arith
 
@@ -99,6 +99,6 @@ module _ (c : Configuration) (s : State) (h : HandState) (d : DeviceTold) (clock
 
 -- so it is with the hand of a job
 pub held_bounded : (c : Configuration) (s : State) (hand : Option HandState) (d : DeviceTold) (clock : Clock) → InOrder d clock → IsPaired c s hand d → (j : Job) → s.hand ≡ Some j
-    → (n : ℕ) × (MostOf d.fixed hand ≡ Some n) × (left_with hand d ≤ n)
+    → (n : ℕ) × (MostOf d.fixed hand ≡ Some n) × (left_with hand d ≤ n) × (0 < left_with hand d)
 held_bounded c s None d clock order paired j is = absurd (let none : None ≡ Some j = sym paired.0 ∙ is in cc none)
-held_bounded c s (Some h) d clock order paired j is = (most_turns d.fixed h.program, refl, hands_are_bounded c s h d clock order paired)
+held_bounded c s (Some h) d clock order paired j is = (most_turns d.fixed h.program, refl, hands_are_bounded c s h d clock order paired, some_by (is_finished h.step) h.program d)

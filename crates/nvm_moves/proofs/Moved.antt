@@ -1,5 +1,5 @@
 -- What a call does as a move, and moves behind moves.
-use Rattle.nvm_moves.proofs.Common.{IfSome, IsTrue, is_none, option_map, not, ◌&&◌, ◌||◌, option_map_or, ◌≡◌, inl, inr, ◌≤◌, ◌<◌, ◌+◌, ℕ, Bool, true, false, List, [], ◌∷◌, ◌++◌, Option, Some, None, refl, sym, ap, ◌∙◌, subst, arith, append_assoc, append-nil, Rose, DeviceTold, faults_of, nothing_open, Clock, TakesKept, Lasts, same_clock, same_told, Entry, Ask, Pick, Wrote, Post, Off, Found, Configuration, State, Job, rank_of, at_first, after, after_from, Worn, histories_go_on, DeskState, state_of, is_hand_urgent, with_entries, OwesSince, has_urgent, worn_so_far, half_lasts, HandState, Fixed, Work, AreWorkedTo, IsSimple, costs_in, work_in, AreFirst, pages_in, none_worked, worked_more, Moment, Move, entry_list, entries_of, moment_behind, is_asked, is_found, is_picked, found_behind, Among, CountFailed, turns_beside, cases_Bool, left_with, most_turns, has_risen, is_at_rest, Bound, Cursor, Frame, bound_of, left_behind, next_by, cursor_behind, one_less, renewed, Along, Begun, Seen, all_with, frame_in, frame_of, moment_by, moment_seen, most_by, AreServed, DueAt, IsServable, HadPages, MayGoOn, FitsHand, IsBound, IsLawful, IsPaidAt, IsTurnTold, IsAt, IsHalfTold, AreAsked, HasMoved, MovesBy, WereCounted, lasts_more, price_in_faults, PaysSince, asked_urgency, since_stays, part_rises, half_goes, one_worked, HasImmediate, IsPaidSince, found_more, or_parts, risen, since_too, all_seen, device_begun, hand_begun, left_seen, most_seen, work_seen, ServesBy, due_by, KeepToWork, IsStartTold, IsStillTold, GrowsBy, ArePending, AreAsksMade, AreAsksTold, Owes}
+use Rattle.nvm_moves.proofs.Common.{Part, PartTold, IfSome, IsTrue, is_none, option_map, ◌&&◌, ◌||◌, option_map_or, ◌≡◌, inl, inr, ◌≤◌, ◌<◌, ◌+◌, ℕ, Bool, true, false, List, [], ◌∷◌, ◌++◌, Option, Some, None, refl, sym, ap, ◌∙◌, subst, arith, append_assoc, append-nil, Rose, DeviceTold, faults_of, Clock, TakesKept, Lasts, same_clock, same_told, Entry, Ask, Pick, Wrote, Post, Off, Found, Configuration, State, Job, rank_of, at_first, after, after_from, Worn, histories_go_on, DeskState, state_of, is_hand_urgent, with_entries, OwesSince, has_urgent, worn_so_far, half_lasts, HandState, Fixed, Work, AreWorkedTo, IsSimple, costs_in, AreFirst, pages_in, none_worked, worked_more, Moment, Move, entry_list, entries_of, moment_behind, is_asked, is_found, is_picked, found_behind, Among, CountFailed, turns_beside, cases_Bool, has_risen, is_at_rest, Bound, Cursor, Frame, bound_of, left_behind, next_by, cursor_behind, one_less, renewed, Along, Begun, Seen, frame_in, frame_of, moment_seen, AreServed, DueAt, IsServable, HadPages, MayGoOn, FitsHand, IsBound, IsLawful, IsPaidAt, IsTurnTold, LeavesTurns, IsAt, IsHalfTold, AreAsked, HasMoved, MovesBy, WereCounted, lasts_more, price_in_faults, PaysSince, asked_urgency, since_stays, part_rises, half_goes, one_worked, HasImmediate, IsPaidSince, found_more, or_parts, risen, since_too, all_seen, left_seen, most_seen, work_seen, ServesBy, due_by, KeepToWork, IsStartTold, IsStillTold, GrowsBy, ArePending, AreAsksMade, AreAsksTold, Owes}
 use Rattle.std.specs.Prelude.{if◌then◌else◌}
 use Rattle.nvm_moves.proofs.TurnEntries.{asks_urgent, none_more}
 use Rattle.nvm_moves.proofs.Along.{along_by, along_more, along_to, cursor_more, cursor_now, cursor_state, entries_more}
@@ -191,15 +191,11 @@ module _ (old new : Seen) where
     abbrev next : State
     next = after_from old.desk.config k.state (entry_list is.entry)
 
-    fewer_by : has_risen k.now.faults (faults_of new.device) ≡ false → is_picked is.entry ≡ false → next.off ≡ false → is_none next.hand ≡ false → next ≡ state_of new.desk → (0 < left_seen new) × (left_seen new < left_seen old)
-    fewer_by none picked on held behind =
-        is.fewer picked
-        (λ rose. let yes = risen (faults_of old.device) (faults_of new.device) rose in
-        let no_ : true ≡ false = sym yes ∙ ap (λ (m : Moment). has_risen m.faults (faults_of new.device)) (sym at.now) ∙ none in cc no_)
-        (ap (λ (s : State). s.off) (sym behind) ∙ on) (ap (λ (s : State). is_none s.hand) (sym behind) ∙ held)
+    leaves_by : is_picked is.entry ≡ false → next.off ≡ false → is_none next.hand ≡ false → next ≡ state_of new.desk → LeavesTurns (most_seen old) (left_seen old) (all_seen old) (Rose (faults_of old.device) (faults_of new.device) → ⊥) new
+    leaves_by picked on held behind = is.leaves picked (ap (λ (s : State). s.off) (sym behind) ∙ on) (ap (λ (s : State). is_none s.hand) (sym behind) ∙ held)
 
-    lowers_by : is_picked is.entry ≡ false → next.off ≡ false → is_none next.hand ≡ false → next ≡ state_of new.desk → (0 < all_seen new) × (all_seen new < all_seen old)
-    lowers_by picked on held behind = is.lowers picked (ap (λ (s : State). s.off) (sym behind) ∙ on) (ap (λ (s : State). is_none s.hand) (sym behind) ∙ held)
+    calm_by : has_risen k.now.faults (faults_of new.device) ≡ false → Rose (faults_of old.device) (faults_of new.device) → ⊥
+    calm_by none rose = let no_ : true ≡ false = sym (risen (faults_of old.device) (faults_of new.device) rose) ∙ ap (λ (m : Moment). has_risen m.faults (faults_of new.device)) (sym at.now) ∙ none in cc no_
 
     left_on : next ≡ state_of new.desk → IfSome (left_behind f k (of_turn is.entry)) (IsBound new)
     left_on behind = rw (is.turns.0, is.turns.1) (elim (cases_Bool (is_picked is.entry)) [
@@ -223,11 +219,12 @@ module _ (old new : Seen) where
         held_by : (b : Bound) → IsBound old b → (next.off || is_none next.hand) ≡ false → is_picked is.entry ≡ false → IsBound new (renewed b)
         held_by b low goes other =
             let (on, held) = or_parts next.off (is_none next.hand) goes in
-            let (n, was, few, most) = is.held other (ap (λ (s : State). s.off) (sym behind) ∙ on) (ap (λ (s : State). is_none s.hand) (sym behind) ∙ held) in
-            let same : n ≡ b.most = some_same n b.most (sym was ∙ low.1) in
-            let fewer = (lowers_by other on held behind).1 in
+            let leaves = leaves_by other on held behind in
+            let same : leaves.most ≡ b.most = some_same leaves.most b.most (sym leaves.was ∙ low.1) in
+            let few = leaves.within in
+            let fewer = leaves.in_all in
             let all = low.2 in
-            (omega (arith, few, same), most ∙ ap (λ (m : ℕ). Some m) same, omega (arith, fewer, all))
+            (omega (arith, few, same), leaves.is ∙ ap (λ (m : ℕ). Some m) same, omega (arith, fewer, all))
 
         by_fault : (o : Option Bound) → IfSome o (IsBound old) → (next.off || is_none next.hand) ≡ false → is_picked is.entry ≡ false → IfSome (option_map renewed o) (IsBound new)
         by_fault None low goes other = tt
@@ -237,15 +234,17 @@ module _ (old new : Seen) where
         by_left None low none goes other = tt
         by_left (Some b) low none goes other =
             let (on, held) = or_parts next.off (is_none next.hand) goes in
-            let less = (fewer_by none other on held behind).1 in
+            let less = (leaves_by other on held behind).fewer (calm_by none) in
             let few = low.0 in let held_then = held_by b low goes other in (omega (arith, less, few), held_then.1, held_then.2)
 
     posts_by : next ≡ state_of new.desk → (o : Option Bound) → IfSome o (IsBound old) → IfSome o (λ b. is_asked is.entry ≡ false → is_found is.entry ≡ false → is_picked is.entry ≡ false
         → next.off ≡ false → is_none next.hand ≡ false → (1 < b.all) × (has_risen k.now.faults (faults_of new.device) ≡ false → 1 < b.left))
     posts_by behind None low = tt
     posts_by behind (Some b) low = λ asked found picked on held.
-        let (some, fell) = lowers_by picked on held behind in let all = low.2 in
-        (omega (arith, some, fell, all), λ none. let few = fewer_by none picked on held behind in let least = few.0 in let less = few.1 in let most = low.0 in omega (arith, least, less, most))
+        let leaves = leaves_by picked on held behind in
+        let some = leaves.some in
+        let fell = leaves.in_all in
+        let all = low.2 in (omega (arith, some.1, fell, all), λ none. let less = leaves.fewer (calm_by none) in let most = low.0 in omega (arith, some.0, less, most))
 
   -- it is one move
   pub turn_moved : (within : Bool) → IsTurnTold old new → HasMoved within old new
@@ -411,12 +410,11 @@ asks_moved_by within asks old new is in_turn serves =
     let c = old.desk.config in
     let f = frame_of within old in
     let now = moment_seen old in
-    let same : now ≡ moment_seen new = ap (moment_by old.begun) (sym is.device) ∙ ap (λ (o : Option Begun). moment_by o new.device) (sym is.begun) in
-    let same_left : left_seen old ≡ left_seen new = ap (λ (o : Option Begun). left_by o old.hand old.device) (sym is.begun) ∙ ap (λ (h : Option HandState). left_by new.begun h old.device) (sym is.hand) ∙ ap (left_by new.begun new.hand) (sym is.device) in
-    let same_most : most_seen old ≡ most_seen new = ap (λ (o : Option Begun). most_by o old.hand old.device.fixed) (sym is.begun) ∙ ap (λ (h : Option HandState). most_by new.begun h old.device.fixed) (sym is.hand) ∙ ap (λ (d : DeviceTold). most_by new.begun new.hand d.fixed) (sym is.device) in
-    let same_all : all_seen old ≡ all_seen new = ap (λ (o : Option Begun). all_by o old.hand old.device) (sym is.begun) ∙ ap (λ (h : Option HandState). all_by new.begun h old.device) (sym is.hand) ∙ ap (all_by new.begun new.hand) (sym is.device) in
-    let same_work : work_seen old ≡ work_seen new = ap (λ (d : DeviceTold). work_in (hand_begun old.begun old.hand) (device_begun old.begun d)) (sym is.device) ∙ ap (λ (h : Option HandState). work_in (hand_begun old.begun h) (device_begun old.begun new.device)) (sym is.hand)
-    ∙ ap (λ (o : Option Begun). work_in (hand_begun o new.hand) (device_begun o new.device)) (sym is.begun) in
+    let same : now ≡ moment_seen new = rw (is.begun, is.device) refl in
+    let same_left : left_seen old ≡ left_seen new = rw (is.begun, is.hand, is.device) refl in
+    let same_most : most_seen old ≡ most_seen new = rw (is.begun, is.hand, is.device) refl in
+    let same_all : all_seen old ≡ all_seen new = rw (is.begun, is.hand, is.device) refl in
+    let same_work : work_seen old ≡ work_seen new = rw (is.begun, is.hand, is.device) refl in
     let as_many : faults_of new.device ≡ faults_of old.device = ap faults_of is.device in
     let fixed : new.device.fixed ≡ old.device.fixed = ap (λ (d : DeviceTold). d.fixed) is.device in
     record {
@@ -429,7 +427,7 @@ asks_moved_by within asks old new is in_turn serves =
       servable = λ since s. subst (λ (n : ℕ). IsServable n new) (asks_found now since asks is.are) (record { uncut = is.uncut s.uncut; first = subst AreFirst (sym fixed) s.first; sealed = is.seals since s.sealed });
       served = λ since s.
           served_as (turns_beside within) c (pages_in old.device.fixed c) (MayGoOn new.clock old.device.fixed.reserve) (DueAt old) (DueAt old) (due_by old.begun old.hand old.device (with_entries old.desk asks)) (DueAt new) since now (state_of old.desk) (asked_moves now asks)
-          (λ one id turns due. due) due_then (serves since s);
+          (λ one id turns due. due) (λ one id turns due. rw (is.begun, is.hand, is.device, is.adds) due) (serves since s);
       work = λ uncut simple. subst (λ (w : Work). KeepToWork (worn_so_far new.device new.clock) new.clock old w (asked_moves now asks)) same_work
           (asks_worked (costs_in old.device.fixed) (HadPages new.clock) (worn_so_far new.device new.clock) c now (state_of old.desk) (work_seen old) asks is.are);
       lawful = λ k at.
@@ -454,19 +452,6 @@ asks_moved_by within asks old new is in_turn serves =
                 (subst (λ (b : Bool). OwesSince b since new.hand new.device new.clock) urgency (subst (λ (h : Option HandState). OwesSince (has_urgent old.desk) since h new.device new.clock) (sym is.hand) on)),
           );
     }
-  where
-    left_by : Option Begun → Option HandState → DeviceTold → ℕ
-    left_by o h d = left_with (hand_begun o h) (device_begun o d)
-
-    all_by : Option Begun → Option HandState → DeviceTold → ℕ
-    all_by o h d = all_with (hand_begun o h) (device_begun o d)
-
-    -- behind them
-    due_then : (one : Bool) (id turns : ℕ) → due_by old.begun old.hand old.device (with_entries old.desk asks) one id turns → DueAt new one id turns
-    due_then one id turns due =
-        subst (λ (o : Option Begun). due_by o new.hand new.device new.desk one id turns) (sym is.begun)
-        (subst (λ (h : Option HandState). due_by old.begun h new.device new.desk one id turns) (sym is.hand)
-        (subst (λ (d : DeviceTold). due_by old.begun old.hand d new.desk one id turns) (sym is.device) (subst (λ (x : DeskState). due_by old.begun old.hand old.device x one id turns) (sym is.adds) due)))
 
 pub asks_moved : (within : Bool) (asks : List Entry) (old new : Seen) → AreAsksTold within asks old new → HasMoved within old new
 asks_moved within asks old new is = asks_moved_by within asks old new is.made (in_turn old.begun is.pending) (λ since s. serves since s old.begun is.pending)
@@ -499,18 +484,11 @@ half_moved within old new is =
     let faults : faults_of old.device ≡ faults_of new.device = ap faults_of (sym is.leaves) in
     let ops : old.device.ops ≡ new.device.ops = ap (λ (d : DeviceTold). d.ops) (sym is.leaves) in
     let fixed : new.device.fixed ≡ old.device.fixed = ap (λ (d : DeviceTold). d.fixed) is.leaves in
-    let begun : Option Begun = Some (record { state = state_of old.desk; hand = old.hand; device = old.device }) in
-    let busy = not (nothing_open old.device) in
-    let same : moment_seen old ≡ moment_seen new =
-    ap (λ (o : Option Begun). moment_by o old.device) is.between ∙ ap (λ (n : ℕ). record { faults = n; ops = old.device.ops; busy = busy }) faults ∙ ap (λ (n : ℕ). record { faults = faults_of new.device; ops = n; busy = busy }) ops
-    ∙ ap (λ (o : Option Begun). moment_by o new.device) (sym is.begun) in
-    let same_left : left_seen old ≡ left_seen new =
-    ap (λ (o : Option Begun). left_with (hand_begun o old.hand) (device_begun o old.device)) is.between ∙ ap (λ (o : Option Begun). left_with (hand_begun o new.hand) (device_begun o new.device)) (sym is.begun) in
-    let same_most : most_seen old ≡ most_seen new =
-    ap (λ (o : Option Begun). most_by o old.hand old.device.fixed) is.between ∙ ap (λ (f : Fixed). option_map (λ (h : HandState). most_turns f h.program) old.hand) (sym fixed) ∙ ap (λ (o : Option Begun). most_by o new.hand new.device.fixed) (sym is.begun) in
-    let same_all : all_seen old ≡ all_seen new =
-    ap (λ (o : Option Begun). all_with (hand_begun o old.hand) (device_begun o old.device)) is.between ∙ ap (λ (o : Option Begun). all_with (hand_begun o new.hand) (device_begun o new.device)) (sym is.begun) in
-    let same_work : work_seen old ≡ work_seen new = ap (λ (o : Option Begun). work_in (hand_begun o old.hand) (device_begun o old.device)) is.between ∙ ap (λ (o : Option Begun). work_in (hand_begun o new.hand) (device_begun o new.device)) (sym is.begun) in
+    let same : moment_seen old ≡ moment_seen new = rw (is.between, is.begun, faults, ops) refl in
+    let same_left : left_seen old ≡ left_seen new = rw (is.between, is.begun) refl in
+    let same_most : most_seen old ≡ most_seen new = rw (is.between, is.begun, fixed) refl in
+    let same_all : all_seen old ≡ all_seen new = rw (is.between, is.begun) refl in
+    let same_work : work_seen old ≡ work_seen new = rw (is.between, is.begun) refl in
     record {
       moves = [];
       tell = grows old.desk new.desk [] (is.desk ∙ none_more old.desk);
@@ -616,7 +594,7 @@ start_moves within old new is = record { moved = start_moved within old new is; 
 -- NOTHING
 pub still_moved : (within : Bool) (old new : Seen) → IsStillTold old new → HasMoved within old new
 still_moved within old new is =
-    let same_most : most_seen old ≡ most_seen new = ap (λ (o : Option Begun). most_by o old.hand old.device.fixed) (sym is.begun) ∙ ap (λ (h : Option HandState). most_by new.begun h old.device.fixed) (sym is.hand) ∙ ap (most_by new.begun new.hand) (sym is.fixed) in
+    let same_most : most_seen old ≡ most_seen new = rw (is.begun, is.hand, is.fixed) refl in
     let urgent : has_urgent old.desk ≡ has_urgent new.desk = ap has_urgent (sym is.desk) in
     let faults : faults_of new.device ≡ faults_of old.device = ap (λ (m : Moment). m.faults) is.moment in
     record {
@@ -649,9 +627,10 @@ pub still_moves : (within : Bool) (old new : Seen) → IsStillTold old new → M
 unfolding still_moved
 still_moves within old new is = record { moved = still_moved within old new is; are = refl }
 
-pub none_moves : (within : Bool) (s : Seen) → MovesBy within [] s s
-none_moves within s =
-    still_moves within s s (record {
+-- but what is kept
+pub kept_moves : (within : Bool) (s : Seen) (kept : (Part → PartTold) → Type 0) → ((before : Part → PartTold) → s.kept before → kept before) → MovesBy within [] s (record s { kept = kept })
+kept_moves within s kept stays =
+    still_moves within s (record s { kept = kept }) (record {
       desk = refl;
       hand = refl;
       begun = refl;
@@ -661,8 +640,11 @@ none_moves within s =
       work = refl;
       fixed = refl;
       lasts = same_told s.device s.clock s.device s.clock refl (same_clock s.clock);
-      stays = record { told = λ tells. tells; kept = λ before kept. kept };
+      stays = record { told = λ tells. tells; kept = stays };
       uncut = λ uncut. uncut;
       seals = λ since sealed. sealed;
       dues = λ one id turns due. due;
     })
+
+pub none_moves : (within : Bool) (s : Seen) → MovesBy within [] s s
+none_moves within s = kept_moves within s s.kept (λ before kept. kept)

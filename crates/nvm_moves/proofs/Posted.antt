@@ -1,6 +1,5 @@
 -- A job is posted within its turns, by the law along moves.
-use Rattle.nvm_moves.proofs.Common.{IfSome, ◌||◌, is_none, option_map, ◌≡◌, inl, inr, ◌≤◌, ℕ, Bool, true, false, List, [], ◌∷◌, ◌++◌, Option, Some, None, refl, sym, ap, ◌∙◌, subst, arith, cases_Bool, Rose, last_count, ops_of, Clock, Request, Reply, Entry, Ask, Pick, Wrote, Post, Off, Found, State, Job, job_block, next_of, after_from, picked, wrote, has_risen, asked_hand, Moment, Move, EachMove, PostsPicked, entry_list, is_asked, is_found, is_picked, Along, Bound, Cursor, Frame, bound_of, left_behind, next_by, one_less, renewed, FitsHand, IsLawful, nat_le, nat_lt, ◌-◌, eq-eqb, leb-true, ltb-true, IsMoveMade, IsPostedWithin, ends, fails, PostsAt, wrote_power, picked_power}
-use Rattle.nvm_moves.proofs.AskedBlocks.{ask_leaves_power}
+use Rattle.nvm_moves.proofs.Common.{IfSome, ◌||◌, is_none, option_map, ◌≡◌, inl, inr, ◌≤◌, ℕ, Bool, true, false, List, [], ◌∷◌, ◌++◌, Option, Some, None, refl, sym, ap, ◌∙◌, subst, arith, cases_Bool, Rose, last_count, ops_of, Clock, Request, Reply, Entry, Ask, Pick, Wrote, Post, Off, Found, State, Job, job_block, next_of, after_from, picked, wrote, has_risen, asked_hand, Moment, Move, EachMove, PostsPicked, entry_list, is_asked, is_found, is_picked, Along, Bound, Cursor, Frame, bound_of, left_behind, next_by, one_less, renewed, FitsHand, IsLawful, nat_le, nat_lt, ◌-◌, eq-eqb, leb-true, ltb-true, IsMoveMade, IsPostedWithin, ends, fails, PostsAt, asked_stays, wrote_stays, picked_stays}
 
 -- COUNTS
 risen_rose : (before behind : ℕ) → before ≤ behind → has_risen before behind ≡ true → Rose before behind
@@ -53,13 +52,13 @@ module _ (f : Frame) (clock : Clock) (k : Cursor) (m : Move) (one : IsLawful f.c
         let asked : is_asked m.entry ≡ true = ap is_asked is in
         let same : m.behind ≡ k.now = asked_still k.now m caller r reply is one.made in
         let rest = later j b (ap (λ (o : Option Entry). (after_from f.config k.state (entry_list o)).hand) is ∙ asked_hand f.config k.state r reply ∙ held) own
-        (ap (λ (o : Option Entry). (after_from f.config k.state (entry_list o)).off) is ∙ (ask_leaves_power f.config k.state caller r reply).1 ∙ on) (rw asked left) in
+        (ap (λ (o : Option Entry). (after_from f.config k.state (entry_list o)).off) is ∙ (asked_stays f.config k.state r reply).off ∙ on) (rw asked left) in
         inr (inl (asked, subst (λ (faults : ℕ). IsPostedWithin id b.most b.all b.left faults ms) (ap (λ (x : Moment). x.faults) same) rest))
     by (Some (Pick block kind t ops)) is = inr (inr (inr (inr (inl (ap (ends id) is)))))
     by (Some (Wrote i mark ops)) is =
         goes (ap is_asked is) (ap is_found is) (ap is_picked is) (record j { reserved = j.reserved - 1; written = j.written ++ i.index ∷ [] })
         (ap (λ (o : Option Entry). (after_from f.config k.state (entry_list o)).hand) is ∙ ap (λ (o : Option Job). (wrote k.state i mark o).hand) held) own
-        (ap (λ (o : Option Entry). (after_from f.config k.state (entry_list o)).off) is ∙ wrote_power k.state i mark k.state.hand ∙ on)
+        (ap (λ (o : Option Entry). (after_from f.config k.state (entry_list o)).off) is ∙ (wrote_stays k.state i mark k.state.hand).off ∙ on)
     by (Some (Post block r given refused ops)) is =
         let fits : IfSome k.state.hand (λ x. job_block x ≡ block) = subst (λ (o : Option Entry). FitsHand k.state o) is one.fits in
         let same : job_block j ≡ block = subst (λ (o : Option Job). IfSome o (λ x. job_block x ≡ block)) held fits in inr (inr (inr (inr (inl (ap (ends id) is ∙ eq-eqb block id (sym same ∙ own))))))
@@ -70,7 +69,7 @@ module _ (f : Frame) (clock : Clock) (k : Cursor) (m : Move) (one : IsLawful f.c
   picks : is_picked m.entry ≡ true → (e : Option Entry) → m.entry ≡ e → (is_asked m.entry ≡ false) × (is_found m.entry ≡ false) × (next.off ≡ false)
   picks picked (Some (Pick block kind t ops)) is =
       let on : k.state.off ≡ false = subst (λ (o : Option Entry). FitsHand k.state o) is one.fits in
-      (ap is_asked is, ap is_found is, ap (λ (o : Option Entry). (after_from f.config k.state (entry_list o)).off) is ∙ picked_power f.config k.state t (next_of f.config k.state) ∙ on)
+      (ap is_asked is, ap is_found is, ap (λ (o : Option Entry). (after_from f.config k.state (entry_list o)).off) is ∙ (picked_stays f.config k.state t (next_of f.config k.state)).off ∙ on)
   picks picked None is = absurd (none (sym picked ∙ ap is_picked is))
     where
       none : true ≡ false → ⊥

@@ -1,13 +1,14 @@
 -- The calls of a stack of one's own, as moves.
-use Rattle.nvm_moves.proofs.Common.{◌||◌, ◌≡◌, ◌⊎◌, inl, inr, ℕ, ◌+◌, ◌≤◌, Bool, true, false, List, [], ◌∷◌, ◌++◌, Option, Some, None, refl, sym, ap, ◌∙◌, subst, arith, last_count, DeviceTold, Fixed, Part, PartTold, Stand, Open, faults_of, is_off, is_open, most_open, Clock, Seals, FreesReady, InOrder, Lasts, same_clock, same_told, Request, Reply, Entry, Ask, Found, State, histories_step, Told, DeskState, state_of, HandState, IsDue, TurnServesDue, StaysKept, IsTied, KeepsSeal, TakesKeptInHand, Turned, Ended, IsSimple, tries_left, work_in, TurnsDevice, now_of, free_turns, IsOfBlock, left_on, TurnPays, worn_so_far, StackState, PowersOff, IsFirstHalf, left_with, TakesTurns, closed_tries, has_turned, has_risen, Move, entry_list, turns_beside, Seen, IsOn, all_with, moment_by, moment_seen, MayGoOn, MovesBy, EndedJob, armed, Arms, IsSealing, same_lasts, TellsSlots, KeepsDue, StartsUp, none_some, start_leaves, turns_start_none, seen_as, seen_in, KeepsToWork}
-use Rattle.std.specs.Prelude.{min, if◌then◌else◌}
+use Rattle.nvm_moves.proofs.Common.{◌||◌, ◌≡◌, inl, inr, ℕ, ◌+◌, ◌≤◌, Bool, true, false, List, [], ◌∷◌, ◌++◌, Option, Some, None, refl, sym, ap, ◌∙◌, subst, arith, last_count, DeviceTold, Fixed, Part, PartTold, faults_of, is_off, is_open, Clock, Seals, FreesReady, InOrder, Lasts, same_clock, same_told, Request, Reply, Entry, Ask, Found, State, histories_step, Told, DeskState, state_of, HandState, IsDue, TurnServesDue, StaysKept, IsTied, KeepsSeal, TakesKeptInHand, Turned, Ended, IsSimple, tries_left, work_in, TurnsDevice, now_of, free_turns, IsOfBlock, left_on, TurnPays, worn_so_far, StackState, PowersOff, IsFirstHalf, left_with, TakesTurns, closed_tries, has_risen, Move, entry_list, turns_beside, Seen, IsOn, all_with, moment_by, moment_seen, MayGoOn, MovesBy, SameClock, is_asked, is_found, plans, Arms, IsSealing, same_lasts, TellsSlots, KeepsDue, StartsUp, none_some, start_leaves, turns_start_none, seen_as, seen_in, KeepsToWork, asked_stays}
+use Rattle.std.specs.Prelude.{min, if◌then◌else◌, ◌==◌}
+use Rattle.nvm_core.specs.nv_base.Plan.{Planning, planned}
 use Rattle.nvm_core.specs.memif.Told.{ops_of}
 use Rattle.nvm_core.specs.nvm_laws.declared.turned.Turned.TheVariants as turned
 use Rattle.nvm_core.specs.Turns as core
-use Rattle.nvm_moves.proofs.AskedBlocks.{ask_leaves_power}
+use Rattle.nvm_moves.proofs.Beginning.{start_work}
 use Rattle.nvm_moves.proofs.DueAsked.{one_served}
-use Rattle.nvm_moves.proofs.Halves.{as_turn, turn_is_told}
-use Rattle.nvm_moves.proofs.Moved.{ask_moves, start_moves, still_moves, turn_moves}
+use Rattle.nvm_moves.proofs.Halves.{as_turn, device_fixed, turn_is_told}
+use Rattle.nvm_moves.proofs.Moved.{ask_moves, kept_moves, start_moves, still_moves, turn_moves}
 use Rattle.nvm_moves.proofs.Servable.{roomy}
 
 -- A TURN
@@ -31,50 +32,45 @@ module _ {D C : Type 0} (told : D → DeviceTold) (clock : D → Clock) (copies 
   turned_fixed : (answer : Turned) (old new : StackState D C) → core.Turns told clock copies is_store looked answer old new → (told new.device).fixed ≡ (told old.device).fixed
   turned_fixed answer old new (inl half) = ap (λ (d : DeviceTold). d.fixed) half.device
   turned_fixed answer old new (inr (between, half, rest)) =
-      let (a, is) = as_turn answer (told between.device) (clock between.device) (told new.device) (clock new.device) rest.turns in
-      (has_turned a (told between.device) (clock between.device) (told new.device) (clock new.device) is).fixed ∙ ap (λ (d : DeviceTold). d.fixed) half.device
+      device_fixed answer (told between.device) (clock between.device) (told new.device) (clock new.device) rest.turns ∙ ap (λ (d : DeviceTold). d.fixed) half.device
 
   went_off : (answer : Turned) (old new : StackState D C) → answer ≡ turned.Off → IsFirstHalf told copies is_store looked (Ended answer) old new → PowersOff new.desk (told new.device) → (state_of old.desk).off ≡ true
   went_off answer old new is half power =
       let off = (subst (λ (a : Turned). IsFirstHalf told copies is_store looked (Ended a) old new) is half).half in
       ap (λ (d : DeskState). (state_of d).off) (sym off.0.0) ∙ power off.1
 
-  -- it is one move, with the entry that it added, if any
+  -- it is one move, with the entry that it added, if any, which no request and no start-up adds
   pub stack_turns : (answer : Turned) (old new : StackState D C) → core.Turns told clock copies is_store looked answer old new → old.ready ≡ true → StaysKept old.desk old.hand (told old.device) (clock old.device) new.desk new.hand (told new.device) (clock new.device)
       → faults_of (told old.device) ≤ faults_of (told new.device) → TakesTurns told answer old new → Lasts (told old.device) (clock old.device) (told new.device) (clock new.device) → TurnPays told clock old new
       → TurnServesDue (now_of told old) (now_of told new) → KeepsSeal (told old.device) (clock old.device) (told new.device) (clock new.device) → TakesKeptInHand old.desk (told old.device) (told new.device) (clock new.device)
       → IsTied old.desk old.hand (told old.device) → (new.ready ≡ true → IsTied new.desk new.hand (told new.device)) → (new.ready ≡ true → PowersOff new.desk (told new.device)) → InOrder (told old.device) (clock old.device) → InOrder (told new.device) (clock new.device)
-      → (e : Option Entry) × (new.desk.entries ≡ old.desk.entries ++ entry_list e) × MovesBy false (record { entry = e; behind = moment_by None (told new.device) } ∷ []) (seen_in told clock old) (seen_in told clock new)
+      → (e : Option Entry) × (new.desk.entries ≡ old.desk.entries ++ entry_list e) × ((is_asked e ≡ false) × (is_found e ≡ false)) × MovesBy false (record { entry = e; behind = moment_by None (told new.device) } ∷ []) (seen_in told clock old) (seen_in told clock new)
   stack_turns answer old new turns ready keeps counted left lasts pays due seals kept tied tied_new power order order_new =
       let up : new.ready ≡ true = turned_ready answer old new turns ∙ ready in
       let is =
       turn_is_told told clock copies is_store looked old new (IsOn old.desk (told old.device)) (IsOn new.desk (told new.device)) (λ on. stays_on new.desk (told old.device) (told new.device) (turned_fixed answer old new turns) (power up) on.one) keeps answer turns counted lasts pays kept
       (λ half off. went_off answer old new off half (power up)) left tied (tied_new up).paired seals due order order_new (λ on. on) (λ on. on) in
-      (is.entry, ap (λ (d : DeskState). d.entries) is.adds, turn_moves (seen_in told clock old) (seen_in told clock new) false is)
+      (is.entry, ap (λ (d : DeskState). d.entries) is.adds, is.turns, turn_moves (seen_in told clock old) (seen_in told clock new) false is)
 
 -- OTHER CALLS
--- a plan changes nothing else
-record IsAlike (old new : DeviceTold) : Type 0 where
-  off : is_off new ≡ is_off old
-  ops : new.ops ≡ old.ops
-  sealing : IsSealing old → IsSealing new
+-- a plan changes the planning of a part alone
+abbrev with_planning : (p q : Planning) → DeviceTold → DeviceTold
+with_planning p q d = record d { first = record d.first { planning = p }; second = record d.second { planning = q } }
 
-armed_alike : (nth keep : ℕ) (d : DeviceTold) → IsAlike d (armed 0 nth keep d)
-armed_alike nth keep d = record { off = refl; ops = refl; sealing = λ is. record { switching = is.switching; ready = is.ready } }
+plans_alone : (one two : Bool) (nth keep : ℕ) (d : DeviceTold) → (p q : Planning) × ((if one then record d { first = plans nth keep d.first } else (if two then record d { second = plans nth keep d.second } else d)) ≡ with_planning p q d)
+plans_alone true two nth keep d = (planned nth keep d.first.planning, d.second.planning, refl)
+plans_alone false true nth keep d = (d.first.planning, planned nth keep d.second.planning, refl)
+plans_alone false false nth keep d = (d.first.planning, d.second.planning, refl)
 
-arms_keep_seal : (nth keep : ℕ) (old : DeviceTold) (clock : Clock) (new : DeviceTold) (clock_new : Clock) → Arms 0 nth keep old clock new clock_new → KeepsSeal old clock new clock_new
-arms_keep_seal nth keep old clock new clock_new (is, stays) since sealed on k later last few seals =
-    let alike = armed_alike nth keep old in
-    let ops : new.ops ≡ old.ops = ap (λ (d : DeviceTold). d.ops) is ∙ alike.ops in
-    subst IsSealing (sym is) (alike.sealing (sealed (sym (ap is_off is ∙ alike.off) ∙ on) k later (omega (arith, ops, last)) (omega (arith, ops, few)) ((stays.same.was Seals k).0 seals)))
+left_alone : (p q : Planning) (hand : Option HandState) (d : DeviceTold) → (left_with hand (with_planning p q d) ≡ left_with hand d) × (all_with hand (with_planning p q d) ≡ all_with hand d)
+left_alone p q None d = (refl, refl)
+left_alone p q (Some h) d = (refl, refl)
 
-armed_left : (nth keep : ℕ) (hand : Option HandState) (d : DeviceTold) → left_with hand (armed 0 nth keep d) ≡ left_with hand d
-armed_left nth keep None d = refl
-armed_left nth keep (Some h) d = refl
-
-armed_all : (nth keep : ℕ) (hand : Option HandState) (d : DeviceTold) → all_with hand (armed 0 nth keep d) ≡ all_with hand d
-armed_all nth keep None d = refl
-armed_all nth keep (Some h) d = refl
+plan_keeps_seal : (p q : Planning) (old : DeviceTold) (clock : Clock) (new : DeviceTold) (clock_new : Clock) → new ≡ with_planning p q old → SameClock clock clock_new → KeepsSeal old clock new clock_new
+plan_keeps_seal p q old clock new clock_new is same since sealed on k later last few seals =
+    let ops : new.ops ≡ old.ops = ap (λ (d : DeviceTold). d.ops) is in
+    let kept = sealed (sym (ap is_off is) ∙ on) k later (omega (arith, ops, last)) (omega (arith, ops, few)) ((same.was Seals k).0 seals) in
+    subst IsSealing (sym is) (record { switching = kept.switching; ready = kept.ready })
 
 module _ {D C : Type 0} (told : D → DeviceTold) (clock : D → Clock) (old new : StackState D C) (kept kept_new : (Part → PartTold) → Type 0) (stays : (before : Part → PartTold) → kept before → kept_new before) where
   abbrev Old : Seen
@@ -103,7 +99,7 @@ module _ {D C : Type 0} (told : D → DeviceTold) (clock : D → Clock) (old new
         stays = record { told = subst (λ (s : StackState D C). TellsSlots (told s.device)) is; kept = stays };
         uncut = λ on. subst (λ (s : StackState D C). IsOn s.desk (told s.device)) (sym is) (record {
           one = on.one;
-          power = λ off. ap (λ (x : State). x.off) (histories_step old.desk.config old.desk.entries e) ∙ (ask_leaves_power old.desk.config (state_of old.desk) caller r reply).1 ∙ on.power off;
+          power = λ off. ap (λ (x : State). x.off) (histories_step old.desk.config old.desk.entries e) ∙ (asked_stays old.desk.config (state_of old.desk) r reply).off ∙ on.power off;
         });
         seals = subst (λ (s : StackState D C). KeepsSeal (told old.device) (clock old.device) (told s.device) (clock s.device)) (sym is) (λ since sealed. sealed);
       }) tt
@@ -112,88 +108,50 @@ module _ {D C : Type 0} (told : D → DeviceTold) (clock : D → Clock) (old new
       (subst (λ (s : StackState D C). KeepsDue (now_of told old) (now_of told s)) is due))
 
   -- a power cut that is planned
-  pub stack_arms : (nth keep : ℕ) → new ≡ record old { device = new.device } → Arms 0 nth keep (told old.device) (clock old.device) (told new.device) (clock new.device) → (TellsSlots (told new.device) → TellsSlots (told old.device)) → KeepsDue (now_of told old) (now_of told new)
+  pub stack_arms : (which nth keep : ℕ) → new ≡ record old { device = new.device } → Arms which nth keep (told old.device) (clock old.device) (told new.device) (clock new.device) → (TellsSlots (told new.device) → TellsSlots (told old.device)) → KeepsDue (now_of told old) (now_of told new)
       → MovesBy false [] Old New
-  stack_arms nth keep only arms tells due =
+  stack_arms which nth keep only arms tells due =
+      let d = told old.device in
       let desk = ap (λ (s : StackState D C). s.desk) only in
       let hand = ap (λ (s : StackState D C). s.hand) only in
+      let (p, q, alone) = plans_alone (which == 0) (which == 1) nth keep d in
+      let is : told new.device ≡ with_planning p q d = arms.0 ∙ alone in
+      let same = left_alone p q old.hand d in
       still_moves false Old New (record {
         desk = desk;
         hand = hand;
         begun = refl;
-        moment = ap (moment_by None) arms.0;
-        left = ap (λ (h : Option HandState). left_with h (told new.device)) hand ∙ ap (left_with old.hand) arms.0 ∙ armed_left nth keep old.hand (told old.device);
-        in_all = ap (λ (h : Option HandState). all_with h (told new.device)) hand ∙ ap (all_with old.hand) arms.0 ∙ armed_all nth keep old.hand (told old.device);
-        work = ap (λ (h : Option HandState). work_in h (told new.device)) hand ∙ ap (work_in old.hand) arms.0;
-        fixed = ap (λ (d : DeviceTold). d.fixed) arms.0;
-        lasts = same_lasts (told old.device) (clock old.device) (told new.device) (clock new.device) (ap (λ (d : DeviceTold). d.ops) arms.0) (ap (λ (d : DeviceTold). d.first.faults) arms.0) (ap (λ (d : DeviceTold). d.second.faults) arms.0) arms.1.same;
+        moment = ap (moment_by None) is;
+        left = ap (λ (h : Option HandState). left_with h (told new.device)) hand ∙ ap (left_with old.hand) is ∙ same.0;
+        in_all = ap (λ (h : Option HandState). all_with h (told new.device)) hand ∙ ap (all_with old.hand) is ∙ same.1;
+        work = ap (λ (h : Option HandState). work_in h (told new.device)) hand ∙ ap (work_in old.hand) is;
+        fixed = ap (λ (x : DeviceTold). x.fixed) is;
+        lasts = same_lasts d (clock old.device) (told new.device) (clock new.device) (ap (λ (x : DeviceTold). x.ops) is) (ap (λ (x : DeviceTold). x.first.faults) is) (ap (λ (x : DeviceTold). x.second.faults) is) arms.1.same;
         stays = record { told = tells; kept = stays };
-        uncut = λ on. record {
-          one = ap (λ (d : DeviceTold). d.fixed.two) arms.0 ∙ on.one;
-          power = λ off. ap (λ (d : DeskState). (state_of d).off) desk ∙ on.power (sym (ap (λ (d : DeviceTold). d.first.off) arms.0) ∙ off);
-        };
-        seals = arms_keep_seal nth keep (told old.device) (clock old.device) (told new.device) (clock new.device) arms;
+        uncut = λ on. record { one = ap (λ (x : DeviceTold). x.fixed.two) is ∙ on.one; power = λ off. ap (λ (x : DeskState). (state_of x).off) desk ∙ on.power (sym (ap (λ (x : DeviceTold). x.first.off) is) ∙ off) };
+        seals = plan_keeps_seal p q d (clock old.device) (told new.device) (clock new.device) is arms.1.same;
         dues = λ one id turns was. record {
           number = was.number;
           due = subst (λ (h : Option HandState). IsDue was.number (turns + free_turns one h) (now_of told new)) (sym hand) (due was.number (turns + free_turns one old.hand) was.due);
-          block = subst (λ (d : DeskState). IsOfBlock was.number id (state_of d)) (sym desk) was.block;
-          on = ap (λ (d : DeskState). (state_of d).off) desk ∙ was.on;
+          block = subst (λ (x : DeskState). IsOfBlock was.number id (state_of x)) (sym desk) was.block;
+          on = ap (λ (x : DeskState). (state_of x).off) desk ∙ was.on;
         };
       })
 
   -- what changes the copies alone, or nothing
   pub stack_stays : (xs : C) → new ≡ record old { copies = xs } → MovesBy false [] Old New
-  stack_stays xs is =
-      subst (λ (s : StackState D C). MovesBy false [] Old (seen_as told clock kept_new s)) (sym is)
-      (still_moves false Old (seen_as told clock kept_new old) (record {
-        desk = refl;
-        hand = refl;
-        begun = refl;
-        moment = refl;
-        left = refl;
-        in_all = refl;
-        work = refl;
-        fixed = refl;
-        lasts = still_lasts old;
-        stays = record { told = λ tells. tells; kept = stays };
-        uncut = λ on. on;
-        seals = λ since sealed. sealed;
-        dues = λ one id turns due. due;
-      }))
+  stack_stays xs is = subst (λ (s : StackState D C). MovesBy false [] Old (seen_as told clock kept_new s)) (sym is) (kept_moves false Old kept_new stays)
 
   -- A START-UP
   -- its work is what it leaves, paid by a fault
   module _ (starts : StartsUp told old new) (order : InOrder (told new.device) (clock new.device)) where
-    d : DeviceTold
-    d = told old.device
-
-    n : DeviceTold
-    n = told new.device
-
     abbrev move : Move
     move = record { entry = Some (Found starts.marks (ops_of (told new.device))); behind = moment_by None (told new.device) }
 
-    none_open : (f : Fixed) (stand : Stand) → is_open stand ≡ false → most_open f stand ≡ 0
-    none_open f (Open j) closed = let P : true ≡ false = closed in absurd (cc P)
-    none_open f (EndedJob result given) closed = refl
-
-    on_left : (off : Bool) (left : ℕ) → (if off then 0 else left) ≤ left
-    on_left true left = omega arith
-    on_left false left = omega arith
-
-    few_left : (b : Bool) → (told new.device).left ≤ (told new.device).fixed.own → ((told new.device).left ≡ 0) ⊎ (b ≡ true) → left_on (told new.device) ≤ (told new.device).left
-        → left_on (told new.device) ≤ (if b then (told new.device).fixed.own else 0)
-    few_left true most leaves less = omega (arith, most, less)
-    few_left false most (inl none) less = omega (arith, none, less)
-    few_left false most (inr never) less = absurd (let P : false ≡ true = never in cc P)
-
     leaves_few : IsSimple (told old.device).fixed → left_on (told new.device) ≤ (if has_risen (faults_of (told old.device)) (faults_of (told new.device)) then (told old.device).fixed.own else 0)
     leaves_few simple =
-        let none = none_open (told new.device).fixed (told new.device).stand starts.finds.at_rest in
-        let most = order.bounded in
         subst (λ (f : Fixed). left_on (told new.device) ≤ (if has_risen (faults_of (told old.device)) (faults_of (told new.device)) then f.own else 0)) starts.finds.up.restarted.fixed
-        (few_left (has_risen (faults_of (told old.device)) (faults_of (told new.device))) (omega (arith, none, most)) (start_leaves starts.marks (told old.device) (told new.device) starts.finds simple)
-        (on_left (is_off (told new.device)) (told new.device).left))
+        (start_work (told new.device) (clock new.device) order starts.finds.at_rest (has_risen (faults_of (told old.device)) (faults_of (told new.device))) (start_leaves starts.marks (told old.device) (told new.device) starts.finds simple)).0
 
     more_in : (l x y u v : ℕ) → x ≤ u → y ≤ v → min (x + y) l ≤ min (u + v) l
     more_in l x y u v first second = omega (arith, first, second)

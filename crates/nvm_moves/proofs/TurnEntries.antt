@@ -1,5 +1,5 @@
 -- The entry of a driver's turn, if it adds one.
-use Rattle.nvm_moves.proofs.Common.{IfSome, append-nil, ◌≡◌, ◌⊎◌, inl, inr, ℕ, true, false, List, [], Option, Some, None, refl, sym, ap, ◌∙◌, ops_of, DeviceTold, Stand, Open, Closed, JobResult, JobOk, Mark, Taken, Entry, Ask, Pick, Post, Found, Configuration, State, Next, PostMember, EndSweep, next_of, step, after_from, Told, DeskState, state_of, IsPostedNext, settled_by, wrote_by, IsHalf, AddsBy, Turned, Ended, is_posted, asked_by, histories_go_on, entry_list, is_asked, is_found, urgent_block, is_of_jobs, jobs_keep_power, with_more}
+use Rattle.nvm_moves.proofs.Common.{IfSome, append-nil, ◌≡◌, ◌⊎◌, inl, inr, ℕ, true, false, List, [], Option, Some, None, refl, sym, ap, ◌∙◌, ops_of, Stand, Open, Closed, JobResult, JobOk, Mark, Entry, Ask, Found, Configuration, State, step, after_from, DeskState, state_of, settled_by, wrote_by, AddsBy, Turned, is_posted, asked_by, histories_go_on, entry_list, is_asked, is_found, urgent_block, is_of_jobs, jobs_keep_power, with_more}
 use Rattle.nvm_core.specs.memif.Told as device
 use Rattle.nvm_core.specs.nvm_laws.declared.turned.Turned.TheVariants as turned
 use Rattle.promise_run.specs.Turns.{is_off}
@@ -57,25 +57,8 @@ on_behind ops old new (Some e) one on = ap (λ (s : State). s.off) (state_behind
 pub none_more : (desk : DeskState) → desk ≡ with_more desk []
 none_more desk = ap (λ (h : List Entry). record desk { entries = h }) (sym (append-nil desk.entries))
 
--- THE FIRST HALF
 none_added : (ops : ℕ) (old new : DeskState) → new ≡ old → AddsOne ops old new None
 none_added ops old new same = record { adds = same ∙ none_more old; of = tt }
-
-posted_next : (n : Next) (ops : ℕ) (old new : DeskState) (before after : List Told) → IsPostedNext n ops old new before after → (e : Option Entry) × AddsOne ops old new e × (is_off e ≡ false)
-posted_next (PostMember sw id) ops old new before after is = (Some (Post id is.result is.given is.refused ops), record { adds = is.adds; of = record { told = refl; kind = inl refl } }, refl)
-posted_next (EndSweep sw) ops old new before after is = (Some (Post 0 is.result is.given is.refused ops), record { adds = is.adds; of = record { told = refl; kind = inl refl } }, refl)
-posted_next n ops old new before after is = absurd is
-
-pub half_adds_one : (answer : Turned) (Holds : ℕ → Taken → Type 0) (Fits : Type 0) (old new : DeskState) (before after : List Told) (d : DeviceTold) → IsHalf (Ended answer) Holds Fits old new before after d
-    → (e : Option Entry) × AddsOne (device.ops_of d) old new e × (is_off e ≡ false)
-half_adds_one turned.Off Holds Fits old new before after d half = (None, none_added (device.ops_of d) old new half.0.0, refl)
-half_adds_one turned.Idle Holds Fits old new before after d half = (None, none_added (device.ops_of d) old new half.0.0, refl)
-half_adds_one turned.Worked Holds Fits old new before after d half = absurd half
-half_adds_one turned.Picked Holds Fits old new before after d (block, is) =
-    (Some (Pick block is.kind is.taken (device.ops_of d)), record { adds = is.adds; of = record { told = refl; kind = inl refl } }, refl)
-half_adds_one turned.Posted Holds Fits old new before after d (inl held) =
-    (Some (Post _ held.is.result held.is.given held.is.refused (device.ops_of d)), record { adds = held.is.adds; of = record { told = refl; kind = inl refl } }, refl)
-half_adds_one turned.Posted Holds Fits old new before after d (inr next) = posted_next (next_of old.config (state_of old)) (device.ops_of d) old new before after next.1
 
 -- THE DEVICE'S TURN
 by_one : (ops : ℕ) (o : Option Entry) (old new : DeskState) → IfSome o (IsOfTurn ops) → AddsBy o old new → AddsOne ops old new o

@@ -115,6 +115,17 @@ pub record MovesBy (within : Bool) (moves : List Move) (old new : Seen) : Type 0
   pub are : moved.moves ≡ moves
 
 -- WHAT A CALL TELLS
+-- Behind a turn that leaves the job in hand it has the most that it had, of which at most all are left, whatever failed; fewer are left in
+-- all, and where this holds fewer of the most.
+pub record LeavesTurns (had : Option ℕ) (left all : ℕ) (calm : Type 0) (new : Seen) : Type 0 where
+  pub most : ℕ
+  pub was : had ≡ Some most
+  pub is : most_seen new ≡ Some most
+  pub within : left_seen new ≤ most
+  pub some : (0 < left_seen new) × (0 < all_seen new)
+  pub in_all : all_seen new < all
+  pub fewer : calm → left_seen new < left
+
 -- A turn, where nothing came within it: it adds one entry at most, and makes one operation at most.
 pub record IsTurnTold (old new : Seen) : Type 0 where
   pub entry : Option Entry
@@ -122,12 +133,9 @@ pub record IsTurnTold (old new : Seen) : Type 0 where
   pub ended : new.begun ≡ None
   pub begins : (s : State) × (((b : Begun) × (old.begun ≡ Some b) × (b.state ≡ s)) ⊎ (state_of old.desk ≡ s)) × BeginsIn s entry
   pub fits : FitsHand (state_of old.desk) entry
-  -- behind a Pick at most the most turns of its job are left, and so behind any turn that leaves it in hand; where no fault is counted fewer,
-  -- and fewer in all
+  -- behind a Pick at most the most turns of its job are left
   pub most : is_picked entry ≡ true → IfSome (state_of new.desk).hand (λ j. IsBound new (bound_of (frame_in false old.desk.config old.device.fixed) (state_of new.desk) j))
-  pub held : is_picked entry ≡ false → (state_of new.desk).off ≡ false → is_none (state_of new.desk).hand ≡ false → (n : ℕ) × (most_seen old ≡ Some n) × (left_seen new ≤ n) × (most_seen new ≡ Some n)
-  pub lowers : is_picked entry ≡ false → (state_of new.desk).off ≡ false → is_none (state_of new.desk).hand ≡ false → (0 < all_seen new) × (all_seen new < all_seen old)
-  pub fewer : is_picked entry ≡ false → (Rose (faults_of old.device) (faults_of new.device) → ⊥) → (state_of new.desk).off ≡ false → is_none (state_of new.desk).hand ≡ false → (0 < left_seen new) × (left_seen new < left_seen old)
+  pub leaves : is_picked entry ≡ false → (state_of new.desk).off ≡ false → is_none (state_of new.desk).hand ≡ false → LeavesTurns (most_seen old) (left_seen old) (all_seen old) (Rose (faults_of old.device) (faults_of new.device) → ⊥) new
   pub rests : IsTrue (is_at_rest (state_of old.desk)) → (moment_seen old).busy ≡ false → (entry ≡ None) × (moment_seen new ≡ moment_seen old)
   pub adds : new.desk ≡ with_entries old.desk (entry_list entry)
   pub one : new.device.ops ≤ old.device.ops + 1

@@ -9,7 +9,7 @@ use anyhow::bail;
 use nv_base::History;
 use nvm_script::{Mode, StepList, entry_text, first_line, read_script};
 use nvm_top::nvm_flash::{CAP, Config, FoundAnswer, PlainStore, PlainSync, Stack, read};
-use script_player::{PlainStack, cuts_of, make_steps};
+use script_player::{cuts_of, make_steps};
 use std::alloc::{AllocError, Global};
 
 /// Plays the script of an input over a device in memory, which has no fault and no power cut, and gives the text of the
@@ -21,12 +21,11 @@ pub fn play_in_memory(alloc: Global, input: &[u8]) -> anyhow::Result<Vec<u8>> {
         bail!("a device in memory has no power cut");
     }
     let blocks = config.blocks();
-    let stack = start(alloc, config)?;
-    let mut stack = PlainStack::over(stack);
+    let mut stack = start(alloc, config)?;
     if make_steps(alloc, steps, blocks, &mut stack).is_err() {
         bail!("a step isn't made in memory");
     }
-    kept_text(alloc, stack.stack())
+    kept_text(alloc, &stack)
 }
 
 // The steps of an input.

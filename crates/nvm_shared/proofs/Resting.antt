@@ -1,18 +1,14 @@
 -- A turn behind which nothing is pending, or the power is off.
 use Rattle.std.specs.Prelude.{IsTrue}
-use Rattle.std.proofs.Common.{◌≡◌, inl, inr, ℕ, ◌||◌, if◌then◌else◌, Bool, true, false, List, [], ◌∷◌, ◌++◌, Option, Some, None, refl, sym, ap, ◌∙◌, subst}
-use Rattle.std.proofs.lemmas.Bool.{cases_Bool}
+use Rattle.std.proofs.Common.{◌≡◌, inl, inr, ℕ, ◌||◌, true, false, List, [], ◌∷◌, ◌++◌, Option, None, refl, sym, ap, ◌∙◌, subst}
 use Rattle.std.proofs.lemmas.List.{append-nil, append_cancel_left}
 use Rattle.nvm_core.specs.memif.Told.{DeviceTold, Stand, Open, Ended as Closed, is_open, nothing_open, ops_of}
 use Rattle.nvm_core.specs.memif.Clock.{Clock}
-use Rattle.nvm_core.specs.block_machine.Words.{Entry, Off, Taken, Configuration}
-use Rattle.nvm_core.specs.block_machine.State.{State, Job, Sweep}
-use Rattle.nvm_core.specs.block_machine.Blocks.{block_at, desc_of}
-use Rattle.nvm_core.specs.block_machine.Next.{Nothing, PickJob, BeginSweep, PickMember, PostMember, next_by, next_in, next_in_sweep, next_member, next_of}
-use Rattle.nvm_core.specs.block_machine.Sweeps.{is_picked}
+use Rattle.nvm_core.specs.block_machine.Words.{Entry, Off, Taken}
+use Rattle.nvm_core.specs.block_machine.State.{State}
+use Rattle.nvm_core.specs.block_machine.Next.{next_of}
 use Rattle.nvm_core.specs.block_machine.Steps.{after}
 use Rattle.nvm_core.proofs.block_laws.HistoryLaws.{histories_step}
-use Rattle.nvm_core.proofs.block_laws.NextLaws.{none_waits}
 use Rattle.nvm_core.specs.ram_blocks.Told.{Told}
 use Rattle.nvm_core.specs.nv_desk.Desk.{DeskState, state_of}
 use Rattle.nvm_core.specs.job_progress.Hand.{HandState}
@@ -26,51 +22,14 @@ use Rattle.nvm_core.specs.nvm_laws.declared.turned.Act.TheVariants.{Ended, Devic
 use Rattle.nvm_core.specs.nvm_laws.declared.turned.Turned.{Turned}
 use Rattle.nvm_core.specs.nvm_laws.declared.turned.Turned.TheVariants as turned
 use Rattle.script_walks.specs.Walk.{is_at_rest}
+use Rattle.script_walks.proofs.Resting.{at_rest, off_ends, rest_ends}
 use Rattle.nvm_shared.specs.Behind.{AreAsks, with_more}
 use Rattle.nvm_shared.specs.Passes.{IsDrivenOn}
 use Rattle.nvm_shared.specs.Driving.{BeginsTurn, DriverState, EndsTurn, NeedsNoMore}
 
--- NOTHING IS PENDING
-some_member : (c : Configuration) (s : State) (sw : Sweep) (ids : List ℕ) → next_member c s sw ids ≡ Nothing → ⊥
-some_member c s sw [] none = cc
-some_member c s sw (id ∷ ids) none = by (is_picked (desc_of c id) (block_at s id) sw id) none
-  where
-    by : (t : Bool) → (if t then PickMember sw id else PostMember sw id) ≡ Nothing → ⊥
-    by true e = cc
-    by false e = cc
-
-some_sweep : (c : Configuration) (s : State) (sw : Sweep) → next_in_sweep c s sw ≡ Nothing → ⊥
-some_sweep c s sw none = by sw.under_way none
-  where
-    by : (t : Bool) → (if t then next_member c s sw (if sw.canceled then [] else sw.left) else BeginSweep sw) ≡ Nothing → ⊥
-    by true e = some_member c s sw (if sw.canceled then [] else sw.left) e
-    by false e = cc
-
-rest_by : (s : State) → s.hand ≡ None → s.waiting ≡ [] → s.sweep ≡ None → is_at_rest s ≡ true
-rest_by s hand waiting sweep = rw (hand, waiting, sweep) refl
-
--- nothing is in hand, and nothing comes next
-at_rest : (c : Configuration) (s : State) → s.hand ≡ None → next_of c s ≡ Nothing → is_at_rest s ≡ true
-at_rest c s hand none = by (next_in c s.waiting) refl s.sweep refl
-  where
-    by : (o : Option Job) → next_in c s.waiting ≡ o → (w : Option Sweep) → s.sweep ≡ w → is_at_rest s ≡ true
-    by (Some j) is w sweep = absurd (no (sym (ap (λ (o : Option Job). next_by c s o s.hand s.sweep) is) ∙ none))
-      where
-        no : PickJob j ≡ Nothing → ⊥
-        no e = cc
-    by None is None sweep = rest_by s hand (none_waits c s.waiting is) sweep
-    by None is (Some sw) sweep =
-        absurd (some_sweep c s sw (sym (ap (λ (o : Option Job). next_by c s o s.hand s.sweep) is ∙ ap (λ (h : Option Job). next_by c s None h s.sweep) hand ∙ ap (λ (x : Option Sweep). next_by c s None None x) sweep) ∙ none))
-
 -- THE END
 abbrev HasEnded : State → Type 0
 HasEnded s = IsTrue (is_at_rest s || s.off)
-
-rests : (s : State) → is_at_rest s ≡ true → HasEnded s
-rests s rest = rw rest refl
-
-is_off : (s : State) → s.off ≡ true → HasEnded s
-is_off s off = elim (cases_Bool (is_at_rest s)) [ inl on ↦ rw on refl | inr none ↦ rw (none, off) refl ]
 
 -- where only the driver adds, no request comes between
 no_asks : (seen seen_new asks : List Entry) → AreAsks asks → IsDrivenOn seen seen_new → seen_new ≡ seen ++ asks → asks ≡ []
@@ -91,8 +50,8 @@ closed_settles (Closed result given) new ops closed = refl
 half_rests : (answer : Turned) (hand : Option HandState) (Holds : ℕ → Taken → Type 0) (Fits : Type 0) (x y : DeskState) (before after : List Told) (d : DeviceTold)
     → IsHalf (Ended answer) Holds Fits x y before after d → (Ended answer ≡ Ended turned.Off → (state_of y).off ≡ true) → NeedsNoMore answer hand → HasEnded (state_of y)
 half_rests turned.Idle hand Holds Fits x y before after d half off no_more =
-    rests (state_of y) (ap (λ (z : DeskState). is_at_rest (state_of z)) half.0.0 ∙ at_rest x.config (state_of x) half.1.hand half.1.next)
-half_rests turned.Off hand Holds Fits x y before after d half off no_more = is_off (state_of y) (off refl)
+    rest_ends (state_of y) (ap (λ (z : DeskState). is_at_rest (state_of z)) half.0.0 ∙ at_rest x.config (state_of x) half.1.hand half.1.next)
+half_rests turned.Off hand Holds Fits x y before after d half off no_more = off_ends (state_of y) (off refl)
 half_rests turned.Worked hand Holds Fits x y before after d half off no_more = absurd half
 half_rests turned.Picked hand Holds Fits x y before after d half off no_more = absurd no_more
 half_rests turned.Posted hand Holds Fits x y before after d half off no_more = absurd no_more
@@ -104,12 +63,12 @@ second_rests : (answer : Turned) (hand : Option HandState) (x y z : DeskState) (
     → AreAsks asks → IsDrivenOn x.entries y.entries → x ≡ z → (hand ≡ None → (is_open d.stand ≡ false) × (is_at_rest (state_of z) ≡ true)) → NeedsNoMore answer hand → HasEnded (state_of y)
 second_rests turned.Idle hand x y z asks d clock d_new clock_new turns adds open_now are driven same none no_more = absurd (cc (open_now, turns.0.0))
 second_rests turned.Off hand x y z asks d clock d_new clock_new turns adds open_now are driven same none no_more =
-    is_off (state_of y) (ap (λ (z : DeskState). (state_of z).off) adds.0 ∙ ap (λ (s : State). s.off) (histories_step x.config (x.entries ++ asks) (Off (ops_of d_new))))
+    off_ends (state_of y) (ap (λ (z : DeskState). (state_of z).off) adds.0 ∙ ap (λ (s : State). s.off) (histories_step x.config (x.entries ++ asks) (Off (ops_of d_new))))
 second_rests turned.Worked hand x y z asks d clock d_new clock_new turns adds open_now are driven same none no_more =
     let (closed, rest) = none no_more in
     let added : y ≡ with_more x asks = subst (λ (e : Option Entry). AddsBy e (with_more x asks) y) (closed_settles d.stand d_new.stand (ops_of d_new) closed) adds in
     let no_more : asks ≡ [] = no_asks x.entries y.entries asks are driven (ap (λ (z : DeskState). z.entries) added) in
-    rests (state_of y) (ap (λ (z : DeskState). is_at_rest (state_of z)) (added ∙ none_more x asks no_more ∙ same) ∙ rest)
+    rest_ends (state_of y) (ap (λ (z : DeskState). is_at_rest (state_of z)) (added ∙ none_more x asks no_more ∙ same) ∙ rest)
 second_rests turned.Picked hand x y z asks d clock d_new clock_new turns adds open_now are driven same none no_more = absurd no_more
 second_rests turned.Posted hand x y z asks d clock d_new clock_new turns adds open_now are driven same none no_more = absurd no_more
 

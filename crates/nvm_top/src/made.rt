@@ -8,16 +8,16 @@ ghost use Rattle.nvm_top.specs.Play.{IsRightSize};
 
 use crate::flashes::Flashes;
 use crate::script::Script;
-use nvm_flash::MemDevice;
+use nvm_flash::{MemDevice, PlainSync, Stack};
 use nvm_lines::Stop;
-use script_player::{PlainStack, StepFault, cuts_of, make_steps};
+use script_player::{StepFault, cuts_of, make_steps};
 use std::alloc::Global;
 
 /// How steps ended, and the stack behind them.
 #[derive(Drop)]
 pub struct Made<D: MemDevice> {
     pub end: Result<(), StepFault>,
-    pub stack: PlainStack<D>,
+    pub stack: Stack<D, PlainSync>,
 }
 
 /// Makes steps on the stack of a configuration, from its first start-up on.
@@ -35,8 +35,7 @@ pub fn make_run<P: Flashes>(
     let Script { config, steps } = script;
     let blocks = config.blocks();
     match handed.start(alloc, config, cuts_of(&steps)) {
-        Ok(stack) => {
-            let mut stack = PlainStack::over(stack);
+        Ok(mut stack) => {
             let end = make_steps(alloc, steps, blocks, &mut stack);
             Ok(Made { end, stack })
         }

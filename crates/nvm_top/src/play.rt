@@ -79,10 +79,10 @@ fn play_steps<K: Sink, F: Flash, O: Origin>(
     };
     match make_run(alloc, script, handed) {
         Ok(Made { end, stack }) => {
-            let history = stack.stack().history();
+            let history = stack.history();
             history_values(history);
             let status = write_text(alloc, text, stop_of(end), history, output);
-            let device = stack.into_stack().into_device();
+            let device = stack.into_device();
             let OneFlash { flash, .. } = OneFlash::<F, O>::back(device);
             (status, flash)
         }

@@ -6,10 +6,10 @@ ghost use Rattle.nvm_top.specs.Flashes.{WereServed};
 ghost use Rattle.nvm_top.specs.Play.{IsRightSize};
 
 use crate::flashes::Flashes;
-use nvm_flash::{Bytes, Config, MemDevice};
+use nvm_flash::{Bytes, Config, MemDevice, PlainSync, Stack};
 use nvm_lines::Stop;
+use script_player::serve_requests;
 use script_player::uds_gateway::ServeStop;
-use script_player::{PlainStack, serve_requests};
 use std::alloc::Global;
 
 /// How many entries each request has that was answered, how they ended, and the stack behind them.
@@ -17,7 +17,7 @@ use std::alloc::Global;
 pub struct Served<D: MemDevice> {
     pub counts: Vec<u32>,
     pub end: Result<(), ServeStop>,
-    pub stack: PlainStack<D>,
+    pub stack: Stack<D, PlainSync>,
 }
 
 /// Serves requests on the stack of a configuration, from its first start-up on.
@@ -36,8 +36,7 @@ pub fn serve_run<P: Flashes>(
     ensures stopped { IfErr result (λ e. P.stops config (P.told handed) (P.told e.1) e.0) }
 {
     match handed.start(alloc, config, 0) {
-        Ok(stack) => {
-            let mut stack = PlainStack::over(stack);
+        Ok(mut stack) => {
             let mut counts = Vec::new(alloc);
             let end = serve_requests(alloc, own, requests, &mut counts, &mut stack);
             Ok(Served { counts, end, stack })

@@ -85,10 +85,10 @@ fn serve_over<K: Sink, F: Flash, O: Origin>(
     };
     match serve_run(alloc, config, own, requests, handed) {
         Ok(Served { counts, end, stack }) => {
-            let history = stack.stack().history();
+            let history = stack.history();
             history_values(history);
             let status = write_served(alloc, own, requests, &counts, end, history, output);
-            let device = stack.into_stack().into_device();
+            let device = stack.into_device();
             let OneFlash { flash, .. } = OneFlash::<F, O>::back(device);
             (status, flash)
         }

@@ -34,6 +34,7 @@ mod UrgentCases
 mod OperationCases
 mod KeptCases
 mod Failing
+pub mod EntriesLeave
 pub mod Power
 pub mod Callers
 pub mod RunHalves

@@ -1,5 +1,5 @@
 -- Power cuts that are planned, from call to call and from step to step.
-use Rattle.script_player.proofs.Common.{◌≡◌, ℕ, true, List, [], ◌∷◌, ◌++◌, Option, Some, None, refl, sym, ap, ◌∙◌, subst, inl, inr, arith, append_assoc, Request, Reply, Entry, Ask, Pick, Wrote, Post, Off, Found, Configuration, State, step, after_from, histories_step, Step, StepKind, AskStep, Refuse, IsTurn, Moment, Move, Planned, entry_list, entries_of, moment_behind, moment_after, planned_by, IsInTime, AreInTime, AreMoves, all_moves, from_more, StackTold, state_of, moment_of, IsComing, IsPending, PlansCuts, AddsAsk, MakesTurn, Refuses, planned_behind, CutsCome, none_in_time, Stands, CarriesCuts}
+use Rattle.script_player.proofs.Common.{◌≡◌, ℕ, true, List, [], ◌∷◌, ◌++◌, Option, Some, None, refl, sym, ap, ◌∙◌, subst, inl, inr, arith, Request, Reply, Entry, Ask, Pick, Wrote, Post, Off, Found, Configuration, State, step, after_from, histories_step, Step, StepKind, AskStep, Refuse, IsTurn, Moment, Move, Planned, entries_of, moment_behind, moment_after, planned_by, IsInTime, AreInTime, AreMoves, all_moves, from_more, entries_more, StackTold, state_of, moment_of, IsComing, IsPending, PlansCuts, AddsAsk, MakesTurn, Refuses, planned_behind, CutsCome, none_in_time, Stands, CarriesCuts}
 use Rattle.script_player.proofs.Grown.{state_grown}
 use Rattle.uds_gateway.proofs.Power.{stays_off}
 
@@ -81,21 +81,6 @@ turns_cuts kind ms old new same carries one plan pending =
 
 -- STEPS
 
--- the state behind the moves of steps
-abbrev states : Configuration → State → List (List Move) → State
-states c s [] = s
-states c s (ms ∷ mss) = states c (after_from c s (entries_of ms)) mss
-
-pub entries_more : (xs ys : List Move) → entries_of (xs ++ ys) ≡ entries_of xs ++ entries_of ys
-entries_more [] ys = refl
-entries_more (x ∷ xs) ys = ap (λ (es : List Entry). entry_list x.entry ++ es) (entries_more xs ys) ∙ sym (append_assoc (entry_list x.entry) (entries_of xs) (entries_of ys))
-
-all_states : (c : Configuration) (s : State) (mss : List (List Move)) → states c s mss ≡ after_from c s (entries_of (all_moves mss))
-all_states c s [] = refl
-all_states c s (ms ∷ mss) =
-    all_states c (after_from c s (entries_of ms)) mss ∙ sym (from_more c s (entries_of ms) (entries_of (all_moves mss)))
-    ∙ ap (after_from c s) (sym (entries_more ms (all_moves mss)))
-
 -- the plan behind one more step
 pub planned_more : (plan : Option Planned) (now : Moment) (xs : List Step) (x : Step) (mss : List (List Move)) (ms : List Move) → AreMoves now xs mss
     → planned_behind plan now (xs ++ x ∷ []) (mss ++ ms ∷ []) ≡ planned_by x.kind (moment_after now mss) (planned_behind plan now xs mss)
@@ -103,14 +88,14 @@ planned_more plan now [] x [] ms are = refl
 planned_more plan now (y ∷ ys) x (ns ∷ nss) ms are = planned_more (planned_by y.kind now plan) (moment_behind now ns) ys x nss ms are.1
 planned_more plan now xs x mss ms are = absurd are
 
-come_by : (c : Configuration) (plan : Option Planned) (now : Moment) (s : State) (xs : List Step) (x : Step) (mss : List (List Move)) (ms : List Move) → AreMoves now xs mss → CutsCome c plan now s xs mss
-    → AreInTime c (planned_by x.kind (moment_after now mss) (planned_behind plan now xs mss)) (states c s mss) ms → CutsCome c plan now s (xs ++ x ∷ []) (mss ++ ms ∷ [])
-come_by c plan now s [] x [] ms are all own = (own, tt)
-come_by c plan now s (y ∷ ys) x (ns ∷ nss) ms are all own = (all.0, come_by c (planned_by y.kind now plan) (moment_behind now ns) (after_from c s (entries_of ns)) ys x nss ms are.1 all.1 own)
-come_by c plan now s xs x mss ms are all own = absurd are
-
 -- one more step
 pub come_more : (c : Configuration) (plan : Option Planned) (now : Moment) (s : State) (xs : List Step) (x : Step) (mss : List (List Move)) (ms : List Move) → AreMoves now xs mss → CutsCome c plan now s xs mss
     → AreInTime c (planned_by x.kind (moment_after now mss) (planned_behind plan now xs mss)) (after_from c s (entries_of (all_moves mss))) ms → CutsCome c plan now s (xs ++ x ∷ []) (mss ++ ms ∷ [])
-come_more c plan now s xs x mss ms are all own =
-    come_by c plan now s xs x mss ms are all (subst (λ (t : State). AreInTime c (planned_by x.kind (moment_after now mss) (planned_behind plan now xs mss)) t ms) (sym (all_states c s mss)) own)
+come_more c plan now s [] x [] ms are all own = (own, tt)
+come_more c plan now s (y ∷ ys) x (ns ∷ nss) ms are all own = (
+  all.0,
+  come_more c (planned_by y.kind now plan) (moment_behind now ns) (after_from c s (entries_of ns)) ys x nss ms are.1 all.1
+      (subst (λ (t : State). AreInTime c (planned_by x.kind (moment_after (moment_behind now ns) nss) (planned_behind (planned_by y.kind now plan) (moment_behind now ns) ys nss)) t ms)
+      (ap (after_from c s) (entries_more ns (all_moves nss)) ∙ from_more c s (entries_of ns) (entries_of (all_moves nss))) own),
+)
+come_more c plan now s xs x mss ms are all own = absurd are

@@ -1,7 +1,7 @@
 -- The names of other rooms, and of this one's definitions, that its proofs cite, passed on from one place. Declares nothing.
 pub use Rattle.std.proofs.Common.{◌≡◌, ℕ, Bool, false, inl, inr, Option, None, List, [], ◌∷◌, ◌++◌, IsTrue, Some, refl, sym, ap, ◌∙◌, subst, append_assoc, append-nil, ◌<◌, ◌≤◌, ◌+◌, ◌⊎◌, true, length, arith, take, rules, ◌≢◌, get_or-set_other, zero, suc, get_or, ◌*◌, ◌^◌, replicate, add-one, length-append, length-set, drop, Result, Ok, Err, get_or-set_same, OnErr}
 pub use Rattle.std.proofs.lemmas.List.{append_cancel_left, map-append, take_more, map-set, length-map, ext_get_or, length-replicate, take_all, take-append-drop, nil_from_length}
-pub use Rattle.uds_gateway.specs.block_machine.Words.{Instance, Mark, Request, Reply, Entry, Ask, Pick, Wrote, Post, Off, Found, Configuration, ReqResult, JobKind, WriteJob, Taken, TookNothing, TookContent, TookRefused, TookStale, BlockDesc, RamKind, Accepted, Refused, StatusIs, IndexIs}
+pub use Rattle.uds_gateway.specs.block_machine.Words.{Instance, Mark, Request, Reply, Entry, Ask, Pick, Wrote, Post, Off, Found, Configuration, ReqResult, JobKind, WriteJob, Taken, TookNothing, TookContent, TookRefused, TookStale, BlockDesc, Accepted, Refused, StatusIs, IndexIs}
 pub use Rattle.uds_gateway.specs.block_machine.State.{State, Job, BlockState, Sweep}
 pub use Rattle.uds_gateway.specs.script_walks.Words.{Step, Drain, StepKind, AskStep, Refuse, Cut, Store, Turn, Restart}
 pub use Rattle.uds_gateway.specs.script_walks.Turn.{IsTurn, TakesNewest, IsOfTurn, IsOneOrNone}
@@ -10,15 +10,16 @@ pub use Rattle.uds_gateway.specs.block_machine.Steps.{after_from, step, after}
 pub use Rattle.script_player.specs.Told.{StackTold, state_of, moment_of, IsGrown, IsNoEarlier, AreCut, TellsOff, plan_behind, ops_at, desk_of}
 pub use Rattle.uds_gateway.specs.nvm_moves.Seen.{Seen, moment_seen, seen_as, seen_in}
 pub use Rattle.uds_gateway.specs.nvm_moves.Moved.{MovesBy}
+pub use Rattle.uds_gateway.proofs.MovesAlong.{entries_more}
 pub use Rattle.uds_gateway.proofs.Moved.{moves_more, none_moves}
 pub use Rattle.script_player.specs.Paying.{TurnMoves, IsSeen, LastsOn, AskMoves, StartsAnew, CameBy, StartMoves, StaysStill}
-pub use Rattle.script_player.specs.Calls.{AllTell, MakesTurn, AddsAsk, Refuses, Arms, Stores, Turns, IsAnswer, Lowers, AreExplained, StartsAgain, MakesOne, is_last, Asks}
+pub use Rattle.script_player.specs.Calls.{AllTell, MakesTurn, AddsAsk, Refuses, Arms, Stores, Turns, IsAnswer, Lowers, AreExplained, StartsAgain, is_last, Asks}
 pub use Rattle.uds_gateway.proofs.PlannedCuts.{from_more, none_in_time, in_time_more}
 pub use Rattle.script_player.specs.Kept.{AreMade, HasTurned, AllFindWork, MakesTurns, Drains, StaysCalm, has_work}
-pub use Rattle.std.specs.Prelude.{◌||◌, min, slice_get, not, option_map, ◌==◌, ◌&&◌, ◌-◌, unwrap_or, map, nat_le, slice_set, if◌then◌else◌, is_some, IsErrOf, ◌↔◌, OnOk, IfErr, IfSome, option_and_then, IfOk, IsSome}
+pub use Rattle.std.specs.Prelude.{◌||◌, min, slice_get, not, option_map, ◌==◌, ◌&&◌, ◌-◌, unwrap_or, map, nat_le, slice_set, if◌then◌else◌, is_some, IsErrOf, ◌↔◌, OnOk, IfErr, IfSome, IsSome}
 pub use Rattle.std.proofs.lemmas.Bool.Decides.{leb_tells, eqb_tells}
 pub use Rattle.uds_gateway.specs.nv_base.Count.{last_count, next_count, WereCounted, Rose}
-pub use Rattle.uds_gateway.specs.memif.Told.{DeviceTold, PartTold, Part, Fixed, Stand, Open, ops_of, faults_of, is_off, armed, Ended as At, nothing_open, First, Second, Ended, part_at, with_part}
+pub use Rattle.uds_gateway.specs.memif.Told.{DeviceTold, PartTold, Part, Fixed, Stand, Open, ops_of, faults_of, is_off, armed, Ended as At, nothing_open, First, Second, Ended, part_at, IfElse}
 pub use Rattle.uds_gateway.specs.memif.Clock.{Clock, Past, Seals, TakesKept}
 pub use Rattle.uds_gateway.specs.memif.Calls.{PartTurns, InOrder, IsOf, Works, IsCut, PlanStays, FreesReady}
 pub use Rattle.uds_gateway.specs.nvm_laws.declared.turned.Turned.{Turned}
@@ -37,7 +38,7 @@ pub use Rattle.uds_gateway.specs.nvm_device_laws.Turn.{TellsSlots, settled_by, w
 pub use Rattle.uds_gateway.specs.nvm_laws.declared.turned.FoundAnswer.{FoundAnswer}
 pub use Rattle.uds_gateway.specs.nvm_core.Stack.{StackState, PowersOff}
 pub use Rattle.uds_gateway.specs.nvm_core.StartUps.{Restarts, StartsUp, DownKeepsAsTold, StartsKeep}
-pub use Rattle.script_player.specs.PlainKept.{IsKept, AreStartsFound}
+pub use Rattle.script_player.specs.PlainKept.{IsKept, AreStartsFound, kept_by}
 pub use Rattle.script_player.specs.PlainPaying.{seen_by}
 pub use Rattle.uds_gateway.specs.nv_base.Entry.{ops_behind, ops_of as ops_told}
 pub use Rattle.uds_gateway.specs.nv_base.declared.plan.Plan.{Plan}
@@ -56,7 +57,7 @@ pub use Rattle.uds_gateway.proofs.WalkedJobs.{starts_keep_stored, steps_keep_sto
 pub use Rattle.script_player.specs.Table.{HasLastStores, place_of, store_asked, HoldsSynchronized}
 pub use Rattle.uds_gateway.specs.job_progress.JobInHand.{IsPaired}
 pub use Rattle.uds_gateway.specs.nvm_core.Turns.{IsFirstHalf, IsSecondHalf}
-pub use Rattle.uds_gateway.proofs.Resting.{at_rest, due_rest, rests_next, some_none, due_hand, due_off}
+pub use Rattle.uds_gateway.proofs.Resting.{at_rest, due_rest, rests_next, some_none, due_off, off_ends, rest_ends}
 pub use Rattle.std.proofs.lemmas.Bool.{cases_Bool, and_parts, eqb-true, eq-eqb, or_left, or_right}
 pub use Rattle.uds_gateway.specs.block_config.Block.{plain_block}
 pub use Rattle.uds_gateway.specs.block_config.Config.{block_of}
@@ -74,11 +75,12 @@ pub use Rattle.uds_gateway.specs.block_machine.Reply.{fits, reply_of}
 pub use Rattle.uds_gateway.specs.declared.stop.ServeStop.{ServeStop}
 pub use Rattle.uds_gateway.specs.Jobs.{HasOne, HasNone, IsOwn}
 pub use Rattle.uds_gateway.specs.Turning.{Goes, is_on_way, ComesToPost, ComesToOff}
-pub use Rattle.script_player.specs.Requests.{EndsRequest, AreServedSoFar, HasServed, is_of_request, AreOfRequests, no_stores, IsServing, ServesNoMore, EndsJob}
+pub use Rattle.script_player.specs.Requests.{EndsRequest, AreServedSoFar, HasServed, is_of_request, AreOfRequests, no_stores, IsServing, ServesMore, ServesNoMore, LeavesRequests, EndsJob}
 pub use Rattle.uds_gateway.specs.block_machine.Sweeps.{member_job, member_request}
 pub use Rattle.uds_gateway.specs.promise_run.Completeness.{is_calm_entry}
 pub use Rattle.uds_gateway.proofs.Turning.{rose_since, same_clock, same_told, told_before, rose_before}
 pub use Rattle.uds_gateway.specs.nv_desk.declared.ask.AskFault.{AskFault}
+pub use Rattle.uds_gateway.proofs.Halves.{device_fixed, never_idle, never_late}
 pub use Rattle.uds_gateway.proofs.StackMoves.{stack_stays, device_starts, stack_arms, stack_asks, stack_starts, stack_turns, turned_ready}
 pub use Rattle.std.specs.Vec.Iter.{into_iter_items, into_iter_len}
 pub use Rattle.std.proofs.lemmas.Grind.{flat_map-append}
@@ -99,7 +101,6 @@ pub use Rattle.uds_gateway.specs.nvm_moves.Beginning.{BeginsMoves}
 pub use Rattle.uds_gateway.proofs.Beginning.{moves_came}
 pub use Rattle.uds_gateway.specs.nv_base.Marks.{instance_of}
 pub use Rattle.uds_gateway.specs.memif.declared.answer.JobResult.TheVariants.{JobOk}
-pub use Rattle.uds_gateway.specs.nvm_laws.AtDevice.{GoesOn}
 pub use Rattle.uds_gateway.specs.nvm_laws.Turns.{AddsBy}
 pub use Rattle.uds_gateway.specs.nvm_laws.declared.turned.Act.TheVariants.{Device}
 pub use Rattle.std.proofs.Math.Seq.{map-set_same, get_or-append_seam}

@@ -1,10 +1,9 @@
 -- Moves, one after another.
-use Rattle.script_player.proofs.Common.{◌≡◌, ℕ, false, Option, None, List, [], ◌∷◌, ◌++◌, Some, refl, sym, ap, ◌∙◌, subst, append_assoc, append-nil, append_cancel_left, map-append, Entry, Configuration, State, Step, Drain, IsTurn, Moment, Move, entry_list, entries_of, moment_behind, moment_after, AreMovesOf, AreMoves, FindsWork, all_moves, IsInTime, AreInTime, after_from, StackTold, state_of, moment_of, IsGrown, Seen, MovesBy, moves_more, none_moves, TurnMoves, AllTell, MakesTurn, from_more, AreMade, IfSome, AreTurnsMade, HasMoves, ClosesAtDrains, FindWorkAtDrains, behind_more, entry_is, entry_none, in_time_more}
+use Rattle.script_player.proofs.Common.{◌≡◌, ℕ, false, Option, None, List, [], ◌∷◌, ◌++◌, Some, refl, sym, ap, ◌∙◌, subst, append_assoc, append-nil, append_cancel_left, map-append, Entry, Configuration, State, Step, Drain, IsTurn, Moment, Move, entry_list, entries_of, entries_more, moment_behind, moment_after, AreMovesOf, AreMoves, FindsWork, all_moves, IsInTime, AreInTime, after_from, StackTold, state_of, moment_of, IsGrown, Seen, MovesBy, moves_more, none_moves, TurnMoves, AllTell, MakesTurn, from_more, AreMade, IfSome, AreTurnsMade, HasMoves, ClosesAtDrains, FindWorkAtDrains, behind_more, entry_is, entry_none, in_time_more}
 use Rattle.std.proofs.Common.{map}
 use Rattle.uds_gateway.specs.nv_base.Entry.{ops_of}
-use Rattle.uds_gateway.specs.promise_run.Turns.{is_off}
 use Rattle.script_player.proofs.Grown.{state_grown}
-use Rattle.script_player.proofs.Coming.{entries_more, in_time, turn_coming}
+use Rattle.script_player.proofs.Coming.{in_time, turn_coming}
 
 -- TURNS
 

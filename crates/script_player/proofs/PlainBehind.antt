@@ -1,12 +1,13 @@
 -- A turn of the device behind the first half.
-use Rattle.script_player.proofs.Common.{map, not, ◌≡◌, ◌⊎◌, ℕ, Bool, true, false, List, [], ◌∷◌, ◌++◌, Option, Some, None, refl, sym, ap, ◌∙◌, subst, inl, inr, DeviceTold, Stand, Open, ops_of, is_off, Clock, Instance, Mark, Entry, Wrote, Off, Job, PlainBlock, Told, told_of, store_of, DeskState, IsPaired, HandState, Turned, StackState, PowersOff, IsFirstHalf, Added, copy_told, is_due, is_at_rest, AreCut, Turns, IsAnswer, Lowers, told_by, to_refuse_in, plan_in, came_in, at_rest, due_rest, rests_next, some_none, instance_of, ops_told, JobOk, At, nothing_open, MayWrite, settled_by, wrote_by, GoesOn, AddsBy, Device, IsSecondHalf, IsOfTurn, due_hand}
+use Rattle.script_player.proofs.Common.{map, AllTell, IsTurn, AreAsAsked, MakesTurn, device_fixed, never_idle, never_late, not, ◌≡◌, ◌⊎◌, ℕ, Bool, true, false, List, [], ◌∷◌, ◌++◌, Option, Some, None, refl, sym, ap, ◌∙◌, subst, inl, inr, DeviceTold, Stand, Open, ops_of, is_off, Clock, Instance, Mark, Entry, Wrote, Off, Job, PlainBlock, Told, told_of, store_of, DeskState, IsPaired, Turned, StackState, PowersOff, IsFirstHalf, Added, copy_told, is_due, is_at_rest, AreCut, Turns, IsAnswer, Lowers, told_by, to_refuse_in, plan_in, came_in, at_rest, instance_of, ops_told, JobOk, At, nothing_open, MayWrite, settled_by, wrote_by, AddsBy, Device, IsSecondHalf, IsOfTurn}
 use Rattle.std.specs.Prelude.{IsTrue}
 use Rattle.uds_gateway.specs.nv_desk.Desk.{state_of}
 use Rattle.uds_gateway.specs.nvm_laws.declared.turned.Turned.TheVariants as turned
-use Rattle.script_player.proofs.PlainDevices.{Goes, goes_from, came_same, turn_goes, turn_fixed, worked_came, off_cut, cut_from}
+use Rattle.uds_gateway.specs.nvm_core.Turns as core
+use Rattle.script_player.proofs.PlainDevices.{Goes, goes_from, came_same, turn_goes, worked_came, off_cut, cut_from}
 use Rattle.script_player.proofs.PlainRefused.{silent_asked}
-use Rattle.script_player.proofs.PlainTurning.{same_stores, grown, none_more, one_more, explained, makes_one, misses_none, no_off, one_off, begins_late}
-use Rattle.script_player.proofs.PlainHalves.{are_told, is_now, is_looked, IsBehind}
+use Rattle.script_player.proofs.PlainTurning.{same_stores, none_more, no_off, one_off, begins_late, turn_made}
+use Rattle.script_player.proofs.PlainHalves.{are_told, is_now, is_looked, IsBehind, ended}
 
 -- THE ENTRY OF A JOB THAT ENDED
 
@@ -39,28 +40,13 @@ module _ {D : Type 0} (device : D → DeviceTold) (clock : D → Clock) (old bet
   rests none = at_rest old.desk.config (state_of old.desk) none (half.half.3 none)
 
   late : is_due (state_of old.desk) ≡ false
-  late = by (state_of old.desk).hand refl
-    where
-      by : (h : Option Job) → (state_of old.desk).hand ≡ h → is_due (state_of old.desk) ≡ false
-      by None is = due_rest (state_of old.desk) (rests is)
-      by (Some j) is = due_hand (state_of old.desk) j is
+  late = never_late old.desk.config (state_of old.desk) half.half.3
 
   -- something is open, or something pending
-  still_open : IsPaired old.desk.config (state_of old.desk) old.hand (device old.device) → IsTrue (is_at_rest (state_of old.desk)) → not (nothing_open (device old.device)) ≡ false → ⊥
-  still_open paired rest free = by old.hand refl
-    where
-      none : (state_of old.desk).hand ≡ None
-      none = (rests_next old.desk.config (state_of old.desk) rest).0
-
-      closed : (t : Bool) → not t ≡ false → t ≡ false → ⊥
-      closed true is none = cc none
-      closed false is none = cc is
-
-      by : (h : Option HandState) → old.hand ≡ h → ⊥
-      by None is =
-          let stays = (subst (λ (h : Option HandState). GoesOn h (device old.device) between.hand (device between.device)) is half.at_device).1 in
-          closed (nothing_open (device old.device)) free (ap nothing_open (sym stays) ∙ half.half.1)
-      by (Some h) is = some_none _ (sym (subst (λ (x : Option HandState). IsPaired old.desk.config (state_of old.desk) x (device old.device)) is paired).hand ∙ none)
+  still_open : IsTrue (is_at_rest (state_of old.desk)) → not (nothing_open (device old.device)) ≡ false → ⊥
+  still_open =
+      never_idle old.desk.config (state_of old.desk) old.hand between.hand (device old.device) (device between.device) half.at_device
+      (subst (λ (x : DeskState). IsPaired x.config (state_of x) between.hand (device between.device)) half.half.0.0 half.tied.paired) half.half.1
 
   made : (device between.device).ops ≡ (device old.device).ops
   made = ap (λ (d : DeviceTold). d.ops) half.device
@@ -86,58 +72,37 @@ module _ {D : Type 0} (device : D → DeviceTold) (clock : D → Clock) (old bet
     ready = second.ready ∙ half.ready
 
     fixed : (device new.device).fixed ≡ (device old.device).fixed
-    fixed = turn_fixed answer (device between.device) (device new.device) (clock between.device) (clock new.device) second.turns ∙ ap (λ (d : DeviceTold). d.fixed) half.device
+    fixed = device_fixed answer (device between.device) (clock between.device) (device new.device) (clock new.device) second.turns ∙ ap (λ (d : DeviceTold). d.fixed) half.device
 
     told : map told_of new.copies ≡ map told_of old.copies
     told = ap (map told_of) second.copies ∙ half.half.0.1
 
+    abbrev made_so : (es : List Entry) → new.desk ≡ record old.desk { entries = old.desk.entries ++ es } → AllTell (ops_of (device new.device)) es → IsTurn old.desk.config (state_of old.desk) (map store_of old.copies) es
+        → ((id : ℕ) → AreAsAsked old.desk.config id (state_of old.desk) (to_refuse_in (map told_of old.copies) id) es (to_refuse_in (map told_of new.copies) id))
+        → AreCut (plan_in (device old.device)) 0 (map Added es) (told_by device old) (told_by device new) → MakesTurn (told_by device old) (told_by device new)
+    made_so es desk tells turn refusals off = turn_made device old new goes behind.power behind.counted stores ready fixed es desk tells turn refusals off (λ rest free. absurd (still_open rest free))
+
     -- it adds nothing
     idle : new.desk ≡ between.desk → came_in (device new.device) ≡ came_in (device old.device) → IsAnswer answer [] (told_by device old) (told_by device new) → Lowers answer (told_by device old) (told_by device new)
         → Turns answer (told_by device old) (told_by device new)
-    idle same came answers lowers =
-        let desk = same ∙ same_desk in record {
-          made = record {
-            entries = [];
-            grows = grown device old new [] (none_more old.desk new.desk desk) stores ready fixed;
-            counted = behind.counted;
-            operations = makes_one device old new [] goes tt;
-            turn = record { entry = tt; begins = begins_late (state_of old.desk) [] late };
-            explained = explained device old new [] goes
-                (λ id. ap (λ (ts : List Told). to_refuse_in ts id) told)
-                (no_off device old new [] goes came (refl, refl) refl behind.power);
-            rests = λ rest free. absurd (still_open behind.tied.paired rest free);
-            cuts = misses_none device old new goes behind.power;
-          };
-          answers = answers;
-          lowers = lowers;
-        }
-
-    adds : (e : Entry) → new.desk ≡ record between.desk { entries = between.desk.entries ++ e ∷ [] } → new.desk ≡ record old.desk { entries = old.desk.entries ++ e ∷ [] }
-    adds e is = subst (λ (x : DeskState). new.desk ≡ record x { entries = x.entries ++ e ∷ [] }) same_desk is
+    idle same came answers lowers = record {
+      made = made_so [] (none_more old.desk new.desk (same ∙ same_desk)) tt (record { entry = tt; begins = begins_late (state_of old.desk) [] late }) (λ id. ap (λ (ts : List Told). to_refuse_in ts id) told)
+          (no_off device old new [] goes came (refl, refl) refl behind.power);
+      answers = answers;
+      lowers = lowers;
+    }
 
     -- a Wrote, or an Off
     adds_one : (e : Entry) → ops_told e ≡ Some (ops_of (device new.device)) → new.desk ≡ record between.desk { entries = between.desk.entries ++ e ∷ [] }
-        → ((id : ℕ) → copy_told old.desk.config id (state_of old.desk) e ≡ None)
-        → IsOfTurn old.desk.config (state_of old.desk) (map store_of old.copies) e
-        → AreCut (plan_in (device old.device)) 0 (Added e ∷ []) (told_by device old) (told_by device new)
-        → IsAnswer answer (e ∷ []) (told_by device old) (told_by device new) → Lowers answer (told_by device old) (told_by device new)
+        → ((id : ℕ) → copy_told old.desk.config id (state_of old.desk) e ≡ None) → IsOfTurn old.desk.config (state_of old.desk) (map store_of old.copies) e
+        → AreCut (plan_in (device old.device)) 0 (Added e ∷ []) (told_by device old) (told_by device new) → IsAnswer answer (e ∷ []) (told_by device old) (told_by device new) → Lowers answer (told_by device old) (told_by device new)
         → Turns answer (told_by device old) (told_by device new)
-    adds_one e tells is silent turn off answers lowers =
-        let desk = adds e is in record {
-          made = record {
-            entries = e ∷ [];
-            grows = grown device old new (e ∷ []) desk stores ready fixed;
-            counted = behind.counted;
-            operations = makes_one device old new (e ∷ []) goes (tells, tt);
-            turn = record { entry = turn; begins = begins_late (state_of old.desk) (e ∷ []) late };
-            explained = explained device old new (e ∷ []) goes
-                (λ id. silent_asked old.desk.config (state_of old.desk) id (map told_of old.copies) (map told_of new.copies) e (silent id) told) off;
-            rests = λ rest free. absurd (still_open behind.tied.paired rest free);
-            cuts = misses_none device old new goes behind.power;
-          };
-          answers = answers;
-          lowers = lowers;
-        }
+    adds_one e tells is silent turn off answers lowers = record {
+      made = made_so (e ∷ []) (subst (λ (x : DeskState). new.desk ≡ record x { entries = x.entries ++ e ∷ [] }) same_desk is) (tells, tt) (record { entry = turn; begins = begins_late (state_of old.desk) (e ∷ []) late })
+          (λ id. silent_asked old.desk.config (state_of old.desk) id (map told_of old.copies) (map told_of new.copies) e (silent id) told) off;
+      answers = answers;
+      lowers = lowers;
+    }
 
   -- the job's Wrote, or nothing
   worked : IsSecondHalf device clock turned.Worked between new → IsBehind device turned.Worked old new → Turns turned.Worked (told_by device old) (told_by device new)
@@ -151,7 +116,7 @@ module _ {D : Type 0} (device : D → DeviceTold) (clock : D → Clock) (old bet
       by e adds (inl none) =
           let same = subst (λ (o : Option Entry). AddsBy o between.desk new.desk) none adds in
           idle turned.Worked second behind same came
-          (λ hand. (refl, rests hand, true_else (not (nothing_open (device old.device))) (still_open behind.tied.paired (rests hand)))) behind.lowers
+          (λ hand. (refl, rests hand, true_else (not (nothing_open (device old.device))) (still_open (rests hand)))) behind.lowers
       by e adds (inr (i, mark, some)) =
           let wrote = subst (λ (o : Option Entry). AddsBy o between.desk new.desk) some adds in
           let may = subst (λ (x : DeskState). MayWrite x.config (state_of x) i mark (state_of x).hand) same_desk wrote.1.1 in
@@ -178,3 +143,10 @@ module _ {D : Type 0} (device : D → DeviceTold) (clock : D → Clock) (old bet
   behind_device power turned.Off second behind = went_off power second behind
   behind_device power turned.Idle second behind = absurd (false_true half.half.1 second.turns.0.0)
   behind_device power _ second behind = absurd second.turns
+
+-- A TURN
+
+pub turns_told : {D : Type 0} (device : D → DeviceTold) (clock : D → Clock) (old new : StackState D (List PlainBlock)) (answer : Turned) → core.Turns device clock are_told is_now is_looked answer old new → PowersOff old.desk (device old.device)
+    → (new.ready ≡ old.ready → IsBehind device answer old new) → Turns answer (told_by device old) (told_by device new)
+turns_told device clock old new answer (inl half) power behind = ended device old new answer half (behind half.ready)
+turns_told device clock old new answer (inr (between, half, second)) power behind = behind_device device clock old between new half power answer second (behind (second.ready ∙ half.ready))

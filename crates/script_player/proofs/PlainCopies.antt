@@ -1,6 +1,6 @@
 -- An application in memory behind its own steps and behind copies.
-use Rattle.script_player.proofs.Common.{◌==◌, slice_set, map, if◌then◌else◌, option_map, unwrap_or, ◌≡◌, ℕ, suc, Bool, true, false, List, [], ◌∷◌, length, get_or, Option, Some, None, refl, sym, ap, ◌∙◌, subst, map-set, block_of, BlockDesc, Configuration, plain_block, desc_of, is_synchronized, AreSynchronized, length_where_sync, sync_length_of, PlainBlock, Told, Synchronized, IsSynchronized, told_at, told_of, store_of, stored, refusing, no_plain, option_and_then, map-set_same, RamKind}
-use Rattle.uds_gateway.specs.block_config.declared.block.RamKind.TheVariants as kind
+use Rattle.script_player.proofs.Common.{◌==◌, slice_set, map, if◌then◌else◌, option_map, ◌≡◌, ℕ, suc, Bool, true, false, List, [], ◌∷◌, length, get_or, Some, None, refl, sym, ap, ◌∙◌, subst, map-set, Configuration, AreSynchronized, sync_length_of, PlainBlock, Told, Synchronized, IsSynchronized, told_at, told_of, store_of, stored, refusing, no_plain, map-set_same}
+use Rattle.script_player.proofs.Table.{is_sync}
 
 -- a block among others, by what is seen of it
 pub store_here : (bs : List PlainBlock) (k : ℕ) → get_or (map store_of bs) k (0, []) ≡ store_of (get_or bs k no_plain)
@@ -14,23 +14,12 @@ told_here bs k = refl
 -- A STORE
 
 size_found : (b : PlainBlock) (n : ℕ) → option_map (λ (s : Synchronized). s.bytes) (told_of b) ≡ Some n → length b.content ≡ n
-size_found b n is = by (length b.content == 0) refl
+size_found b n is = by (length b.content == 0) refl is
   where
-    by : (t : Bool) → (length b.content == 0) ≡ t → length b.content ≡ n
-    by true zero_bytes = absurd (none (subst (λ (x : Option Synchronized). option_map (λ (s : Synchronized). s.bytes) x ≡ Some n) (told zero_bytes) is))
-      where
-        told : (length b.content == 0) ≡ true → told_of b ≡ None
-        told t = rw t refl
-
-        none : {m : ℕ} → None ≡ Some m → ⊥
-        none e = cc
-    by false some = given (subst (λ (x : Option Synchronized). option_map (λ (s : Synchronized). s.bytes) x ≡ Some n) (told some) is)
-      where
-        told : (length b.content == 0) ≡ false → told_of b ≡ Some (record { bytes = length b.content; refusals = b.refusals; to_refuse = Some b.to_refuse; handed = b.handed; last = b.last })
-        told t = rw t refl
-
-        given : Some (length b.content) ≡ Some n → length b.content ≡ n
-        given e = cc
+    by : (t : Bool) → (length b.content == 0) ≡ t
+        → option_map (λ (s : Synchronized). s.bytes) (if t then None else Some (record { bytes = length b.content; refusals = b.refusals; to_refuse = Some b.to_refuse; handed = b.handed; last = b.last })) ≡ Some n → length b.content ≡ n
+    by true empty none = cc none
+    by false full some = cc some
 
 -- it changes nothing of what is told of the block
 pub stored_told : (bs : List PlainBlock) (k : ℕ) (content : List ℕ) → IsSynchronized (map told_of bs) k (length content)
@@ -52,29 +41,5 @@ pub refusing_stores : (bs : List PlainBlock) (k count : ℕ) → map store_of (s
 refusing_stores bs k count = map-set_same store_of bs k (refusing count (get_or bs k no_plain)) no_plain refl
 
 -- a store of a player has its block's length
-sync_in : (d : BlockDesc) (n : ℕ) → length_where_sync d.ram d.length ≡ Some n → (is_synchronized d.ram ≡ true) × (d.length ≡ n)
-sync_in d n is = by d.ram is
-  where
-    by : (ram : RamKind) → length_where_sync ram d.length ≡ Some n → (is_synchronized ram ≡ true) × (d.length ≡ n)
-    by kind.Sync it = (refl, cc)
-    by kind.None it = absurd (none it)
-      where
-        none : None ≡ Some n → ⊥
-        none e = cc
-    by kind.Permanent it = absurd (none it)
-      where
-        none : None ≡ Some n → ⊥
-        none e = cc
-
 pub may_store : (c : Configuration) (told : List Told) (id n : ℕ) → AreSynchronized c told → sync_length_of c id ≡ Some n → IsSynchronized told id n
-may_store c told id n are is = by (block_of c id) refl
-  where
-    by : (o : Option BlockDesc) → block_of c id ≡ o → IsSynchronized told id n
-    by None none = absurd (found (sym (ap (option_and_then (λ (b : BlockDesc). length_where_sync b.ram b.length)) none) ∙ is))
-      where
-        found : None ≡ Some n → ⊥
-        found e = cc
-    by (Some d) some =
-        let desc : desc_of c id ≡ d = ap (λ (o : Option BlockDesc). unwrap_or o (plain_block 0)) some in
-        let (on, size) = sync_in d n (sym (ap (option_and_then (λ (b : BlockDesc). length_where_sync b.ram b.length)) some) ∙ is) in
-        subst (λ (m : ℕ). IsSynchronized told id m) (ap (λ (x : BlockDesc). x.length) desc ∙ size) (are id (ap (λ (x : BlockDesc). is_synchronized x.ram) desc ∙ on))
+may_store c told id n are is = let sync = is_sync c id n is in subst (λ (m : ℕ). IsSynchronized told id m) sync.1 (are id sync.0)

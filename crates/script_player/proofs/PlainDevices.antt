@@ -1,5 +1,5 @@
 -- A turn of the device: what becomes of its plans of power cuts.
-use Rattle.script_player.proofs.Common.{◌||◌, min, ◌≡◌, ◌<◌, ◌≤◌, ◌+◌, ◌⊎◌, ℕ, Bool, true, false, List, [], ◌∷◌, ◌++◌, length, Option, Some, None, refl, sym, ap, ◌∙◌, subst, inl, inr, arith, append-nil, leb_tells, last_count, next_count, WereCounted, DeviceTold, PartTold, Part, Fixed, Stand, Open, ops_of, faults_of, is_off, Clock, PartTurns, Off, Turned, DueCut, Added, CutsAre, IsNoEarlier, plan_from, plan_in, takes_in, came_in, ops_in, First, Second, Ended, part_at, with_part, IsOf, Works, IsCut, TurnsDevice, unplanned_in}
+use Rattle.script_player.proofs.Common.{◌||◌, min, ◌≡◌, ◌<◌, ◌≤◌, ◌+◌, ◌⊎◌, ℕ, Bool, true, false, List, [], ◌∷◌, ◌++◌, length, Option, Some, None, refl, sym, ap, ◌∙◌, subst, inl, inr, arith, append-nil, leb_tells, last_count, next_count, WereCounted, DeviceTold, PartTold, Part, Fixed, Stand, Open, ops_of, faults_of, is_off, Clock, PartTurns, Off, Turned, DueCut, Added, CutsAre, IsNoEarlier, plan_from, plan_in, takes_in, came_in, ops_in, First, Second, Ended, part_at, IsOf, Works, IsCut, TurnsDevice, unplanned_in}
 use Rattle.uds_gateway.specs.nvm_laws.declared.turned.Turned.TheVariants as turned
 use Rattle.script_player.proofs.Offs.{no_earlier_same}
 use Rattle.script_player.proofs.PlainPlans.{from_off, from_on, stands_on, none_earlier, plan_waits}
@@ -30,17 +30,6 @@ parts_tell : (old new : DeviceTold) → new.ops ≡ old.ops → new.first ≡ ol
     → (unplanned_in new ≡ unplanned_in old) × (takes_in new ≡ takes_in old) × (plan_in new ≡ plan_in old) × (faults_of new ≡ faults_of old)
 parts_tell old new made one two = rw (made, one, two) (refl, refl, refl, refl)
 
-pub goes_same : (old new : DeviceTold) → new.ops ≡ old.ops → new.first ≡ old.first → new.second ≡ old.second → Goes old new
-goes_same old new made one two =
-    let (unplanned, takes, plan, faults) = parts_tell old new made one two in record {
-      unplanned = omega (arith, unplanned);
-      takes = omega (arith, takes);
-      plan = subst (λ (p : Option DueCut). IsNoEarlier (plan_in old) p) (sym plan) (no_earlier_same (plan_in old));
-      later = omega (arith, made);
-      one = omega (arith, made);
-      comes = λ alone x is late. inr (inr (x, plan ∙ is, omega (arith, made, late), omega (arith, faults)));
-    }
-
 pub came_same : (old new : DeviceTold) → new.first ≡ old.first → came_in new ≡ came_in old
 came_same old new one = ap (λ (p : PartTold). p.planning.came) one
 
@@ -60,6 +49,9 @@ goes_from old between new fixed made one two goes =
             | inr (inr (y, there, more, soon)) ↦ inr (inr (y, there, more, omega (arith, faults, soon)))
           ];
     }
+
+pub goes_same : (old new : DeviceTold) → new.fixed ≡ old.fixed → new.ops ≡ old.ops → new.first ≡ old.first → new.second ≡ old.second → Goes old new
+goes_same old new fixed made one two = goes_from old new new fixed made one two (goes_on new)
 
 -- BY PARTS
 
@@ -179,22 +171,6 @@ turn_goes turned.Off old new clock clock_new turns = elim turns.0.1.1 [
 ]
 turn_goes turned.Picked old new clock clock_new turns = absurd turns
 turn_goes turned.Posted old new clock clock_new turns = absurd turns
-
--- WHAT NEVER CHANGES
-
-part_fixed : (p : Part) (q : PartTold) (d : DeviceTold) → (with_part p q d).fixed ≡ d.fixed
-part_fixed First q d = refl
-part_fixed Second q d = refl
-
-pub turn_fixed : (answer : Turned) (old new : DeviceTold) (clock clock_new : Clock) → TurnsDevice answer old clock new clock_new → new.fixed ≡ old.fixed
-turn_fixed turned.Idle old new clock clock_new turns = ap (λ (d : DeviceTold). d.fixed) turns.0.1
-turn_fixed turned.Worked old new clock clock_new turns = let p = turns.0.1.0 in ap (λ (d : DeviceTold). d.fixed) turns.0.1.1.only ∙ part_fixed p (part_at p new) old
-turn_fixed turned.Off old new clock clock_new turns = elim turns.0.1.1 [
-  | inl off ↦ ap (λ (d : DeviceTold). d.fixed) off.2
-  | inr cut ↦ let p = turns.0.1.0 in ap (λ (d : DeviceTold). d.fixed) cut.0.only ∙ part_fixed p (part_at p new) old
-]
-turn_fixed turned.Picked old new clock clock_new turns = absurd turns
-turn_fixed turned.Posted old new clock clock_new turns = absurd turns
 
 -- A CUT
 

@@ -1,14 +1,14 @@
 -- A turn that is its first half alone.
-use Rattle.script_player.proofs.Common.{map, not, ◌&&◌, ◌≡◌, ◌≤◌, ◌+◌, ℕ, Bool, true, false, List, [], ◌∷◌, ◌++◌, get_or, Option, None, refl, sym, ap, ◌∙◌, subst, inl, inr, DeviceTold, faults_of, ops_of, ReqResult, Pick, Post, Job, desc_of, is_synchronized, job_block, names_ram, Answer, Next, PostMember, EndSweep, next_of, PlainBlock, Told, told_of, store_of, DeskState, copies_out_next, AreSynchronized, Turned, StackState, PowersOff, IsFirstHalf, is_at_rest, is_due, copies_next, TakesNewest, copied_in, Turns, IsAnswer, Lowers, told_by, shown, to_refuse_in, MayPick, moment_of, at_rest, due_rest, rests_next, some_none, option_map_or, IsPosted, IsPostedNext, AddsPost, IsTied, IsAllowed, MayPost, MayPostNext, due_off}
+use Rattle.script_player.proofs.Common.{map, Entry, IsTurn, Added, CutsAre, AreAsAsked, plan_behind, plan_in, AllTell, MakesTurn, not, ◌&&◌, ◌≡◌, ◌≤◌, ◌+◌, ℕ, Bool, true, false, List, [], ◌∷◌, ◌++◌, get_or, Option, None, refl, sym, ap, ◌∙◌, subst, inl, inr, DeviceTold, faults_of, ops_of, ReqResult, Pick, Post, Job, desc_of, is_synchronized, job_block, names_ram, Answer, Next, PostMember, EndSweep, next_of, PlainBlock, Told, told_of, store_of, DeskState, copies_out_next, AreSynchronized, Turned, StackState, PowersOff, IsFirstHalf, is_at_rest, is_due, copies_next, TakesNewest, copied_in, Turns, IsAnswer, Lowers, told_by, shown, to_refuse_in, MayPick, moment_of, at_rest, due_rest, rests_next, some_none, option_map_or, IsPosted, IsPostedNext, AddsPost, IsTied, IsAllowed, MayPost, MayPostNext, due_off}
 use Rattle.std.specs.Prelude.{IsTrue}
 use Rattle.uds_gateway.specs.nv_desk.Desk.{state_of}
 use Rattle.uds_gateway.specs.nvm_laws.declared.turned.Turned.TheVariants as turned
 use Rattle.uds_gateway.specs.nvm_laws.declared.turned.Act.TheVariants.{Ended}
 use Rattle.uds_gateway.specs.nvm_core.Work as work
-use Rattle.script_player.proofs.PlainDevices.{goes_same, came_same}
+use Rattle.script_player.proofs.PlainDevices.{Goes, goes_same, came_same}
 use Rattle.script_player.proofs.PlainPicks.{newest, stored_so}
 use Rattle.script_player.proofs.PlainRefused.{IsOn, IsSpent, pick_spent, post_spent, entry_asked}
-use Rattle.script_player.proofs.PlainTurning.{same_stores, grown, none_more, explained, makes_one, misses_none, no_off, begins_by, begins_late}
+use Rattle.script_player.proofs.PlainTurning.{same_stores, none_more, no_off, begins_by, begins_late, turn_made}
 
 -- what is told of the application, and the newest store of a block
 abbrev pub are_told : List PlainBlock → List Told
@@ -91,29 +91,31 @@ pub record IsBehind {D : Type 0} (device : D → DeviceTold) (answer : Turned) (
   pub synchronized : AreSynchronized old.desk.config (map told_of old.copies)
 
 module _ {D : Type 0} (device : D → DeviceTold) (old new : StackState D (List PlainBlock)) where
-  -- nothing is added
-  quiet : (answer : Turned) → IsFirstHalf device are_told is_now is_looked (Ended answer) old new → IsBehind device answer old new → device new.device ≡ device old.device → new.desk ≡ old.desk → map told_of new.copies ≡ map told_of old.copies → is_due (state_of old.desk) ≡ false
-      → IsAnswer answer [] (told_by device old) (told_by device new) → Lowers answer (told_by device old) (told_by device new)
-      → Turns answer (told_by device old) (told_by device new)
-  quiet answer half behind stays same told due answers lowers =
-      let made = ap (λ (d : DeviceTold). d.ops) half.device in
-      let one = ap (λ (d : DeviceTold). d.first) half.device in
-      let two = ap (λ (d : DeviceTold). d.second) half.device in record {
-        made = record {
-          entries = [];
-          grows = grown device old new [] (none_more old.desk new.desk same) (same_stores old.copies new.copies half.sizes half.stores_stay) half.ready (ap (λ (d : DeviceTold). d.fixed) half.device);
-          counted = behind.counted;
-          operations = makes_one device old new [] (goes_same (device old.device) (device new.device) made one two) tt;
-          turn = record { entry = tt; begins = begins_late (state_of old.desk) [] due };
-          explained = explained device old new [] (goes_same (device old.device) (device new.device) made one two)
-              (λ id. ap (λ (ts : List Told). to_refuse_in ts id) told)
-              (no_off device old new [] (goes_same (device old.device) (device new.device) made one two) (came_same (device old.device) (device new.device) one) (refl, refl) refl behind.power);
-          rests = λ rest idle. (refl, ap (λ (d : DeviceTold). moment_of (shown old.desk None old.copies old.ready d)) stays);
-          cuts = misses_none device old new (goes_same (device old.device) (device new.device) made one two) behind.power;
-        };
-        answers = answers;
-        lowers = lowers;
-      }
+  module _ (answer : Turned) (half : IsFirstHalf device are_told is_now is_looked (Ended answer) old new) (behind : IsBehind device answer old new) where
+    goes : Goes (device old.device) (device new.device)
+    goes = goes_same (device old.device) (device new.device) (ap (λ (d : DeviceTold). d.fixed) half.device) (ap (λ (d : DeviceTold). d.ops) half.device) (ap (λ (d : DeviceTold). d.first) half.device) (ap (λ (d : DeviceTold). d.second) half.device)
+
+    stores : map store_of new.copies ≡ map store_of old.copies
+    stores = same_stores old.copies new.copies half.sizes half.stores_stay
+
+    -- with no Off
+    abbrev made : (es : List Entry) → new.desk ≡ record old.desk { entries = old.desk.entries ++ es } → AllTell (ops_of (device new.device)) es → IsTurn old.desk.config (state_of old.desk) (map store_of old.copies) es
+        → ((id : ℕ) → AreAsAsked old.desk.config id (state_of old.desk) (to_refuse_in (map told_of old.copies) id) es (to_refuse_in (map told_of new.copies) id))
+        → CutsAre (plan_in (device old.device)) 0 (map Added es) [] 0 → plan_behind (plan_in (device old.device)) 0 (map Added es) ≡ plan_in (device old.device)
+        → (IsTrue (is_at_rest (state_of old.desk)) → (es ≡ []) × (device new.device ≡ device old.device)) → MakesTurn (told_by device old) (told_by device new)
+    made es desk tells turn refusals are stays rests =
+        turn_made device old new goes behind.power behind.counted stores half.ready (ap (λ (d : DeviceTold). d.fixed) half.device) es desk tells turn refusals
+        (no_off device old new es goes (came_same (device old.device) (device new.device) (ap (λ (d : DeviceTold). d.first) half.device)) are stays behind.power)
+        (λ rest idle. let (none, same) = rests rest in (none, ap (λ (d : DeviceTold). moment_of (shown old.desk None old.copies old.ready d)) same))
+
+    -- nothing is added
+    quiet : device new.device ≡ device old.device → new.desk ≡ old.desk → map told_of new.copies ≡ map told_of old.copies → is_due (state_of old.desk) ≡ false
+        → IsAnswer answer [] (told_by device old) (told_by device new) → Lowers answer (told_by device old) (told_by device new) → Turns answer (told_by device old) (told_by device new)
+    quiet stays same told due answers lowers = record {
+      made = made [] (none_more old.desk new.desk same) tt (record { entry = tt; begins = begins_late (state_of old.desk) [] due }) (λ id. ap (λ (ts : List Told). to_refuse_in ts id) told) (refl, refl) refl (λ rest. (refl, stays));
+      answers = answers;
+      lowers = lowers;
+    }
 
   picks : IsFirstHalf device are_told is_now is_looked (Ended turned.Picked) old new → IsBehind device turned.Picked old new → Turns turned.Picked (told_by device old) (told_by device new)
   picks half behind =
@@ -122,32 +124,20 @@ module _ {D : Type 0} (device : D → DeviceTold) (old new : StackState D (List 
       let block = half.half.0 in
       let picked = half.half.1 in
       let ops = ops_of (device new.device) in
-      let made = ap (λ (d : DeviceTold). d.ops) half.device in
-      let one = ap (λ (d : DeviceTold). d.first) half.device in
-      let two = ap (λ (d : DeviceTold). d.second) half.device in
-      let stores = same_stores old.copies new.copies half.sizes half.stores_stay in
       let may = picked.allowed.1 in
+      let none : IsTrue (is_at_rest s) → ⊥ = λ rest. subst (λ (n : Next). MayPick c s block picked.kind picked.taken n) (rests_next c s rest).1 may in
       let spent = pick_spent (λ n x. is_now new.copies block n x × is_looked old.copies new.copies block n) c block old.copies (map told_of new.copies) behind.synchronized s picked.kind picked.taken (next_of c s) picked.copied may in record {
-        made = record {
-          entries = Pick block picked.kind picked.taken ops ∷ [];
-          grows = grown device old new (Pick block picked.kind picked.taken ops ∷ []) picked.adds stores half.ready (ap (λ (d : DeviceTold). d.fixed) half.device);
-          counted = behind.counted;
-          operations = makes_one device old new (Pick block picked.kind picked.taken ops ∷ []) (goes_same (device old.device) (device new.device) made one two) (refl, tt);
-          turn = record {
-            entry = record {
-              may = may;
-              newest = subst (λ (xs : List (ℕ × List ℕ)). TakesNewest xs (copies_next c (next_of c s)) block picked.taken) stores
-                  (newest (map store_of new.copies) c s block picked.kind (map told_of old.copies) (map told_of new.copies) picked.taken (next_of c s) (stored_so _ _ c block (map told_of old.copies) (map told_of new.copies) (copies_out_next c (next_of c s)) picked.taken (λ n x h. h.0) picked.copied) may);
-            };
-            begins = begins_by (is_due s);
-          };
-          explained = explained device old new (Pick block picked.kind picked.taken ops ∷ []) (goes_same (device old.device) (device new.device) made one two)
-              (λ id. entry_asked c s id block (map told_of old.copies) (map told_of new.copies) (Pick block picked.kind picked.taken ops) _ refl spent)
-              (no_off device old new (Pick block picked.kind picked.taken ops ∷ []) (goes_same (device old.device) (device new.device) made one two) (came_same (device old.device) (device new.device) one) (refl, refl) refl behind.power);
-          rests = λ rest idle. absurd (subst (λ (n : Next). MayPick c s block picked.kind picked.taken n) (rests_next c s rest).1 may);
-          cuts = misses_none device old new (goes_same (device old.device) (device new.device) made one two) behind.power;
-        };
-        answers = not_so (is_at_rest s) (λ rest. subst (λ (n : Next). MayPick c s block picked.kind picked.taken n) (rests_next c s rest).1 may);
+        made = made turned.Picked half behind (Pick block picked.kind picked.taken ops ∷ []) picked.adds (refl, tt)
+            (record {
+              entry = record {
+                may = may;
+                newest = subst (λ (xs : List (ℕ × List ℕ)). TakesNewest xs (copies_next c (next_of c s)) block picked.taken) (stores turned.Picked half behind)
+                    (newest (map store_of new.copies) c s block picked.kind (map told_of old.copies) (map told_of new.copies) picked.taken (next_of c s) (stored_so _ _ c block (map told_of old.copies) (map told_of new.copies) (copies_out_next c (next_of c s)) picked.taken (λ n x h. h.0) picked.copied) may);
+              };
+              begins = begins_by (is_due s);
+            })
+            (λ id. entry_asked c s id block (map told_of old.copies) (map told_of new.copies) (Pick block picked.kind picked.taken ops) _ refl spent) (refl, refl) refl (λ rest. absurd (none rest));
+        answers = not_so (is_at_rest s) none;
         lowers = behind.lowers;
       }
 
@@ -157,23 +147,12 @@ module _ {D : Type 0} (device : D → DeviceTold) (old new : StackState D (List 
       let s = state_of old.desk in
       let ops = ops_of (device new.device) in
       let post = posting _ ops old.desk new.desk old.copies (map told_of new.copies) behind.synchronized half.half in
-      let made = ap (λ (d : DeviceTold). d.ops) half.device in
-      let one = ap (λ (d : DeviceTold). d.first) half.device in
-      let two = ap (λ (d : DeviceTold). d.second) half.device in
-      let stores = same_stores old.copies new.copies half.sizes half.stores_stay in record {
-        made = record {
-          entries = Post post.block post.result post.given post.refused ops ∷ [];
-          grows = grown device old new (Post post.block post.result post.given post.refused ops ∷ []) post.adds stores half.ready (ap (λ (d : DeviceTold). d.fixed) half.device);
-          counted = behind.counted;
-          operations = makes_one device old new (Post post.block post.result post.given post.refused ops ∷ []) (goes_same (device old.device) (device new.device) made one two) (refl, tt);
-          turn = record { entry = post.may; begins = begins_by (is_due s) };
-          explained = explained device old new (Post post.block post.result post.given post.refused ops ∷ []) (goes_same (device old.device) (device new.device) made one two)
-              (λ id. entry_asked c s id post.block (map told_of old.copies) (map told_of new.copies) (Post post.block post.result post.given post.refused ops) _ refl post.spent)
-              (no_off device old new (Post post.block post.result post.given post.refused ops ∷ []) (goes_same (device old.device) (device new.device) made one two) (came_same (device old.device) (device new.device) one) (refl, refl) refl behind.power);
-          rests = λ rest idle. let (none, nothing) = rests_next c s rest in absurd (subst (λ (n : Next). MayPostNext c s post.block (post.result, post.given) post.refused n) nothing (post.may none));
-          cuts = misses_none device old new (goes_same (device old.device) (device new.device) made one two) behind.power;
-        };
-        answers = not_so (is_at_rest s) (λ rest. let (none, nothing) = rests_next c s rest in subst (λ (n : Next). MayPostNext c s post.block (post.result, post.given) post.refused n) nothing (post.may none));
+      let none : IsTrue (is_at_rest s) → ⊥ =
+      λ rest. let (out, nothing) = rests_next c s rest in subst (λ (n : Next). MayPostNext c s post.block (post.result, post.given) post.refused n) nothing (post.may out) in
+      record {
+        made = made turned.Posted half behind (Post post.block post.result post.given post.refused ops ∷ []) post.adds (refl, tt) (record { entry = post.may; begins = begins_by (is_due s) })
+            (λ id. entry_asked c s id post.block (map told_of old.copies) (map told_of new.copies) (Post post.block post.result post.given post.refused ops) _ refl post.spent) (refl, refl) refl (λ rest. absurd (none rest));
+        answers = not_so (is_at_rest s) none;
         lowers = behind.lowers;
       }
 

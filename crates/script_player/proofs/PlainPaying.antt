@@ -1,15 +1,8 @@
 -- The calls of a stack whose application stores in memory, as it is seen.
-use Rattle.script_player.proofs.Common.{◌||◌, ◌≡◌, Bool, true, false, List, [], ◌∷◌, ◌++◌, Option, refl, sym, ap, ◌∙◌, subst, append_cancel_left, DeviceTold, Part, PartTold, Clock, Lasts, Entry, PlainBlock, DeskState, HandState, TellsSlots, FoundAnswer, StackState, Restarts, Move, MovesBy, IsSeen, LastsOn, IsKept, seen_by, told_by, ComesFrom, told_before, StaysKept, seen_as, seen_in, none_moves}
+use Rattle.script_player.proofs.Common.{◌||◌, ◌≡◌, Bool, true, false, List, [], ◌∷◌, ◌++◌, refl, sym, ap, ◌∙◌, subst, append_cancel_left, DeviceTold, Part, PartTold, Clock, Lasts, Entry, PlainBlock, TellsSlots, FoundAnswer, StackState, Restarts, Move, MovesBy, IsSeen, LastsOn, IsKept, kept_by, seen_by, told_by, ComesFrom, told_before, StaysKept, seen_as, seen_in, none_moves}
 use Rattle.uds_gateway.specs.nvm_laws.declared.turned.FoundAnswer.TheVariants as found
 use Rattle.script_player.proofs.Paying.{none_last}
 use Rattle.script_player.proofs.PlainTurning.{not_two}
-
--- where the stack is ready before and behind a call
-pub keeps_by : (r t : Bool) (desk desk_new : DeskState) (hand hand_new : Option HandState) (d d_new : DeviceTold) (clock clock_new : Clock) → r ≡ true → t ≡ r → StaysKept desk hand d clock desk_new hand_new d_new clock_new
-    → (before : Part → PartTold) → IsKept r before desk hand d clock → IsKept t before desk_new hand_new d_new clock_new
-keeps_by r t desk desk_new hand hand_new d d_new clock clock_new ready same stays before kept =
-    subst (λ (b : Bool). IsKept b before desk_new hand_new d_new clock_new) (sym (same ∙ ready))
-    (stays.kept before (subst (λ (b : Bool). IsKept b before desk hand d clock) ready kept))
 
 -- one entry more is the one that was added
 pub same_entry : (before h : List Entry) (e f : Entry) → h ≡ before ++ e ∷ [] → h ≡ before ++ f ∷ [] → e ≡ f
@@ -38,6 +31,11 @@ module _ {D : Type 0} (device : D → DeviceTold) (clock : D → Clock) where
       (subst (λ (b : Bool). MovesBy false ms (seen_as device clock (λ before. IsKept b before old.desk old.hand (device old.device) (clock old.device)) old) (seen_in device clock new)) (sym ready) by)
 
 module _ {D : Type 0} (device : D → DeviceTold) (clock : D → Clock) (old new : StackState D (List PlainBlock)) where
+  -- where it is ready before and behind a call
+  pub keeps_by : old.ready ≡ true → new.ready ≡ old.ready → StaysKept old.desk old.hand (device old.device) (clock old.device) new.desk new.hand (device new.device) (clock new.device)
+      → (before : Part → PartTold) → kept_by device clock old before → kept_by device clock new before
+  keeps_by ready same stays before kept = rw (same, ready) (stays.kept before (rw ready at kept))
+
   abbrev TellsBack : Type 0
   TellsBack = TellsSlots (device new.device) → TellsSlots (device old.device)
 

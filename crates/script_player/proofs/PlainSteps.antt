@@ -15,26 +15,12 @@ had_room r reply false is exactly = let none : IsErrOf r fault.NoRoom = exactly.
 
 -- A POWER CUT
 
-planned_unplanned : (nth keep : ℕ) (p : Planning) → (planned nth keep p).unplanned ≡ p.unplanned
-planned_unplanned nth keep p = by (nat_le 1 p.takes && nat_le 1 nth) refl
+planned_keeps : (nth keep : ℕ) (p : Planning) → ((planned nth keep p).unplanned ≡ p.unplanned) × ((planned nth keep p).came ≡ p.came) × (p.takes ≤ (planned nth keep p).takes + 1)
+planned_keeps nth keep p = by (nat_le 1 p.takes && nat_le 1 nth) refl
   where
-    by : (t : Bool) → (nat_le 1 p.takes && nat_le 1 nth) ≡ t → (planned nth keep p).unplanned ≡ p.unplanned
-    by true is = rw is refl
-    by false is = rw is refl
-
-planned_takes : (nth keep : ℕ) (p : Planning) → p.takes ≤ (planned nth keep p).takes + 1
-planned_takes nth keep p = by (nat_le 1 p.takes && nat_le 1 nth) refl
-  where
-    by : (t : Bool) → (nat_le 1 p.takes && nat_le 1 nth) ≡ t → p.takes ≤ (planned nth keep p).takes + 1
-    by true is = rw is (omega arith)
-    by false is = rw is (omega arith)
-
-planned_came : (nth keep : ℕ) (p : Planning) → (planned nth keep p).came ≡ p.came
-planned_came nth keep p = by (nat_le 1 p.takes && nat_le 1 nth) refl
-  where
-    by : (t : Bool) → (nat_le 1 p.takes && nat_le 1 nth) ≡ t → (planned nth keep p).came ≡ p.came
-    by true is = rw is refl
-    by false is = rw is refl
+    by : (t : Bool) → (nat_le 1 p.takes && nat_le 1 nth) ≡ t → ((planned nth keep p).unplanned ≡ p.unplanned) × ((planned nth keep p).came ≡ p.came) × (p.takes ≤ (planned nth keep p).takes + 1)
+    by true is = rw is (refl, refl, omega arith)
+    by false is = rw is (refl, refl, omega arith)
 
 takes_first : (n : ℕ) → 1 ≤ n → nat_le 1 n ≡ true
 takes_first n some = elim (leb_tells 1 n) [ inl has ↦ has.0 | inr few ↦ absurd (let less = few.1 in omega (arith, less, some)) ]
@@ -91,15 +77,15 @@ arms nth keep desk hand copies ready d later power = record {
           takes = takes_in (armed 0 nth keep d);
           plan = plan_in (armed 0 nth keep d);
         };
-      }) (planned_unplanned nth keep d.first.planning)
+      }) (planned_keeps nth keep d.first.planning).0
       ∙ ap (λ (ks : List ℕ). record (shown desk hand copies ready d) {
         causes = record (causes_in copies d) {
           came = ks;
           takes = takes_in (armed 0 nth keep d);
           plan = plan_in (armed 0 nth keep d);
         };
-      }) (planned_came nth keep d.first.planning);
-  takes = planned_takes nth keep d.first.planning;
+      }) (planned_keeps nth keep d.first.planning).1;
+  takes = (planned_keeps nth keep d.first.planning).2;
   planned = λ one plan stays. planned_later (ops_behind 0 desk.entries) (ops_in d) nth keep (is_off d) d.first.planning plan
       (let told = ops_told desk.config desk.entries in omega (arith, told, later)) one stays;
   comes = λ takes. arms_cuts nth keep desk hand copies ready d power takes;

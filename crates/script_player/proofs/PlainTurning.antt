@@ -1,5 +1,5 @@
 -- A turn: what it adds, and how that is explained.
-use Rattle.script_player.proofs.Common.{◌||◌, not, map, ◌≡◌, ◌+◌, ℕ, suc, Bool, true, false, List, [], ◌∷◌, ◌++◌, length, get_or, Option, None, refl, sym, ap, ◌∙◌, subst, inl, inr, arith, append-nil, length-map, DeviceTold, Fixed, is_off, Entry, Off, State, step, PlainBlock, told_of, store_of, DeskState, DueCut, Added, CutsAre, AreAsAsked, StackState, PowersOff, histories_step, IsGrown, IsNoEarlier, AreCut, plan_behind, AreExplained, AllTell, is_due, told_by, to_refuse_in, plan_in, came_in, ops_in, ext_get_or, sizes_of, MissesNone, MakesOne, begins_with_pick_or_post}
+use Rattle.script_player.proofs.Common.{◌||◌, not, map, ◌≡◌, ◌≤◌, ◌+◌, ℕ, suc, Bool, true, false, List, [], ◌∷◌, ◌++◌, length, get_or, Option, None, refl, sym, ap, ◌∙◌, subst, inl, inr, arith, append-nil, length-map, DeviceTold, faults_of, nothing_open, is_off, Entry, Off, State, IsTurn, PlainBlock, told_of, store_of, DeskState, DueCut, Added, CutsAre, AreAsAsked, StackState, PowersOff, IsNoEarlier, AreCut, plan_behind, AllTell, MakesTurn, is_at_rest, is_due, told_by, moment_of, to_refuse_in, plan_in, came_in, ops_in, ext_get_or, sizes_of, MissesNone, begins_with_pick_or_post}
 use Rattle.std.specs.Prelude.{IsTrue}
 use Rattle.uds_gateway.specs.nv_desk.Desk.{state_of}
 use Rattle.script_player.proofs.PlainPlans.{none_earlier}
@@ -20,30 +20,11 @@ same_stores bs cs sizes stay = ext_get_or (0, []) (map store_of cs) (map store_o
 
 -- WHAT IS ADDED
 
-pub grown : {D : Type 0} (device : D → DeviceTold) (old new : StackState D (List PlainBlock)) (es : List Entry)
-    → new.desk ≡ record old.desk { entries = old.desk.entries ++ es } → map store_of new.copies ≡ map store_of old.copies → new.ready ≡ old.ready
-    → (device new.device).fixed ≡ (device old.device).fixed → IsGrown es (told_by device old) (told_by device new)
-grown device old new es desk stores ready fixed =
-    ap (λ (x : DeskState). record (told_by device new) { configuration = x.config; cap = x.cap; entries = x.entries }) desk
-    ∙ ap (λ (xs : List (ℕ × List ℕ)). record (told_by device new) { configuration = old.desk.config; cap = old.desk.cap; entries = old.desk.entries ++ es; stores = xs }) stores
-    ∙ ap (λ (r : Bool). record (told_by device new) { configuration = old.desk.config; cap = old.desk.cap; entries = old.desk.entries ++ es; stores = map store_of old.copies; ready = r }) ready
-    ∙ ap (λ (f : Fixed). record (told_by device new) { configuration = old.desk.config; cap = old.desk.cap; entries = old.desk.entries ++ es; stores = map store_of old.copies; ready = old.ready; one = not f.two }) fixed
-
 -- nothing
 pub none_more : (old new : DeskState) → new ≡ old → new ≡ record old { entries = old.entries ++ [] }
 none_more old new same = same ∙ ap (λ (h : List Entry). record old { entries = h }) (sym (append-nil old.entries))
 
--- the state behind one entry
-pub one_more : (old new : DeskState) (e : Entry) → new ≡ record old { entries = old.entries ++ e ∷ [] } → state_of new ≡ step old.config (state_of old) e
-one_more old new e adds = ap state_of adds ∙ histories_step old.config old.entries e
-
 -- HOW IT IS EXPLAINED
-
-pub explained : {D : Type 0} (device : D → DeviceTold) (old new : StackState D (List PlainBlock)) (es : List Entry) → Goes (device old.device) (device new.device)
-    → ((id : ℕ) → AreAsAsked old.desk.config id (state_of old.desk) (to_refuse_in (map told_of old.copies) id) es (to_refuse_in (map told_of new.copies) id))
-    → AreCut (plan_in (device old.device)) 0 (map Added es) (told_by device old) (told_by device new)
-    → AreExplained (plan_in (device old.device)) es (told_by device old) (told_by device new)
-explained device old new es goes refusals off = record { refusals = refusals; off = off; takes = goes.takes }
 
 -- with no Off among them
 pub no_off : {D : Type 0} (device : D → DeviceTold) (old new : StackState D (List PlainBlock)) (es : List Entry) → Goes (device old.device) (device new.device) → came_in (device new.device) ≡ came_in (device old.device)
@@ -72,11 +53,6 @@ one_off device old new cut power = record {
   power = λ tells. power;
 }
 
--- its operations
-pub makes_one : {D : Type 0} (device : D → DeviceTold) (old new : StackState D (List PlainBlock)) (es : List Entry) → Goes (device old.device) (device new.device) → AllTell (ops_in (device new.device)) es
-    → MakesOne es (told_by device old) (told_by device new)
-makes_one device old new es goes tell = record { later = goes.later; one = goes.one; told = tell }
-
 -- no planned cut is missed
 pub not_two : (two : Bool) → not two ≡ true → two ≡ false
 not_two true is = absurd (cc is)
@@ -102,3 +78,24 @@ begins_by false = refl
 
 pub begins_late : (s : State) (es : List Entry) → is_due s ≡ false → IsTrue (not (is_due s) || begins_with_pick_or_post es)
 begins_late s es none = rw none refl
+
+-- A TURN
+
+-- that added these entries
+abbrev pub turn_made : {D : Type 0} (device : D → DeviceTold) (old new : StackState D (List PlainBlock)) → Goes (device old.device) (device new.device) → PowersOff new.desk (device new.device) → faults_of (device old.device) ≤ faults_of (device new.device)
+    → map store_of new.copies ≡ map store_of old.copies → new.ready ≡ old.ready → (device new.device).fixed ≡ (device old.device).fixed
+    → (es : List Entry) → new.desk ≡ record old.desk { entries = old.desk.entries ++ es } → AllTell (ops_in (device new.device)) es → IsTurn old.desk.config (state_of old.desk) (map store_of old.copies) es
+    → ((id : ℕ) → AreAsAsked old.desk.config id (state_of old.desk) (to_refuse_in (map told_of old.copies) id) es (to_refuse_in (map told_of new.copies) id))
+    → AreCut (plan_in (device old.device)) 0 (map Added es) (told_by device old) (told_by device new)
+    → (IsTrue (is_at_rest (state_of old.desk)) → not (nothing_open (device old.device)) ≡ false → (es ≡ []) × (moment_of (told_by device new) ≡ moment_of (told_by device old)))
+    → MakesTurn (told_by device old) (told_by device new)
+turn_made device old new goes power counted stores ready fixed es desk tells turn refusals off rests = record {
+  entries = es;
+  grows = rw (desk, stores, ready, fixed) refl;
+  counted = counted;
+  operations = record { later = goes.later; one = goes.one; told = tells };
+  turn = turn;
+  explained = record { refusals = refusals; off = off; takes = goes.takes };
+  rests = rests;
+  cuts = misses_none device old new goes power;
+}

@@ -1,5 +1,5 @@
 -- Requests of a UDS gateway, one after another.
-use Rattle.script_player.proofs.Common.{not, ◌≡◌, ◌≢◌, ◌<◌, ◌≤◌, ◌+◌, length-append, ℕ, true, false, IsTrue, List, [], ◌∷◌, ◌++◌, length, take, drop, get_or, zero, suc, None, Result, Ok, Err, refl, sym, ap, ◌∙◌, subst, inl, inr, arith, append-nil, append_assoc, map-append, take_more, list_all-append, DeskState, Turned, Instance, Mark, Request, Reply, Entry, Ask, Post, Off, Found, Configuration, State, Job, fits, after, step, histories_step, ServeStop, HasOne, Goes, is_on_way, Step, AskStep, Turn, request_after, is_at_rest, joined, CanBePlayed, StackTold, state_of, desk_of, AddsAsk, Turns, MakesTurns, IsAsked, IsFresh, HasWalked, Seen, none_moves, AskMoves, IsSeen, LastsOn, TurnMoves, EndsRequest, AreServedSoFar, HasServed, Accepted, Refused, StatusIs, IndexIs, asked_block, HasStore, reply_of, NegativeCode, HasNone, IsOwn, ComesToPost, ComesToOff, served_more, accepted_one, refused_none, own_cases, own_reply, IsYesOrNo, is_of_request, AreOfRequests, no_stores, IsServing, ServesNoMore, EndsJob}
+use Rattle.script_player.proofs.Common.{not, ◌≡◌, ◌≢◌, ◌<◌, ◌≤◌, ◌+◌, length-append, ℕ, true, false, IsTrue, List, [], ◌∷◌, ◌++◌, length, take, drop, get_or, zero, suc, None, Result, Ok, Err, refl, sym, ap, ◌∙◌, subst, inl, inr, arith, append-nil, append_assoc, map-append, take_more, list_all-append, DeskState, Turned, Instance, Mark, Request, Reply, Entry, Ask, Post, Off, Found, Configuration, State, Job, fits, after, step, histories_step, ServeStop, HasOne, Goes, is_on_way, Step, AskStep, Turn, request_after, is_at_rest, joined, CanBePlayed, StackTold, state_of, desk_of, AddsAsk, Turns, MakesTurns, IsAsked, IsFresh, HasWalked, Seen, none_moves, AskMoves, IsSeen, LastsOn, TurnMoves, EndsRequest, AreServedSoFar, HasServed, Accepted, Refused, StatusIs, IndexIs, asked_block, HasStore, reply_of, NegativeCode, HasNone, IsOwn, ComesToPost, ComesToOff, served_more, accepted_one, refused_none, own_cases, own_reply, IsYesOrNo, is_of_request, AreOfRequests, no_stores, IsServing, ServesMore, ServesNoMore, LeavesRequests, EndsJob}
 use Rattle.std.proofs.Common.{◌-◌}
 use Rattle.uds_gateway.specs.nvm_laws.declared.turned.Turned.TheVariants as turned
 use Rattle.uds_gateway.specs.declared.stop.ServeStop.TheVariants as stop
@@ -144,30 +144,31 @@ entries_asked asked reply old new adds = ap (λ (t : StackTold). t.entries) adds
 more_entries : (a b d : List Entry) (e : Entry) (es : List Entry) → b ≡ a ++ e ∷ [] → d ≡ b ++ es → d ≡ a ++ e ∷ es
 more_entries a b d e es one two = two ∙ ap (λ (h : List Entry). h ++ es) one ∙ append_assoc a (e ∷ []) es
 
+-- it is accepted, and turns added these entries
+job_made : (p q r s : Seen) (asked : Request) (piece : List Entry) (old mid between new : StackTold) → IsOwn asked → (serving : IsServing p q old mid) → AddsAsk (Ask 0 asked Accepted) mid between → AskMoves q r mid between
+    → ((before : List Step) → IsKept before between → TurnsSome r s before between new) → new.entries ≡ between.entries ++ piece → ServesMore p s (Ask 0 asked Accepted ∷ piece) old mid new
+job_made p q r s asked piece old mid between new own serving adds pays turns more =
+    let asks = asks_on p q r asked Accepted old mid between own serving adds pays in record {
+      serving = turns_on p r s old between new asks (turns asks.made asks.way.kept);
+      adds = more_entries mid.entries between.entries new.entries (Ask 0 asked Accepted) piece (entries_asked asked Accepted mid between adds) more;
+    }
+
 pub job_posted : (p q r s : Seen) (asked : Request) (old mid between new : StackTold) → IsOwn asked → (serving : IsServing p q old mid) → AddsAsk (Ask 0 asked Accepted) mid between → AskMoves q r mid between
     → ((before : List Step) → IsKept before between → TurnsSome r s before between new) → ComesToPost asked (desk_of between) (desk_of new) → EndsJob asked p s (Ok tt) old mid new
-job_posted p q r s asked old mid between new own serving adds pays turns comes =
-    let asks = asks_on p q r asked Accepted old mid between own serving adds pays in (
-      Ask 0 asked Accepted ∷ (comes.comes.way ++ Post (asked_block asked) comes.result comes.given comes.refused comes.ops ∷ []),
-      record {
-        serving = turns_on p r s old between new asks (turns asks.made asks.way.kept);
-        adds = more_entries mid.entries between.entries new.entries (Ask 0 asked Accepted) (comes.comes.way ++ Post (asked_block asked) comes.result comes.given comes.refused comes.ops ∷ []) (entries_asked asked Accepted mid between adds) (ap (λ (d : DeskState). d.entries) comes.comes.adds);
-      },
-      inr (record { result = comes.result; given = comes.given; refused = comes.refused; ops = comes.ops; ends = record { way = comes.comes.way; under_way = comes.comes.under_way; is = refl } }),
-      comes.none,
-    )
+job_posted p q r s asked old mid between new own serving adds pays turns comes = (
+  Ask 0 asked Accepted ∷ (comes.comes.way ++ Post (asked_block asked) comes.result comes.given comes.refused comes.ops ∷ []),
+  job_made p q r s asked _ old mid between new own serving adds pays turns (ap (λ (d : DeskState). d.entries) comes.comes.adds),
+  inr (record { result = comes.result; given = comes.given; refused = comes.refused; ops = comes.ops; ends = record { way = comes.comes.way; under_way = comes.comes.under_way; is = refl } }),
+  comes.none,
+)
 
 pub job_off : (p q r s : Seen) (asked : Request) (old mid between new : StackTold) → IsOwn asked → (serving : IsServing p q old mid) → AddsAsk (Ask 0 asked Accepted) mid between → AskMoves q r mid between
     → ((before : List Step) → IsKept before between → TurnsSome r s before between new) → ComesToOff (desk_of between) (desk_of new) → EndsJob asked p s (Err stop.Off) old mid new
-job_off p q r s asked old mid between new own serving adds pays turns comes =
-    let asks = asks_on p q r asked Accepted old mid between own serving adds pays in (
-      Ask 0 asked Accepted ∷ (comes.comes.way ++ Off comes.ops ∷ []),
-      record {
-        serving = turns_on p r s old between new asks (turns asks.made asks.way.kept);
-        adds = more_entries mid.entries between.entries new.entries (Ask 0 asked Accepted) (comes.comes.way ++ Off comes.ops ∷ []) (entries_asked asked Accepted mid between adds) (ap (λ (d : DeskState). d.entries) comes.comes.adds);
-      },
-      record { ops = comes.ops; ends = record { way = comes.comes.way; under_way = comes.comes.under_way; is = refl } },
-    )
+job_off p q r s asked old mid between new own serving adds pays turns comes = (
+  Ask 0 asked Accepted ∷ (comes.comes.way ++ Off comes.ops ∷ []),
+  job_made p q r s asked _ old mid between new own serving adds pays turns (ap (λ (d : DeskState). d.entries) comes.comes.adds),
+  record { ops = comes.ops; ends = record { way = comes.comes.way; under_way = comes.comes.under_way; is = refl } },
+)
 
 -- a reply that doesn't accept refuses
 pub job_refused : (p q r : Seen) (asked : Request) (reply : Reply) (old mid new : StackTold) → IsOwn asked → HasNone (state_of mid) → reply ≢ Accepted → reply ≡ reply_of mid.configuration mid.cap (state_of mid) asked → IsServing p q old mid → AddsAsk (Ask 0 asked reply) mid new → AskMoves q r mid new
@@ -248,43 +249,31 @@ serves_one p q r requests request counts old mid new so_far (piece, more, has, n
   none = none;
 }
 
+-- the first ones, and the others left for a reason
+serves_so : (p q r : Seen) (end : Result (Unit {0}) ServeStop) (requests first left : List (List ℕ)) (rest : List Entry) (counts : List ℕ) (old mid at new : StackTold) → requests ≡ first ++ left → (so_far : AreServedSoFar p q first counts old mid)
+    → ServesNoMore p r old at new → new.entries ≡ mid.entries ++ rest → LeavesRequests old.configuration old.cap (state_of new) end left rest → HasServed p r requests counts end old new
+serves_so p q r end requests first left rest counts old mid at new order so_far none adds leaves = record {
+  made = none.made;
+  only = none.only;
+  walked = none.walked;
+  more = joined so_far.pieces ++ rest;
+  adds = adds ∙ ap (λ (h : List Entry). h ++ rest) so_far.more ∙ append_assoc old.entries (joined so_far.pieces) rest;
+  serves = record { first = first; left = left; order = order; pieces = so_far.pieces; rest = rest; parts = refl; served = so_far.served; leaves = leaves };
+  counts = so_far.counts;
+}
+
 -- all
 pub serves_all : (p q : Seen) (requests : List (List ℕ)) (counts : List ℕ) (old now : StackTold) → AreServedSoFar p q requests counts old now → HasServed p q requests counts (Ok tt) old now
 serves_all p q requests counts old now so_far =
-    let none = stays p q old now so_far.serving in
-    record {
-      made = none.made;
-      only = none.only;
-      walked = none.walked;
-      more = joined so_far.pieces;
-      adds = so_far.more;
-      serves = record { first = requests; left = []; order = sym (append-nil requests); pieces = so_far.pieces; rest = []; parts = sym (append-nil (joined so_far.pieces)); served = so_far.served; leaves = (refl, refl) };
-      counts = so_far.counts;
-    }
+    serves_so p q q (Ok tt) requests requests [] [] counts old now now now (sym (append-nil requests)) so_far (stays p q old now so_far.serving) (sym (append-nil now.entries)) (refl, refl)
 
 -- or not all
 pub serves_first : (p q r : Seen) (why : ServeStop) (requests first left : List (List ℕ)) (request : List ℕ) (counts : List ℕ) (old mid new : StackTold) → requests ≡ first ++ request ∷ left → AreServedSoFar p q first counts old mid → EndsRequest old.configuration request p r (Err why) old mid new
     → HasServed p r requests counts (Err why) old new
 serves_first p q r stop.Off requests first left request counts old mid new order so_far (piece, more, off) =
-    let none = stays p r old new more.serving in
-    record {
-      made = none.made;
-      only = none.only;
-      walked = none.walked;
-      more = joined so_far.pieces ++ piece;
-      adds = more.adds ∙ ap (λ (h : List Entry). h ++ piece) so_far.more ∙ append_assoc old.entries (joined so_far.pieces) piece;
-      serves = record { first = first; left = request ∷ left; order = order; pieces = so_far.pieces; rest = piece; parts = refl; served = so_far.served; leaves = off };
-      counts = so_far.counts;
-    }
-serves_first p q r stop.NoRoom requests first left request counts old mid new order so_far (none, (asked, is, full)) = record {
-  made = none.made;
-  only = none.only;
-  walked = none.walked;
-  more = joined so_far.pieces;
-  adds = none.adds ∙ so_far.more;
-  serves = record { first = first; left = request ∷ left; order = order; pieces = so_far.pieces; rest = []; parts = sym (append-nil (joined so_far.pieces)); served = so_far.served; leaves = ((asked, is, no_room), refl) };
-  counts = so_far.counts;
-}
+    serves_so p q r (Err stop.Off) requests first (request ∷ left) piece counts old mid new new order so_far (stays p r old new more.serving) more.adds off
+serves_first p q r stop.NoRoom requests first left request counts old mid new order so_far (none, (asked, is, full)) =
+    serves_so p q r (Err stop.NoRoom) requests first (request ∷ left) [] counts old mid mid new order so_far none (none.adds ∙ sym (append-nil mid.entries)) ((asked, is, no_room), refl)
   where
     no_room : IsTrue (not (fits old.configuration old.cap (state_of new) 1))
     no_room =
@@ -292,29 +281,13 @@ serves_first p q r stop.NoRoom requests first left request counts old mid new or
         (subst (λ (x : Configuration). IsTrue (not (fits old.configuration old.cap (after x mid.entries) 1))) (sym none.configuration)
         (subst (λ (n : ℕ). IsTrue (not (fits old.configuration n (state_of mid) 1))) so_far.serving.way.cap
         (subst (λ (x : Configuration). IsTrue (not (fits x mid.cap (state_of mid) 1))) so_far.serving.way.configuration full)))
-serves_first p q r stop.Memory requests first left request counts old mid new order so_far none = record {
-  made = none.made;
-  only = none.only;
-  walked = none.walked;
-  more = joined so_far.pieces;
-  adds = none.adds ∙ so_far.more;
-  serves = record { first = first; left = request ∷ left; order = order; pieces = so_far.pieces; rest = []; parts = sym (append-nil (joined so_far.pieces)); served = so_far.served; leaves = refl };
-  counts = so_far.counts;
-}
+serves_first p q r stop.Memory requests first left request counts old mid new order so_far none =
+    serves_so p q r (Err stop.Memory) requests first (request ∷ left) [] counts old mid mid new order so_far none (none.adds ∙ sym (append-nil mid.entries)) refl
 
 -- memory was wanting before the next one
 pub serves_some : (p q : Seen) (requests first left : List (List ℕ)) (counts : List ℕ) (old now : StackTold) → requests ≡ first ++ left → AreServedSoFar p q first counts old now → HasServed p q requests counts (Err stop.Memory) old now
 serves_some p q requests first left counts old now order so_far =
-    let none = stays p q old now so_far.serving in
-    record {
-      made = none.made;
-      only = none.only;
-      walked = none.walked;
-      more = joined so_far.pieces;
-      adds = so_far.more;
-      serves = record { first = first; left = left; order = order; pieces = so_far.pieces; rest = []; parts = sym (append-nil (joined so_far.pieces)); served = so_far.served; leaves = refl };
-      counts = so_far.counts;
-    }
+    serves_so p q q (Err stop.Memory) requests first left [] counts old now now now order so_far (stays p q old now so_far.serving) (sym (append-nil now.entries)) refl
 
 -- the next request stands between those that are served and those that are left
 next_behind : (xs : List (List ℕ)) (i : ℕ) (x d : List ℕ) → i < length xs → x ≡ get_or xs i d → xs ≡ take i xs ++ x ∷ drop (suc i) xs

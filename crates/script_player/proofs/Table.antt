@@ -9,16 +9,16 @@ use Rattle.uds_gateway.specs.block_config.declared.block.RamKind.{RamKind}
 
 -- SYNCHRONIZED BLOCKS
 
-sync_by : (kind : RamKind) (n m : ℕ) → length_where_sync kind n ≡ Some m → is_synchronized kind ≡ true
-sync_by ram.Sync n m is = refl
-sync_by kind n m is = cc
+sync_by : (kind : RamKind) (n m : ℕ) → length_where_sync kind n ≡ Some m → (is_synchronized kind ≡ true) × (n ≡ m)
+sync_by ram.Sync n m is = (refl, cc)
+sync_by kind n m is = absurd (cc is)
 
-sync_in : (o : Option BlockDesc) (n : ℕ) → option_and_then (λ b. length_where_sync b.ram b.length) o ≡ Some n → is_synchronized (unwrap_or o (plain_block 0)).ram ≡ true
-sync_in None n is = cc
+sync_in : (o : Option BlockDesc) (n : ℕ) → option_and_then (λ b. length_where_sync b.ram b.length) o ≡ Some n → (is_synchronized (unwrap_or o (plain_block 0)).ram ≡ true) × ((unwrap_or o (plain_block 0)).length ≡ n)
+sync_in None n is = absurd (cc is)
 sync_in (Some b) n is = sync_by b.ram b.length n is
 
--- a block with the length of a synchronized one is synchronized
-pub is_sync : (c : Configuration) (id n : ℕ) → sync_length_of c id ≡ Some n → is_synchronized (desc_of c id).ram ≡ true
+-- a block with the length of a synchronized one is synchronized, and has it
+pub is_sync : (c : Configuration) (id n : ℕ) → sync_length_of c id ≡ Some n → (is_synchronized (desc_of c id).ram ≡ true) × ((desc_of c id).length ≡ n)
 is_sync c id n is = sync_in (block_of c id) n is
 
 within_by : (blocks : List BlockDesc) (i n : ℕ) → option_and_then (λ b. length_where_sync b.ram b.length) (slice_get blocks i) ≡ Some n → i < length blocks

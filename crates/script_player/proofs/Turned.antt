@@ -1,5 +1,5 @@
 -- Turn after turn.
-use Rattle.script_player.proofs.Common.{list_all, ◌≡◌, ◌<◌, ◌≤◌, ◌+◌, ℕ, zero, suc, Bool, true, false, IsTrue, List, [], ◌∷◌, ◌++◌, length, Option, Some, None, refl, sym, ap, ◌∙◌, subst, inl, inr, arith, append-nil, length-append, not, cases_Bool, Rose, Turned, Entry, Configuration, State, Job, after, after_from, Step, is_at_rest, IsTurn, JobsTookStored, StackTold, state_of, moment_of, IsGrown, MakesTurn, Turns, HasTurned, AreMade, AllFindWork, MakesTurns, Drains, TurnMoves, Seen, moves_more, Moment, Move, FindsWork, entry_list, entries_of, moment_behind, from_more, rests_next, or_left, or_right, is_played, AreTurns, KeepsStored, turns_keep_stored, keeping_goes_on, turns_grow, is_last, has_work}
+use Rattle.script_player.proofs.Common.{list_all, ◌≡◌, ◌<◌, ◌≤◌, ◌+◌, ℕ, zero, suc, Bool, true, false, IsTrue, List, [], ◌∷◌, ◌++◌, length, Option, Some, None, refl, sym, ap, ◌∙◌, subst, inl, inr, arith, append-nil, length-append, not, Rose, Turned, Entry, Configuration, State, Job, after, after_from, Step, is_at_rest, IsTurn, JobsTookStored, StackTold, state_of, moment_of, IsGrown, MakesTurn, Turns, HasTurned, AreMade, AllFindWork, MakesTurns, Drains, TurnMoves, Seen, moves_more, Moment, Move, FindsWork, entry_list, entries_of, moment_behind, from_more, rests_next, rest_ends, off_ends, or_left, or_right, is_played, AreTurns, KeepsStored, turns_keep_stored, keeping_goes_on, turns_grow, is_last, has_work}
 use Rattle.std.specs.Option.{is_some}
 use Rattle.std.proofs.Common.{◌||◌}
 use Rattle.uds_gateway.specs.nvm_laws.declared.turned.Turned.TheVariants as turned
@@ -106,24 +106,18 @@ none_in : (hand : Option Job) → is_some hand ≡ false → hand ≡ None
 none_in None none = refl
 none_in (Some j) none = cc
 
-at_rest_then : (s : State) → is_at_rest s ≡ true → IsTrue (is_at_rest s || s.off)
-at_rest_then s rest = rw rest refl
-
-off_then : (s : State) → s.off ≡ true → IsTrue (is_at_rest s || s.off)
-off_then s off = elim (cases_Bool (is_at_rest s)) [ inl on ↦ rw on refl | inr none ↦ rw (none, off) refl ]
-
 -- the state behind a turn that added nothing
 same_state : (old new : StackTold) (es : List Entry) → IsGrown es old new → es ≡ [] → state_of new ≡ state_of old
 same_state old new es grows none = state_grown old new es grows ∙ ap (after_from old.configuration (state_of old)) none
 
 pub last_ends : (a : Turned) (in_hand risen : Bool) (old new : StackTold) → Turns a old new → in_hand ≡ is_some (state_of old).hand → is_last a in_hand risen ≡ true → IsTrue (is_at_rest (state_of new) || (state_of new).off)
 last_ends turned.Idle in_hand risen old new turn hand last =
-    at_rest_then (state_of new) (subst (λ (s : State). is_at_rest s ≡ true) (sym (same_state old new turn.made.entries turn.made.grows turn.answers.0)) turn.answers.1)
-last_ends turned.Off in_hand risen old new turn hand last = off_then (state_of new) (ap (λ s. s.off) (state_grown old new turn.made.entries turn.made.grows) ∙ turn.answers)
+    rest_ends (state_of new) (subst (λ (s : State). is_at_rest s ≡ true) (sym (same_state old new turn.made.entries turn.made.grows turn.answers.0)) turn.answers.1)
+last_ends turned.Off in_hand risen old new turn hand last = off_ends (state_of new) (ap (λ s. s.off) (state_grown old new turn.made.entries turn.made.grows) ∙ turn.answers)
 last_ends turned.Worked true risen old new turn hand last = absurd (cc last)
 last_ends turned.Worked false risen old new turn hand last =
     let (none, rest, busy) = turn.answers (none_in (state_of old).hand (sym hand)) in
-    at_rest_then (state_of new) (subst (λ (s : State). is_at_rest s ≡ true) (sym (same_state old new turn.made.entries turn.made.grows none)) rest)
+    rest_ends (state_of new) (subst (λ (s : State). is_at_rest s ≡ true) (sym (same_state old new turn.made.entries turn.made.grows none)) rest)
 last_ends turned.Picked in_hand risen old new turn hand last = absurd (cc last)
 last_ends turned.Posted in_hand risen old new turn hand last = absurd (cc last)
 

@@ -1,10 +1,10 @@
 -- Step after step.
 use Rattle.std.specs.Prelude.{take}
-use Rattle.script_player.proofs.Common.{◌≡◌, ◌<◌, ◌≤◌, ◌+◌, ◌*◌, ◌^◌, ℕ, false, List, [], ◌∷◌, ◌++◌, Option, None, length, replicate, refl, sym, ap, ◌∙◌, subst, arith, add-one, length-append, append_assoc, append-nil, length-map, sum_by_push, WereCounted, ops_behind, Entry, Found, Configuration, State, at_first, after, after_from, Step, joined, ArePlayed, AreNewest, JobsTookStored, store_of, plain_blocks_of, EachPiece, HasNoRoom, DueCut, Event, Made, Added, events_of, AreAsAsked, asked_by, is_drain, starts_keep_stored, StackTold, state_of, moment_of, IsNoEarlier, AreCut, TellsOff, plan_behind, ops_at, cuts_in, cuts_of, IsExplained, IsMade, IsLeft, IsFresh, Makes, HasWalked, AreUnderWay, planned_behind, HasLastStores, Moment, Move, entries_of, moment_behind, moment_after, Planned, planned_by, AreInTime, FindsWork, all_moves, Seen, MovesBy, moves_more, none_moves, IsSeen, LastsOn, IsPending, sum_by-append, sum_by-cons, get_or-append_seam, IsPiece, IsWalkOf, IsPlayed, Played, HadRoom, RefusesAsAsked, first_are_newest, walks_grow, StepFault, Flash, HistoryFull, Memory, WereLeft, WasBroken, IsWalking}
+use Rattle.script_player.proofs.Common.{◌≡◌, ◌<◌, ◌≤◌, ◌+◌, ◌*◌, ◌^◌, ℕ, false, List, [], ◌∷◌, ◌++◌, Option, None, length, replicate, refl, sym, ap, ◌∙◌, subst, arith, add-one, length-append, append_assoc, append-nil, length-map, sum_by_push, WereCounted, ops_behind, Entry, Found, Configuration, State, at_first, after, after_from, Step, joined, ArePlayed, AreNewest, JobsTookStored, store_of, plain_blocks_of, EachPiece, HasNoRoom, DueCut, Event, Made, Added, events_of, AreAsAsked, asked_by, is_drain, starts_keep_stored, StackTold, state_of, moment_of, IsNoEarlier, AreCut, TellsOff, plan_behind, ops_at, cuts_in, cuts_of, IsExplained, IsMade, IsLeft, IsFresh, Makes, HasWalked, AreUnderWay, planned_behind, HasLastStores, Moment, Move, entries_of, entries_more, moment_behind, moment_after, Planned, planned_by, AreInTime, FindsWork, all_moves, Seen, MovesBy, moves_more, none_moves, IsSeen, LastsOn, IsPending, sum_by-append, sum_by-cons, get_or-append_seam, IsPiece, IsWalkOf, IsPlayed, Played, HadRoom, RefusesAsAsked, first_are_newest, walks_grow, StepFault, Flash, HistoryFull, Memory, WereLeft, WasBroken, IsWalking}
 use Rattle.std.proofs.Common.{map}
 use Rattle.script_player.specs.Kept.{IsKept}
 use Rattle.script_player.proofs.Paying.{came_by, none_last}
-use Rattle.script_player.proofs.Coming.{come_more, entries_more, planned_more}
+use Rattle.script_player.proofs.Coming.{come_more, planned_more}
 use Rattle.script_player.proofs.Moves.{all_more, closes_more, finds_more, has_more}
 use Rattle.script_player.proofs.Grown.{state_more}
 use Rattle.script_player.proofs.Table.{first_table}

@@ -1,5 +1,4 @@
-//! The steps of a script on a stack, over any memory device, and the stack with an application in memory that they are
-//! made on.
+//! The steps of a script on a stack, over any memory device, whose application stores in memory.
 //!
 //! It promises that the history stays a walk of the steps that were made, that they explain its refused copies and its
 //! power cuts, that their turns serve its jobs, that what each call keeps is kept, and that each step that is left has
@@ -8,7 +7,6 @@
 
 mod cuts;
 mod last_stores;
-mod plain_stack;
 mod played_stack;
 mod requests;
 mod steps;
@@ -16,7 +14,6 @@ mod turns;
 
 pub use cuts::cuts_of;
 pub use last_stores::LastStores;
-pub use plain_stack::PlainStack;
 pub use played_stack::PlayedStack;
 pub use requests::serve_requests;
 pub use steps::{StepFault, make_step, make_steps};

@@ -14,7 +14,7 @@ ghost use Rattle.uds_gateway.specs.nvm_moves.Moved.{MovesBy};
 ghost use Rattle.script_player.specs.Paying.{AskMoves, IsSeen, LastsOn, StartMoves, StaysStill, TurnMoves};
 
 use std::alloc::Global;
-use uds_gateway::{AskFault, FoundAnswer, Reply, Request, Turned};
+use uds_gateway::{AskFault, FoundAnswer, MemDevice, PlainSync, Reply, Request, Stack, Turned};
 
 /// What a player may do with a stack whose application stores in memory. The calls are the stack's own.
 pub trait PlayedStack {
@@ -97,4 +97,70 @@ pub trait PlayedStack {
     /// The device's faults so far.
     fn faults(&self) -> u64
         ensures { result ≡ (told self.now).faults };
+}
+
+// A stack whose application stores in memory. What is told of its device behind a call is looked at there.
+impl<D: MemDevice> PlayedStack for Stack<D, PlainSync> {
+    ghost use Rattle.script_player.specs.PlainTold.{told_by};
+    ghost use Rattle.script_player.specs.PlainKept.{AreStartsFound, kept_by};
+    ghost use Rattle.script_player.specs.PlainPaying.{seen_by};
+
+    ghost told = { λ s. told_by D.told s };
+
+    ghost kept = { λ s before. kept_by D.told D.clock s before };
+
+    ghost starts_found = { λ s. AreStartsFound s.ready s.desk (D.told s.device) };
+
+    ghost seen = { λ s. seen_by D.told D.clock s };
+
+    fn ask(&mut self, alloc: Global, caller: u8, request: Request) -> Result<Reply, AskFault> {
+        let device = self.device();
+        let _status = device.status();
+        let reply = Stack::ask(self, alloc, caller, request)?;
+        let _behind = self.device();
+        Ok(reply)
+    }
+
+    fn turn(&mut self) -> Turned {
+        let device = self.device();
+        let _before = device.status();
+        let turned = Stack::turn(self);
+        let behind = self.device();
+        let _status = behind.status();
+        turned
+    }
+
+    fn restart(&mut self, alloc: Global) -> FoundAnswer {
+        let answer = Stack::restart(self, alloc);
+        let behind = self.device();
+        let _status = behind.status();
+        answer
+    }
+
+    fn arm(&mut self, nth: u32, keep: u32) {
+        let _device = self.device();
+        Stack::arm(self, 0, nth, keep);
+    }
+
+    fn store(&mut self, block: u16, content: &[u8]) -> u64 {
+        let _device = self.device();
+        Stack::store(self, block, content)
+    }
+
+    fn refuse(&mut self, block: u16, count: u32) {
+        let _device = self.device();
+        Stack::refuse(self, block, count);
+    }
+
+    fn in_hand(&self) -> bool {
+        Stack::in_hand(self)
+    }
+
+    fn len(&self) -> u32 {
+        Stack::len(self)
+    }
+
+    fn faults(&self) -> u64 {
+        Stack::faults(self)
+    }
 }

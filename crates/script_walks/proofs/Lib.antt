@@ -6,5 +6,6 @@ pub mod First
 pub mod Newest
 pub mod Jobs
 pub mod Turns
+pub mod Resting
 mod Looks
 mod FullRuns

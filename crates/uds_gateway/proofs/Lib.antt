@@ -15,7 +15,9 @@ pub use Rattle.nvm_moves.proofs.FreshCopies as FreshCopies
 pub use Rattle.nvm_moves.proofs.DeviceWork as DeviceWork
 pub use Rattle.nvm_moves.proofs.TurnWork as TurnWork
 pub use Rattle.nvm_moves.proofs.Beginning as Beginning
+pub use Rattle.nvm_moves.proofs.Halves as Halves
 pub use Rattle.nvm_moves.proofs.Most as Most
+pub use Rattle.nvm_moves.proofs.Along as MovesAlong
 pub use Rattle.nvm_moves.proofs.Moved as Moved
 pub use Rattle.nvm_moves.proofs.Resting as Resting
 pub use Rattle.nvm_moves.proofs.StackMoves as StackMoves

@@ -1,4 +1,4 @@
-use Rattle.std.proofs.Common.{List, ◌∙◌, ap, inl, subst, refl}
+use Rattle.std.proofs.Common.{List, ◌∙◌, inl, subst, refl}
 use Rattle.nvm_flash.specs.fee_told.Device.{told_of}
 use Rattle.nvm_flash.specs.fee_core.Tells.{told_clock}
 use Rattle.nvm_flash.specs.fee_laws.Made.{part_at}
@@ -21,19 +21,19 @@ use Rattle.nvm_top.proofs.play.play_steps.Goals as goal
 
 pub history-history-requires : goal.history-history-requires
 history-history-requires g c =
-    let made = c.in-Ok.ensures.made in record { kept = keeps_history _ (ap (λ x. x.desk.cap) c.stack.ensures ∙ (made.most ∙ made.started.most)) }
+    let made = c.in-Ok.ensures.made in record { kept = keeps_history _ (made.most ∙ made.started.most) }
 
 pub returns-in-Ok-clause-promise : goal.returns-in-Ok-clause-promise
 returns-in-Ok-clause-promise g c input =
     let s = c.in-Ok.field-0.stack in
     let made = c.in-Ok.ensures.made in
     let device = c.into_device-device.result in
-    let values = subst (λ (h : List Entry). AreValues h) (c.history-history.ensures.entries ∙ ap (λ x. x.desk.entries) c.stack.ensures) c.history_values.ensures in
-    let v = vouched c.args.script.config (g.F.Flash.told c.args.flash) _ g.O.Origin.making g.O.Origin.entry (g.F.Flash.told c.back-flash.result.flash) s device (c.into_device-device.ensures ∙ ap (λ x. x.device) c.into_stack.ensures) (halves_make_the_promise (told_clock device)) values c.requires.origin (made.configuration ∙ made.started.configuration) (made.most ∙ made.started.most) (c.back-flash.ensures c.args.script.config (one_flash (g.F.Flash.told c.args.flash)) _ c.requires.origin) in
+    let values = subst (λ (h : List Entry). AreValues h) c.history-history.ensures.entries c.history_values.ensures in
+    let v = vouched c.args.script.config (g.F.Flash.told c.args.flash) _ g.O.Origin.making g.O.Origin.entry (g.F.Flash.told c.back-flash.result.flash) s device c.into_device-device.ensures (halves_make_the_promise (told_clock device)) values c.requires.origin (made.configuration ∙ made.started.configuration) (made.most ∙ made.started.most) (c.back-flash.ensures c.args.script.config (one_flash (g.F.Flash.told c.args.flash)) _ c.requires.origin) in
     inl (ran_in c.args.text (KeepsPlayed s.ready (one_part (part_at g.O.Origin.entry)) s.desk s.hand (told_of s.device) (told_clock s.device)) (seen_by told_of told_clock made.first) (seen_by told_of told_clock s) c.args.script.config _ c.args.script.steps (part_at g.O.Origin.entry) (told_by told_of made.first) (told_by told_of s)
     (g.F.Flash.told c.args.flash) (g.F.Flash.told c.back-flash.result.flash) c.write_text-status.result _ _ input c.in-Ok.field-0.end c.stop_of.result c.history-history.result.now.entries made.started
     made.all made.some made.configuration made.keeps made.begins (record { entries = refl; configuration = refl; moment = refl; faults = refl }) v c.stop_of.ensures
-    (c.history-history.ensures.entries ∙ ap (λ x. x.desk.entries) c.stack.ensures) c.in-Ok.ensures.size c.write_text-status.ensures.text)
+    c.history-history.ensures.entries c.in-Ok.ensures.size c.write_text-status.ensures.text)
 
 pub returns-in-Err-clause-promise : goal.returns-in-Err-clause-promise
 returns-in-Err-clause-promise g c input =

@@ -1,4 +1,4 @@
-use Rattle.std.proofs.Common.{List, ℕ, ◌∙◌, ap, sym, inl, subst, refl}
+use Rattle.std.proofs.Common.{List, ℕ, ◌∙◌, sym, inl, subst, refl}
 use Rattle.nvm_flash.specs.block_config.Config.{Configuration}
 use Rattle.nvm_flash.specs.fee_told.Device.{told_of}
 use Rattle.nvm_flash.specs.fee_core.Tells.{told_clock}
@@ -18,7 +18,7 @@ use Rattle.nvm_top.proofs.uds.serve_over.Goals as goal
 
 pub history-history-requires : goal.history-history-requires
 history-history-requires g c =
-    let made = c.in-Ok.ensures.served in record { kept = keeps_history _ (ap (λ x. x.desk.cap) c.stack.ensures ∙ (made.most ∙ made.started.most)) }
+    let made = c.in-Ok.ensures.served in record { kept = keeps_history _ (made.most ∙ made.started.most) }
 
 pub write_served-status-requires-clause-pieces : goal.write_served-status-requires-clause-pieces
 write_served-status-requires-clause-pieces g c =
@@ -26,7 +26,7 @@ write_served-status-requires-clause-pieces g c =
     let made = c.in-Ok.ensures.served in
     subst (λ (counts : List ℕ). HasPieces c.args.requests.now counts c.history-history.result.now.entries) (sym c.deref.ensures.value)
     (served_pieces c.args.requests.now c.in-Ok.field-0.counts.items c.in-Ok.field-0.end c.args.config (told_by told_of made.first) (told_by told_of s) (part_at g.O.Origin.entry) made.started made.served made.configuration c.history-history.result.now.entries
-    (c.history-history.ensures.entries ∙ ap (λ x. x.desk.entries) c.stack.ensures))
+    c.history-history.ensures.entries)
 
 pub returns-in-Ok-clause-promise : goal.returns-in-Ok-clause-promise
 returns-in-Ok-clause-promise g c input =
@@ -38,12 +38,12 @@ returns-in-Ok-clause-promise g c input =
     let end = c.in-Ok.field-0.end in
     let config = c.args.config in
     let h = c.history-history.result.now.entries in
-    let is = c.history-history.ensures.entries ∙ ap (λ x. x.desk.entries) c.stack.ensures in
+    let is = c.history-history.ensures.entries in
     let values = subst (λ (es : List Entry). AreValues es) is c.history_values.ensures in
     let entry = g.F.Flash.told c.args.flash in
     let exit = g.F.Flash.told c.back-flash.result.flash in
     let x = c.write_served-status.result in
-    let v = vouched config entry _ g.O.Origin.making g.O.Origin.entry exit s device (c.into_device-device.ensures ∙ ap (λ y. y.device) c.into_stack.ensures) (halves_make_the_promise (told_clock device)) values c.requires.origin (made.configuration ∙ made.started.configuration) (made.most ∙ made.started.most) (c.back-flash.ensures config (one_flash entry) _ c.requires.origin) in
+    let v = vouched config entry _ g.O.Origin.making g.O.Origin.entry exit s device c.into_device-device.ensures (halves_make_the_promise (told_clock device)) values c.requires.origin (made.configuration ∙ made.started.configuration) (made.most ∙ made.started.most) (c.back-flash.ensures config (one_flash entry) _ c.requires.origin) in
     inl (serving_has requests counts end config (told_by told_of made.first) (told_by told_of s) (part_at g.O.Origin.entry) made.started made.served made.configuration
     (KeepsPlayed s.ready (one_part (part_at g.O.Origin.entry)) s.desk s.hand (told_of s.device) (told_clock s.device)) entry exit x _ _ input h is made.keeps made.begins (record { entries = refl; configuration = refl; moment = refl; faults = refl }) v c.in-Ok.ensures.size
     (subst (λ (d : Configuration). WritesLines (status_served end) (lines_of_history d requests counts h) (line_served end h) (g.K.Sink.written c.args.output.now) (g.K.Sink.written c.write_served-status.new.output) x) c.requires.own

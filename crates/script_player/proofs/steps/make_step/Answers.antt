@@ -69,7 +69,7 @@ returns-in-Store-clause-made g c =
     let content = c.in-Store.content in
     let number = c.store-number.result in
     let can = subst (λ (k : StepKind). CanBePlayed old.configuration k) c.in-Store.is c.requires.played.kind in
-    let sync = is_sync old.configuration block _ can in
+    let sync = (is_sync old.configuration block _ can).0 in
     let within = is_within old.configuration block _ can in
     let stored = subst (λ (bytes : List ℕ). Stores block bytes number old new) c.as_slice.ensures c.store-number.ensures.stores in
     at_kind (λ (y : Step). Makes (g.S.PlayedStack.seen c.args.stack.now) (g.S.PlayedStack.seen c.store-number.new.self) y c.args.stores.now c.note.new.self old new) x (kind.Store block content) c.in-Store.is

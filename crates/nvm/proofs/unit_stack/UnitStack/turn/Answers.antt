@@ -22,7 +22,7 @@ invariant_of-self g c =
     let ready = ap (λ (x : UnitState). x.ready) c.self.view_is ∙ c.requires in
     kept_unit g.O.Origin.making g.O.Origin.entry c.self.inside.plans c.self.inside.plans s t c.self.invariant ready (turns_up s t c.turn-turned.result is.turns) (turns_stay s t c.turn-turned.result is.turns).config
     (turns_take s t c.turn-turned.result is.turns ∙ c.self.invariant.takes) is.keeps
-    (turned_turned s t c.turn-turned.result is.turns c.self.invariant.turned ready (turns_up s t c.turn-turned.result is.turns ∙ ready)
+    (turned_turned s t c.self.invariant.turned ready (turns_up s t c.turn-turned.result is.turns ∙ ready)
     (turned_moves s t c.turn-turned.result is.turns ready is.keeps is.counted is.left is.lasts is.pays is.due is.seals is.kept (c.device-device.ensures.tied ready) c.device-behind.ensures.tied c.device-behind.ensures.power
     (subst (λ (d : Device). InOrder (told_of d) (told_clock d)) c.device-device.ensures.device c.status-before.ensures.order) (subst (λ (d : Device). InOrder (told_of d) (told_clock d)) c.device-behind.ensures.device c.status-status.ensures.order)))
 
@@ -36,7 +36,7 @@ returns-clause-moved g c =
     let ready = ap (λ (x : UnitState). x.ready) c.self.view_is ∙ c.requires in
     subst (λ (x : UnitState). TurnsMove x t) c.self.view_is
     (turned_moves s t c.turn-turned.result is.turns ready is.keeps is.counted is.left is.lasts is.pays is.due is.seals is.kept (c.device-device.ensures.tied ready) c.device-behind.ensures.tied c.device-behind.ensures.power
-    (subst (λ (d : Device). InOrder (told_of d) (told_clock d)) c.device-device.ensures.device c.status-before.ensures.order) (subst (λ (d : Device). InOrder (told_of d) (told_clock d)) c.device-behind.ensures.device c.status-status.ensures.order))
+    (subst (λ (d : Device). InOrder (told_of d) (told_clock d)) c.device-device.ensures.device c.status-before.ensures.order) (subst (λ (d : Device). InOrder (told_of d) (told_clock d)) c.device-behind.ensures.device c.status-status.ensures.order)).0
 
 pub returns-clause-ready : goal.returns-clause-ready
 returns-clause-ready g c =

@@ -1,8 +1,14 @@
 -- At rest, and what is due, by what comes next.
-use Rattle.nvm_moves.proofs.Common.{option_to_list, is_none, ◌==◌, ◌≡◌, ℕ, Bool, true, false, List, [], ◌∷◌, ◌++◌, length, Option, Some, None, if◌then◌else◌, refl, sym, ap, ◌∙◌, arith, and_parts, Configuration, State, Job, Sweep, block_at, Nothing, PickJob, BeginSweep, PickMember, PostMember, next_member, next_in, next_of, is_due, is_at_rest, eqb-true, desc_of, next_in_sweep, none_waits}
-use Rattle.std.proofs.Common.{◌&&◌, IsTrue}
-use Rattle.nvm_core.specs.block_machine.Sweeps.{is_picked}
-use Rattle.nvm_core.specs.block_machine.Next.{next_by}
+use Rattle.std.specs.Prelude.{IsTrue, ◌==◌, ◌&&◌, ◌||◌, is_none, option_to_list}
+use Rattle.std.proofs.Common.{◌≡◌, inl, inr, ℕ, Bool, true, false, List, [], ◌∷◌, ◌++◌, length, Option, Some, None, if◌then◌else◌, refl, sym, ap, ◌∙◌, arith}
+use Rattle.std.proofs.lemmas.Bool.{and_parts, cases_Bool, eqb-true}
+use Rattle.block_machine.specs.Words.{Configuration}
+use Rattle.block_machine.specs.State.{State, Job, Sweep}
+use Rattle.block_machine.specs.Blocks.{block_at, desc_of}
+use Rattle.block_machine.specs.Sweeps.{is_picked}
+use Rattle.block_machine.specs.Next.{Nothing, PickJob, BeginSweep, PickMember, PostMember, next_by, next_in, next_in_sweep, next_member, next_of}
+use Rattle.block_laws.proofs.NextLaws.{none_waits}
+use Rattle.script_walks.specs.Walk.{is_at_rest, is_due}
 
 -- NOTHING COMES NEXT
 rest_parts : (hand : Option Job) (waiting : List Job) (sweep : Option Sweep) → IsTrue ((length (option_to_list hand ++ waiting) == 0) && is_none sweep) → (hand ≡ None) × (waiting ≡ []) × (sweep ≡ None)
@@ -43,11 +49,8 @@ due_rest s rest = by s.off (is_none s.hand) refl refl
 -- nothing is in hand, and nothing comes next
 some_member : (c : Configuration) (s : State) (sw : Sweep) (ids : List ℕ) → next_member c s sw ids ≡ Nothing → ⊥
 some_member c s sw [] none = cc
-some_member c s sw (id ∷ ids) none = by (is_picked_here) none
+some_member c s sw (id ∷ ids) none = by (is_picked (desc_of c id) (block_at s id) sw id) none
   where
-    is_picked_here : Bool
-    is_picked_here = is_picked (desc_of c id) (block_at s id) sw id
-
     by : (t : Bool) → (if t then PickMember sw id else PostMember sw id) ≡ Nothing → ⊥
     by true e = cc
     by false e = cc
@@ -73,3 +76,10 @@ at_rest c s hand none = by (next_in c s.waiting) refl s.sweep refl
     by None is None sweep = rest_by s hand (none_waits c s.waiting is) sweep
     by None is (Some sw) sweep =
         absurd (some_sweep c s sw (sym (ap (λ (o : Option Job). next_by c s o s.hand s.sweep) is ∙ ap (λ (h : Option Job). next_by c s None h s.sweep) hand ∙ ap (λ (x : Option Sweep). next_by c s None None x) sweep) ∙ none))
+
+-- THE END OF A DRAIN
+pub rest_ends : (s : State) → is_at_rest s ≡ true → IsTrue (is_at_rest s || s.off)
+rest_ends s rest = rw rest refl
+
+pub off_ends : (s : State) → s.off ≡ true → IsTrue (is_at_rest s || s.off)
+off_ends s off = elim (cases_Bool (is_at_rest s)) [ inl on ↦ rw on refl | inr none ↦ rw (none, off) refl ]
