@@ -6,6 +6,7 @@ pub mod Incoming
 pub mod Members
 pub mod Picks
 pub mod Places
+pub mod Refusals
 pub mod Rooms
 pub mod Sound
 pub use Rattle.nv_recorder.specs.Event as Event

@@ -1,10 +1,12 @@
 // When each refusal holds of a request, and the reply.
-ghost use Rattle.std.specs.Prelude.{◌≡◌, ◌≤◌, ◌<◌, ◌^◌, ◌+◌, ◌↔◌, false, not, find, length, IsTrue};
+ghost use Rattle.std.specs.Prelude.{◌≡◌, ◌≤◌, ◌<◌, ◌^◌, ◌+◌, ◌↔◌, false, true, not, length, Some, None, IsTrue, IfErr, OnOk};
 ghost use Rattle.std.specs.Option.{option_map_or};
 ghost use Rattle.block_machine.specs.Blocks.{asked_block, block_at, desc_of, status_of, is_pending, names_rom, is_immediate};
-ghost use Rattle.block_machine.specs.Reply.{holds, tested, needed, fits, answer_to, reply_of, can_cancel};
+ghost use Rattle.block_machine.specs.Words.{Write};
+ghost use Rattle.block_machine.specs.Reply.{holds, needed, fits, answer_to, reply_of, can_cancel};
 ghost use Rattle.block_states.specs.States.{facts_of};
 ghost use Rattle.nv_desk.specs.Desk.{state_of};
+ghost use Rattle.nv_desk.specs.Refusals.{first_refusal};
 ghost use Rattle.nv_recorder.specs.Request.{request_lent};
 
 use crate::Desk;
@@ -182,9 +184,52 @@ impl Desk {
         }
     }
 
+    // That a refusal doesn't hold of a request, of whose block this is kept.
+    #[inline(always)]
+    fn passes(
+        &self,
+        refusal: Refusal,
+        request: LentRequest<'_>,
+        id: u16,
+        facts: BlockFacts,
+    ) -> Result<(), Refusal>
+        requires block { id ≡ asked_block (request_lent request) }
+        requires facts { facts ≡ facts_of (block_at (state_of self.now) id) }
+        ensures ok { OnOk result (holds self.now.config self.now.cap (state_of self.now) refusal (request_lent request.entry) ≡ false) }
+        ensures err { IfErr result (λ x. (x ≡ refusal) × (holds self.now.config self.now.cap (state_of self.now) refusal (request_lent request.entry) ≡ true)) }
+    {
+        if self.refuses(refusal, request, id, facts) {
+            Err(refusal)
+        } else {
+            Ok(())
+        }
+    }
+
+    // The tests of a write that brings its content, one by one: it is what is asked most often. At Err the first that fails.
+    #[inline(always)]
+    fn test_write(&self, block: u16, store: u64, content: &[u8]) -> Result<(), Refusal>
+        ensures ok { OnOk result (first_refusal self.now.config self.now.cap (state_of self.now) (Write block (Some content.now) store) ≡ None) }
+        ensures err { IfErr result (λ why. first_refusal self.now.config self.now.cap (state_of self.now) (Write block (Some content.now) store) ≡ Some why) }
+    {
+        let kind = RequestKind::Write { block, store };
+        let request = LentRequest { kind, content };
+        let facts = self.facts(block);
+        self.passes(Refusal::UnknownBlock, request, block, facts)?;
+        self.passes(Refusal::NotStarted, request, block, facts)?;
+        self.passes(Refusal::WrongType, request, block, facts)?;
+        self.passes(Refusal::BadLength, request, block, facts)?;
+        self.passes(Refusal::MultiPending, request, block, facts)?;
+        self.passes(Refusal::Pending, request, block, facts)?;
+        self.passes(Refusal::Locked, request, block, facts)?;
+        self.passes(Refusal::Protected, request, block, facts)?;
+        self.passes(Refusal::RomIndex, request, block, facts)?;
+        self.passes(Refusal::QueueFull, request, block, facts)?;
+        self.passes(Refusal::HistoryFull, request, block, facts)
+    }
+
     /// The first of its refusals that holds of a request. Its block is looked up once.
     fn first_refusal(&self, request: LentRequest<'_>) -> Option<Refusal>
-        ensures { result ≡ find (λ x. holds self.now.config self.now.cap (state_of self.now) x (request_lent request.entry)) (tested (request_lent request.entry)) }
+        ensures { result ≡ first_refusal self.now.config self.now.cap (state_of self.now) (request_lent request.entry) }
     {
         let refusals = tested(request);
         let id = asked_block(request);
@@ -215,13 +260,38 @@ impl Desk {
         request.content.len() <= usize::from(length(&self.config, asked_block(request)))
     }
 
-    /// The reply to a request: the first refusal that holds, or else what it asks for.
-    pub(crate) fn reply(&self, request: LentRequest<'_>) -> Reply
+    // The reply to a request by its table of refusals.
+    #[inline(never)]
+    fn reply_by_table(&self, request: LentRequest<'_>) -> Reply
         ensures { result ≡ reply_of self.now.config self.now.cap (state_of self.now) (request_lent request.entry) }
     {
         match self.first_refusal(request) {
             Some(refusal) => Reply::Refused(refusal),
             None => self.answer_to(request),
+        }
+    }
+
+    // The reply to a write that brings its content.
+    #[inline(always)]
+    fn reply_to_write(&self, block: u16, store: u64, content: &[u8]) -> Reply
+        ensures { result ≡ reply_of self.now.config self.now.cap (state_of self.now) (Write block (Some content.now) store) }
+    {
+        match self.test_write(block, store, content) {
+            Ok(()) => Reply::Accepted,
+            Err(refusal) => Reply::Refused(refusal),
+        }
+    }
+
+    /// The reply to a request: the first refusal that holds, or else what it asks for.
+    #[inline(always)]
+    pub(crate) fn reply(&self, request: LentRequest<'_>) -> Reply
+        ensures { result ≡ reply_of self.now.config self.now.cap (state_of self.now) (request_lent request.entry) }
+    {
+        match request.kind {
+            RequestKind::Write { block, store } => {
+                self.reply_to_write(block, store, request.content)
+            }
+            _ => self.reply_by_table(request),
         }
     }
 }

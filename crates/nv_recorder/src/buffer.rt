@@ -49,6 +49,7 @@ impl Buffer {
     }
 
     /// Puts a content there. It takes no memory.
+    #[inline(always)]
     pub fn put(&mut self, content: &[u8])
         requires { length content.now ≤ self.old.room }
         ensures { self.new ≡ record self.old { content = content.now } }

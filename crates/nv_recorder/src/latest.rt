@@ -103,6 +103,7 @@ impl Latest {
     }
 
     /// The entry of this request was. It takes no memory.
+    #[inline(always)]
     pub fn note_request(&mut self, caller: u8, request: LentRequest<'_>, reply: Reply)
         requires { length request.content.now ≤ self.old.room }
         ensures { self.new ≡ record self.old { entry = Some (Entry.Ask caller (request_lent request.entry) reply) } }

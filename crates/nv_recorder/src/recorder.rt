@@ -195,6 +195,7 @@ impl Recorder {
 
     /// Adds the entry of a request, whose content is lent, where entries aren't kept: it stands until the next one is added. It takes no
     /// memory.
+    #[inline(always)]
     pub fn note_request(&mut self, caller: u8, request: LentRequest<'_>, reply: Reply)
         requires counted { keeps self.old.cap ≡ false }
         requires below { length self.old.entries < self.old.cap }
