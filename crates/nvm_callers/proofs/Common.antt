@@ -15,7 +15,7 @@ pub use Rattle.driver_moves.specs.nvm_shared.declared.terms.Terms.{Terms}
 pub use Rattle.driver_moves.specs.nvm_shared.Passes.{LearnsMore, IsDriven, PassValue, SharedState, IsUserOf, Asked, LearnsTurn}
 pub use Rattle.ram_mirrors_sync.specs.Blocks.{Pairs, EndGoesOn, EndList, HasCameWith, HasLooked, IsOver, IsStore, SyncValue, end_at, told_by, AreClosed, AreMade, EndsGoOn, SideList, SideValue, side_at, AreSidesOf, CameWith, WasShown, AreIn, IsClosed, IsMade, pair_at, AreEndsOf}
 pub use Rattle.script_callers.specs.declared.program.Program.{Program}
-pub use Rattle.nvm_callers.specs.Deeds.{HasDone, Shows, HasWaitedAll, WereOver, HasWaited, NoneIsDone, AsksAreDone, StoresAreDone, WaitsAreDone, DeedsLast, DeedsHold}
+pub use Rattle.nvm_callers.specs.Deeds.{HasDone, Shows, EachWait, WereOver, HasWaited, NoneIsDone, AsksAreDone, StoresAreDone, WaitsAreDone, DeedsLast, DeedsHold}
 pub use Rattle.nvm_callers.specs.Stored.{Stored, TellsDone, IsStoreOf, AreAsMany, StoredOne, stores_in, NoneIsStored, AsksStayStored, StoresLast, StoresAreStored, HasStored}
 pub use Rattle.nvm_callers.specs.Calls.{Did, MayStore, HasPolled, KeepsPass, MayMake, IsAsk, IsAwait}
 pub use Rattle.nvm_callers.specs.Endings.{StopsBy, EndsBy, FindsNoRoom, WaitsNext}
@@ -66,7 +66,7 @@ pub use Rattle.driver_moves.specs.nv_desk.Desk.{DeskState, state_of}
 pub use Rattle.driver_moves.specs.nv_desk_copies.Posts.{IsPosted, IsPostedNext, goes_over, IsHandedOver}
 pub use Rattle.driver_moves.specs.nvm_laws.declared.turned.Turned.{Turned}
 pub use Rattle.driver_moves.specs.nvm_shared.Behind.{AreAsks, with_more, HandIsPending}
-pub use Rattle.driver_moves.proofs.Uncut.{asks_power, fixed_stays}
+pub use Rattle.driver_moves.proofs.Uncut.{asks_uncut, first_on}
 pub use Rattle.driver_moves.specs.promise_run.RunHalves.{offs_in, tells_no_refusal}
 pub use Rattle.nvm_callers.specs.Added.{RefusesNone, IsUncut, HasAdded, DrivingAdds}
 pub use Rattle.ram_mirrors_sync.specs.Ends.{EndValue, IsTaken, PairValue}
@@ -80,12 +80,13 @@ pub use Rattle.nvm_callers.specs.Begun.{AreProgramsOf, IsBegun}
 pub use Rattle.nvm_callers.specs.Ran.{KeepsOrder, WasRun, end_of}
 pub use Rattle.nvm_callers.specs.Placed.{AllChanged, AllPlaced}
 pub use Rattle.nvm_callers.specs.declared.threads.WorkerOf.{WorkerOf as Worker}
-pub use Rattle.script_callers.proofs.Growing.{deeds_may_be_done, deeds_have_the_requests}
+pub use Rattle.script_callers.proofs.Growing.{deeds_may_be_done, deeds_have_the_requests, deeds_append, requests_append}
 pub use Rattle.std.proofs.lemmas.Bool.Decides.{eqb_tells, leb_tells}
 pub use Rattle.nvm_script.specs.Owners.{owner_of, ram_block_of}
 pub use Rattle.nvm_script.specs.Rules.{sync_length_of, length_where_sync}
 pub use Rattle.ram_mirrors.specs.Stores.{store_of, AllStored, store_number}
 pub use Rattle.std.specs.List.{list_all, range_with_len}
+pub use Rattle.std.proofs.lemmas.List.Folds.{list_all-append}
 pub use Rattle.nvm_callers.specs.Joins.{Collects, NoneIsJoined, TurnsCollect, JoinsCollect, NothingIsCollected, CollectedAreAll}
 pub use Rattle.nvm_callers.specs.Steering.{HasSteered, KeepsShares, TellsAlways}
 pub use Rattle.driver_moves.proofs.nvm_shared.Words.{the_off_word_tells, words_tell_statuses}
@@ -131,8 +132,9 @@ pub use Rattle.driver_moves.specs.block_config.declared.block.RamKind.{RamKind}
 pub use Rattle.driver_moves.specs.block_config.Config.{block_of}
 pub use Rattle.driver_moves.specs.block_config.Block.{plain_block}
 pub use Rattle.driver_moves.specs.promise_run.Run.{RunsBy}
-pub use Rattle.std.proofs.lemmas.Option.{get_or_from_slice_get, slice_get_within, slice_get_read}
-pub use Rattle.script_callers.proofs.Owning.{stores_are_of_one}
+pub use Rattle.std.proofs.lemmas.Option.{get_or_from_slice_get, slice_get_within, slice_get_read, slice_get_past, slice_get-get_or, slice_get-map, IfSome_then}
+pub use Rattle.script_callers.proofs.Owning.{stores_are_of_one, by_owner, one_more}
+pub use Rattle.script_walks.proofs.Newest.{stores_are_few}
 pub use Rattle.look_laws.specs.Shown.{HasOneOwner, IsStoreAt}
 pub use Rattle.look_laws.proofs.Shown.{shown_can_be_stored}
 pub use Rattle.nvm_callers.specs.declared.caller.Stop.{Stop}

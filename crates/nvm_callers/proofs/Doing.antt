@@ -1,5 +1,5 @@
 -- What a caller knows of what it did.
-use Rattle.nvm_callers.proofs.Common.{◌≡◌, ℕ, zero, suc, ◌+◌, ◌<◌, ◌≤◌, ◌∙◌, List, [], ◌∷◌, ◌++◌, length, take, drop, refl, sym, ap, subst, arith, length-take, append-nil, take-append-le, drop-append-le, some, some-ne-none, some-injective, get_elem?, at_last, at_longer, Request, Reply, Entry, Ask, Configuration, Each, Ascend, Note, StartsWith, AllAgree, Has, WaitedFor, asks_of, gives, IsEntry, AreAt, AreAll, asks_by_number, Deed, AskDeed, StoreDeed, Await, requests_in, HasWaitedAll, WereOver, drop_all, HasWaited, NoneIsDone, AsksAreDone, StoresAreDone, WaitsAreDone, DeedsLast, DeedsHold}
+use Rattle.nvm_callers.proofs.Common.{◌≡◌, ℕ, zero, suc, ◌+◌, ◌<◌, ◌≤◌, ◌∙◌, List, [], ◌∷◌, ◌++◌, length, take, drop, refl, sym, ap, subst, arith, length-take, append-nil, take-append-le, drop-append-le, some, some-ne-none, some-injective, get_elem?, at_last, at_longer, Request, Reply, Entry, Ask, Configuration, Each, Ascend, Note, StartsWith, AllAgree, Has, WaitedFor, asks_of, gives, IsEntry, AreAt, AreAll, asks_by_number, Deed, AskDeed, StoreDeed, Await, requests_in, EachWait, requests_append, drop_all, HasWaited, NoneIsDone, AsksAreDone, StoresAreDone, WaitsAreDone, DeedsLast, DeedsHold}
 use Rattle.nvm_callers.proofs.Waiting.{agree_before, at_take, inside_length, of_take, starts_again, waited_on}
 
 -- NUMBERS
@@ -37,21 +37,9 @@ has_first (suc n) end (k ∷ ks) j later low (zero, at) = (zero, at)
 has_first (suc n) end (k ∷ ks) j later low (suc i, at) = let rest = has_first n end ks j later low (i, at) in (suc rest.0, rest.1)
 
 -- REQUESTS
-asks_more : (ds : List Deed) (line : ℕ) (r : Request) → requests_in (ds ++ AskDeed line r ∷ []) ≡ requests_in ds ++ r ∷ []
-asks_more [] line r = refl
-asks_more (AskDeed l q ∷ ds) line r = ap (λ (l : List Request). q ∷ l) (asks_more ds line r)
-asks_more (StoreDeed l block number content ∷ ds) line r = asks_more ds line r
-asks_more (Await l block ∷ ds) line r = asks_more ds line r
-
--- a deed that is no request
-abbrev IsNoAsk : Deed → Type 0
-IsNoAsk d = requests_in (d ∷ []) ≡ []
-
-others_more : (ds : List Deed) (d : Deed) → IsNoAsk d → requests_in (ds ++ d ∷ []) ≡ requests_in ds
-others_more [] d none = none
-others_more (AskDeed line q ∷ ds) d none = ap (λ (l : List Request). q ∷ l) (others_more ds d none)
-others_more (StoreDeed line block number content ∷ ds) d none = others_more ds d none
-others_more (Await line block ∷ ds) d none = others_more ds d none
+-- a deed that is no request adds none
+others_more : (ds : List Deed) (d : Deed) → requests_in (d ∷ []) ≡ [] → requests_in (ds ++ d ∷ []) ≡ requests_in ds
+others_more ds d none = requests_append ds (d ∷ []) ∙ ap (λ (l : List Request). requests_in ds ++ l) none ∙ append-nil (requests_in ds)
 
 module _ (caller : ℕ) where
   pub are_longer : (h seen : List Entry) (ks : List ℕ) (rs : List Request) → StartsWith h seen → AreAt seen caller ks rs → AreAt h caller ks rs
@@ -91,60 +79,44 @@ module _ (caller : ℕ) where
   are_first (suc n) end h (k ∷ ks) [] are low = absurd are
 
 -- WAITS
+module _ (P : ℕ → ℕ → Type 0) where
+  -- what goes on for one goes on for each
+  pub waits_on : (Q : ℕ → ℕ → Type 0) (most : ℕ) → ((block k : ℕ) → k ≤ most → P block k → Q block k) → (k : ℕ) (ds : List Deed) → k + length (requests_in ds) ≤ most → EachWait P k ds → EachWait Q k ds
+  waits_on Q most turns k [] few all = tt
+  waits_on Q most turns k (AskDeed line r ∷ ds) few all = waits_on Q most turns (k + 1) ds (omega (arith, few)) all
+  waits_on Q most turns k (StoreDeed line block number content ∷ ds) few all = waits_on Q most turns k ds few all
+  waits_on Q most turns k (Await line block ∷ ds) few all = (turns block k (omega (arith, few)) all.0, waits_on Q most turns k ds few all.1)
+
+  -- a deed more, behind n requests
+  pub waits_more : (d : Deed) (n k : ℕ) (ds : List Deed) → n ≡ k + length (requests_in ds) → EachWait P n (d ∷ []) → EachWait P k ds → EachWait P k (ds ++ d ∷ [])
+  waits_more d n k [] at last all = subst (λ (m : ℕ). EachWait P m (d ∷ [])) (omega (arith, at)) last
+  waits_more d n k (AskDeed line r ∷ ds) at last all = waits_more d n (k + 1) ds (omega (arith, at)) last all
+  waits_more d n k (StoreDeed line block number content ∷ ds) at last all = waits_more d n k ds at last all
+  waits_more d n k (Await line block ∷ ds) at last all = (all.0, waits_more d n k ds at last all.1)
+
+  -- one of them
+  pub wait_among : (block line n k : ℕ) (before after : List Deed) → n ≡ k + length (requests_in before) → EachWait P k (before ++ Await line block ∷ after) → P block n
+  wait_among block line n k [] after at all = subst (P block) (omega (arith, at)) all.0
+  wait_among block line n k (AskDeed l r ∷ ds) after at all = wait_among block line n (k + 1) ds after (omega (arith, at)) all
+  wait_among block line n k (StoreDeed l b number content ∷ ds) after at all = wait_among block line n k ds after at all
+  wait_among block line n k (Await l b ∷ ds) after at all = wait_among block line n k ds after at all.1
+
 module _ (c : Configuration) (cap : ℕ) where
   -- a wait that was over stays so, also behind a request that comes later
-  pub waits_on : (own own_new : List ℕ) (seen seen_new : List Entry) (notes notes_new : List Note)
-      → ((block k : ℕ) → k ≤ length own → HasWaited c cap own seen notes block k → HasWaited c cap own_new seen_new notes_new block k)
-      → (k : ℕ) (ds : List Deed) → k + length (requests_in ds) ≤ length own → HasWaitedAll c cap own seen notes k ds → HasWaitedAll c cap own_new seen_new notes_new k ds
-  waits_on own own_new seen seen_new notes notes_new turns k [] few all = tt
-  waits_on own own_new seen seen_new notes notes_new turns k (AskDeed line r ∷ ds) few all =
-      waits_on own own_new seen seen_new notes notes_new turns (k + 1) ds (omega (arith, few)) all
-  waits_on own own_new seen seen_new notes notes_new turns k (StoreDeed line block number content ∷ ds) few all =
-      waits_on own own_new seen seen_new notes notes_new turns k ds few all
-  waits_on own own_new seen seen_new notes notes_new turns k (Await line block ∷ ds) few all =
-      (turns block k (omega (arith, few)) all.0, waits_on own own_new seen seen_new notes notes_new turns k ds few all.1)
-
-  wait_asked : (own : List ℕ) (seen before : List Entry) (notes : List Note) (e : Entry) (block k : ℕ) → StartsWith before seen → AllAgree gives before notes
-      → k ≤ length own → HasWaited c cap own seen notes block k → HasWaited c cap (own ++ length before ∷ []) (before ++ e ∷ []) notes block k
-  wait_asked own seen before notes e block k starts agree few has = record {
+  pub wait_asked : (own : List ℕ) (seen before : List Entry) (notes : List Note) (block k : ℕ) → StartsWith before seen → AllAgree gives before notes
+      → k ≤ length own → HasWaited c cap own seen notes block k → HasWaited c cap (own ++ length before ∷ []) seen notes block k
+  wait_asked own seen before notes block k starts agree few has = record {
     end = has.end;
     asked = subst (λ (l : List ℕ). Each (λ n. n < has.end) l) (sym (take-append-le k own (length before ∷ []) few)) has.asked;
     later = subst (λ (l : List ℕ). Each (λ n. has.end ≤ n) l) (sym (drop-append-le k own (length before ∷ []) few))
         (each_last (λ n. has.end ≤ n) (drop k own) (length before) has.later (has.waited.within before starts agree));
-    waited = waited_on c cap block has.end seen (before ++ e ∷ []) notes notes has.waited (starts_again (before ++ e ∷ []) before seen (e ∷ [], refl) starts) (λ h a. a);
+    waited = has.waited;
   }
 
-  wait_seen : (own : List ℕ) (seen seen_new : List Entry) (notes more : List Note) (block k : ℕ) → StartsWith seen_new seen
-      → HasWaited c cap own seen notes block k → HasWaited c cap own seen_new (notes ++ more) block k
-  wait_seen own seen seen_new notes more block k starts has = record {
-    end = has.end;
-    asked = has.asked;
-    later = has.later;
-    waited = waited_on c cap block has.end seen seen_new notes (notes ++ more) has.waited starts (λ h a. agree_before h notes more a);
-  }
-
-  -- behind the last
-  all_asked : (own : List ℕ) (seen : List Entry) (notes : List Note) (line : ℕ) (r : Request) (k : ℕ) (ds : List Deed) → HasWaitedAll c cap own seen notes k ds
-      → HasWaitedAll c cap own seen notes k (ds ++ AskDeed line r ∷ [])
-  all_asked own seen notes line r k [] all = tt
-  all_asked own seen notes line r k (AskDeed l q ∷ ds) all = all_asked own seen notes line r (k + 1) ds all
-  all_asked own seen notes line r k (StoreDeed l block number content ∷ ds) all = all_asked own seen notes line r k ds all
-  all_asked own seen notes line r k (Await l block ∷ ds) all = (all.0, all_asked own seen notes line r k ds all.1)
-
-  all_stored : (own : List ℕ) (seen : List Entry) (notes : List Note) (line block number : ℕ) (content : List ℕ) (k : ℕ) (ds : List Deed) → HasWaitedAll c cap own seen notes k ds
-      → HasWaitedAll c cap own seen notes k (ds ++ StoreDeed line block number content ∷ [])
-  all_stored own seen notes line block number content k [] all = tt
-  all_stored own seen notes line block number content k (AskDeed l q ∷ ds) all = all_stored own seen notes line block number content (k + 1) ds all
-  all_stored own seen notes line block number content k (StoreDeed l b n x ∷ ds) all = all_stored own seen notes line block number content k ds all
-  all_stored own seen notes line block number content k (Await l b ∷ ds) all = (all.0, all_stored own seen notes line block number content k ds all.1)
-
-  all_waited : (own : List ℕ) (seen : List Entry) (notes : List Note) (line block k : ℕ) (ds : List Deed) → k + length (requests_in ds) ≡ length own
-      → ((n : ℕ) → n ≡ length own → HasWaited c cap own seen notes block n) → HasWaitedAll c cap own seen notes k ds
-      → HasWaitedAll c cap own seen notes k (ds ++ Await line block ∷ [])
-  all_waited own seen notes line block k [] many last all = (last k (omega (arith, many)), tt)
-  all_waited own seen notes line block k (AskDeed l q ∷ ds) many last all = all_waited own seen notes line block (k + 1) ds (omega (arith, many)) last all
-  all_waited own seen notes line block k (StoreDeed l b n x ∷ ds) many last all = all_waited own seen notes line block k ds many last all
-  all_waited own seen notes line block k (Await l b ∷ ds) many last all = (all.0, all_waited own seen notes line block k ds many last all.1)
+  wait_seen : (own : List ℕ) (seen seen_new : List Entry) (notes notes_new : List Note) (block k : ℕ) → StartsWith seen_new seen → ((h : List Entry) → AllAgree gives h notes_new → AllAgree gives h notes)
+      → HasWaited c cap own seen notes block k → HasWaited c cap own seen_new notes_new block k
+  wait_seen own seen seen_new notes notes_new block k starts agrees has =
+      record { end = has.end; asked = has.asked; later = has.later; waited = waited_on c cap block has.end seen seen_new notes notes_new has.waited starts agrees }
 
 -- THE LAWS
 pub none_is_done : NoneIsDone
@@ -152,42 +124,26 @@ none_is_done c cap seen notes caller = record { ascend = tt; at = tt; waits = tt
 
 pub asks_are_done : AsksAreDone
 asks_are_done c cap own seen before notes caller deeds line r reply done starts agree =
-    let onwards : StartsWith (before ++ Ask caller r reply ∷ []) seen = starts_again (before ++ Ask caller r reply ∷ []) before seen (Ask caller r reply ∷ [], refl) starts in
+    let e = Ask caller r reply in
+    let onwards : StartsWith (before ++ e ∷ []) seen = starts_again (before ++ e ∷ []) before seen (e ∷ [], refl) starts in
     let many = are_as_many caller seen own (requests_in deeds) done.at in
     let below = are_below caller before own (requests_in deeds) (are_longer caller before seen own (requests_in deeds) starts done.at) in
     record {
       ascend = ascend_last own (length before) done.ascend below;
-      at = subst (λ (l : List Request). AreAt (before ++ Ask caller r reply ∷ []) caller (own ++ length before ∷ []) l) (sym (asks_more deeds line r))
-          (are_last caller (before ++ Ask caller r reply ∷ []) own (requests_in deeds) (length before) r reply
-          (are_longer caller (before ++ Ask caller r reply ∷ []) seen own (requests_in deeds) onwards done.at) (at_last before (Ask caller r reply) (length before) refl));
-      waits = all_asked c cap (own ++ length before ∷ []) (before ++ Ask caller r reply ∷ []) notes line r 0 deeds
-          (waits_on c cap own (own ++ length before ∷ []) seen (before ++ Ask caller r reply ∷ []) notes notes
-          (λ block k few has. wait_asked c cap own seen before notes (Ask caller r reply) block k starts agree few has) 0 deeds (omega (arith, many)) done.waits);
+      at = subst (λ (l : List Request). AreAt (before ++ e ∷ []) caller (own ++ length before ∷ []) l) (sym (requests_append deeds (AskDeed line r ∷ [])))
+          (are_last caller (before ++ e ∷ []) own (requests_in deeds) (length before) r reply (are_longer caller (before ++ e ∷ []) seen own (requests_in deeds) onwards done.at) (at_last before e (length before) refl));
+      waits = waits_more (HasWaited c cap (own ++ length before ∷ []) (before ++ e ∷ []) notes) (AskDeed line r) (length (requests_in deeds)) 0 deeds (omega arith) tt
+          (waits_on (HasWaited c cap own seen notes) (HasWaited c cap (own ++ length before ∷ []) (before ++ e ∷ []) notes) (length own)
+          (λ block k few has. wait_seen c cap (own ++ length before ∷ []) seen (before ++ e ∷ []) notes notes block k onwards (λ h a. a) (wait_asked c cap own seen before notes block k starts agree few has))
+          0 deeds (omega (arith, many)) done.waits);
     }
 
 pub stores_are_done : StoresAreDone
 stores_are_done c cap own seen notes caller deeds line block number content done = record {
   ascend = done.ascend;
   at = subst (λ (l : List Request). AreAt seen caller own l) (sym (others_more deeds (StoreDeed line block number content) refl)) done.at;
-  waits = all_stored c cap own seen notes line block number content 0 deeds done.waits;
+  waits = waits_more (HasWaited c cap own seen notes) (StoreDeed line block number content) (length (requests_in deeds)) 0 deeds (omega arith) tt done.waits;
 }
-
-pub waits_are_done : WaitsAreDone
-waits_are_done c cap own seen notes more caller deeds line block done (place, behind, waited) =
-    let many = are_as_many caller seen own (requests_in deeds) done.at in
-    let below = are_below caller seen own (requests_in deeds) done.at in
-    record {
-      ascend = done.ascend;
-      at = subst (λ (l : List Request). AreAt seen caller own l) (sym (others_more deeds (Await line block) refl)) done.at;
-      waits = all_waited c cap own seen (notes ++ more) line block 0 deeds (omega (arith, many))
-          (λ n is. record {
-            end = place;
-            asked = each_take (λ k. k < place) n own (each_on (λ k. k < length seen) (λ k. k < place) own (λ k low. omega (arith, low, behind)) below);
-            later = subst (λ (l : List ℕ). Each (λ k. place ≤ k) l) (sym (drop_all n own (omega (arith, is)))) tt;
-            waited = waited;
-          })
-          (waits_on c cap own own seen seen notes (notes ++ more) (λ b k few has. wait_seen c cap own seen seen notes more b k ([], sym (append-nil seen)) has) 0 deeds (omega (arith, many)) done.waits);
-    }
 
 pub deeds_last : DeedsLast
 deeds_last c cap own seen seen_new notes more caller deeds done starts =
@@ -195,13 +151,34 @@ deeds_last c cap own seen seen_new notes more caller deeds done starts =
     record {
       ascend = done.ascend;
       at = are_longer caller seen_new seen own (requests_in deeds) starts done.at;
-      waits = waits_on c cap own own seen seen_new notes (notes ++ more) (λ b k few has. wait_seen c cap own seen seen_new notes more b k starts has) 0 deeds (omega (arith, many)) done.waits;
+      waits = waits_on (HasWaited c cap own seen notes) (HasWaited c cap own seen_new (notes ++ more)) (length own)
+          (λ b k few has. wait_seen c cap own seen seen_new notes (notes ++ more) b k starts (λ h a. agree_before h notes more a) has) 0 deeds (omega (arith, many)) done.waits;
+    }
+
+pub waits_are_done : WaitsAreDone
+waits_are_done c cap own seen notes more caller deeds line block done (place, behind, waited) =
+    let many = are_as_many caller seen own (requests_in deeds) done.at in
+    let below = are_below caller seen own (requests_in deeds) done.at in
+    let still = deeds_last c cap own seen seen notes more caller deeds done ([], sym (append-nil seen)) in
+    record {
+      ascend = done.ascend;
+      at = subst (λ (l : List Request). AreAt seen caller own l) (sym (others_more deeds (Await line block) refl)) done.at;
+      waits = waits_more (HasWaited c cap own seen (notes ++ more)) (Await line block) (length own) 0 deeds (omega (arith, many)) (
+        record {
+          end = place;
+          asked = each_take (λ k. k < place) (length own) own (each_on (λ k. k < length seen) (λ k. k < place) own (λ k low. omega (arith, low, behind)) below);
+          later = subst (λ (l : List ℕ). Each (λ k. place ≤ k) l) (sym (drop_all (length own) own (omega arith))) tt;
+          waited = waited;
+        },
+        tt,
+      ) still.waits;
     }
 
 -- AT THE END
+-- in a history that goes on from there each wait was over in time
 module _ (c : Configuration) (cap : ℕ) (own : List ℕ) (seen : List Entry) (notes : List Note) (caller : ℕ) (rs : List Request) (h : List Entry)
     (starts : StartsWith h seen) (agree : AllAgree gives h notes) (ascend : Ascend own) (at : AreAt h caller own rs) (all : AreAll h caller own) where
-  was_over : (block k : ℕ) → k ≤ length rs → HasWaited c cap own seen notes block k → WaitedFor caller block k h
+  pub was_over : (block k : ℕ) → k ≤ length rs → HasWaited c cap own seen notes block k → WaitedFor caller block k h
   was_over block k few has =
       let asks : asks_of caller (take has.end h) ≡ take k rs = asks_by_number (take has.end h) caller (take k own) (take k rs) (record {
         ascend = ascend_take k own ascend;
@@ -216,15 +193,10 @@ module _ (c : Configuration) (cap : ℕ) (own : List ℕ) (seen : List Entry) (n
         over = has.waited.over h starts agree;
       }
 
-  pub were_over : (k : ℕ) (ds : List Deed) → k + length (requests_in ds) ≤ length rs → HasWaitedAll c cap own seen notes k ds → WereOver caller h k ds
-  were_over k [] few has = tt
-  were_over k (AskDeed line r ∷ ds) few has = were_over (k + 1) ds (omega (arith, few)) has
-  were_over k (StoreDeed line block number content ∷ ds) few has = were_over k ds few has
-  were_over k (Await line block ∷ ds) few has = (was_over block k (omega (arith, few)) has.0, were_over k ds few has.1)
-
 pub deeds_hold : DeedsHold
 deeds_hold c cap own seen notes caller deeds h done starts agree all =
     let at = are_longer caller h seen own (requests_in deeds) starts done.at in record {
       asks = asks_by_number h caller own (requests_in deeds) (record { ascend = done.ascend; at = at; all = all });
-      waits = were_over c cap own seen notes caller (requests_in deeds) h starts agree done.ascend at all 0 deeds (omega arith) done.waits;
+      waits = waits_on (HasWaited c cap own seen notes) (λ block k. WaitedFor caller block k h) (length (requests_in deeds))
+          (was_over c cap own seen notes caller (requests_in deeds) h starts agree done.ascend at all) 0 deeds (omega arith) done.waits;
     }

@@ -24,6 +24,7 @@ module _ {D C : Type 0} (told : D → DeviceTold) (clock : D → Clock) (copies 
   was_run begin seen first m now e desk device driven synchronized none ended is_desk is_device =
       let kept = driving_keeps told clock copies is_store looked over stands t begin seen (driver_of first.device m first.hand) now driven in
       let added = driving_adds told clock copies is_store looked over stands t begin seen (driver_of first.device m first.hand) now driven in
+      let moved = driving_moves told clock copies is_store looked over stands t begin seen (driver_of first.device m first.hand) now driven in
       let was : WasRun told clock (stack_of (desk_with t begin) first) e (desk_with t seen) now.device = record {
         config = refl;
         cap = refl;
@@ -34,8 +35,8 @@ module _ {D C : Type 0} (told : D → DeviceTold) (clock : D → Clock) (copies 
         no_refusal = (added.no_refusal synchronized none).1;
         hand = now.hand;
         keeps = kept.keeps;
-        cuts = added.cuts;
-        moved = driving_moves told clock copies is_store looked over stands t begin seen (driver_of first.device m first.hand) now driven;
+        cuts = λ uncut. (moved.uncut uncut, added.counted uncut);
+        moved = moved;
         ends = λ other. ended;
       } in
       subst (λ (y : DeskState). WasRun told clock (stack_of (desk_with t begin) first) e y device) (sym is_desk)

@@ -1,32 +1,17 @@
 -- What a history tells of callers that ran.
-use Rattle.nvm_callers.proofs.Common.{slice_get, slice_index_or, All, Contains, ◌≡◌, ◌⊎◌, inl, inr, ℕ, zero, suc, ◌<◌, List, [], ◌∷◌, ◌++◌, length, take, drop, Option, Some, refl, sym, ap, subst, arith, ◌∙◌, cases_lt, take-append-drop, take_all, All-contains, dite, ℕ_discrete, View, Entry, Configuration, Step, IsInOrder, asks_of, program_of, HadNoRoom, Terms, Deed, Program, deeds_of, requests_in, program_by, programs_of, AreRun, programs_are_apart, BeginsUnasked, IsOfShares, Share, HasDone, Shows, Stored, MayStore, HasStoredIn, Pairs, AllMade, EndsAt, HasMade, HaveRun, worse, EndSo, IsClosedBy, Ending, EndsAll, NoRoom, Memory, AllPairs, All-take, AskedAll, ArePrograms, deeds_have_the_requests, worst, CallersKeepSteps}
+use Rattle.nvm_callers.proofs.Common.{slice_get, slice_get_within, slice_get_read, get_or_from_slice_get, All, Contains, ◌≡◌, ◌⊎◌, inl, inr, ℕ, zero, suc, ◌<◌, List, [], ◌∷◌, ◌++◌, length, take, drop, Option, Some, refl, sym, ap, subst, arith, ◌∙◌, cases_lt, take-append-drop, take_all, All-contains, dite, ℕ_discrete, View, Entry, Configuration, Step, IsInOrder, asks_of, program_of, HadNoRoom, Terms, Deed, Program, deeds_of, requests_in, program_by, programs_of, AreRun, programs_are_apart, BeginsUnasked, IsOfShares, Share, HasDone, Shows, Stored, MayStore, HasStoredIn, Pairs, AllMade, EndsAt, HasMade, HaveRun, worse, EndSo, IsClosedBy, Ending, EndsAll, NoRoom, Memory, AllPairs, All-take, AskedAll, ArePrograms, deeds_have_the_requests, worst, CallersKeepSteps}
 use Rattle.script_callers.specs.declared.deed.Deed.TheVariants.{Ask}
 use Rattle.nvm_callers.proofs.Waiting.{starts_again}
 use Rattle.nvm_callers.proofs.JoinedPasses.{collected_are_all}
-use Rattle.nvm_callers.proofs.Ordering.{beginnings_keep_order, no_room_is_had}
+use Rattle.nvm_callers.proofs.Ordering.{beginnings_keep_order, no_room_is_had, split_at}
 use Rattle.nvm_callers.proofs.Sharing.{nobody_else_asks, shares_ask, shares_have_all, shares_hold}
 
 -- PLACES
-module _ {A : Type 0} where
-  pub contained : (l : List A) (i : ℕ) (a : A) → slice_get l i ≡ Some a → Contains l a
-  contained [] i a at = absurd (cc at)
-  contained (x ∷ xs) zero a at = (0, omega arith, cc at)
-  contained (x ∷ xs) (suc i) a at = let rest = contained xs i a at in (suc rest.0, omega (arith, rest.1), cc rest.2)
+pub contained : {A : Type 0} (l : List A) (i : ℕ) (a : A) → slice_get l i ≡ Some a → Contains l a
+contained l i a at = (i, slice_get_within l i a at, get_or_from_slice_get l i a a at)
 
-  placed : (l : List A) (a : A) → Contains l a → (i : ℕ) × (slice_get l i ≡ Some a)
-  placed [] a (i, low, is) = absurd (omega (arith, low))
-  placed (x ∷ xs) a (zero, low, is) = (0, ap Some is)
-  placed (x ∷ xs) a (suc i, low, is) = let rest = placed xs a (i, omega (arith, low), is) in (suc rest.0, rest.1)
-
-  index_of : (l : List A) (i : ℕ) (a d : A) → slice_get l i ≡ Some a → (i < length l) × (slice_index_or l i d ≡ a)
-  index_of [] i a d at = absurd (cc at)
-  index_of (x ∷ xs) zero a d at = (omega arith, cc at)
-  index_of (x ∷ xs) (suc i) a d at = let rest = index_of xs i a d at in (omega (arith, rest.0), rest.1)
-
-  split_at : (l : List A) (i : ℕ) (a : A) → slice_get l i ≡ Some a → l ≡ take i l ++ a ∷ drop (suc i) l
-  split_at [] i a at = absurd (cc at)
-  split_at (x ∷ xs) zero a at = cc at
-  split_at (x ∷ xs) (suc i) a at = ap (λ (l : List A). x ∷ l) (split_at xs i a at)
+placed : {A : Type 0} (l : List A) (a : A) → Contains l a → (i : ℕ) × (slice_get l i ≡ Some a)
+placed l a (i, low, is) = (i, slice_get_read l (length l) i a refl low (sym is))
 
 -- ENDINGS
 worse_all : (a b : Ending) → worse a b ≡ EndsAll → (a ≡ EndsAll) × (b ≡ EndsAll)
@@ -66,12 +51,12 @@ IsApart ps = AllPairs (λ p q. p.caller < q.caller) ps
 
 pub same_place : (ps : List Program) (i j : ℕ) (p q : Program) → IsApart ps → slice_get ps i ≡ Some p → slice_get ps j ≡ Some q → p.caller ≡ q.caller → i ≡ j
 same_place ps i j p q apart at there same =
-    let first = index_of ps i p p at in
-    let other = index_of ps j q p there in
+    let first = ap (λ (x : Program). x.caller) (get_or_from_slice_get ps i p p at) in
+    let other = ap (λ (x : Program). x.caller) (get_or_from_slice_get ps j q p there) in
     elim (cases_lt i j) [
-      | inl before ↦ absurd (let less = apart i j p before other.0 in omega (arith, less, ap (λ (x : Program). x.caller) first.1, ap (λ (x : Program). x.caller) other.1, same))
+      | inl before ↦ absurd (let less = apart i j p before (slice_get_within ps j q there) in omega (arith, less, first, other, same))
       | inr late ↦ elim (cases_lt j i) [
-        | inl behind ↦ absurd (let less = apart j i p behind first.0 in omega (arith, less, ap (λ (x : Program). x.caller) first.1, ap (λ (x : Program). x.caller) other.1, same))
+        | inl behind ↦ absurd (let less = apart j i p behind (slice_get_within ps i p at) in omega (arith, less, first, other, same))
         | inr soon ↦ omega (arith, late, soon)
       ]
     ]

@@ -1,9 +1,10 @@
 -- What a driver's looks showed in any number of its turns.
-use Rattle.nvm_callers.proofs.Common.{option_to_list, slice_get, Contains, ◌≡◌, ◌+◌, ◌≤◌, ◌⊎◌, ℕ, zero, suc, Bool, true, false, List, [], ◌∷◌, ◌++◌, length, Option, Some, None, refl, sym, ap, ◌∙◌, subst, inl, inr, arith, append_assoc, length-append, append-nil, take-append-le, take-append_seam, DeviceTold, Clock, JobKind, Taken, TookNothing, TookContent, TookRefused, TookStale, Entry, Ask, Pick, Wrote, Post, Off, Found, Configuration, next_of, after, Told, DeskState, Look, copies_next, Terms, AreAsks, DriverState, DrivesBy, DrivesOn, TurnsOn, SeesOn, LooksAreOrdered, look_behind, TookShown, AllTookShown, IsLookOf, Contains-append_left, Contains-append_right, Contains-append_cases, AreInOrder, IsPickShown, DrivingLooks}
+use Rattle.nvm_callers.proofs.Common.{option_to_list, slice_get, Contains, ◌≡◌, ◌+◌, ◌≤◌, ◌⊎◌, ℕ, zero, suc, Bool, true, false, List, [], ◌∷◌, ◌++◌, length, Option, Some, None, refl, sym, ap, ◌∙◌, subst, inl, inr, arith, append_assoc, length-append, append-nil, take-append-le, take-append_seam, DeviceTold, Clock, JobKind, Taken, TookNothing, TookContent, TookRefused, TookStale, Entry, Ask, Pick, Wrote, Post, Off, Found, Configuration, next_of, after, Told, DeskState, Look, copies_next, Terms, AreAsks, DriverState, HasDriven, DrivesOn, TurnsOn, IfSome_then, LooksAreOrdered, look_behind, TookShown, AllTookShown, IsLookOf, Contains-append_left, Contains-append_right, Contains-append_cases, AreInOrder, IsPickShown, DrivingLooks}
 use Rattle.std.specs.Prelude.{take}
 use Rattle.std.proofs.Common.{IfSome}
 use Rattle.driver_moves.specs.nvm_laws.declared.turned.Turned.TheVariants as turned
 use Rattle.nvm_callers.specs.Looked.{HasLooked}
+use Rattle.nvm_callers.proofs.Following.{holds_of_drives}
 use Rattle.nvm_callers.proofs.Keeping.{driving_keeps}
 use Rattle.nvm_callers.proofs.Turning.{IsPick, turn_adds}
 
@@ -187,25 +188,16 @@ module _ {D C : Type 0} (told : D → DeviceTold) (clock : D → Clock) (copies 
     by_last (Some (Off ops)) grows picks = quietly (Off ops) grows tt
     by_last (Some (Found marks ops)) grows picks = quietly (Found marks ops) grows tt
 
-  sees : (seen b c : List Entry) (old s new : DriverState D C) → Looked seen b old s → SeesOn told clock copies is_store looked over stands t b c s new → Looked seen c old new
-  sees seen b c old s new one is = subst (λ (x : DriverState D C). Looked seen c old x) (sym is.same)
+  -- a turn more, or requests alone
+  more : (seen b c : List Entry) (old s new : DriverState D C) → HasDriven told clock copies is_store looked over stands t seen b old s → Looked seen b old s → DrivesOn told clock copies is_store looked over stands t b c s new → Looked seen c old new
+  more seen b c old s new driven one (inl turns) =
+      let adds = turn_adds told clock copies is_store looked t turns.answer b c s new turns.turns in
+      let since = (driving_keeps told clock copies is_store looked over stands t seen b old s driven).stays_over old.copies (ordered.itself old.copies) in
+      by_last seen b c old s new one since turns adds.asks adds.are adds.last adds.grows (IfSome_then adds.last adds.added (λ e is. is.pick))
+  more seen b c old s new driven one (inr is) = subst (λ (x : DriverState D C). Looked seen c old x) (sym is.same)
       (let same : one.looks ++ [] ≡ one.looks = append-nil one.looks in
       goes_on seen b c is.sees.asks old s s one [] (ap (λ (d : DeskState). d.entries) is.sees.grows) (ordered.itself s.copies) (λ x has. has) (λ k n x has. has) (subst AreInOrder (sym same) one.in_order) (λ l has. absurd (no_look l has))
       (asks_took (one.looks ++ []) (is_store s.copies) t.config b is.sees.asks is.sees.are))
 
-  on_more : (seen b c : List Entry) (old s new : DriverState D C) → Looked seen b old s → over old.copies s.copies → DrivesOn told clock copies is_store looked over stands t b c s new → Looked seen c old new
-  on_more seen b c old s new one since (inl turns) =
-      let adds = turn_adds told clock copies is_store looked t turns.answer b c s new turns.turns in
-      by_last seen b c old s new one since turns adds.asks adds.are adds.last adds.grows adds.pick
-  on_more seen b c old s new one since (inr is) = sees seen b c old s new one is
-
-  by : (n : ℕ) (seen seen_new : List Entry) (old new : DriverState D C) → DrivesBy told clock copies is_store looked over stands t n seen seen_new old new → Looked seen seen_new old new
-  by zero seen seen_new old new is =
-      subst (λ (l : List Entry). Looked seen l old new) (sym is.0) (subst (λ (s : DriverState D C). Looked seen seen old s) (sym is.1) (none seen old))
-  by (suc n) seen seen_new old new (between, s, before, last) =
-      on_more seen between seen_new old s new (by n seen between old s before)
-      ((driving_keeps told clock copies is_store looked over stands t seen between old s (n, before)).stays_over old.copies (ordered.itself old.copies)) last
-
-pub driving_looks : {D C : Type 0} (told : D → DeviceTold) (clock : D → Clock) (copies : C → List Told) (is_store : C → ℕ → ℕ → List ℕ → Type 0) (looked : C → C → ℕ → ℕ → Type 0) (over : C → C → Type 0) (stands : C → ℕ → ℕ → List Entry → Type 0) (t : Terms)
-    → DrivingLooks told clock copies is_store looked over stands t
-driving_looks told clock copies is_store looked over stands t ordered seen seen_new old new driven = by told clock copies is_store looked over stands t ordered driven.0 seen seen_new old new driven.1
+pub driving_looks : {D C : Type 0} (told : D → DeviceTold) (clock : D → Clock) (copies : C → List Told) (is_store : C → ℕ → ℕ → List ℕ → Type 0) (looked : C → C → ℕ → ℕ → Type 0) (over : C → C → Type 0) (stands : C → ℕ → ℕ → List Entry → Type 0) (t : Terms) → DrivingLooks told clock copies is_store looked over stands t
+driving_looks told clock copies is_store looked over stands t ordered = holds_of_drives told clock copies is_store looked over stands t (HasLooked told clock copies is_store looked over stands t) (none told clock copies is_store looked over stands t ordered) (more told clock copies is_store looked over stands t ordered)

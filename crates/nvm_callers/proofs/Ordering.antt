@@ -1,145 +1,65 @@
 -- What a caller did, against its program.
-use Rattle.nvm_callers.proofs.Common.{slice_get, IsTrue, ◌≡◌, ◌⊎◌, inl, inr, ℕ, zero, suc, ◌+◌, ◌<◌, ◌≤◌, ◌∙◌, true, false, Bool, List, [], ◌∷◌, ◌++◌, length, take, Some, refl, sym, ap, subst, arith, length-append, append_assoc, append-nil, take-append_seam, some, get_elem?, at_longer, Request, Entry, Ask, Configuration, after, Note, StartsWith, AllAgree, Step, StepKind, AskStep, AwaitStep, WaitedFor, asks_of, program_of, CanBeMade, HadNoRoom, gives, IsEntry, AreAll, Deed, AskDeed, StoreDeed, Await, requests_in, deeds_by, deeds_from, deeds_of, Shows, WereOver, fits, request_after, request_of_step, requests_from, requests_of, IsNextAsk, BeginningsAsk, BeginningsKeepOrder, DeedsCanBeMade, AllIsAsked, FoundNoRoom, NoRoomIsHad}
+use Rattle.nvm_callers.proofs.Common.{slice_get, IsTrue, ◌≡◌, ◌⊎◌, inl, inr, ℕ, zero, suc, ◌+◌, ◌<◌, ◌≤◌, ◌∙◌, true, false, Bool, List, [], ◌∷◌, ◌++◌, length, take, drop, Some, refl, sym, ap, subst, arith, length-append, append_assoc, append-nil, take-append_seam, some, get_elem?, at_longer, Request, Entry, Ask, Configuration, after, Note, StartsWith, AllAgree, Step, StepKind, AwaitStep, WaitedFor, asks_of, program_of, CanBeMade, HadNoRoom, gives, IsEntry, AreAll, Deed, AskDeed, Await, requests_in, requests_append, deeds_append, deeds_have_the_requests, deeds_by, deeds_from, deeds_of, Shows, WereOver, fits, requests_of, IsNextAsk, BeginningsAsk, BeginningsKeepOrder, DeedsCanBeMade, AllIsAsked, FoundNoRoom, NoRoomIsHad}
 use Rattle.std.specs.Prelude.{not}
-use Rattle.script_walks.specs.Words.{Store}
-use Rattle.nvm_callers.proofs.Doing.{deeds_hold}
+use Rattle.nvm_callers.proofs.Doing.{deeds_hold, wait_among, waits_more}
 
--- THE REQUESTS
-in_both : (ds es : List Deed) → requests_in (ds ++ es) ≡ requests_in ds ++ requests_in es
-in_both [] es = refl
-in_both (AskDeed line r ∷ ds) es = ap (λ (l : List Request). r ∷ l) (in_both ds es)
-in_both (StoreDeed line block number content ∷ ds) es = in_both ds es
-in_both (Await line block ∷ ds) es = in_both ds es
+-- PLACES
+pub split_at : {A : Type 0} (l : List A) (i : ℕ) (a : A) → slice_get l i ≡ Some a → l ≡ take i l ++ a ∷ drop (suc i) l
+split_at [] i a at = absurd (cc at)
+split_at (x ∷ xs) zero a at = cc at
+split_at {A} (x ∷ xs) (suc i) a at = ap (λ (l : List A). x ∷ l) (split_at xs i a at)
 
-module _ (c : Configuration) where
-  in_step : (before : List Step) (line who : ℕ) (kind : StepKind) → requests_in (deeds_by c before line who kind) ≡ request_of_step c before who kind
-  in_step before line who (AskStep r) = refl
-  in_step before line who kind = refl
+pub at_length : {A : Type 0} (l : List A) (a : A) (more : List A) → slice_get (l ++ a ∷ more) (length l) ≡ Some a
+at_length [] a more = refl
+at_length (x ∷ l) a more = at_length l a more
 
-  in_steps : (before xs : List Step) → requests_in (deeds_from c before xs) ≡ requests_from c before xs
-  in_steps before [] = refl
-  in_steps before (x ∷ xs) =
-      in_both (deeds_by c before x.line x.caller x.kind) (deeds_from c (before ++ x ∷ []) xs)
-      ∙ ap (λ (l : List Request). l ++ requests_in (deeds_from c (before ++ x ∷ []) xs)) (in_step before x.line x.caller x.kind)
-      ∙ ap (λ (l : List Request). request_of_step c before x.caller x.kind ++ l) (in_steps (before ++ x ∷ []) xs)
+-- THE DEEDS OF A STEP
+-- they stand behind those of the steps before it
+pub deeds_split : (c : Configuration) (steps : List Step) (n : ℕ) (x : Step) → slice_get steps n ≡ Some x
+    → (behind : List Deed) × (deeds_of c steps ≡ deeds_of c (take n steps) ++ (deeds_by c (take n steps) x.line x.caller x.kind ++ behind))
+deeds_split c steps n x at = (
+  deeds_from c (take n steps ++ x ∷ []) (drop (suc n) steps),
+  ap (deeds_of c) (split_at steps n x at) ∙ deeds_append c [] (take n steps) (x ∷ drop (suc n) steps),
+)
 
-  -- THE WAITS
-  -- more of the requests of a program come behind, or nothing is left to do
-  abbrev Reaches : ℕ → List Deed → List Deed → Type 0
-  Reaches count done rest = (count < length (requests_in done)) ⊎ (rest ≡ [])
+-- more of the requests of a program come behind so many, or nothing is left to do
+abbrev Reaches : ℕ → List Deed → List Deed → Type 0
+Reaches count done rest = (count < length (requests_in done)) ⊎ (rest ≡ [])
 
-  module _ (caller : ℕ) (h : List Entry) where
-    -- what is left to show of the steps behind the first
-    abbrev Follows : List Step → List Step → ℕ → Type 0
-    Follows before xs n =
-        (k block : ℕ) (done rest : List Deed) (x : Step) → deeds_from c before xs ≡ done ++ rest → WereOver caller h k done → slice_get xs n ≡ Some x → x.kind ≡ AwaitStep block
-        → Reaches (length (requests_from c before (take n xs))) done rest → WaitedFor caller block (k + length (requests_from c before (take n xs))) h
+reaches_on : (d e : Deed) (front done rest : List Deed) → d ≡ e → Reaches (length (requests_in (d ∷ front))) (e ∷ done) rest → Reaches (length (requests_in front)) done rest
+reaches_on d e front done rest same (inr none) = inr none
+reaches_on d e front done rest same (inl more) =
+    let one = ap length (requests_append (d ∷ []) front) ∙ length-append (requests_in (d ∷ [])) (requests_in front) in
+    let two = ap length (requests_append (e ∷ []) done) ∙ length-append (requests_in (e ∷ [])) (requests_in done) in
+    let like = ap (λ (x : Deed). length (requests_in (x ∷ []))) same in inl (omega (arith, more, one, two, like))
 
-    on : (block k n : ℕ) → k ≡ n → WaitedFor caller block k h → WaitedFor caller block n h
-    on block k n same waited = subst (λ (m : ℕ). WaitedFor caller block m h) same waited
-
-    first_by : (k block line : ℕ) (ds done rest : List Deed) → Await line block ∷ ds ≡ done ++ rest → WereOver caller h k done → Reaches 0 done rest → WaitedFor caller block k h
-    first_by k block line ds [] rest is over (inl more) = absurd (omega (arith, more))
-    first_by k block line ds [] rest is over (inr none) = absurd (cc (is, none))
-    first_by k block line ds (d ∷ done) rest is over reaches =
-        let same : d ≡ Await line block = cc in
-        (subst (λ (e : Deed). WereOver caller h k (e ∷ done)) same over).0
-
-    first : (before : List Step) (line who k block : ℕ) (kind : StepKind) (ds done rest : List Deed) → kind ≡ AwaitStep block → deeds_by c before line who kind ++ ds ≡ done ++ rest
-        → WereOver caller h k done → Reaches 0 done rest → WaitedFor caller block k h
-    first before line who k block (AwaitStep b) ds done rest is same over reaches =
-        let at : b ≡ block = cc in on_block b at (first_by k b line ds done rest same over reaches)
-      where
-        on_block : (b : ℕ) → b ≡ block → WaitedFor caller b k h → WaitedFor caller block k h
-        on_block b at waited = subst (λ (m : ℕ). WaitedFor caller m k h) at waited
-    first before line who k block kind ds done rest is same over reaches = cc is
-
-    -- behind a request
-    ask_by : (k line : ℕ) (r : Request) (ds done rest : List Deed) (count : ℕ) → AskDeed line r ∷ ds ≡ done ++ rest → WereOver caller h k done → Reaches (suc count) done rest
-        → (done_new : List Deed) × (ds ≡ done_new ++ rest) × WereOver caller h (k + 1) done_new × Reaches count done_new rest
-    ask_by k line r ds [] rest count is over (inl more) = absurd (omega (arith, more))
-    ask_by k line r ds [] rest count is over (inr none) = absurd (cc (is, none))
-    ask_by k line r ds (d ∷ done) rest count is over reaches =
-        let same : d ≡ AskDeed line r = cc in
-        let behind : ds ≡ done ++ rest = cc in (
-          done,
-          behind,
-          subst (λ (e : Deed). WereOver caller h k (e ∷ done)) same over,
-          by (subst (λ (e : Deed). Reaches (suc count) (e ∷ done) rest) same reaches),
-        )
-      where
-        by : Reaches (suc count) (AskDeed line r ∷ done) rest → Reaches count done rest
-        by (inl more) = inl (omega (arith, more))
-        by (inr none) = inr none
-
-    -- behind another deed
-    past : (k : ℕ) (d : Deed) (ds : List Deed) → requests_in (d ∷ []) ≡ [] → WereOver caller h k (d ∷ ds) → WereOver caller h k ds
-    past k (AskDeed line r) ds none over = cc none
-    past k (StoreDeed line block number content) ds none over = over
-    past k (Await line block) ds none over = over.1
-
-    as_many : (d : Deed) (ds : List Deed) → requests_in (d ∷ []) ≡ [] → requests_in (d ∷ ds) ≡ requests_in ds
-    as_many d ds none = in_both (d ∷ []) ds ∙ ap (λ (l : List Request). l ++ requests_in ds) none
-
-    other_by : (k : ℕ) (d : Deed) (ds done rest : List Deed) (count : ℕ) → requests_in (d ∷ []) ≡ [] → d ∷ ds ≡ done ++ rest → WereOver caller h k done → Reaches count done rest
-        → (done_new : List Deed) × (ds ≡ done_new ++ rest) × WereOver caller h k done_new × Reaches count done_new rest
-    other_by k d ds [] rest count no_ask is over (inl more) = absurd (omega (arith, more))
-    other_by k d ds [] rest count no_ask is over (inr none) = absurd (cc (is, none))
-    other_by k d ds (e ∷ done) rest count no_ask is over reaches =
-        let same : e ≡ d = cc in
-        let behind : ds ≡ done ++ rest = cc in (
-          done,
-          behind,
-          past k d done no_ask (subst (λ (x : Deed). WereOver caller h k (x ∷ done)) same over),
-          by (subst (λ (x : Deed). Reaches count (x ∷ done) rest) same reaches),
-        )
-      where
-        by : Reaches count (d ∷ done) rest → Reaches count done rest
-        by (inl more) = let many = ap length (as_many d done no_ask) in inl (omega (arith, more, many))
-        by (inr none) = inr none
-
-    later : (before mid : List Step) (line who k block n : ℕ) (kind : StepKind) (xs : List Step) (done rest : List Deed) (y : Step) → Follows mid xs n
-        → deeds_by c before line who kind ++ deeds_from c mid xs ≡ done ++ rest → WereOver caller h k done → slice_get xs n ≡ Some y → y.kind ≡ AwaitStep block
-        → Reaches (length (request_of_step c before who kind ++ requests_from c mid (take n xs))) done rest
-        → WaitedFor caller block (k + length (request_of_step c before who kind ++ requests_from c mid (take n xs))) h
-    later before mid line who k block n (AskStep r) xs done rest y follows is over at await reaches =
-        let behind = ask_by k line (request_after c before who r) (deeds_from c mid xs) done rest (length (requests_from c mid (take n xs))) is over reaches in
-        on block (k + 1 + length (requests_from c mid (take n xs))) (k + length (request_after c before who r ∷ requests_from c mid (take n xs))) (omega arith)
-        (follows (k + 1) block behind.0 rest y behind.1 behind.2 at await behind.3)
-    later before mid line who k block n (Store b content) xs done rest y follows is over at await reaches =
-        let behind = other_by k _ (deeds_from c mid xs) done rest (length (requests_from c mid (take n xs))) refl is over reaches in
-        follows k block behind.0 rest y behind.1 behind.2 at await behind.3
-    later before mid line who k block n (AwaitStep b) xs done rest y follows is over at await reaches =
-        let behind = other_by k _ (deeds_from c mid xs) done rest (length (requests_from c mid (take n xs))) refl is over reaches in
-        follows k block behind.0 rest y behind.1 behind.2 at await behind.3
-    later before mid line who k block n kind xs done rest y follows is over at await reaches = follows k block done rest y is over at await reaches
-
-    follow : (xs before : List Step) (n : ℕ) → Follows before xs n
-    follow [] before n k block done rest y is over at await reaches = cc at
-    follow (x ∷ xs) before zero k block done rest y is over at await reaches =
-        let same : x ≡ y = cc in
-        on block k (k + 0) (omega arith) (first before x.line x.caller k block x.kind (deeds_from c (before ++ x ∷ []) xs) done rest (ap (λ (s : Step). s.kind) same ∙ await) is over reaches)
-    follow (x ∷ xs) before (suc n) k block done rest y is over at await reaches =
-        later before (before ++ x ∷ []) x.line x.caller k block n x.kind xs done rest y (follow xs (before ++ x ∷ []) n) is over at await reaches
-
-  -- HOW MANY CAME BEFORE
-  begins : (xs ys before : List Step) → (more : List Request) × (requests_from c before (xs ++ ys) ≡ requests_from c before xs ++ more)
-  begins [] ys before = (requests_from c before ys, refl)
-  begins (x ∷ xs) ys before =
-      let rest = begins xs ys (before ++ x ∷ []) in
-      let one = request_of_step c before x.caller x.kind in
-      (rest.0, ap (λ (l : List Request). one ++ l) rest.1 ∙ sym (append_assoc one (requests_from c (before ++ x ∷ []) xs) rest.0))
+-- so a deed that isn't behind them is among those that were done
+among : (front behind done rest : List Deed) (d : Deed) → front ++ d ∷ behind ≡ done ++ rest → Reaches (length (requests_in front)) done rest → (after : List Deed) × (done ≡ front ++ d ∷ after)
+among front behind [] rest d is (inl more) = absurd (omega (arith, more))
+among [] behind [] rest d is (inr none) = absurd (cc (is, none))
+among (f ∷ front) behind [] rest d is (inr none) = absurd (cc (is, none))
+among [] behind (e ∷ done) rest d is reaches = let same : e ∷ done ≡ d ∷ done = cc in (done, same)
+among (f ∷ front) behind (e ∷ done) rest d is reaches =
+    let same : f ≡ e = cc in
+    let later : front ++ d ∷ behind ≡ done ++ rest = cc in
+    let (after, has) = among front behind done rest d later (reaches_on f e front done rest same reaches) in
+    let whole : e ∷ done ≡ f ∷ (front ++ d ∷ after) = cc in (after, whole)
 
 -- THE LAWS
 module _ (c : Configuration) (caller : ℕ) (program : List Step) (done rest : List Deed) (h : List Entry) (is : deeds_of c program ≡ done ++ rest) where
   asked : requests_of c program ≡ requests_in done ++ requests_in rest
-  asked = sym (in_steps c [] program) ∙ ap requests_in is ∙ in_both done rest
+  asked = sym (deeds_have_the_requests c program) ∙ ap requests_in is ∙ requests_append done rest
 
   -- a wait within what was done
-  waited : (n block : ℕ) (x : Step) → WereOver caller h 0 done → slice_get program n ≡ Some x → x.kind ≡ AwaitStep block
-      → Reaches c (length (requests_of c (take n program))) done rest → WaitedFor caller block (length (requests_of c (take n program))) h
+  waited : (n block : ℕ) (x : Step) → WereOver caller h done → slice_get program n ≡ Some x → x.kind ≡ AwaitStep block
+      → Reaches (length (requests_of c (take n program))) done rest → WaitedFor caller block (length (requests_of c (take n program))) h
   waited n block x over at await reaches =
-      subst (λ (k : ℕ). WaitedFor caller block k h) (omega arith) (follow c caller h program [] n 0 block done rest x is over at await reaches)
+      let front = deeds_of c (take n program) in
+      let many : length (requests_in front) ≡ length (requests_of c (take n program)) = ap length (deeds_have_the_requests c (take n program)) in
+      let (behind, split) = deeds_split c program n x at in
+      let one : deeds_of c program ≡ front ++ Await x.line block ∷ behind = split ∙ ap (λ (k : StepKind). front ++ (deeds_by c (take n program) x.line x.caller k ++ behind)) await in
+      let (after, has) = among front behind done rest (Await x.line block) (sym one ∙ is) (subst (λ (k : ℕ). Reaches k done rest) (sym many) reaches) in
+      wait_among (λ b k. WaitedFor caller b k h) block x.line (length (requests_of c (take n program))) 0 front after (omega (arith, many)) (subst (λ (ds : List Deed). WereOver caller h ds) has over)
 
 pub beginnings_ask : BeginningsAsk
 beginnings_ask c caller program done rest h is asks =
@@ -153,35 +73,20 @@ beginnings_keep_order c caller program done rest h is shows =
       awaits = λ n block x at await more. waited c caller program done rest h is n block x shows.waits at await (inl (omega (arith, more, many)));
     }
 
-pub deeds_can_be_made : DeedsCanBeMade
-deeds_can_be_made c caller program h shows =
-    let many = ap length (shows.asks ∙ in_steps c [] program) in record {
-      requests = omega (arith, many);
-      waits = λ n block x at await. waited c caller program (deeds_of c program) [] h (sym (append-nil (deeds_of c program))) n block x shows.waits at await (inr refl);
-    }
-
--- so it can have done it behind what tells that it did, whatever it asked for later
+-- what a caller did it can have done, whatever it asked for later
 pub deeds_made_by : (c : Configuration) (caller : ℕ) (program : List Step) (h : List Entry) → length (requests_in (deeds_of c program)) ≤ length (asks_of caller h)
-    → WereOver caller h 0 (deeds_of c program) → CanBeMade c caller program h
+    → WereOver caller h (deeds_of c program) → CanBeMade c caller program h
 deeds_made_by c caller program h enough over =
-    let many = ap length (in_steps c [] program) in record {
+    let many = ap length (deeds_have_the_requests c program) in record {
       requests = omega (arith, many, enough);
       waits = λ n block x at await. waited c caller program (deeds_of c program) [] h (sym (append-nil (deeds_of c program))) n block x over at await (inr refl);
     }
 
+pub deeds_can_be_made : DeedsCanBeMade
+deeds_can_be_made c caller program h shows = let many = ap length shows.asks in deeds_made_by c caller program h (omega (arith, many)) shows.waits
+
 pub all_is_asked : AllIsAsked
-all_is_asked c steps caller h shows = shows.asks ∙ in_steps c [] (program_of caller steps)
-
--- a request more, behind those that were done
-done_more : (caller k line : ℕ) (h : List Entry) (r : Request) (ds : List Deed) → WereOver caller h k ds → WereOver caller h k (ds ++ AskDeed line r ∷ [])
-done_more caller k line h r [] over = tt
-done_more caller k line h r (AskDeed l q ∷ ds) over = done_more caller (k + 1) line h r ds over
-done_more caller k line h r (StoreDeed l block number content ∷ ds) over = done_more caller k line h r ds over
-done_more caller k line h r (Await l block ∷ ds) over = (over.0, done_more caller k line h r ds over.1)
-
-pub at_length : {A : Type 0} (l : List A) (a : A) (more : List A) → slice_get (l ++ a ∷ more) (length l) ≡ Some a
-at_length [] a more = refl
-at_length (x ∷ l) a more = at_length l a more
+all_is_asked c steps caller h shows = shows.asks ∙ deeds_have_the_requests c (program_of caller steps)
 
 module _ (c : Configuration) (cap : ℕ) (own : List ℕ) (seen : List Entry) (notes : List Note) (steps : List Step) (caller : ℕ) (done rest : List Deed) (line : ℕ) (r : Request) (h : List Entry)
     (is : deeds_of c (program_of caller steps) ≡ done ++ AskDeed line r ∷ rest) (found : FoundNoRoom c cap own seen notes caller done) (starts : StartsWith h seen)
@@ -217,9 +122,10 @@ module _ (c : Configuration) (cap : ℕ) (own : List ℕ) (seen : List Entry) (n
   nothing_waits : (n block : ℕ) (x : Step) → slice_get (program_of caller steps) n ≡ Some x → x.kind ≡ AwaitStep block
       → length (requests_of c (take n (program_of caller steps))) ≡ length (asks_of caller seen) → WaitedFor caller block (length (asks_of caller seen)) seen
   nothing_waits n block x at await same =
-      let one : length (requests_in (done ++ AskDeed line r ∷ [])) ≡ length (requests_in done) + 1 = ap length (in_both done (AskDeed line r ∷ [])) ∙ length-append (requests_in done) (r ∷ []) in
+      let one : length (requests_in (done ++ AskDeed line r ∷ [])) ≡ length (requests_in done) + 1 = ap length (requests_append done (AskDeed line r ∷ [])) ∙ length-append (requests_in done) (r ∷ []) in
+      let over = waits_more (λ b k. WaitedFor caller b k seen) (AskDeed line r) (length (requests_in done)) 0 done (omega arith) tt shown.waits in
       subst (λ (k : ℕ). WaitedFor caller block k seen) same
-      (waited c caller (program_of caller steps) (done ++ AskDeed line r ∷ []) rest seen more_done n block x (done_more caller 0 line seen r done shown.waits) at await (inl (omega (arith, same, many, one))))
+      (waited c caller (program_of caller steps) (done ++ AskDeed line r ∷ []) rest seen more_done n block x over at await (inl (omega (arith, same, many, one))))
 
   full_there : (b : Bool) → b ≡ false → IsTrue (not b)
   full_there true none = cc none

@@ -1,5 +1,5 @@
 -- What was stored into each block, whose side one caller had.
-use Rattle.nvm_callers.proofs.Common.{slice_get, is_some, map, unwrap_or, All, IfSome, option_and_then, ◌≡◌, ◌⊎◌, ◌==◌, inl, inr, ◌<◌, ◌≤◌, ◌+◌, ℕ, zero, suc, Bool, true, false, List, [], ◌∷◌, ◌++◌, length, get_or, Option, Some, None, refl, sym, ap, ◌∙◌, subst, arith, cases_Bool, cases_lt, eqb-true, eq-eqb, get_or_past, All-contains, View, Entry, Configuration, is_synchronized, EndValue, AreClosed, AreMade, EndGoesOn, EndList, EndsGoOn, Pairs, SideList, SideValue, end_at, side_at, owner_of, ram_block_of, sync_length_of, Step, StepKind, store_content, program_of, Deed, Store, Await, Program, MayDo, deeds_of, program_by, programs_of, AreRun, CanBeRun, programs_are_apart, deeds_may_be_done, Terms, MayStore, AllMade, HaveRun, AllDealt, AllGathered, AreApart, AreBelow, HasPlaces, is_store_into, store_into, IsClosedBy, BeginsUnasked, Share, Along, SidesValue, bytes_at, bytes_by, stores_at, Ending, replicate, All-cons, All-nil, RamKind, block_of, plain_block, PairValue, AreIn, IsClosed, IsMade, pair_at, length_where_sync, stores_by}
+use Rattle.nvm_callers.proofs.Common.{slice_get, is_some, map, unwrap_or, All, IfSome, option_and_then, ◌≡◌, ◌⊎◌, ◌==◌, inl, inr, ◌<◌, ◌≤◌, ◌+◌, ℕ, zero, suc, Bool, true, false, List, [], ◌∷◌, ◌++◌, length, get_or, Option, Some, None, refl, sym, ap, ◌∙◌, subst, arith, cases_Bool, cases_lt, eqb-true, eq-eqb, get_or_past, slice_get_past, slice_get-map, slice_get-get_or, option_map, All-contains, View, Entry, Configuration, is_synchronized, EndValue, AreClosed, AreMade, EndGoesOn, EndList, EndsGoOn, Pairs, SideList, SideValue, end_at, side_at, sync_length_of, Step, StepKind, store_content, program_of, Deed, Store, Await, Program, MayDo, deeds_of, program_by, programs_of, AreRun, by_owner, programs_are_apart, deeds_may_be_done, Terms, MayStore, AllMade, HaveRun, AllDealt, AllGathered, AreApart, AreBelow, HasPlaces, is_store_into, store_into, IsClosedBy, BeginsUnasked, Share, Along, SidesValue, bytes_at, bytes_by, stores_at, Ending, replicate, RamKind, block_of, plain_block, PairValue, AreIn, IsClosed, IsMade, pair_at, length_where_sync, stores_by}
 use Rattle.std.proofs.Common.{◌||◌}
 use Rattle.driver_moves.specs.block_config.declared.block.BlockDesc.{BlockDesc}
 use Rattle.driver_moves.specs.block_config.declared.block.RamKind.TheVariants as ram
@@ -7,7 +7,6 @@ use Rattle.script_callers.specs.declared.deed.Deed.TheVariants.{Ask}
 use Rattle.nvm_callers.proofs.DealtSides.{HaveBytes, dealt_apart, dealt_left, dealt_own, dealt_places, dealt_was, gathered_bytes, gathered_was, none_still, there_still}
 use Rattle.nvm_callers.proofs.KeptSteps.{contained, made_at, same_place, stored_by}
 use Rattle.nvm_callers.proofs.Shown.{deeds_are_steps}
-use Rattle.nvm_callers.proofs.StoresShown.{kind_at}
 use Rattle.nvm_callers.proofs.StoresTaken.{WasStored, WereStored}
 
 -- WHO STORES INTO A BLOCK
@@ -45,12 +44,14 @@ stores_there block line number content (d ∷ ds) (suc k) e low is =
     ap (λ (b : Bool). is_store_into block d || b) (stores_there block line number content ds k e (omega (arith, low)) is) ∙ or_true (is_store_into block d)
 
 module _ (c : Configuration) (steps : List Step) (run : AreRun c steps) where
-  owner : (caller block : ℕ) → store_into block (deeds_of c (program_of caller steps)) ≡ true → owner_of steps block ≡ Some caller
-  owner caller block goes =
-      let one = store_in block (deeds_of c (program_of caller steps)) goes in
-      let step = deeds_are_steps c steps caller one.before one.after one.line block one.number one.content one.is in
-      let sync : sync_length_of c block ≡ Some (length one.content) = subst (λ (k : StepKind). CanBeRun c k) step.kind (kind_at c steps step.place step.step run step.at) in
-      run.owners step.place block step.step step.at (ap is_some sync) (ap ram_block_of step.kind) ∙ ap (λ (n : ℕ). Some n) step.of
+  -- who stores into a block is one caller
+  owner : (block : ℕ) (p q : Program) → deeds_of c (program_of p.caller steps) ≡ p.deeds → deeds_of c (program_of q.caller steps) ≡ q.deeds → store_into block p.deeds ≡ true → store_into block q.deeds ≡ true → p.caller ≡ q.caller
+  owner block p q is_p is_q goes also =
+      let one = store_in block p.deeds goes in
+      let two = store_in block q.deeds also in
+      let first = deeds_are_steps c steps p.caller one.before one.after one.line block one.number one.content (is_p ∙ one.is) in
+      let other = deeds_are_steps c steps q.caller two.before two.after two.line block two.number two.content (is_q ∙ two.is) in
+      sym first.of ∙ sym (by_owner c steps first.place block first.step one.content run first.at first.kind other.place other.step two.content other.at other.kind) ∙ other.of
 
   deeds_at : (i : ℕ) (p : Program) → slice_get (programs_of c steps) i ≡ Some p → deeds_of c (program_of p.caller steps) ≡ p.deeds
   deeds_at i p at =
@@ -61,15 +62,10 @@ module _ (c : Configuration) (steps : List Step) (run : AreRun c steps) where
       → store_into block q.deeds ≡ false
   alone block i j p q at goes low there = by (store_into block q.deeds) refl
     where
-      some_same : (a b : ℕ) → Some a ≡ Some b → a ≡ b
-      some_same a b is = cc is
-
       by : (b : Bool) → store_into block q.deeds ≡ b → store_into block q.deeds ≡ false
       by false is = is
       by true is =
-          let ours = owner p.caller block (ap (store_into block) (deeds_at i p at) ∙ goes) in
-          let theirs = owner q.caller block (ap (store_into block) (deeds_at j q there) ∙ is) in
-          let place = same_place (programs_of c steps) i j p q (programs_are_apart c steps run).apart at there (some_same p.caller q.caller (sym ours ∙ theirs)) in
+          let place = same_place (programs_of c steps) i j p q (programs_are_apart c steps run).apart at there (owner block p q (deeds_at i p at) (deeds_at j q there) goes is) in
           absurd (omega (arith, low, place))
 
 -- MIRRORS BEFORE THE FIRST STORE
@@ -110,13 +106,8 @@ module _ (c : Configuration) (mirrors : Pairs) (ends : EndList Along) (sides : S
   none_past zero past = absurd (omega (arith, past))
   none_past (suc i) past = by (pair_at mirrors (suc i)) (end_at ends (suc i)) (side_at sides (suc i)) (made (suc i))
     where
-      no_block : (bs : List BlockDesc) (k : ℕ) → length bs ≤ k → slice_get bs k ≡ None
-      no_block [] k past = refl
-      no_block (b ∷ bs) zero past = absurd (omega (arith, past))
-      no_block (b ∷ bs) (suc k) past = no_block bs k (omega (arith, past))
-
       by : (p : Option PairValue) (e : Option (EndValue Along)) (s : Option (SideValue Along)) → IsMade (suc i) (block_of c (suc i)) p e s → s ≡ None
-      by (Some p) (Some e) (Some s) is = let no_ : None ≡ Some is.desc = sym (no_block c.blocks i (omega (arith, past))) ∙ is.is in absurd (cc no_)
+      by (Some p) (Some e) (Some s) is = let no_ : None ≡ Some is.desc = sym (slice_get_past c.blocks i (omega (arith, past))) ∙ is.is in absurd (cc no_)
       by p e None is = refl
       by None None (Some s) is = absurd is
       by p e (Some s) is = absurd is
@@ -143,13 +134,10 @@ map_at f (x ∷ xs) zero y at = (x, refl, cc at)
 map_at f (x ∷ xs) (suc i) y at = map_at f xs i y at
 
 at_map : {A B : Type 0} (f : A → B) (xs : List A) (i : ℕ) (x : A) → slice_get xs i ≡ Some x → slice_get (map f xs) i ≡ Some (f x)
-at_map f [] i x at = absurd (cc at)
-at_map f (y ∷ xs) zero x at = ap (λ z. Some (f z)) (cc at)
-at_map f (y ∷ xs) (suc i) x at = at_map f xs i x at
+at_map f xs i x at = slice_get-map f xs i ∙ ap (option_map f) at
 
 all_by : {A : Type 0} (P : A → Type 0) (xs : List A) → ((i : ℕ) (x : A) → slice_get xs i ≡ Some x → P x) → All P xs
-all_by P [] each = All-nil P
-all_by P (x ∷ xs) each = All-cons P x xs (each 0 x refl) (all_by P xs (λ i y at. each (suc i) y at))
+all_by P xs each = λ i d low. each i (get_or xs i d) (slice_get-get_or xs i d low)
 
 -- each has as many bytes as before
 pub made_bytes : (t : Terms) (ps : List Program) (ss : List Share) (es : List Ending) (fs ns : List SidesValue)

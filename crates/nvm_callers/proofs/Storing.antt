@@ -1,8 +1,7 @@
 -- What a caller stored, as it goes on.
-use Rattle.nvm_callers.proofs.Common.{◌≡◌, ◌≢◌, ◌⊎◌, ◌==◌, ℕ, zero, suc, ◌+◌, ◌<◌, ◌≤◌, ◌∙◌, Bool, true, false, List, [], ◌∷◌, ◌++◌, length, take, drop, if◌then◌else◌, Some, inl, inr, refl, sym, ap, subst, arith, length-append, eq-eqb, ne_eqb, append-nil, take-append-le, drop-append-le, take_all, some, some-ne-none, some-injective, dite, ℕ_discrete, get_elem?, Entry, Configuration, Terms, store_of, gives, AreAt, Each, View, Note, StartsWith, AllAgree, Deed, AskDeed, StoreDeed, Await, requests_in, HasDone, Stored, TellsDone, IsStoreOf, AreAsMany, StoredOne, stores_in, NoneIsStored, AsksStayStored, StoresLast, StoresAreStored}
-use Rattle.std.proofs.lemmas.List.{append_assoc}
-use Rattle.nvm_callers.proofs.Waiting.{agree_before}
-use Rattle.nvm_callers.proofs.Doing.{are_as_many, each_last, waits_on}
+use Rattle.nvm_callers.proofs.Common.{◌≡◌, ◌≢◌, ◌⊎◌, ◌==◌, ℕ, zero, suc, ◌+◌, ◌<◌, ◌≤◌, ◌∙◌, true, false, List, [], ◌∷◌, ◌++◌, length, take, Some, inl, inr, refl, sym, ap, subst, arith, length-append, eq-eqb, ne_eqb, cases_Bool, append-nil, append_assoc, take-append-le, take_all, some, some-ne-none, some-injective, dite, ℕ_discrete, get_elem?, Entry, Configuration, Terms, store_of, gives, AreAt, View, Note, StartsWith, AllAgree, Deed, AskDeed, StoreDeed, Await, requests_in, requests_append, HasWaited, Stored, TellsDone, IsStoreOf, AreAsMany, StoredOne, stores_in, NoneIsStored, AsksStayStored, StoresLast, StoresAreStored}
+use Rattle.nvm_callers.proofs.Waiting.{agree_before, starts_again}
+use Rattle.nvm_callers.proofs.Doing.{are_as_many, wait_asked, waits_on}
 
 no_entry : {A : Type 0} (xs : List A) (i : ℕ) (x : A) → xs ≡ [] → get_elem? xs i ≡ some x → ⊥
 no_entry {A} xs i x none at = some-ne-none x (sym (ap (λ (l : List A). get_elem? l i) (sym none) ∙ at))
@@ -20,37 +19,17 @@ at_last (x ∷ xs) a b (suc j) e = elim (at_last xs a b j e) [
 pub none_is_stored : NoneIsStored
 none_is_stored c cap own seen notes caller made none block k x at = absurd (no_entry (made block) k x (none block) at)
 
-starts_through : {A : Type 0} (a b c : List A) → StartsWith b a → StartsWith c b → StartsWith c a
-starts_through {A} a b c (x, first) (y, second) = (x ++ y, second ∙ ap (λ (l : List A). l ++ y) first ∙ append_assoc a x y)
-
--- the requests of the first of these are no more
-requests_first : (before ds : List Deed) → length (requests_in before) ≤ length (requests_in (before ++ ds))
-requests_first [] ds = omega arith
-requests_first (AskDeed line r ∷ bs) ds = let rest = requests_first bs ds in omega (arith, rest)
-requests_first (StoreDeed line block number content ∷ bs) ds = requests_first bs ds
-requests_first (Await line block ∷ bs) ds = requests_first bs ds
-
--- the store stays where deeds come behind
-behind : (deeds before after more : List Deed) (d : Deed) → deeds ≡ before ++ d ∷ after → deeds ++ more ≡ before ++ d ∷ (after ++ more)
-behind deeds before after more d is = ap (λ (l : List Deed). l ++ more) is ∙ append_assoc before (d ∷ after) more
-
 module _ (c : Configuration) (cap : ℕ) (caller : ℕ) where
-  tells_asked : (own : List ℕ) (seen list : List Entry) (notes : List Note) (deeds before : List Deed) (note : View Entry Terms) (e : Entry)
-      → HasDone c cap own seen notes caller deeds → length (requests_in before) ≤ length own → StartsWith list seen → AllAgree gives list notes
+  tells_asked : (own : List ℕ) (seen list : List Entry) (notes : List Note) (before : List Deed) (note : View Entry Terms) (e : Entry)
+      → length (requests_in before) ≤ length own → StartsWith list seen → AllAgree gives list notes
       → TellsDone c cap own seen notes caller before note → TellsDone c cap (own ++ length list ∷ []) (list ++ e ∷ []) notes caller before note
-  tells_asked own seen list notes deeds before note e done few starts agree tells =
-      let onwards : StartsWith list note.seen = starts_through note.seen seen list tells.seen_since starts in
+  tells_asked own seen list notes before note e few starts agree tells =
+      let onwards : StartsWith list note.seen = starts_again list seen note.seen starts tells.seen_since in
       let agrees : AllAgree gives list note.notes = agree_before list note.notes tells.told_since.0 (subst (λ (l : List Note). AllAgree gives list l) tells.told_since.1 agree) in record {
         at = subst (λ (l : List ℕ). AreAt note.seen caller l (requests_in before)) (sym (take-append-le (length (requests_in before)) own (length list ∷ []) few)) tells.at;
-        waits = waits_on c cap own (own ++ length list ∷ []) note.seen note.seen note.notes note.notes
-            (λ block k small has. record {
-              end = has.end;
-              asked = subst (λ (l : List ℕ). Each (λ n. n < has.end) l) (sym (take-append-le k own (length list ∷ []) small)) has.asked;
-              later = subst (λ (l : List ℕ). Each (λ n. has.end ≤ n) l) (sym (drop-append-le k own (length list ∷ []) small))
-                  (each_last (λ n. has.end ≤ n) (drop k own) (length list) has.later (has.waited.within list onwards agrees));
-              waited = has.waited;
-            }) 0 before (omega (arith, few)) tells.waits;
-        seen_since = starts_through note.seen list (list ++ e ∷ []) onwards (e ∷ [], refl);
+        waits = waits_on (HasWaited c cap own note.seen note.notes) (HasWaited c cap (own ++ length list ∷ []) note.seen note.notes) (length own)
+            (λ block k small has. wait_asked c cap own note.seen list note.notes block k onwards agrees small has) 0 before (omega (arith, few)) tells.waits;
+        seen_since = starts_again (list ++ e ∷ []) list note.seen (e ∷ [], refl) onwards;
         told_since = tells.told_since;
       }
 
@@ -59,40 +38,37 @@ module _ (c : Configuration) (cap : ℕ) (caller : ℕ) where
   tells_later own seen seen_new notes more before note starts tells = record {
     at = tells.at;
     waits = tells.waits;
-    seen_since = starts_through note.seen seen seen_new tells.seen_since starts;
-    told_since = starts_through note.notes notes (notes ++ more) tells.told_since (more, refl);
+    seen_since = starts_again seen_new seen note.seen starts tells.seen_since;
+    told_since = starts_again (notes ++ more) notes note.notes (more, refl) tells.told_since;
+  }
+
+  -- the store stays where deeds come behind, if what came along tells the same
+  stays : (own own_new : List ℕ) (seen seen_new : List Entry) (notes notes_new : List Note) (deeds more : List Deed) (block k : ℕ) (x : Stored) → (s : IsStoreOf c cap own seen notes caller deeds block k x)
+      → TellsDone c cap own_new seen_new notes_new caller s.before s.note → IsStoreOf c cap own_new seen_new notes_new caller (deeds ++ more) block k x
+  stays own own_new seen seen_new notes notes_new deeds more block k x s tells = record {
+    before = s.before;
+    after = s.after ++ more;
+    line = s.line;
+    number = s.number;
+    is = ap (λ (l : List Deed). l ++ more) s.is ∙ append_assoc s.before (StoreDeed s.line block s.number x.content ∷ s.after) more;
+    place = s.place;
+    note = s.note;
+    along = s.along;
+    done = tells;
   }
 
 pub asks_stay_stored : AsksStayStored
 asks_stay_stored c cap own seen list notes caller deeds made line r e stored done starts agree block k x at =
     let s = stored block k x at in
     let many = are_as_many caller seen own (requests_in deeds) done.at in
-    let first = requests_first s.before (StoreDeed s.line block s.number x.content ∷ s.after) in
-    let few : length (requests_in s.before) ≤ length own = omega (arith, many, first, ap (λ (l : List Deed). length (requests_in l)) s.is) in record {
-      before = s.before;
-      after = s.after ++ AskDeed line r ∷ [];
-      line = s.line;
-      number = s.number;
-      is = behind deeds s.before s.after (AskDeed line r ∷ []) (StoreDeed s.line block s.number x.content) s.is;
-      place = s.place;
-      note = s.note;
-      along = s.along;
-      done = tells_asked c cap caller own seen list notes deeds s.before s.note e done few starts agree s.done;
-    }
+    let first = ap length (ap requests_in s.is ∙ requests_append s.before (StoreDeed s.line block s.number x.content ∷ s.after)) ∙ length-append (requests_in s.before) (requests_in s.after) in
+    stays c cap caller own (own ++ length list ∷ []) seen (list ++ e ∷ []) notes notes deeds (AskDeed line r ∷ []) block k x s
+    (tells_asked c cap caller own seen list notes s.before s.note e (omega (arith, many, first)) starts agree s.done)
 
 pub stores_last : StoresLast
 stores_last c cap own seen seen_new notes more caller deeds more_deeds made stored starts block k x at =
-    let s = stored block k x at in record {
-      before = s.before;
-      after = s.after ++ more_deeds;
-      line = s.line;
-      number = s.number;
-      is = behind deeds s.before s.after more_deeds (StoreDeed s.line block s.number x.content) s.is;
-      place = s.place;
-      note = s.note;
-      along = s.along;
-      done = tells_later c cap caller own seen seen_new notes more s.before s.note starts s.done;
-    }
+    let s = stored block k x at in
+    stays c cap caller own own seen seen_new notes (notes ++ more) deeds more_deeds block k x s (tells_later c cap caller own seen seen_new notes more s.before s.note starts s.done)
 
 pub stores_are_stored : StoresAreStored
 stores_are_stored c cap own caller deeds made made_new line block number content note stored many done one id k x at =
@@ -104,18 +80,7 @@ stores_are_stored c cap own caller deeds made made_new line block number content
     full = take_all (length (requests_in deeds)) own (let as_many = are_as_many caller note.seen own (requests_in deeds) done.at in omega (arith, as_many))
 
     old : (b : ℕ) → get_elem? (made b) k ≡ some x → IsStoreOf c cap own note.seen note.notes caller (deeds ++ StoreDeed line block number content ∷ []) b k x
-    old b here =
-        let s = stored b k x here in record {
-          before = s.before;
-          after = s.after ++ StoreDeed line block number content ∷ [];
-          line = s.line;
-          number = s.number;
-          is = behind deeds s.before s.after (StoreDeed line block number content ∷ []) (StoreDeed s.line b s.number x.content) s.is;
-          place = s.place;
-          note = s.note;
-          along = s.along;
-          done = s.done;
-        }
+    old b here = let s = stored b k x here in stays c cap caller own own note.seen note.seen note.notes note.notes deeds (StoreDeed line block number content ∷ []) b k x s s.done
 
     new : (b : ℕ) → b ≡ block → k ≡ length (made block) → store_of content (Some note) ≡ x → IsStoreOf c cap own note.seen note.notes caller (deeds ++ StoreDeed line block number content ∷ []) b k x
     new b same here is = record {
@@ -140,21 +105,17 @@ stores_are_stored c cap own caller deeds made made_new line block number content
     last same (inr (here, is)) = new id same here is
 
 -- HOW MANY THERE ARE
-module _ (block : ℕ) where
-  -- one more of these
-  abbrev counted : Bool → List ℕ → List (List ℕ) → List (List ℕ)
-  counted is content rest = if is then content ∷ rest else rest
+stores_append : (block : ℕ) (ds es : List Deed) → stores_in block (ds ++ es) ≡ stores_in block ds ++ stores_in block es
+stores_append block [] es = refl
+stores_append block (AskDeed line r ∷ ds) es = stores_append block ds es
+stores_append block (Await line id ∷ ds) es = stores_append block ds es
+stores_append block (StoreDeed line id number content ∷ ds) es = elim (cases_Bool (id == block)) [
+  | inl own ↦ rw own (ap (λ (l : List (List ℕ)). content ∷ l) (stores_append block ds es))
+  | inr other ↦ rw other (stores_append block ds es)
+]
 
-  counted_more : (is : Bool) (content : List ℕ) (rest more : List (List ℕ)) (n : ℕ) → length more ≡ length rest + n → length (counted is content more) ≡ length (counted is content rest) + n
-  counted_more true content rest more n many = omega (arith, many)
-  counted_more false content rest more n many = many
-
-  stores_behind : (ds : List Deed) (d : Deed) (n : ℕ) → length (stores_in block (d ∷ [])) ≡ n → length (stores_in block (ds ++ d ∷ [])) ≡ length (stores_in block ds) + n
-  stores_behind [] d n many = omega (arith, many)
-  stores_behind (AskDeed line r ∷ ds) d n many = stores_behind ds d n many
-  stores_behind (Await line id ∷ ds) d n many = stores_behind ds d n many
-  stores_behind (StoreDeed line id number content ∷ ds) d n many =
-      counted_more (id == block) content (stores_in block ds) (stores_in block (ds ++ d ∷ [])) n (stores_behind ds d n many)
+stores_behind : (block : ℕ) (ds : List Deed) (d : Deed) (n : ℕ) → length (stores_in block (d ∷ [])) ≡ n → length (stores_in block (ds ++ d ∷ [])) ≡ length (stores_in block ds) + n
+stores_behind block ds d n many = ap length (stores_append block ds (d ∷ [])) ∙ length-append (stores_in block ds) (stores_in block (d ∷ [])) ∙ ap (λ (k : ℕ). length (stores_in block ds) + k) many
 
 -- no store more
 pub none_as_many : (deeds : List Deed) (d : Deed) (made : ℕ → List Stored) → ((block : ℕ) → length (stores_in block (d ∷ [])) ≡ 0) → AreAsMany deeds made → AreAsMany (deeds ++ d ∷ []) made

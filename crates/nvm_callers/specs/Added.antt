@@ -21,7 +21,7 @@ RefusesNone copies = (block : ℕ) → IfSome (told_at copies block) (λ s. s.to
 
 module _ {D C : Type 0} (told : D → DeviceTold) (clock : D → Clock) (copies : C → List Told) (is_store : C → ℕ → ℕ → List ℕ → Type 0) (looked : C → C → ℕ → ℕ → Type 0) (over : C → C → Type 0) (stands : C → ℕ → ℕ → List Entry → Type 0) (t : Terms) where
   -- The history went on, without a start-up, of which the device counted none. Where no copy is to be refused none was. Where no cut is
-  -- planned none that was planned came, and each Off is a cut that was counted.
+  -- planned each Off is a cut that was counted.
   pub record HasAdded (seen seen_new : List Entry) (old new : DriverState D C) : Type 0 where
     pub more : List Entry
     pub grows : seen_new ≡ seen ++ more
@@ -29,9 +29,7 @@ module _ {D C : Type 0} (told : D → DeviceTold) (clock : D → Clock) (copies 
     pub starts : (told new.device).starts ≡ (told old.device).starts
     pub no_refusal : AreSynchronized t.config (copies old.copies) → RefusesNone (copies old.copies)
         → RefusesNone (copies new.copies) × IsTrue (list_all tells_no_refusal more)
-    pub cuts : IsUncut (desk_with t seen) (told old.device)
-        → IsUncut (desk_with t seen_new) (told new.device)
-        × WereCounted (offs_in more) (told old.device).first.planning.unplanned (told new.device).first.planning.unplanned
+    pub counted : IsUncut (desk_with t seen) (told old.device) → WereCounted (offs_in more) (told old.device).first.planning.unplanned (told new.device).first.planning.unplanned
 
   abbrev pub DrivingAdds : Type 0
   DrivingAdds =

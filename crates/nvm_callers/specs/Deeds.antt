@@ -11,6 +11,13 @@ use Rattle.script_callers.specs.declared.deed.Deed.TheVariants.{Ask as AskDeed, 
 use Rattle.script_callers.specs.Deeds.{requests_in}
 use Rattle.nvm_callers.specs.Waits.{Waited, EndsWait}
 
+-- what holds of each wait of these, by its block and by how many requests its caller made before it, which made k before these
+abbrev pub EachWait : (ℕ → ℕ → Type 0) → ℕ → List Deed → Type 0
+EachWait P k [] = Unit {0}
+EachWait P k (AskDeed line r ∷ ds) = EachWait P (k + 1) ds
+EachWait P k (StoreDeed line block number content ∷ ds) = EachWait P k ds
+EachWait P k (Await line block ∷ ds) = P block k × EachWait P k ds
+
 module _ (c : Configuration) (cap : ℕ) (own : List ℕ) (seen : List Entry) (notes : List Note) where
   -- a wait was over behind the caller's first k requests, and before its later ones
   pub record HasWaited (block k : ℕ) : Type 0 where
@@ -19,18 +26,15 @@ module _ (c : Configuration) (cap : ℕ) (own : List ℕ) (seen : List Entry) (n
     pub later : Each (λ n. end ≤ n) (drop k own)
     pub waited : Waited c cap block end seen notes
 
-  -- so was each wait of these, before which the caller made k requests
-  abbrev pub HasWaitedAll : ℕ → List Deed → Type 0
-  HasWaitedAll k [] = Unit {0}
-  HasWaitedAll k (AskDeed line r ∷ ds) = HasWaitedAll (k + 1) ds
-  HasWaitedAll k (StoreDeed line block number content ∷ ds) = HasWaitedAll k ds
-  HasWaitedAll k (Await line block ∷ ds) = HasWaited block k × HasWaitedAll k ds
+  -- so was each wait of these
+  abbrev pub HasWaitedAll : List Deed → Type 0
+  HasWaitedAll deeds = EachWait HasWaited 0 deeds
 
   -- The caller's own entries are these requests, in order, and it awaited between them what it was to await.
   pub record HasDone (caller : ℕ) (deeds : List Deed) : Type 0 where
     pub ascend : Ascend own
     pub at : AreAt seen caller own (requests_in deeds)
-    pub waits : HasWaitedAll 0 deeds
+    pub waits : HasWaitedAll deeds
 
 -- at first it did nothing
 abbrev pub NoneIsDone : Type 0
@@ -62,17 +66,14 @@ DeedsLast =
     (c : Configuration) (cap : ℕ) (own : List ℕ) (seen seen_new : List Entry) (notes more : List Note) (caller : ℕ) (deeds : List Deed)
     → HasDone c cap own seen notes caller deeds → StartsWith seen_new seen → HasDone c cap own seen_new (notes ++ more) caller deeds
 
--- in a history each wait of these, before which the caller made k requests, was over in time
-abbrev pub WereOver : (caller : ℕ) → List Entry → ℕ → List Deed → Type 0
-WereOver caller h k [] = Unit {0}
-WereOver caller h k (AskDeed line r ∷ ds) = WereOver caller h (k + 1) ds
-WereOver caller h k (StoreDeed line block number content ∷ ds) = WereOver caller h k ds
-WereOver caller h k (Await line block ∷ ds) = WaitedFor caller block k h × WereOver caller h k ds
+-- in a history each wait of these was over in time
+abbrev pub WereOver : (caller : ℕ) → List Entry → List Deed → Type 0
+WereOver caller h deeds = EachWait (λ block k. WaitedFor caller block k h) 0 deeds
 
 -- a history tells what a caller did
 pub record Shows (caller : ℕ) (deeds : List Deed) (h : List Entry) : Type 0 where
   pub asks : asks_of caller h ≡ requests_in deeds
-  pub waits : WereOver caller h 0 deeds
+  pub waits : WereOver caller h deeds
 
 -- Each history tells it that begins with all that the caller saw, agrees with all that it was told, and has no other request
 -- of it.

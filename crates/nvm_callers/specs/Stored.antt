@@ -30,7 +30,7 @@ module _ (c : Configuration) (cap : ℕ) (own : List ℕ) (seen : List Entry) (n
   -- What came along with a store tells that its caller had done these deeds, and its pass knows all of that since.
   pub record TellsDone (before : List Deed) (note : View Entry Terms) : Type 0 where
     pub at : AreAt note.seen caller (take (length (requests_in before)) own) (requests_in before)
-    pub waits : HasWaitedAll c cap own note.seen note.notes 0 before
+    pub waits : HasWaitedAll c cap own note.seen note.notes before
     pub seen_since : StartsWith seen note.seen
     pub told_since : StartsWith notes note.notes
 

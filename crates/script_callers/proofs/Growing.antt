@@ -11,39 +11,43 @@ use Rattle.script_walks.specs.Words.{Step, StepKind, AskStep, Store, Turn, Drain
 use Rattle.script_walks.specs.Walk.{stores_of, last_store, request_after}
 use Rattle.script_walks.specs.Callers.{program_of, request_of_step, requests_from}
 use Rattle.script_callers.specs.declared.deed.Deed.{Deed}
-use Rattle.script_callers.specs.Deeds.{requests_in, deeds_by, deeds_from, MayDo}
+use Rattle.script_callers.specs.declared.deed.Deed.TheVariants.{Ask, Store as StoreDeed, Await as AwaitDeed}
+use Rattle.script_callers.specs.Deeds.{requests_in, deeds_by, deeds_from, deeds_of, MayDo}
 use Rattle.script_callers.specs.RunScripts.{CanBeRun, IsRunBy}
 use Rattle.script_callers.specs.Counting.{AreOf}
 use Rattle.script_callers.specs.Laws.{DeedsHaveTheRequests, DeedsGrow, DeedsMayBeDone, LastStoresAreNewest}
 
 -- ONE STEP MORE
 
-grow_from : (c : Configuration) (before xs : List Step) (x : Step) → deeds_from c before (xs ++ x ∷ []) ≡ deeds_from c before xs ++ deeds_by c (before ++ xs) x.line x.caller x.kind
-grow_from c before [] x = append-nil (deeds_by c before x.line x.caller x.kind) ∙ ap (λ b. deeds_by c b x.line x.caller x.kind) (sym (append-nil before))
-grow_from c before (y ∷ ys) x =
-    let at : before ++ y ∷ [] ++ ys ≡ before ++ y ∷ ys = append_assoc before (y ∷ []) ys in
-    ap (λ ds. deeds_by c before y.line y.caller y.kind ++ ds) (grow_from c (before ++ y ∷ []) ys x ∙ ap (λ b. deeds_from c (before ++ y ∷ []) ys ++ deeds_by c b x.line x.caller x.kind) at)
-    ∙ sym (append_assoc (deeds_by c before y.line y.caller y.kind) (deeds_from c (before ++ y ∷ []) ys) (deeds_by c (before ++ y ∷ ys) x.line x.caller x.kind))
+-- those of more steps come behind
+pub deeds_append : (c : Configuration) (before xs ys : List Step) → deeds_from c before (xs ++ ys) ≡ deeds_from c before xs ++ deeds_from c (before ++ xs) ys
+deeds_append c before [] ys = ap (λ b. deeds_from c b ys) (sym (append-nil before))
+deeds_append c before (x ∷ xs) ys =
+    ap (λ ds. deeds_by c before x.line x.caller x.kind ++ ds)
+    (deeds_append c (before ++ x ∷ []) xs ys ∙ ap (λ b. deeds_from c (before ++ x ∷ []) xs ++ deeds_from c b ys) (append_assoc before (x ∷ []) xs))
+    ∙ sym (append_assoc (deeds_by c before x.line x.caller x.kind) (deeds_from c (before ++ x ∷ []) xs) (deeds_from c (before ++ x ∷ xs) ys))
 
 pub deeds_grow : DeedsGrow
-deeds_grow c before x = grow_from c [] before x
+deeds_grow c before x = deeds_append c [] before (x ∷ []) ∙ ap (λ ds. deeds_of c before ++ ds) (append-nil (deeds_by c before x.line x.caller x.kind))
 
 -- THE REQUESTS
 
-requests_by : (c : Configuration) (before : List Step) (line caller : ℕ) (kind : StepKind) (ds : List Deed) → requests_in (deeds_by c before line caller kind ++ ds) ≡ request_of_step c before caller kind ++ requests_in ds
-requests_by c before line caller (AskStep r) ds = refl
-requests_by c before line caller (Store block content) ds = refl
-requests_by c before line caller (Turn count) ds = refl
-requests_by c before line caller Drain ds = refl
-requests_by c before line caller Restart ds = refl
-requests_by c before line caller (Cut nth keep) ds = refl
-requests_by c before line caller (Refuse block count) ds = refl
-requests_by c before line caller (Await block) ds = refl
+pub requests_append : (ds es : List Deed) → requests_in (ds ++ es) ≡ requests_in ds ++ requests_in es
+requests_append [] es = refl
+requests_append (Ask line r ∷ ds) es = ap (λ rs. r ∷ rs) (requests_append ds es)
+requests_append (StoreDeed line block number content ∷ ds) es = requests_append ds es
+requests_append (AwaitDeed line block ∷ ds) es = requests_append ds es
+
+requests_by : (c : Configuration) (before : List Step) (line caller : ℕ) (kind : StepKind) → requests_in (deeds_by c before line caller kind) ≡ request_of_step c before caller kind
+requests_by c before line caller (AskStep r) = refl
+requests_by c before line caller kind = refl
 
 have_from : (c : Configuration) (before xs : List Step) → requests_in (deeds_from c before xs) ≡ requests_from c before xs
 have_from c before [] = refl
 have_from c before (x ∷ xs) =
-    requests_by c before x.line x.caller x.kind (deeds_from c (before ++ x ∷ []) xs) ∙ ap (λ rs. request_of_step c before x.caller x.kind ++ rs) (have_from c (before ++ x ∷ []) xs)
+    requests_append (deeds_by c before x.line x.caller x.kind) (deeds_from c (before ++ x ∷ []) xs)
+    ∙ ap (λ rs. rs ++ requests_in (deeds_from c (before ++ x ∷ []) xs)) (requests_by c before x.line x.caller x.kind)
+    ∙ ap (λ rs. request_of_step c before x.caller x.kind ++ rs) (have_from c (before ++ x ∷ []) xs)
 
 pub deeds_have_the_requests : DeedsHaveTheRequests
 deeds_have_the_requests c steps = have_from c [] steps

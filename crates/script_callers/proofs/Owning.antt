@@ -15,10 +15,10 @@ use Rattle.script_callers.specs.RunScripts.{CanBeRun, AreRun}
 use Rattle.script_callers.specs.Laws.{StoresAreOfOne}
 
 -- each store of the block is this caller's
-abbrev StoresAreBy : ℕ → ℕ → List Step → Type 0
+abbrev pub StoresAreBy : ℕ → ℕ → List Step → Type 0
 StoresAreBy caller id steps = (place : ℕ) (y : Step) (content : List ℕ) → slice_get steps place ≡ Some y → y.kind ≡ Store id content → y.caller ≡ caller
 
-one_more : (id : ℕ) (x : Step) (xs : List Step) → stores_of id (x ∷ xs) ≡ stores_of id (x ∷ []) ++ stores_of id xs
+pub one_more : (id : ℕ) (x : Step) (xs : List Step) → stores_of id (x ∷ xs) ≡ stores_of id (x ∷ []) ++ stores_of id xs
 one_more id x xs = filter_map-append (λ y. store_by id y.caller y.kind) (x ∷ []) xs
 
 -- another caller's step stores nothing into it
@@ -53,7 +53,7 @@ in_take (suc n) place [] y at = at
 in_take (suc n) zero (x ∷ xs) y at = at
 in_take (suc n) (suc place) (x ∷ xs) y at = in_take n place xs y at
 
-kind_at : (c : Configuration) (steps : List Step) (place : ℕ) (x : Step) → AreRun c steps → slice_get steps place ≡ Some x → CanBeRun c x.kind
+pub kind_at : (c : Configuration) (steps : List Step) (place : ℕ) (x : Step) → AreRun c steps → slice_get steps place ≡ Some x → CanBeRun c x.kind
 kind_at c steps place x run at =
     let is : get_or steps place x ≡ x = get_or_from_slice_get steps place x x at in
     subst (λ (y : Step). CanBeRun c y.kind) is (run.each place x (slice_get_within steps place x at)).kind
@@ -66,7 +66,7 @@ synchronized c block content kind is can =
     let stored : sync_length_of c block ≡ Some (length content) = subst (λ (k : StepKind). CanBeRun c k) is can in
     ap is_some stored
 
-by_owner : (c : Configuration) (steps : List Step) (place block : ℕ) (x : Step) (content : List ℕ) → AreRun c steps → slice_get steps place ≡ Some x → x.kind ≡ Store block content
+pub by_owner : (c : Configuration) (steps : List Step) (place block : ℕ) (x : Step) (content : List ℕ) → AreRun c steps → slice_get steps place ≡ Some x → x.kind ≡ Store block content
     → StoresAreBy x.caller block steps
 by_owner c steps place block x content run at is other y stored there says =
     let sync = synchronized c block content x.kind is (kind_at c steps place x run at) in
