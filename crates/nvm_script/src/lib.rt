@@ -9,6 +9,7 @@
 mod caller;
 mod counts;
 mod cut;
+mod digits;
 mod lines;
 mod owners;
 mod played_cases;

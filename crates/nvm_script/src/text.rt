@@ -4,16 +4,11 @@ ghost use Rattle.std.specs.Fmt.{decimal};
 ghost use Rattle.hex.specs.Hex.{encode_lower};
 ghost use Rattle.nvm_script.specs.Text.{Adds};
 
-use hex::encode_to_slice;
+use crate::digits::{PIECE, digits_of};
 use itoa::Buffer;
 use std::alloc::AllocError;
 
 const DIGITS: &[u8; 16] = b"0123456789abcdef";
-
-// The bytes whose digits are added at once, and these digits.
-const PIECE: usize = 64;
-
-const PIECE_DIGITS: usize = 128;
 
 /// A text that grows at its end. It is whole as long as there was memory for each part.
 #[derive(Drop)]
@@ -84,9 +79,7 @@ impl Text {
         requires { length bytes.now ≡ PIECE }
         ensures { Adds (encode_lower bytes.now) self.old self.new }
     {
-        let mut digits = [0; PIECE_DIGITS];
-        let _written = encode_to_slice(bytes, &mut digits);
-        self.bytes(&digits);
+        self.bytes(&digits_of(bytes));
     }
 
     // Those of a few bytes, added byte by byte.
