@@ -1,10 +1,12 @@
 -- The lengths of contents.
-use Rattle.std.proofs.Common.{◌≡◌, ◌≤◌, ℕ, false, None, nat_le, Ok, ◌*◌, ◌/◌, ◌%◌, ◌&&◌, ◌==◌, Bool, true, List, length, take, drop, replicate, Option, Some, option_map, refl, ap, sym, arith, slice_index}
+use Rattle.std.proofs.Common.{◌≡◌, ◌≤◌, ℕ, false, None, [], nat_le, Result, Ok, Err, unwrap_or, ◌*◌, ◌/◌, ◌%◌, ◌&&◌, ◌==◌, Bool, true, List, length, take, drop, replicate, Option, Some, option_map, refl, ap, sym, arith, slice_index}
 use Rattle.std.proofs.lemmas.List.{length-replicate}
 use Rattle.std.proofs.lemmas.List.Sums.{AllPass-from_list_all, list_all-from_AllPass}
 use Rattle.std.proofs.lemmas.Bool.Decides.{nat_tests}
 use Rattle.std.specs.List.{list_all}
+use Rattle.std.specs.Result.{result_ok}
 use Rattle.hex.specs.Hex.{is_hex_digit, decode_of}
+use Rattle.hex.specs.declared.error.FromHexError.{FromHexError}
 use Rattle.hex.proofs.HexLemmas.{decode_of-digits, decode_of-ok}
 use Rattle.block_config.specs.Content.{is_plain, plain_of, count_of, is_parted, content_of}
 
@@ -33,10 +35,14 @@ four_hold true false c d ea eb ec ed = cc
 four_hold true true false d ea eb ec ed = cc
 four_hold true true true false ea eb ec ed = cc
 
+ok_of : (r : Result (List ℕ) FromHexError) (bytes : List ℕ) → result_ok r ≡ Some bytes → r ≡ Ok bytes
+ok_of (Ok found) bytes is = ap Ok (ap (λ (o : Option (List ℕ)). unwrap_or o []) is)
+ok_of (Err e) bytes is = cc is
+
 -- what is decoded is a plain content, where it has as many digits as one may have
-pub plain_of-decoded : (text bytes : List ℕ) → 2 ≤ length text → length text ≤ 8192 → decode_of text ≡ Ok bytes → plain_of text ≡ Some bytes
+pub plain_of-decoded : (text bytes : List ℕ) → 2 ≤ length text → length text ≤ 8192 → result_ok (decode_of text) ≡ Some bytes → plain_of text ≡ Some bytes
 plain_of-decoded text bytes some few is =
-    let ok = decode_of-ok text bytes is in
+    let ok = decode_of-ok text bytes (ok_of (decode_of text) bytes is) in
     let low : nat_le 2 (length text) ≡ true = grind (arith, nat_tests) in
     let high : nat_le (length text) 8192 ≡ true = grind (arith, nat_tests) in
     let even : (length text % 2 == 0) ≡ true = grind (arith, nat_tests) in

@@ -1,6 +1,7 @@
 pub mod Bounds
 pub mod Contents
 pub mod Descriptions
+pub mod DigitPairs
 pub mod Devices
 pub mod Faults
 pub mod Found

@@ -4,7 +4,7 @@ ghost use Rattle.std.specs.List.{list_all};
 ghost use Rattle.hex.specs.Hex.{is_hex_digit};
 ghost use Rattle.block_config.specs.Content.{is_plain, plain_of, count_of, run_of, is_parted, content_of};
 
-use hex::FromHexError;
+use crate::digits::read_digits;
 use nv_base::{Bytes, decimal_number};
 use std::alloc::{AllocError, Global};
 
@@ -65,14 +65,14 @@ fn is_hex_digit(digit: u8) -> bool
 fn read_plain(alloc: Global, text: &[u8]) -> Result<Option<Bytes>, AllocError>
     ensures { IfOk result (λ r. r ≡ plain_of text.now) }
 {
-    if text.len() < 2 || text.len() > 8192 {
+    if text.len() < 2 || text.len() > 8192 || text.len() % 2 != 0 {
         return Ok(None);
     }
-    match hex::decode(alloc, text) {
-        Ok(bytes) => Ok(Some(Bytes::from_vec(bytes))),
-        Err(FromHexError::OutOfMemory) => Err(AllocError),
-        Err(_) => Ok(None),
+    let mut bytes = vec![in alloc; 0; text.len() / 2]?;
+    if !read_digits(text, &mut bytes) {
+        return Ok(None);
     }
+    Ok(Some(Bytes::from_vec(bytes)))
 }
 
 /// So many bytes of one value.

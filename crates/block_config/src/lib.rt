@@ -11,6 +11,7 @@ mod config;
 mod content;
 mod demo_config;
 mod description;
+mod digits;
 mod fault;
 mod field;
 mod head;
