@@ -1,5 +1,5 @@
 -- What any number of a driver's turns adds.
-use Rattle.nvm_callers.proofs.Common.{option_to_list, list_all, list_all-append, IfSome_then, ◌≡◌, ◌+◌, ℕ, not, Bool, true, false, List, [], ◌∷◌, ◌++◌, Option, Some, None, refl, sym, ap, ◌∙◌, subst, inl, inr, arith, append_assoc, append-nil, WereCounted, DeviceTold, Clock, Entry, Ask, Pick, Wrote, Post, Off, Found, Told, DeskState, AreSynchronized, is_found, Terms, AreAsks, desk_with, DriverState, offs_in, tells_no_refusal, RefusesNone, IsUncut, HasDriven, DrivesOn, HasAdded, DrivingAdds}
+use Rattle.nvm_callers.proofs.Common.{option_to_list, list_all, list_all-append, IfSome_then, ◌≡◌, ◌+◌, ℕ, not, Bool, true, false, List, [], ◌∷◌, ◌++◌, Option, Some, None, refl, sym, ap, ◌∙◌, subst, inl, inr, arith, append_assoc, append-nil, WereCounted, DeviceTold, Clock, Entry, Ask, Off, Told, DeskState, AreSynchronized, is_found, Terms, AreAsks, desk_with, DriverState, offs_in, tells_no_refusal, RefusesNone, IsUncut, HasDriven, DrivesOn, HasAdded, DrivingAdds}
 use Rattle.std.proofs.Common.{IfSome}
 use Rattle.nvm_callers.proofs.Following.{holds_of_drives}
 use Rattle.nvm_callers.proofs.Keeping.{driving_keeps}
@@ -24,11 +24,7 @@ asks_quiet (e ∷ es) are = let no_ : false ≡ true = are.0 in absurd (cc no_)
 offs_more : (xs ys : List Entry) → offs_in (xs ++ ys) ≡ offs_in xs + offs_in ys
 offs_more [] ys = omega arith
 offs_more (Off ops ∷ xs) ys = let rest = offs_more xs ys in omega (arith, rest)
-offs_more (Ask caller r reply ∷ xs) ys = offs_more xs ys
-offs_more (Pick block kind taken ops ∷ xs) ys = offs_more xs ys
-offs_more (Wrote i mark ops ∷ xs) ys = offs_more xs ys
-offs_more (Post block r given refused ops ∷ xs) ys = offs_more xs ys
-offs_more (Found marks ops ∷ xs) ys = offs_more xs ys
+offs_more (e ∷ xs) ys = offs_more xs ys
 
 counted_more : (n m a b c : ℕ) → WereCounted n a b → WereCounted m b c → WereCounted (n + m) a c
 counted_more n m a b c (inl one) (inl two) = inl (omega (arith, one, two))

@@ -1,6 +1,6 @@
 -- Sides that were dealt to callers, and come back from them.
-use Rattle.nvm_callers.proofs.Common.{slice_get, is_some, map, IfSome, ◌≡◌, ◌⊎◌, inl, inr, ◌≤◌, ◌<◌, ◌+◌, ℕ, zero, suc, Bool, true, false, List, [], ◌∷◌, ◌++◌, length, Option, Some, None, refl, sym, ap, ◌∙◌, subst, arith, append_assoc, cases_lt, append-nil, eqb_tells, SideList, SideValue, side_at, Program, Along, SidesValue, bytes_at, bytes_by, AllDealt, AllGathered, AreApart, AreBelow, GoesOver, HasPlaces, IsDealt, IsFree, IsGathered, kept, moved, store_into, NoneIn, either_side}
-use Rattle.std.specs.Prelude.{◌==◌}
+use Rattle.nvm_callers.proofs.Common.{slice_get, is_some, map, IfSome, ◌≡◌, ◌⊎◌, inl, inr, ◌≤◌, ◌<◌, ◌+◌, ℕ, zero, suc, Bool, true, false, List, [], ◌∷◌, ◌++◌, length, Option, Some, None, refl, sym, ap, ◌∙◌, subst, arith, append_assoc, cases_lt, append-nil, ne_eqb, SideList, SideValue, side_at, Program, Along, SidesValue, bytes_at, bytes_by, AllDealt, AllGathered, AreApart, AreBelow, GoesOver, HasPlaces, IsDealt, IsFree, IsGathered, kept, moved, store_into, NoneIn, either_side}
+use Rattle.nvm_callers.proofs.Moving.{of_any}
 
 -- DEALT
 module _ {N : Type 0} where
@@ -154,12 +154,8 @@ dealt_apart (p ∷ ps) (o ∷ os) (n ∷ ns) first left (between, one, rest) (sa
   dealt_apart ps os ns between left rest have,
 )
   where
-    any : (block : ℕ) (x : Option (SideValue Along)) → NoneIn block ns left → IfSome x (λ _. NoneIn block ns left)
-    any block (Some s) none = none
-    any block None none = tt
-
     apart : (block : ℕ) (b : Bool) → side_at o block ≡ moved b (side_at first block) → side_at between block ≡ kept b (side_at first block) → IfSome (side_at n block) (λ _. NoneIn block ns left)
-    apart block true own other = any block (side_at n block) (none_dealt ps os ns between left block rest have other)
+    apart block true own other = of_any (side_at n block) (NoneIn block ns left) (none_dealt ps os ns between left block rest have other)
     apart block false own other = subst (λ (x : Option (SideValue Along)). IfSome x (λ _. NoneIn block ns left)) (sym (none_still (side_at o block) (side_at n block) (same block) own)) tt
 
 -- and all are there again, of as many bytes
@@ -222,15 +218,12 @@ module _ {N : Type 0} (places : ℕ) (own_first left : SideList N) where
         here (Some s) is = over.some s is
         here None is = over.none is
 
-        differ : (block : ℕ) → (block ≡ places → ⊥) → (block == places) ≡ false
-        differ block other = elim (eqb_tells block places) [ inl is ↦ absurd (other is.1) | inr off ↦ off.0 ]
-
         at_places : (block : ℕ) → block < places + 1 → (block < places) ⊎ (block ≡ places)
         at_places block low = elim (cases_lt block places) [ inl less ↦ inl less | inr high ↦ inr (omega (arith, low, high)) ]
 
         below : (block : ℕ) → block < places + 1 → side_at now_new block ≡ either_side (side_at own_first block) (side_at left block)
         below block low = elim (at_places block low) [
-          | inl less ↦ (over.others block (differ block (λ is. omega (arith, is, less)))).0 ∙ are.below block less
+          | inl less ↦ (over.others block (ne_eqb block places (λ is. omega (arith, is, less)))).0 ∙ are.below block less
           | inr same ↦ subst (λ (n : ℕ). side_at now_new n ≡ either_side (side_at own_first n) (side_at left n)) (sym same)
               (let is = are.rest places (omega arith) in
               (here (side_at own places) refl).0 ∙ ap (λ (x : Option (SideValue N)). either_side x (side_at now places)) is.0 ∙ ap (either_side (side_at own_first places)) is.1)
@@ -238,13 +231,13 @@ module _ {N : Type 0} (places : ℕ) (own_first left : SideList N) where
 
         rest : (block : ℕ) → places + 1 ≤ block → (side_at own_new block ≡ side_at own_first block) × (side_at now_new block ≡ side_at left block)
         rest block high =
-            let other = over.others block (differ block (λ is. omega (arith, is, high))) in
+            let other = over.others block (ne_eqb block places (λ is. omega (arith, is, high))) in
             let was = are.rest block (omega (arith, high)) in
             (other.1 ∙ was.0, other.0 ∙ was.1)
 
         out : (block : ℕ) → block < places + 1 → side_at own_new block ≡ None
         out block low = elim (at_places block low) [
-          | inl less ↦ (over.others block (differ block (λ is. omega (arith, is, less)))).1 ∙ are.out block less
+          | inl less ↦ (over.others block (ne_eqb block places (λ is. omega (arith, is, less)))).1 ∙ are.out block less
           | inr same ↦ subst (λ (n : ℕ). side_at own_new n ≡ None) (sym same) (here (side_at own places) refl).1
         ]
 

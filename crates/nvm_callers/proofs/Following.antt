@@ -1,5 +1,5 @@
 -- What a driver's turns did, one behind another.
-use Rattle.nvm_callers.proofs.Common.{ℕ, zero, suc, List, refl, sym, subst, DeviceTold, Clock, Entry, Told, Terms, DriverState, DrivesBy, DrivesOn, HasDriven, DrivesFollow}
+use Rattle.nvm_callers.proofs.Common.{ℕ, zero, suc, List, sym, subst, DeviceTold, Clock, Entry, Told, Terms, DriverState, DrivesBy, DrivesOn, HasDriven, DrivesFollow}
 
 module _ {D C : Type 0} (told : D → DeviceTold) (clock : D → Clock) (copies : C → List Told) (is_store : C → ℕ → ℕ → List ℕ → Type 0) (looked : C → C → ℕ → ℕ → Type 0) (over : C → C → Type 0) (stands : C → ℕ → ℕ → List Entry → Type 0) (t : Terms) where
   abbrev Driven : (seen seen_new : List Entry) → (old new : DriverState D C) → Type 0

@@ -1,5 +1,5 @@
 -- What a history tells of callers that ran.
-use Rattle.nvm_callers.proofs.Common.{slice_get, slice_get_within, slice_get_read, get_or_from_slice_get, All, Contains, ◌≡◌, ◌⊎◌, inl, inr, ℕ, zero, suc, ◌<◌, List, [], ◌∷◌, ◌++◌, length, take, drop, Option, Some, refl, sym, ap, subst, arith, ◌∙◌, cases_lt, take-append-drop, take_all, All-contains, dite, ℕ_discrete, View, Entry, Configuration, Step, IsInOrder, asks_of, program_of, HadNoRoom, Terms, Deed, Program, deeds_of, requests_in, program_by, programs_of, AreRun, programs_are_apart, BeginsUnasked, IsOfShares, Share, HasDone, Shows, Stored, MayStore, HasStoredIn, Pairs, AllMade, EndsAt, HasMade, HaveRun, worse, EndSo, IsClosedBy, Ending, EndsAll, NoRoom, Memory, AllPairs, All-take, AskedAll, ArePrograms, deeds_have_the_requests, worst, CallersKeepSteps}
+use Rattle.nvm_callers.proofs.Common.{slice_get, slice_get_within, slice_get_read, get_or_from_slice_get, All, Contains, ◌≡◌, ◌⊎◌, inl, inr, ℕ, zero, suc, ◌<◌, List, [], ◌∷◌, ◌++◌, length, drop, Option, Some, refl, sym, ap, subst, arith, ◌∙◌, cases_lt, take-append-drop, take_all, All-contains, dite, ℕ_discrete, View, Entry, Configuration, Step, IsInOrder, asks_of, program_of, HadNoRoom, Terms, Deed, Program, deeds_of, requests_in, program_by, programs_of, AreRun, programs_are_apart, BeginsUnasked, IsOfShares, Share, HasDone, Shows, Stored, MayStore, HasStoredIn, Pairs, AllMade, EndsAt, HasMade, HaveRun, worse, EndSo, IsClosedBy, Ending, EndsAll, NoRoom, Memory, AllPairs, All-take, AskedAll, ArePrograms, deeds_have_the_requests, worst, CallersKeepSteps}
 use Rattle.script_callers.specs.declared.deed.Deed.TheVariants.{Ask}
 use Rattle.nvm_callers.proofs.Waiting.{starts_again}
 use Rattle.nvm_callers.proofs.JoinedPasses.{collected_are_all}

@@ -1,5 +1,5 @@
 -- What a driver's looks showed in any number of its turns.
-use Rattle.nvm_callers.proofs.Common.{option_to_list, slice_get, Contains, ◌≡◌, ◌+◌, ◌≤◌, ◌⊎◌, ℕ, zero, suc, Bool, true, false, List, [], ◌∷◌, ◌++◌, length, Option, Some, None, refl, sym, ap, ◌∙◌, subst, inl, inr, arith, append_assoc, length-append, append-nil, take-append-le, take-append_seam, DeviceTold, Clock, JobKind, Taken, TookNothing, TookContent, TookRefused, TookStale, Entry, Ask, Pick, Wrote, Post, Off, Found, Configuration, next_of, after, Told, DeskState, Look, copies_next, Terms, AreAsks, DriverState, HasDriven, DrivesOn, TurnsOn, IfSome_then, LooksAreOrdered, look_behind, TookShown, AllTookShown, IsLookOf, Contains-append_left, Contains-append_right, Contains-append_cases, AreInOrder, IsPickShown, DrivingLooks}
+use Rattle.nvm_callers.proofs.Common.{option_to_list, slice_get_within, slice_get-get_or, get_or, get_or_default, get_or_from_slice_get, all_pairs_push, AllPairs, Contains, ◌≡◌, ◌+◌, ◌≤◌, ℕ, zero, suc, Bool, true, false, List, [], ◌∷◌, ◌++◌, length, Option, Some, None, refl, sym, ap, ◌∙◌, subst, inl, inr, arith, append_assoc, length-append, append-nil, take-append-le, take-append_seam, DeviceTold, Clock, JobKind, Taken, TookContent, TookStale, Entry, Ask, Pick, Configuration, next_of, after, Told, DeskState, Look, copies_next, Terms, AreAsks, DriverState, HasDriven, DrivesOn, TurnsOn, IfSome_then, LooksAreOrdered, look_behind, TookShown, AllTookShown, IsLookOf, Contains-append_left, Contains-append_right, Contains-append_cases, AreInOrder, IsPickShown, DrivingLooks}
 use Rattle.std.specs.Prelude.{take}
 use Rattle.std.proofs.Common.{IfSome}
 use Rattle.driver_moves.specs.nvm_laws.declared.turned.Turned.TheVariants as turned
@@ -9,13 +9,15 @@ use Rattle.nvm_callers.proofs.Keeping.{driving_keeps}
 use Rattle.nvm_callers.proofs.Turning.{IsPick, turn_adds}
 
 -- WHAT WAS TAKEN
-module _ (looks more : List Look) (P Q : (block number : ℕ) → List ℕ → Type 0) (so : (b n : ℕ) (x : List ℕ) → P b n x → Q b n x) where
-  took_on : (before : List Entry) (e : Entry) (copies : Bool) → TookShown looks P before e copies → TookShown (looks ++ more) Q before e copies
+-- it stays shown among more looks, and a store as another law has it
+module _ (looks looks_new : List Look) (P Q : (block number : ℕ) → List ℕ → Type 0) (more : (l : Look) → Contains looks l → Contains looks_new l)
+    (so : (before : List Entry) (b n : ℕ) (x : List ℕ) → Contains looks (look_behind before b n) → P b n x → Q b n x) where
+  took_on : (before : List Entry) (e : Entry) (copies : Bool) → TookShown looks P before e copies → TookShown looks_new Q before e copies
   took_on before (Pick block kind (TookStale asked got count) ops) copies took = absurd took
-  took_on before (Pick block kind (TookContent bytes number) ops) true took = (Contains-append_left looks more (look_behind before block number) took.0, so block number bytes took.1)
+  took_on before (Pick block kind (TookContent bytes number) ops) true took = (more (look_behind before block number) took.0, so before block number bytes took.0 took.1)
   took_on before e copies took = tt
 
-  all_took_on : (c : Configuration) (before es : List Entry) → AllTookShown looks P c before es → AllTookShown (looks ++ more) Q c before es
+  pub all_took_on : (c : Configuration) (before es : List Entry) → AllTookShown looks P c before es → AllTookShown looks_new Q c before es
   all_took_on c before [] took = tt
   all_took_on c before (e ∷ es) took = (took_on before e (copies_next c (next_of c (after c before))) took.0, all_took_on c (before ++ e ∷ []) es took.1)
 
@@ -41,32 +43,18 @@ one_look l m (suc i, few, is) = absurd (omega (arith, few))
 no_order : AreInOrder []
 no_order i j a b less at = cc at
 
-some_is : (x y : Look) → Some x ≡ Some y → x ≡ y
-some_is x y is = cc is
-
-last_case : (xs : List Look) (m : Look) (j : ℕ) (b : Look) → slice_get (xs ++ m ∷ []) j ≡ Some b → (slice_get xs j ≡ Some b) ⊎ (b ≡ m)
-last_case [] m zero b at = inr (sym (some_is m b at))
-last_case [] m (suc j) b at = absurd (cc at)
-last_case (x ∷ xs) m zero b at = inl at
-last_case (x ∷ xs) m (suc j) b at = last_case xs m j b at
-
 abbrev NoLater : Look → Look → Type 0
 NoLater l m = (l.entry ≤ m.entry) × (l.block ≡ m.block → l.shown ≤ m.shown)
 
 -- a look behind others, in no earlier Pick and of no older store
 in_order_more : (looks : List Look) (m : Look) → AreInOrder looks → ((l : Look) → Contains looks l → NoLater l m) → AreInOrder (looks ++ m ∷ [])
-in_order_more looks m order late i zero a b less at there = absurd (omega (arith, less))
-in_order_more [] m order late i (suc j) a b less at there = absurd (cc there)
-in_order_more (x ∷ xs) m order late zero (suc j) a b less at there = elim (last_case xs m j b there) [
-  | inl among ↦ order zero (suc j) a b less at among
-  | inr last ↦ subst (λ (l : Look). NoLater l b) (some_is x a at) (subst (λ (k : Look). NoLater x k) (sym last) (late x (zero, omega arith, refl)))
-]
-in_order_more (x ∷ xs) m order late (suc i) (suc j) a b less at there =
-    in_order_more xs m (λ k n c d before here among. order (suc k) (suc n) c d (omega (arith, before)) here among)
-    (λ l has. late l (suc has.0, omega (arith, has.1), has.2)) i j a b (omega (arith, less)) at there
-
-take_before : (a b : List Entry) → take (length a) (a ++ b) ≡ a
-take_before a b = take-append_seam a b
+in_order_more looks m order late i j a b less at there =
+    let xs = looks ++ m ∷ [] in
+    let pairs : AllPairs NoLater looks = λ i j d low within.
+    order i j (get_or looks i d) (get_or looks j d) low (slice_get-get_or looks i d (omega (arith, low, within))) (slice_get-get_or looks j d within) in
+    let all = all_pairs_push NoLater looks m pairs (λ k d low. late (get_or looks k d) (k, low, get_or_default looks k (get_or looks k d) d low)) in
+    subst (λ (l : Look). NoLater l b) (get_or_from_slice_get xs i a a at)
+    (subst (λ (k : Look). NoLater (get_or xs i a) k) (get_or_from_slice_get xs j b a there) (all i j a less (slice_get_within xs j b there)))
 
 module _ {D C : Type 0} (told : D → DeviceTold) (clock : D → Clock) (copies : C → List Told) (is_store : C → ℕ → ℕ → List ℕ → Type 0) (looked : C → C → ℕ → ℕ → Type 0) (over : C → C → Type 0) (stands : C → ℕ → ℕ → List Entry → Type 0) (t : Terms) (ordered : LooksAreOrdered looked over) where
   abbrev Looked : (seen seen_new : List Entry) → (old new : DriverState D C) → Type 0
@@ -111,7 +99,7 @@ module _ {D C : Type 0} (told : D → DeviceTold) (clock : D → Clock) (copies 
       | inr now ↦ are l now
     ];
     took = all_took_more (one.looks ++ looks) (is_store new.copies) t.config seen one.more more
-        (all_took_on one.looks looks (is_store s.copies) (is_store new.copies) stores_stay t.config seen one.more one.took)
+        (all_took_on one.looks (one.looks ++ looks) (is_store s.copies) (is_store new.copies) (λ l has. Contains-append_left one.looks looks l has) (λ before k n x has is. stores_stay k n x is) t.config seen one.more one.took)
         (subst (λ (l : List Entry). AllTookShown (one.looks ++ looks) (is_store new.copies) t.config l more) one.grows took);
   }
 
@@ -151,7 +139,7 @@ module _ {D C : Type 0} (told : D → DeviceTold) (clock : D → Clock) (copies 
           between = ordered.earlier old.copies s.copies new.copies block number since now;
           by_then = new.copies;
           since = ordered.itself new.copies;
-          stands_in = subst (λ (x : List Entry). stands new.copies block number x) (sym (ap (take (length before)) grows ∙ take_before before (e ∷ []))) stood;
+          stands_in = subst (λ (x : List Entry). stands new.copies block number x) (sym (ap (take (length before)) grows ∙ take-append_seam before (e ∷ []))) stood;
         }))
         (all_took_more (one.looks ++ m ∷ []) (is_store new.copies) t.config b asks (e ∷ []) (asks_took (one.looks ++ m ∷ []) (is_store new.copies) t.config b asks are) (took, tt))
 
@@ -175,18 +163,13 @@ module _ {D C : Type 0} (told : D → DeviceTold) (clock : D → Clock) (copies 
         by false is =
             quietly (Pick block kind (TookContent bytes number) ops) grows
             (subst (λ (d : Bool). TookShown one.looks (is_store new.copies) (b ++ asks) (Pick block kind (TookContent bytes number) ops) d) (sym is) tt)
-    pick block ops kind (TookRefused count) grows shown = quietly (Pick block kind (TookRefused count) ops) grows tt
-    pick block ops kind TookNothing grows shown = quietly (Pick block kind TookNothing ops) grows tt
+    pick block ops kind taken grows shown = quietly (Pick block kind taken ops) grows tt
 
     by_last : (last : Option Entry) → c ≡ (b ++ asks) ++ option_to_list last → IfSome last (λ e. IsPick e → turns.answer ≡ turned.Picked) → Looked seen c old new
     by_last None grows picks =
         quiet asks (grows ∙ append-nil (b ++ asks)) (asks_took one.looks (is_store new.copies) t.config b asks are)
     by_last (Some (Pick block kind taken ops)) grows picks = pick block ops kind taken grows (turns.shown (picks tt) (b ++ asks) block ops kind taken grows)
-    by_last (Some (Ask caller r reply)) grows picks = quietly (Ask caller r reply) grows tt
-    by_last (Some (Wrote i mark ops)) grows picks = quietly (Wrote i mark ops) grows tt
-    by_last (Some (Post block r given refused ops)) grows picks = quietly (Post block r given refused ops) grows tt
-    by_last (Some (Off ops)) grows picks = quietly (Off ops) grows tt
-    by_last (Some (Found marks ops)) grows picks = quietly (Found marks ops) grows tt
+    by_last (Some e) grows picks = quietly e grows tt
 
   -- a turn more, or requests alone
   more : (seen b c : List Entry) (old s new : DriverState D C) → HasDriven told clock copies is_store looked over stands t seen b old s → Looked seen b old s → DrivesOn told clock copies is_store looked over stands t b c s new → Looked seen c old new
@@ -200,4 +183,6 @@ module _ {D C : Type 0} (told : D → DeviceTold) (clock : D → Clock) (copies 
       (asks_took (one.looks ++ []) (is_store s.copies) t.config b is.sees.asks is.sees.are))
 
 pub driving_looks : {D C : Type 0} (told : D → DeviceTold) (clock : D → Clock) (copies : C → List Told) (is_store : C → ℕ → ℕ → List ℕ → Type 0) (looked : C → C → ℕ → ℕ → Type 0) (over : C → C → Type 0) (stands : C → ℕ → ℕ → List Entry → Type 0) (t : Terms) → DrivingLooks told clock copies is_store looked over stands t
-driving_looks told clock copies is_store looked over stands t ordered = holds_of_drives told clock copies is_store looked over stands t (HasLooked told clock copies is_store looked over stands t) (none told clock copies is_store looked over stands t ordered) (more told clock copies is_store looked over stands t ordered)
+driving_looks told clock copies is_store looked over stands t ordered =
+    holds_of_drives told clock copies is_store looked over stands t (HasLooked told clock copies is_store looked over stands t)
+    (none told clock copies is_store looked over stands t ordered) (more told clock copies is_store looked over stands t ordered)

@@ -53,18 +53,21 @@ did_ask t caller ds bytes began made v w n line r reply asked notes did =
       none_as_many ds (AskDeed line r) made (λ block. refl) is.many,
     ))
 
--- none more: the pass has seen more
-pub did_see : (t : Terms) (caller : ℕ) (ds : List Deed) (bytes : ℕ → Option ℕ) (began made : ℕ → List Stored) (v w : View Entry Terms) → w.own ≡ v.own → w.notes ≡ v.notes
+-- none more: the pass has seen more, and was told more
+did_later : (t : Terms) (caller : ℕ) (ds : List Deed) (bytes : ℕ → Option ℕ) (began made : ℕ → List Stored) (v w : View Entry Terms) (more : List Note) → w.own ≡ v.own → w.notes ≡ v.notes ++ more
     → StartsWith w.seen v.seen → Did t caller ds v bytes began made → Did t caller ds w bytes began made
-did_see t caller ds bytes began made v w own notes starts did =
-    did_with t caller ds w v.own w.seen (v.notes ++ []) bytes began made own refl (notes ∙ sym (append-nil v.notes))
-    (deeds_last t.config t.cap v.own v.seen w.seen v.notes [] caller ds did.done starts)
+did_later t caller ds bytes began made v w more own notes starts did =
+    did_with t caller ds w v.own w.seen (v.notes ++ more) bytes began made own refl notes (deeds_last t.config t.cap v.own v.seen w.seen v.notes more caller ds did.done starts)
     (λ none may.
     let is = did.stored none may in (
-      subst (λ (l : List Deed). HasStored t.config t.cap v.own w.seen (v.notes ++ []) caller l made) (append-nil ds)
-          (stores_last t.config t.cap v.own v.seen w.seen v.notes [] caller ds [] made is.each starts),
+      subst (λ (l : List Deed). HasStored t.config t.cap v.own w.seen (v.notes ++ more) caller l made) (append-nil ds)
+          (stores_last t.config t.cap v.own v.seen w.seen v.notes more caller ds [] made is.each starts),
       is.many,
     ))
+
+pub did_see : (t : Terms) (caller : ℕ) (ds : List Deed) (bytes : ℕ → Option ℕ) (began made : ℕ → List Stored) (v w : View Entry Terms) → w.own ≡ v.own → w.notes ≡ v.notes
+    → StartsWith w.seen v.seen → Did t caller ds v bytes began made → Did t caller ds w bytes began made
+did_see t caller ds bytes began made v w own notes starts did = did_later t caller ds bytes began made v w [] own (notes ∙ sym (append-nil v.notes)) starts did
 
 -- a wait more
 pub did_wait : (t : Terms) (caller : ℕ) (ds : List Deed) (bytes : ℕ → Option ℕ) (began made : ℕ → List Stored) (line block : ℕ) (v w : View Entry Terms) → HasPolled v w
@@ -83,15 +86,7 @@ did_wait t caller ds bytes began made line block v w (more, is) over did =
 pub did_poll : (t : Terms) (caller : ℕ) (ds : List Deed) (bytes : ℕ → Option ℕ) (began made : ℕ → List Stored) (v w : View Entry Terms) → HasPolled v w
     → Did t caller ds v bytes began made → Did t caller ds w bytes began made
 did_poll t caller ds bytes began made v w (more, is) did =
-    did_with t caller ds w v.own v.seen (v.notes ++ more) bytes began made
-    (ap (λ (z : View Entry Terms). z.own) is) (ap (λ (z : View Entry Terms). z.seen) is) (ap (λ (z : View Entry Terms). z.notes) is)
-    (deeds_last t.config t.cap v.own v.seen v.seen v.notes more caller ds did.done ([], sym (append-nil v.seen)))
-    (λ none may.
-    let before = did.stored none may in (
-      subst (λ (l : List Deed). HasStored t.config t.cap v.own v.seen (v.notes ++ more) caller l made) (append-nil ds)
-          (stores_last t.config t.cap v.own v.seen v.seen v.notes more caller ds [] made before.each ([], sym (append-nil v.seen))),
-      before.many,
-    ))
+    did_later t caller ds bytes began made v w more (ap (λ (z : View Entry Terms). z.own) is) (ap (λ (z : View Entry Terms). z.notes) is) ([], ap (λ (z : View Entry Terms). z.seen) is ∙ sym (append-nil v.seen)) did
 
 -- a store more
 pub did_store : (t : Terms) (caller : ℕ) (ds : List Deed) (line block number : ℕ) (content : List ℕ) (v w : View Entry Terms) (bytes now : ℕ → Option ℕ) (began made made_new : ℕ → List Stored) → w ≡ v

@@ -1,13 +1,12 @@
 -- Sides go over to callers.
-use Rattle.nvm_callers.proofs.Common.{◌||◌, ◌≡◌, ◌≢◌, ◌<◌, ℕ, Bool, true, false, List, [], ◌∷◌, ◌++◌, length, Option, Some, None, refl, sym, ap, ◌∙◌, subst, inl, inr, arith, eqb_tells, cases_lt, get_or_past, length-set, SideList, SideValue, side_at, Deed, Store, is_store_into, store_into, moved, kept, IsDealt, HasPlaces, IsFree, GoesOver, set, get_or-set_same, get_or-set_other}
+use Rattle.nvm_callers.proofs.Common.{◌||◌, ◌≡◌, ◌<◌, ℕ, Bool, true, false, List, [], ◌∷◌, ◌++◌, length, Option, Some, None, refl, sym, ap, ◌∙◌, subst, inl, inr, arith, eqb_tells, eqb-false, eq-eqb, ne_eqb, or-true, or-false, or_assoc, cases_lt, get_or_past, length-set, SideList, SideValue, side_at, Deed, Store, is_store_into, store_into, moved, kept, IsDealt, HasPlaces, IsFree, GoesOver, set, get_or-set_same, get_or-set_other}
 use Rattle.std.specs.Prelude.{◌==◌}
 use Rattle.std.proofs.Common.{IfSome}
 
-not_same : (b block : ℕ) → (b == block) ≡ false → b ≢ block
-not_same b block is same = elim (eqb_tells b block) [
-  | inl on ↦ let no_ : true ≡ false = sym on.0 ∙ is in cc no_
-  | inr off ↦ off.1 same
-]
+-- what holds anyway holds of a value, if there is one
+pub of_any : {A : Type 0} (o : Option A) (P : Type 0) → P → IfSome o (λ _. P)
+of_any (Some x) P is = is
+of_any None P is = tt
 
 pub goes_over : {N : Type 0} (block : ℕ) (from to from_new to_new : SideList N) (side : SideValue N) → Some side ≡ side_at from block → from_new ≡ set from block None → to_new ≡ set to side.block (Some side)
     → side.block ≡ block → block < length to → block < length from → GoesOver block from to from_new to_new
@@ -15,8 +14,8 @@ goes_over {N} block from to from_new to_new side taken left put own place here =
     let put_at : to_new ≡ set to block (Some side) = put ∙ ap (λ (n : ℕ). set to n (Some side)) own in
     record {
       others = λ b other. (
-        ap (λ (l : SideList N). side_at l b) put_at ∙ get_or-set_other to block b (Some side) None (not_same b block other),
-        ap (λ (l : SideList N). side_at l b) left ∙ get_or-set_other from block b None None (not_same b block other),
+        ap (λ (l : SideList N). side_at l b) put_at ∙ get_or-set_other to block b (Some side) None (eqb-false b block other),
+        ap (λ (l : SideList N). side_at l b) left ∙ get_or-set_other from block b None None (eqb-false b block other),
       );
       none = λ none. let no_ : Some side ≡ None = taken ∙ none in absurd (cc no_);
       some = λ s is.
@@ -38,17 +37,9 @@ stays_over block from to none = record {
 }
 
 -- DEEDS
-or_later : (a b c : Bool) → ((a || b) || c) ≡ (a || (b || c))
-or_later true b c = refl
-or_later false b c = refl
-
-or_none : (a : Bool) → (a || false) ≡ a
-or_none true = refl
-or_none false = refl
-
 store_more : (block : ℕ) (ds : List Deed) (d : Deed) → store_into block (ds ++ d ∷ []) ≡ (store_into block ds || is_store_into block d)
-store_more block [] d = or_none (is_store_into block d)
-store_more block (x ∷ xs) d = ap (λ (b : Bool). is_store_into block x || b) (store_more block xs d) ∙ sym (or_later (is_store_into block x) (store_into block xs) (is_store_into block d))
+store_more block [] d = or-false (is_store_into block d)
+store_more block (x ∷ xs) d = ap (λ (b : Bool). is_store_into block x || b) (store_more block xs d) ∙ sym (or_assoc (is_store_into block x) (store_into block xs) (is_store_into block d))
 
 module _ {N : Type 0} (ds : List Deed) (first own left : SideList N) (dealt : IsDealt ds first own left) where
   pub free_at : IsFree left own
@@ -56,16 +47,12 @@ module _ {N : Type 0} (ds : List Deed) (first own left : SideList N) (dealt : Is
     where
       by : (b : Bool) → side_at own block ≡ moved b (side_at first block) → side_at left block ≡ kept b (side_at first block) → IfSome (side_at left block) (λ _. side_at own block ≡ None)
       by true here there = subst (λ (o : Option (SideValue N)). IfSome o (λ _. side_at own block ≡ None)) (sym there) tt
-      by false here there = any (side_at left block)
-        where
-          any : (o : Option (SideValue N)) → IfSome o (λ _. side_at own block ≡ None)
-          any (Some s) = here
-          any None = tt
+      by false here there = of_any (side_at left block) (side_at own block ≡ None) here
 
   -- a deed that stores into none
   pub dealt_same : (d : Deed) → ((block : ℕ) → is_store_into block d ≡ false) → IsDealt (ds ++ d ∷ []) first own left
   dealt_same d none =
-      let same : (block : ℕ) → store_into block (ds ++ d ∷ []) ≡ store_into block ds = λ block. store_more block ds d ∙ ap (λ (b : Bool). store_into block ds || b) (none block) ∙ or_none (store_into block ds) in
+      let same : (block : ℕ) → store_into block (ds ++ d ∷ []) ≡ store_into block ds = λ block. store_more block ds d ∙ ap (λ (b : Bool). store_into block ds || b) (none block) ∙ or-false (store_into block ds) in
       record {
         own_at = λ block. subst (λ (b : Bool). side_at own block ≡ moved b (side_at first block)) (sym (same block)) (dealt.own_at block);
         left_at = λ block. subst (λ (b : Bool). side_at left block ≡ kept b (side_at first block)) (sym (same block)) (dealt.left_at block);
@@ -89,23 +76,13 @@ module _ {N : Type 0} (ds : List Deed) (first own left : SideList N) (dealt : Is
     at : (b : ℕ) → At b (store_into b ds || (block == b))
     at b = elim (eqb_tells b block) [
       | inl is ↦
-          let now : (store_into b ds || (block == b)) ≡ true = ap (λ (n : ℕ). store_into b ds || (block == n)) is.1 ∙ ap (λ (t : Bool). store_into b ds || t) (itself block) ∙ or_true (store_into b ds) in
+          let now : (store_into b ds || (block == b)) ≡ true = ap (λ (n : ℕ). store_into b ds || (block == n)) is.1 ∙ ap (λ (t : Bool). store_into b ds || t) (eq-eqb block block refl) ∙ or-true (store_into b ds) in
           subst (At b) (sym now) (subst (λ (n : ℕ). At n true) (sym is.1) (here (store_into block ds) (dealt.own_at block) (dealt.left_at block)))
       | inr other ↦
-          let now : (store_into b ds || (block == b)) ≡ store_into b ds = ap (λ (t : Bool). store_into b ds || t) (apart b block other.1) ∙ or_none (store_into b ds) in
+          let now : (store_into b ds || (block == b)) ≡ store_into b ds = ap (λ (t : Bool). store_into b ds || t) (ne_eqb block b (λ same. other.1 (sym same))) ∙ or-false (store_into b ds) in
           let stays = over.others b other.0 in
           subst (At b) (sym now) (stays.0 ∙ dealt.own_at b, stays.1 ∙ dealt.left_at b)
     ]
-      where
-        itself : (n : ℕ) → (n == n) ≡ true
-        itself n = elim (eqb_tells n n) [ inl is ↦ is.0 | inr other ↦ absurd (other.1 refl) ]
-
-        or_true : (t : Bool) → (t || true) ≡ true
-        or_true true = refl
-        or_true false = refl
-
-        apart : (n m : ℕ) → n ≢ m → (m == n) ≡ false
-        apart n m differ = elim (eqb_tells m n) [ inl is ↦ absurd (differ (sym is.1)) | inr other ↦ other.0 ]
 
     pub dealt_more : (line number : ℕ) (content : List ℕ) → IsDealt (ds ++ Store line block number content ∷ []) first own_new left_new
     dealt_more line number content = record {
@@ -133,10 +110,6 @@ module _ {N : Type 0} (ds : List Deed) (first own left : SideList N) (dealt : Is
 -- as many places
 pub places_like : {N : Type 0} (from to : SideList N) → length to ≡ length from → HasPlaces from to
 places_like {N} from to same block = elim (cases_lt block (length from)) [
-  | inl within ↦ any (side_at from block) (omega (arith, within, same))
+  | inl within ↦ of_any (side_at from block) (block < length to) (omega (arith, within, same))
   | inr past ↦ subst (λ (o : Option (SideValue N)). IfSome o (λ s. block < length to)) (sym (get_or_past from block None past)) tt
 ]
-  where
-    any : {A : Type 0} (o : Option A) → block < length to → IfSome o (λ s. block < length to)
-    any (Some s) within = within
-    any None within = tt

@@ -1,15 +1,11 @@
 -- What a wait that is over tells of the machine's state.
 use Rattle.nvm_callers.proofs.Common.{◌||◌, ◌≡◌, ◌⊎◌, inl, inr, ℕ, zero, suc, ◌≤◌, ◌∙◌, not, Bool, true, false, List, [], ◌∷◌, Option, Some, None, refl, sym, ap, subst, arith, some-ne-none, some-injective, code_of, ReqResult, Fine, Pending, Entry, Found, is_pending, after, Gave, tells_status, tells_off, told_last, gives, off_word, IsLast, status_of, the_off_word_tells, words_tell_statuses, OverIsNotPending}
 use Rattle.std.proofs.Common.{IsTrue}
-use Rattle.nvm_callers.proofs.Waiting.{off_number_told, status_told}
+use Rattle.nvm_callers.proofs.Waiting.{given_or, off_number_told, status_told}
 
 -- the last entry that gives a word a number
 abbrev HasLast : ℕ → List Entry → Type 0
 HasLast word h = (k : ℕ) × (x : ℕ) × Gave gives h word k x × IsLast h word k
-
-given_or : (o : Option ℕ) → (o ≡ None) ⊎ ((x : ℕ) × (o ≡ Some x))
-given_or None = inl refl
-given_or (Some x) = inr (x, refl)
 
 not_given : (o : Option ℕ) (x : ℕ) → o ≡ None → o ≡ Some x → ⊥
 not_given o x none some = let no_ : None ≡ Some x = sym none ∙ some in cc no_

@@ -1,11 +1,12 @@
 -- What was stored into each block, whose side one caller had.
-use Rattle.nvm_callers.proofs.Common.{slice_get, is_some, map, unwrap_or, All, IfSome, option_and_then, ◌≡◌, ◌⊎◌, ◌==◌, inl, inr, ◌<◌, ◌≤◌, ◌+◌, ℕ, zero, suc, Bool, true, false, List, [], ◌∷◌, ◌++◌, length, get_or, Option, Some, None, refl, sym, ap, ◌∙◌, subst, arith, cases_Bool, cases_lt, eqb-true, eq-eqb, get_or_past, slice_get_past, slice_get-map, slice_get-get_or, option_map, All-contains, View, Entry, Configuration, is_synchronized, EndValue, AreClosed, AreMade, EndGoesOn, EndList, EndsGoOn, Pairs, SideList, SideValue, end_at, side_at, sync_length_of, Step, StepKind, store_content, program_of, Deed, Store, Await, Program, MayDo, deeds_of, program_by, programs_of, AreRun, by_owner, programs_are_apart, deeds_may_be_done, Terms, MayStore, AllMade, HaveRun, AllDealt, AllGathered, AreApart, AreBelow, HasPlaces, is_store_into, store_into, IsClosedBy, BeginsUnasked, Share, Along, SidesValue, bytes_at, bytes_by, stores_at, Ending, replicate, RamKind, block_of, plain_block, PairValue, AreIn, IsClosed, IsMade, pair_at, length_where_sync, stores_by}
+use Rattle.nvm_callers.proofs.Common.{slice_get, is_some, map, unwrap_or, All, IfSome, option_and_then, ◌≡◌, ◌⊎◌, ◌==◌, inl, inr, ◌<◌, ◌≤◌, ◌+◌, ℕ, zero, suc, Bool, true, false, List, [], ◌∷◌, ◌++◌, length, get_or, Option, Some, None, refl, sym, ap, ◌∙◌, subst, arith, cases_Bool, cases_lt, eqb-true, eq-eqb, or-true, get_or_past, slice_get_past, slice_get-map, slice_get-get_or, option_map, All-contains, View, Entry, Configuration, is_synchronized, EndValue, AreClosed, AreMade, EndGoesOn, EndList, EndsGoOn, Pairs, SideList, SideValue, end_at, side_at, sync_length_of, Step, store_content, program_of, Deed, Store, Await, Program, MayDo, deeds_of, program_by, programs_of, AreRun, by_owner, programs_are_apart, deeds_may_be_done, Terms, MayStore, AllMade, HaveRun, AllDealt, AllGathered, AreApart, AreBelow, HasPlaces, is_store_into, store_into, IsClosedBy, BeginsUnasked, Share, Along, SidesValue, bytes_at, bytes_by, stores_at, Ending, replicate, RamKind, block_of, plain_block, PairValue, AreIn, IsClosed, IsMade, pair_at, length_where_sync, stores_by}
 use Rattle.std.proofs.Common.{◌||◌}
 use Rattle.driver_moves.specs.block_config.declared.block.BlockDesc.{BlockDesc}
 use Rattle.driver_moves.specs.block_config.declared.block.RamKind.TheVariants as ram
 use Rattle.script_callers.specs.declared.deed.Deed.TheVariants.{Ask}
 use Rattle.nvm_callers.proofs.DealtSides.{HaveBytes, dealt_apart, dealt_left, dealt_own, dealt_places, dealt_was, gathered_bytes, gathered_was, none_still, there_still}
 use Rattle.nvm_callers.proofs.KeptSteps.{contained, made_at, same_place, stored_by}
+use Rattle.nvm_callers.proofs.Moving.{of_any}
 use Rattle.nvm_callers.proofs.Shown.{deeds_are_steps}
 use Rattle.nvm_callers.proofs.StoresTaken.{WasStored, WereStored}
 
@@ -31,21 +32,18 @@ store_in block (Store line id number content ∷ ds) goes = elim (cases_Bool (id
   | inr other ↦ behind block (Store line id number content) ds (store_in block ds (sym (ap (λ (b : Bool). b || store_into block ds) other) ∙ goes))
 ]
 
-or_true : (b : Bool) → (b || true) ≡ true
-or_true true = refl
-or_true false = refl
-
 -- a deed that stores into it is one of them
 stores_there : (block line number : ℕ) (content : List ℕ) (ds : List Deed) (k : ℕ) (e : Deed) → k < length ds → get_or ds k e ≡ Store line block number content → store_into block ds ≡ true
 stores_there block line number content [] k e low is = absurd (omega (arith, low))
 stores_there block line number content (d ∷ ds) zero e low is =
     ap (λ (x : Deed). is_store_into block x || store_into block ds) is ∙ ap (λ (b : Bool). b || store_into block ds) (eq-eqb block block refl)
 stores_there block line number content (d ∷ ds) (suc k) e low is =
-    ap (λ (b : Bool). is_store_into block d || b) (stores_there block line number content ds k e (omega (arith, low)) is) ∙ or_true (is_store_into block d)
+    ap (λ (b : Bool). is_store_into block d || b) (stores_there block line number content ds k e (omega (arith, low)) is) ∙ or-true (is_store_into block d)
 
 module _ (c : Configuration) (steps : List Step) (run : AreRun c steps) where
   -- who stores into a block is one caller
-  owner : (block : ℕ) (p q : Program) → deeds_of c (program_of p.caller steps) ≡ p.deeds → deeds_of c (program_of q.caller steps) ≡ q.deeds → store_into block p.deeds ≡ true → store_into block q.deeds ≡ true → p.caller ≡ q.caller
+  owner : (block : ℕ) (p q : Program) → deeds_of c (program_of p.caller steps) ≡ p.deeds → deeds_of c (program_of q.caller steps) ≡ q.deeds
+      → store_into block p.deeds ≡ true → store_into block q.deeds ≡ true → p.caller ≡ q.caller
   owner block p q is_p is_q goes also =
       let one = store_in block p.deeds goes in
       let two = store_in block q.deeds also in
@@ -171,12 +169,8 @@ module _ (t : Terms) (programs : List Program) (mirrors : Pairs) (ends : EndList
   pub back_places : All (λ (s : SidesValue). HasPlaces s.sides left) nows
   back_places = all_by (λ (s : SidesValue). HasPlaces s.sides left) nows (λ i n at block. by i n at block (cases_lt block (length sides)))
     where
-      any : (o : Option (SideValue Along)) (block : ℕ) → block < length left → IfSome o (λ s. block < length left)
-      any (Some s) block low = low
-      any None block low = tt
-
       by : (i : ℕ) (n : SidesValue) → slice_get nows i ≡ Some n → (block : ℕ) → (block < length sides) ⊎ (length sides ≤ block) → IfSome (side_at n.sides block) (λ s. block < length left)
-      by i n at block (inl low) = any (side_at n.sides block) block (omega (arith, low, dealt_places programs (map sides_in firsts) sides left dealt))
+      by i n at block (inl low) = of_any (side_at n.sides block) (block < length left) (omega (arith, low, dealt_places programs (map sides_in firsts) sides left dealt))
       by i n at block (inr past) = subst (λ (o : Option (SideValue Along)). IfSome o (λ s. block < length left)) (sym (none_new i n at block (get_or_past sides block None past))) tt
 
   pub back_below : (places : ℕ) → places ≡ length t.config.blocks + 1 → All (λ (s : SidesValue). AreBelow places s.sides) nows

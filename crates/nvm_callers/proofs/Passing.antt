@@ -1,5 +1,5 @@
 -- What the driver's pass knows with the callers' passes taken in.
-use Rattle.nvm_callers.proofs.Common.{slice_get, slice_index_or, ◌||◌, ◌≡◌, Option, ℕ, zero, suc, ◌<◌, ◌≤◌, true, false, Bool, List, [], ◌∷◌, length, drop, refl, sym, ap, subst, arith, ◌∙◌, DeviceTold, Clock, Entry, Told, View, both, knows, Terms, desk_with, IsUserOf, PassValue, SharedState, DriverState, Drives, IsDriverOf, Program, Share, Collects, AllMade, HasMade, HaveRun, share_of, worse, Stored, Pairs, Ending, EndsAll, Memory, cond, le-ltb, longer, KeepsShares}
+use Rattle.nvm_callers.proofs.Common.{slice_get, ◌||◌, ◌≡◌, Option, ℕ, zero, suc, ◌<◌, ◌≤◌, true, false, Bool, List, [], ◌∷◌, length, drop, refl, sym, ap, subst, arith, ◌∙◌, DeviceTold, Clock, Entry, Told, View, both, knows, Terms, desk_with, IsUserOf, PassValue, SharedState, DriverState, Drives, IsDriverOf, Program, Share, Collects, AllMade, HasMade, HaveRun, share_of, worse, Stored, Pairs, Ending, EndsAll, Memory, cond, le-ltb, longer, KeepsShares}
 use Rattle.std.specs.Prelude.{Some}
 use Rattle.nvm_callers.proofs.JoinedPasses.{joins_collect, nothing_is_collected}
 use Rattle.nvm_callers.proofs.Doing.{none_is_done}
@@ -17,12 +17,6 @@ pub program_before : (programs : List Program) (k : ℕ) → k < length programs
 program_before [] k low = absurd (omega (arith, low))
 program_before (p ∷ ps) zero low = (p, refl, refl)
 program_before (p ∷ ps) (suc k) low = program_before ps k (omega (arith, low))
-
--- and what was at the last place before these
-pub first_before : {S : Type 0} (firsts : List S) (k : ℕ) (d : S) → k < length firsts → drop k firsts ≡ slice_index_or firsts k d ∷ drop (suc k) firsts
-first_before [] k d low = absurd (omega (arith, low))
-first_before (x ∷ xs) zero d low = refl
-first_before (x ∷ xs) (suc k) d low = first_before xs k d (omega (arith, low))
 
 -- LISTS THAT WERE SEEN
 pub longer_first : (xs ys : List Entry) → length ys ≤ length xs → longer xs ys ≡ xs

@@ -1,5 +1,5 @@
 -- Which stores the driver was shown, and what it took.
-use Rattle.nvm_callers.proofs.Common.{slice_get, is_some, IsSome, ◌≡◌, ◌==◌, inl, inr, ℕ, zero, suc, ◌+◌, ◌<◌, ◌≤◌, ◌^◌, ◌∙◌, true, false, List, [], ◌∷◌, ◌++◌, length, take, drop, Option, Some, refl, sym, ap, subst, arith, append_assoc, length-take, cases_Bool, eqb-true, eq-eqb, some, get_elem?, Entry, Configuration, View, StartsWith, Terms, gives, StandsIn, store_of, Step, StepKind, StoreStep, store_content, program_of, CanBeMade, CanBeStored, Deed, StoreDeed, deeds_by, deeds_from, AreRun, Stored, TellsDone, IsStoreOf, stores_in, HasStoredIn, length-map, map-append, filter_map-append, IsWithin, store_number, store_by, stores_of, stores_are_few, by_owner, one_more, stores_are_of_one, HasOneOwner, IsStoreAt, shown_can_be_stored, IsStoreStep, ShownAreStored, TakenAreStored}
+use Rattle.nvm_callers.proofs.Common.{slice_get, is_some, IsSome, ◌≡◌, ◌==◌, inl, inr, ℕ, suc, ◌+◌, ◌<◌, ◌≤◌, ◌^◌, ◌∙◌, true, false, List, [], ◌∷◌, ◌++◌, length, take, drop, Option, Some, refl, sym, ap, subst, arith, append_assoc, length-take, cases_Bool, eqb-true, eq-eqb, some, get_elem?, Entry, Configuration, View, StartsWith, Terms, gives, StandsIn, store_of, Step, StepKind, StoreStep, store_content, program_of, CanBeMade, CanBeStored, Deed, StoreDeed, deeds_by, deeds_from, AreRun, Stored, TellsDone, IsStoreOf, stores_in, HasStoredIn, length-map, map-append, filter_map-append, IsWithin, store_number, store_by, stores_of, stores_are_few, by_owner, one_more, stores_are_of_one, HasOneOwner, shown_can_be_stored, IsStoreStep, ShownAreStored, TakenAreStored}
 use Rattle.std.specs.Prelude.{option_map}
 use Rattle.std.proofs.Common.{map}
 use Rattle.nvm_callers.proofs.Ordering.{at_length, split_at}

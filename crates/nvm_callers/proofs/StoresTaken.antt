@@ -1,7 +1,8 @@
 -- What was taken of synchronized RAM was stored by then.
-use Rattle.nvm_callers.proofs.Common.{map, is_some, Contains, IfSome, ◌≡◌, ◌⊎◌, inl, inr, ℕ, ◌<◌, ◌^◌, Bool, true, List, [], ◌∷◌, ◌++◌, length, Option, Some, None, refl, sym, ap, subst, arith, ◌∙◌, take-append-drop, some, some-ne-none, get_elem?, DeviceTold, Clock, TookContent, TookStale, Entry, Pick, Found, Instance, Mark, Configuration, next_of, after, StartsWith, EndValue, EndGoesOn, EndList, HasCameWith, HasLooked, IsOver, IsStore, SyncValue, end_at, told_by, Step, store_content, copies_next, CanBeStored, CopiesAreShown, Look, AreRun, Terms, StandsIn, Stored, Along, HasStoredIn, AllTookShown, IsLookOf, TookShown, look_behind, AllStored, IsTaken, CameWith, WasShown}
+use Rattle.nvm_callers.proofs.Common.{map, is_some, Contains, IfSome, ◌≡◌, ◌⊎◌, inl, inr, ℕ, ◌<◌, ◌^◌, true, List, [], ◌∷◌, length, Option, Some, None, refl, sym, ap, subst, arith, ◌∙◌, take-append-drop, some, some-ne-none, get_elem?, DeviceTold, Clock, Entry, Found, Instance, Mark, Configuration, StartsWith, EndValue, EndGoesOn, EndList, HasCameWith, HasLooked, IsOver, IsStore, SyncValue, end_at, told_by, Step, store_content, CanBeStored, CopiesAreShown, Look, AreRun, Terms, StandsIn, Stored, Along, HasStoredIn, AllTookShown, IsLookOf, look_behind, AllStored, IsTaken, CameWith, WasShown}
 use Rattle.std.specs.Prelude.{take, drop}
 use Rattle.ram_mirrors_sync.specs.Ends.{GoesOn}
+use Rattle.nvm_callers.proofs.Looking.{all_took_on}
 use Rattle.nvm_callers.proofs.Showing.{copies_have_looks}
 use Rattle.nvm_callers.proofs.StoresShown.{shown_are_stored, taken_are_stored}
 
@@ -19,17 +20,6 @@ WereStored c cap h steps ends = (block : ℕ) → IfSome (end_at ends block) (Wa
 -- a store of a block that has an end
 abbrev pub IsStoreThere : EndList Along → (block number : ℕ) → List ℕ → Type 0
 IsStoreThere ends block number x = IsStore ends block number x × (is_some (end_at ends block) ≡ true)
-
--- where looks are at blocks that have ends, so are the stores that Picks took
-module _ (looks : List Look) (ends : EndList Along) (there : (l : Look) → Contains looks l → is_some (end_at ends l.block) ≡ true) where
-  one_there : (before : List Entry) (e : Entry) (copies : Bool) → TookShown looks (IsStore ends) before e copies → TookShown looks (IsStoreThere ends) before e copies
-  one_there before (Pick block kind (TookStale asked got count) ops) copies took = took
-  one_there before (Pick block kind (TookContent bytes number) ops) true took = (took.0, (took.1, there (look_behind before block number) took.0))
-  one_there before e copies took = tt
-
-  all_there : (c : Configuration) (before more : List Entry) → AllTookShown looks (IsStore ends) c before more → AllTookShown looks (IsStoreThere ends) c before more
-  all_there c before [] took = tt
-  all_there c before (e ∷ es) took = (one_there before e (copies_next c (next_of c (after c before))) took.0, all_there c (before ++ e ∷ []) es took.1)
 
 was_there : (a e : Option (EndValue Along)) (n : ℕ) → WasShown a e n → is_some e ≡ true
 was_there (Some a) (Some e) n shown = refl
@@ -100,4 +90,5 @@ module _ {D : Type 0} (told : D → DeviceTold) (clock : D → Clock) (t : Terms
       (λ l within.
       let is = are l within in
       of_look t.config t.cap (Found marks ops ∷ more) steps run old.ends is.by_then.ends new.ends l.block l.shown l.entry were is.between (is.since.ends l.block) is.stands_in)
-      (all_there looks new.ends (λ l within. was_there (end_at old.ends l.block) (end_at new.ends l.block) l.shown (are l within).between) t.config (Found marks ops ∷ []) more took)
+      (all_took_on looks looks (IsStore new.ends) (IsStoreThere new.ends) (λ l has. has)
+      (λ before block number x has is. (is, was_there (end_at old.ends block) (end_at new.ends block) number (are (look_behind before block number) has).between)) t.config (Found marks ops ∷ []) more took)

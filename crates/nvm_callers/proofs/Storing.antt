@@ -1,5 +1,5 @@
 -- What a caller stored, as it goes on.
-use Rattle.nvm_callers.proofs.Common.{◌≡◌, ◌≢◌, ◌⊎◌, ◌==◌, ℕ, zero, suc, ◌+◌, ◌<◌, ◌≤◌, ◌∙◌, true, false, List, [], ◌∷◌, ◌++◌, length, take, Some, inl, inr, refl, sym, ap, subst, arith, length-append, eq-eqb, ne_eqb, cases_Bool, append-nil, append_assoc, take-append-le, take_all, some, some-ne-none, some-injective, dite, ℕ_discrete, get_elem?, Entry, Configuration, Terms, store_of, gives, AreAt, View, Note, StartsWith, AllAgree, Deed, AskDeed, StoreDeed, Await, requests_in, requests_append, HasWaited, Stored, TellsDone, IsStoreOf, AreAsMany, StoredOne, stores_in, NoneIsStored, AsksStayStored, StoresLast, StoresAreStored}
+use Rattle.nvm_callers.proofs.Common.{◌≡◌, ◌≢◌, ◌⊎◌, ◌==◌, ℕ, zero, suc, ◌+◌, ◌≤◌, ◌∙◌, true, false, List, [], ◌∷◌, ◌++◌, length, take, Some, inl, inr, refl, sym, ap, subst, arith, length-append, eq-eqb, ne_eqb, cases_Bool, append-nil, append_assoc, take-append-le, take_all, some, some-ne-none, some-injective, dite, ℕ_discrete, get_elem?, Entry, Configuration, Terms, store_of, gives, AreAt, View, Note, StartsWith, AllAgree, Deed, AskDeed, StoreDeed, Await, requests_in, requests_append, HasWaited, Stored, TellsDone, IsStoreOf, AreAsMany, StoredOne, stores_in, NoneIsStored, AsksStayStored, StoresLast, StoresAreStored}
 use Rattle.nvm_callers.proofs.Waiting.{agree_before, starts_again}
 use Rattle.nvm_callers.proofs.Doing.{are_as_many, wait_asked, waits_on}
 

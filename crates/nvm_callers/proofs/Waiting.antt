@@ -1,18 +1,10 @@
 -- What a poll tells of a wait.
-use Rattle.nvm_callers.proofs.Common.{unwrap_or, option_and_then, Option, Some, None, ◌≡◌, ◌≢◌, ◌⊎◌, inl, inr, ℕ, zero, suc, ◌<◌, ◌≤◌, ◌+◌, ◌∙◌, not, Bool, true, false, List, [], ◌∷◌, ◌++◌, length, take, refl, sym, ap, subst, arith, length-append, append_assoc, cases_Bool, ne_eqb, some, some-ne-none, some-injective, get_elem?, at_last, at_longer, code_of, ReqResult, Fine, Pending, Accepted, Entry, Ask, Pick, Wrote, Post, Off, Found, Configuration, is_pending, Note, StartsWith, AllAgree, Gave, NotBelow, tells_status, tells_off, told_last, gives, off_word, IsLast, nat_lt, option_map_or, ltb-true, max, lt-ltb, note, pending_block, gives_by, Waited, OffEndsWaits, PollsEndWaits, WaitsLast}
+use Rattle.nvm_callers.proofs.Common.{unwrap_or, option_and_then, Option, Some, None, ◌≡◌, ◌≢◌, ◌⊎◌, inl, inr, ℕ, zero, suc, ◌<◌, ◌≤◌, ◌+◌, ◌∙◌, not, Bool, true, false, List, [], ◌∷◌, ◌++◌, length, take, refl, sym, ap, subst, arith, length-append, append_assoc, cases_Bool, cases_lt, ne_eqb, some, some-ne-none, some-injective, get_elem?, at_last, at_longer, code_of, ReqResult, Fine, Pending, Accepted, Entry, Ask, Pick, Wrote, Post, Off, Found, Configuration, is_pending, Note, StartsWith, AllAgree, Gave, NotBelow, tells_status, tells_off, told_last, gives, off_word, IsLast, nat_lt, option_map_or, ltb-true, max, lt-ltb, note, pending_block, gives_by, Waited, OffEndsWaits, PollsEndWaits, WaitsLast}
 use Rattle.std.specs.Prelude.{if◌then◌else◌, ◌==◌}
 use Rattle.std.proofs.Common.{eqb-true, ◌||◌, IsTrue}
 use Rattle.driver_moves.specs.nvm_shared.StatusWords.{told_at}
 
 -- PLACES
-below_or : (j n : ℕ) → (j < n) ⊎ (n ≤ j)
-below_or j zero = inr (omega arith)
-below_or zero (suc n) = inl (omega arith)
-below_or (suc j) (suc n) = elim (below_or j n) [
-  | inl less ↦ inl (omega (arith, less))
-  | inr more ↦ inr (omega (arith, more))
-]
-
 module _ {A : Type 0} where
   pub inside_length : (l : List A) (j : ℕ) (a : A) → get_elem? l j ≡ some a → j < length l
   inside_length [] j a e = absurd (some-ne-none a (sym e))
@@ -54,29 +46,38 @@ over_off false false is = cc
 over_off b off is = refl
 
 -- A WORD
--- what entries tell of a thing goes by the numbers that they give its word
-module _ {A : Type 0} (tells : Entry → Option A) (code : A → ℕ) (word : ℕ) (none : (e : Entry) → gives e word ≡ None → tells e ≡ None)
-    (some : (e : Entry) (x : ℕ) → gives e word ≡ Some x → (a : A) × (tells e ≡ Some a) × (code a ≡ x)) where
-  given_or : (o : Option ℕ) → (o ≡ None) ⊎ ((x : ℕ) × (o ≡ Some x))
-  given_or None = inl refl
-  given_or (Some x) = inr (x, refl)
+pub given_or : (o : Option ℕ) → (o ≡ None) ⊎ ((x : ℕ) × (o ≡ Some x))
+given_or None = inl refl
+given_or (Some x) = inr (x, refl)
 
-  stays : (es : List Entry) (last : A) → ((j y : ℕ) → Gave gives es word j y → ⊥) → told_last tells last es ≡ last
-  stays [] last quiet = refl
-  stays (e ∷ es) last quiet = elim (given_or (gives e word)) [
-    | inl nothing ↦ ap (λ (o : Option A). told_last tells (unwrap_or o last) es) (none e nothing) ∙ stays es last (λ j y gave. quiet (suc j) y gave)
-    | inr one ↦ absurd (quiet 0 one.0 (e, refl, one.1))
+-- what an entry tells of a thing has the number that it gives, and where it gives none it tells nothing
+abbrev Alike : {A : Type 0} → (A → ℕ) → Option A → Option ℕ → Type 0
+Alike {A} code told given = (given ≡ None → told ≡ None) × ((x : ℕ) → given ≡ Some x → (a : A) × (told ≡ Some a) × (code a ≡ x))
+
+quiet : {A : Type 0} (code : A → ℕ) (given : Option ℕ) → given ≡ None → Alike code None given
+quiet code given none = (λ is. refl, λ x is. absurd (let no_ : None ≡ Some x = sym none ∙ is in cc no_))
+
+tells : {A : Type 0} (code : A → ℕ) (a : A) (n : ℕ) → code a ≡ n → Alike code (Some a) (Some n)
+tells code a n same = (λ is. absurd (cc is), λ x is. (a, refl, same ∙ (let number : n ≡ x = cc in number)))
+
+-- what entries tell of a thing goes by the numbers that they give its word
+module _ {A : Type 0} (told : Entry → Option A) (code : A → ℕ) (word : ℕ) (alike : (e : Entry) → Alike code (told e) (gives e word)) where
+  stays : (es : List Entry) (last : A) → ((j y : ℕ) → Gave gives es word j y → ⊥) → told_last told last es ≡ last
+  stays [] last none = refl
+  stays (e ∷ es) last none = elim (given_or (gives e word)) [
+    | inl nothing ↦ ap (λ (o : Option A). told_last told (unwrap_or o last) es) ((alike e).0 nothing) ∙ stays es last (λ j y gave. none (suc j) y gave)
+    | inr one ↦ absurd (none 0 one.0 (e, refl, one.1))
   ]
 
   -- the last one that gave it a number tells what was told last
-  pub tells_last : (h : List Entry) (entry x : ℕ) (last : A) → Gave gives h word entry x → IsLast h word entry → code (told_last tells last h) ≡ x
+  pub tells_last : (h : List Entry) (entry x : ℕ) (last : A) → Gave gives h word entry x → IsLast h word entry → code (told_last told last h) ≡ x
   tells_last [] entry x last gave is_last = absurd (some-ne-none gave.0 (sym gave.1))
   tells_last (e ∷ es) zero x last gave is_last =
       let same : e ≡ gave.0 = some-injective e gave.0 gave.1 in
-      let told = some e x (ap (λ (y : Entry). gives y word) same ∙ gave.2) in
-      ap code (ap (λ (o : Option A). told_last tells (unwrap_or o last) es) told.1 ∙ stays es told.0 (λ j y later. let low = is_last (suc j) y later in omega (arith, low))) ∙ told.2
+      let (a, is, number) = (alike e).1 x (ap (λ (y : Entry). gives y word) same ∙ gave.2) in
+      ap code (ap (λ (o : Option A). told_last told (unwrap_or o last) es) is ∙ stays es a (λ j y later. let low = is_last (suc j) y later in omega (arith, low))) ∙ number
   tells_last (e ∷ es) (suc entry) x last gave is_last =
-      tells_last es entry x (unwrap_or (tells e) last) gave (λ j y later. let low = is_last (suc j) y later in omega (arith, low))
+      tells_last es entry x (unwrap_or (told e) last) gave (λ j y later. let low = is_last (suc j) y later in omega (arith, low))
 
 -- so it is of a block and its status
 module _ (block : ℕ) (low : block < off_word) where
@@ -90,34 +91,27 @@ module _ (block : ℕ) (low : block < off_word) where
   by_request None = refl
   by_request (Some id) = given_by (code_of Pending) id
 
-  -- an entry that tells a status gives its number
-  abbrev Alike : Option ReqResult → Option ℕ → Type 0
-  Alike told given = (given ≡ None → told ≡ None) × ((x : ℕ) → given ≡ Some x → (r : ReqResult) × (told ≡ Some r) × (code_of r ≡ x))
+  if_told : (b : Bool) (r : ReqResult) → Alike code_of (if b then Some r else None) (if b then Some (code_of r) else None)
+  if_told true r = tells code_of r (code_of r) refl
+  if_told false r = quiet code_of None refl
 
-  if_told : (b : Bool) (r : ReqResult) → Alike (if b then Some r else None) (if b then Some (code_of r) else None)
-  if_told true r = (λ is. absurd (cc is), λ x is. (r, refl, let same : code_of r ≡ x = cc in same))
-  if_told false r = (λ is. refl, λ x is. absurd (cc is))
-
-  alike : (e : Entry) → Alike (tells_status block e) (gives e block)
-  alike (Ask caller r Accepted) = subst (Alike (tells_status block (Ask caller r Accepted))) (sym (by_request (pending_block r))) (if_told (option_map_or (λ id. id == block) (pending_block r) false) Pending)
-  alike (Ask caller r reply) = (λ is. refl, λ x is. absurd (cc is))
-  alike (Pick id kind t ops) = subst (Alike (tells_status block (Pick id kind t ops))) (sym (given_by (code_of Pending) id)) (if_told (id == block) Pending)
-  alike (Post id r given refused ops) = subst (Alike (tells_status block (Post id r given refused ops))) (sym (given_by (code_of r) id)) (if_told (id == block) r)
-  alike (Wrote i mark ops) = (λ is. refl, λ x is. absurd (cc is))
+  alike : (e : Entry) → Alike code_of (tells_status block e) (gives e block)
+  alike (Ask caller r Accepted) = subst (Alike code_of (tells_status block (Ask caller r Accepted))) (sym (by_request (pending_block r))) (if_told (option_map_or (λ id. id == block) (pending_block r) false) Pending)
+  alike (Ask caller r reply) = quiet code_of None refl
+  alike (Pick id kind t ops) = subst (Alike code_of (tells_status block (Pick id kind t ops))) (sym (given_by (code_of Pending) id)) (if_told (id == block) Pending)
+  alike (Post id r given refused ops) = subst (Alike code_of (tells_status block (Post id r given refused ops))) (sym (given_by (code_of r) id)) (if_told (id == block) r)
+  alike (Wrote i mark ops) = quiet code_of None refl
   alike (Off ops) =
       let other : (off_word == block) ≡ false = ne_eqb off_word block (λ is. omega (arith, is, low)) in
-      subst (Alike None) (sym (ap (λ (b : Bool). if b then Some 1 else None) other)) (λ is. refl, λ x is. absurd (cc is))
-  alike (Found marks ops) = (λ is. absurd (cc is), λ x is. (Fine, refl, let same : 0 ≡ x = cc in same))
+      quiet code_of (gives (Off ops) block) (ap (λ (b : Bool). if b then Some 1 else None) other)
+  alike (Found marks ops) = tells code_of Fine 0 refl
 
   pub status_told : (h : List Entry) (entry x : ℕ) → Gave gives h block entry x → IsLast h block entry → code_of (told_last (tells_status block) Fine h) ≡ x
-  status_told h entry x = tells_last (tells_status block) code_of block (λ e. (alike e).0) (λ e. (alike e).1) h entry x Fine
+  status_told h entry x = tells_last (tells_status block) code_of block alike h entry x Fine
 
 -- and of the power
 abbrev off_code : Bool → ℕ
 off_code b = if b then 1 else 0
-
-abbrev AlikeOff : Option Bool → Option ℕ → Type 0
-AlikeOff told given = (given ≡ None → told ≡ None) × ((x : ℕ) → given ≡ Some x → (b : Bool) × (told ≡ Some b) × (off_code b ≡ x))
 
 below_off : (status id : ℕ) → gives_by (told_at status id) off_word ≡ None
 below_off status id = elim (cases_Bool (nat_lt id off_word)) [
@@ -129,17 +123,14 @@ request_off : (o : Option ℕ) → gives_by (option_and_then (told_at (code_of P
 request_off None = refl
 request_off (Some id) = below_off (code_of Pending) id
 
-quiet_off : (given : Option ℕ) → given ≡ None → AlikeOff None given
-quiet_off given none = (λ is. refl, λ x is. absurd (let no_ : None ≡ Some x = sym none ∙ is in cc no_))
-
-alike_off : (e : Entry) → AlikeOff (tells_off e) (gives e off_word)
-alike_off (Ask caller r Accepted) = quiet_off _ (request_off (pending_block r))
-alike_off (Ask caller r reply) = quiet_off _ refl
-alike_off (Pick id kind t ops) = quiet_off _ (below_off (code_of Pending) id)
-alike_off (Post id r given refused ops) = quiet_off _ (below_off (code_of r) id)
-alike_off (Wrote i mark ops) = quiet_off _ refl
-alike_off (Off ops) = (λ is. absurd (cc is), λ x is. (true, refl, let same : 1 ≡ x = cc in same))
-alike_off (Found marks ops) = (λ is. absurd (cc is), λ x is. (false, refl, let same : 0 ≡ x = cc in same))
+alike_off : (e : Entry) → Alike off_code (tells_off e) (gives e off_word)
+alike_off (Ask caller r Accepted) = quiet off_code _ (request_off (pending_block r))
+alike_off (Ask caller r reply) = quiet off_code None refl
+alike_off (Pick id kind t ops) = quiet off_code _ (below_off (code_of Pending) id)
+alike_off (Post id r given refused ops) = quiet off_code _ (below_off (code_of r) id)
+alike_off (Wrote i mark ops) = quiet off_code None refl
+alike_off (Off ops) = tells off_code true 1 refl
+alike_off (Found marks ops) = tells off_code false 0 refl
 
 off_of : (b : Bool) → off_code b ≡ 1 → b ≡ true
 off_of true is = refl
@@ -147,10 +138,10 @@ off_of false is = cc is
 
 -- the power is told to be off where 1 was given last
 pub off_number_told : (h : List Entry) (entry x : ℕ) → Gave gives h off_word entry x → IsLast h off_word entry → told_last tells_off false h ≡ true → x ≡ 1
-off_number_told h entry x gave is_last on = sym (tells_last tells_off off_code off_word (λ e. (alike_off e).0) (λ e. (alike_off e).1) h entry x false gave is_last) ∙ ap off_code on
+off_number_told h entry x gave is_last on = sym (tells_last tells_off off_code off_word alike_off h entry x false gave is_last) ∙ ap off_code on
 
 off_told : (h : List Entry) (entry : ℕ) → Gave gives h off_word entry 1 → IsLast h off_word entry → told_last tells_off false h ≡ true
-off_told h entry gave is_last = off_of (told_last tells_off false h) (tells_last tells_off off_code off_word (λ e. (alike_off e).0) (λ e. (alike_off e).1) h entry 1 false gave is_last)
+off_told h entry gave is_last = off_of (told_last tells_off false h) (tells_last tells_off off_code off_word alike_off h entry 1 false gave is_last)
 
 -- A POLL
 module _ (word : ℕ) (seen : List Entry) (notes : List Note) (entry status : ℕ) (fresh : NotBelow gives seen notes word entry) where
@@ -168,7 +159,7 @@ module _ (word : ℕ) (seen : List Entry) (notes : List Note) (entry status : �
 
   last_in : (h : List Entry) → StartsWith h seen → IsLast (take end h) word entry
   last_in h starts j y gave =
-      let at = of_take end h j gave.0 gave.1 in elim (below_or j (length seen)) [
+      let at = of_take end h j gave.0 gave.1 in elim (cases_lt j (length seen)) [
         | inl less ↦ fresh.0 j y (gave.0, at_front seen starts.0 j gave.0 less (subst (λ (l : List Entry). get_elem? l j ≡ some gave.0) starts.1 at.1), gave.2)
         | inr more ↦ omega (arith, at.0, more)
       ]

@@ -1,18 +1,21 @@
 -- What the pending jobs took.
 use Rattle.std.specs.Prelude.{filter, slice_get, fold, option_to_list}
 use Rattle.std.specs.List.{enumerate_from}
-use Rattle.std.specs.Option.{option_map}
-use Rattle.std.proofs.Common.{◌≡◌, ◌==◌, ◌<◌, ◌≤◌, ◌+◌, ℕ, zero, suc, Bool, true, false, List, [], ◌∷◌, ◌++◌, length, ap, ◌∙◌, inl, inr, arith, Option, Some, None, if◌then◌else◌, length-append}
+use Rattle.std.specs.Option.{is_some, option_map}
+use Rattle.std.proofs.Common.{◌≡◌, ◌==◌, ◌&&◌, ◌<◌, ◌≤◌, ◌+◌, ◌-◌, ℕ, zero, suc, not, Bool, true, false, List, [], ◌∷◌, ◌++◌, length, refl, ap, ◌∙◌, subst, inl, inr, arith, Option, Some, None, if◌then◌else◌, length-append}
 use Rattle.std.proofs.lemmas.Bool.{cases_Bool}
-use Rattle.block_machine.specs.Words.{Request, Read, Write, Restore, Erase, Invalidate, SetIndex, GetIndex, SetProtection, SetLock, SetRam, PutRam, Status, ReadAll, WriteAll, CancelWriteAll, Accepted, Refused, StatusIs, IndexIs, Configuration}
-use Rattle.block_machine.specs.State.{State, Job, jobs_of}
-use Rattle.block_machine.specs.Blocks.{desc_of, is_synchronized, job_block}
-use Rattle.block_machine.specs.Steps.{job_at}
+use Rattle.block_machine.specs.Words.{Request, Read, Write, Restore, Erase, Invalidate, SetIndex, GetIndex, SetProtection, SetLock, SetRam, PutRam, Status, ReadAll, WriteAll, CancelWriteAll, Accepted, Refused, StatusIs, IndexIs, ReqResult, JobKind, Taken, TookContent, Instance, Mark, Pick, Configuration}
+use Rattle.block_machine.specs.State.{State, Job, Sweep, jobs_of}
+use Rattle.block_machine.specs.Blocks.{desc_of, block_at, is_synchronized, names_ram, job_block, asked_block}
+use Rattle.block_machine.specs.Sweeps.{member_job, member_request, is_picked}
+use Rattle.block_machine.specs.Next.{Next, PickJob, BeginSweep, PickMember, PostMember, next_of, next_in, next_by, next_member}
+use Rattle.block_machine.specs.Steps.{job_at, without_job, interrupted, content_after, picked_job, in_hand, wrote, posted, posted_next}
 use Rattle.block_laws.specs.Consistent.{Each}
+use Rattle.block_laws.proofs.NextLaws.{next_is_waiting}
 use Rattle.script_walks.specs.Words.{Step, AskStep}
-use Rattle.script_walks.specs.Walk.{stores_of, store_content, last_store, request_after}
+use Rattle.script_walks.specs.Walk.{stores_of, store_content, last_store, request_after, TakesStore}
 use Rattle.nvm_script.specs.Played.{CanBePlayed}
-use Rattle.script_walks.specs.Stores.{IsStored, TookStored, JobsTookStored}
+use Rattle.script_walks.specs.Stores.{IsStored, IsTakenStored, TookStored, JobsTookStored}
 use Rattle.script_walks.specs.StoreLaws.{AsksKeepStored, StartsKeepStored, StepsKeepStored}
 use Rattle.script_walks.proofs.Newest.{stores_more}
 
@@ -45,6 +48,75 @@ hand_stored P (Some j) waiting all = (all.0, tt)
 pub waiting_stored : (P : Job → Type 0) (h : Option Job) (waiting : List Job) → Each P (option_to_list h ++ waiting) → Each P waiting
 waiting_stored P None waiting all = all
 waiting_stored P (Some j) waiting all = all.1
+
+-- EACH PENDING JOB
+
+-- the next job of those that wait is one of them
+next_by_job : (c : Configuration) (s : State) (w h : Option Job) (sweep : Option Sweep) (j : Job) → next_by c s w h sweep ≡ PickJob j → w ≡ Some j
+next_by_job c s (Some x) h sweep j is = cc
+next_by_job c s None None (Some sw) j is = absurd (in_sweep sw.under_way is)
+  where
+    member : (ids : List ℕ) → next_member c s sw ids ≡ PickJob j → ⊥
+    member [] is = cc
+    member (id ∷ ids) is = elim (cases_Bool (is_picked (desc_of c id) (block_at s id) sw id)) [
+      | inl on ↦ let no_ : PickMember sw id ≡ PickJob j = rw on at is in cc
+      | inr off ↦ let no_ : PostMember sw id ≡ PickJob j = rw off at is in cc
+    ]
+
+    in_sweep : (b : Bool) → (if b then next_member c s sw (if sw.canceled then [] else sw.left) else BeginSweep sw) ≡ PickJob j → ⊥
+    in_sweep true is = member (if sw.canceled then [] else sw.left) is
+    in_sweep false is = cc
+next_by_job c s None h sweep j is = cc
+
+-- What holds of a job, whatever is reserved for it and whatever it wrote, stays so of each pending job where it is so of the one that is picked.
+module _ (c : Configuration) (P : Job → Type 0) (stays : (j : Job) (reserved : ℕ) (written : List ℕ) → P j → P (record j { reserved = reserved; written = written })) where
+  waits_on : (h : Option Job) (jobs : List Job) → Each P (option_to_list h) → Each P jobs → Each P (interrupted h jobs)
+  waits_on None jobs hand waiting = waiting
+  waits_on (Some h) jobs hand waiting = (stays h (h.reserved + 2) h.written hand.0, waiting)
+
+  pub each_in_hand : (s : State) (j : Job) (t : Taken) → Each P (jobs_of s) → P (picked_job t (if is_some s.hand then 2 else 0) j) → Each P (jobs_of (in_hand c s j t))
+  each_in_hand s j t all picked = (
+    picked,
+    waits_on s.hand (without_job j.number s.waiting) (hand_stored P s.hand s.waiting all) (each_kept P (λ x. not (x.number == j.number)) s.waiting (waiting_stored P s.hand s.waiting all)),
+  )
+
+  pub each_wrote : (s : State) (i : Instance) (mark : Mark) (h : Option Job) → s.hand ≡ h → Each P (jobs_of s) → Each P (jobs_of (wrote s i mark h))
+  each_wrote s i mark None is all = all
+  each_wrote s i mark (Some j) is all =
+      let hand : Each P (option_to_list (Some j)) = subst (λ (h : Option Job). Each P (option_to_list h)) is (hand_stored P s.hand s.waiting all) in
+      (stays j (j.reserved - 1) (j.written ++ i.index ∷ []) hand.0, waiting_stored P s.hand s.waiting all)
+
+  each_next : (s : State) (r : ReqResult) (given : Option (List ℕ)) (n : Next) → Each P (jobs_of s) → Each P (jobs_of (posted_next c s r given n))
+  each_next s r given (PostMember sw id) all = all
+  each_next s r given n all = all
+
+  pub each_posted : (s : State) (r : ReqResult) (given : Option (List ℕ)) (h : Option Job) → Each P (jobs_of s) → Each P (jobs_of (posted c s r given h))
+  each_posted s r given None all = each_next s r given (next_of c s) all
+  each_posted s r given (Some j) all = waiting_stored P s.hand s.waiting all
+
+  -- so it is of the one that comes next
+  pub next_has : (s : State) (j : Job) → next_of c s ≡ PickJob j → Each P (jobs_of s) → P j
+  next_has s j is all =
+      let (front, behind, at) = next_is_waiting c s.waiting j (next_by_job c s (next_in c s.waiting) s.hand s.sweep j is) in
+      (each_right P front (j ∷ behind) (subst (λ (jobs : List Job). Each P jobs) at (waiting_stored P s.hand s.waiting all))).0
+
+-- what a job took is stored where what it takes now is
+pub content_stored : (c : Configuration) (before : List Step) (id : ℕ) (content : Option (List ℕ × ℕ)) (t : Taken) → IsTakenStored c before id t → IsStored c before id content → IsStored c before id (content_after content t)
+content_stored c before id content (TookContent bytes number) is was = is
+content_stored c before id content t is was = was
+
+pub takes_by : (c : Configuration) (before : List Step) (copies : Bool) (block : ℕ) (kind : JobKind) (t : Taken) (ops : ℕ) → (copies ≡ true → IsTakenStored c before block t) → TakesStore c before copies (Pick block kind t ops)
+takes_by c before true block kind (TookContent bytes number) ops is = is refl
+takes_by c before copies block kind t ops is = tt
+
+-- a member names RAM, and took nothing before
+pub member_copies : (c : Configuration) (sw : Sweep) (id : ℕ)
+    → is_synchronized (desc_of c id).ram ≡ (names_ram (member_job c sw id).request && is_synchronized (desc_of c (job_block (member_job c sw id))).ram)
+member_copies c sw id = by sw.writes
+  where
+    by : (writes : Bool) → is_synchronized (desc_of c id).ram ≡ (names_ram (member_request writes id) && is_synchronized (desc_of c (asked_block (member_request writes id))).ram)
+    by true = refl
+    by false = refl
 
 -- ONE STEP MORE
 

@@ -16,18 +16,14 @@ use Rattle.block_laws.proofs.HistoryLaws.{histories_go_on}
 use Rattle.block_laws.proofs.NextLaws.{next_is_waiting}
 use Rattle.script_walks.specs.Words.{Step}
 use Rattle.script_walks.specs.Walk.{stores_of, store_content, copies_by, copies_next, TakesStore, TakesStores, TakesLast, TakesLasts, is_played, is_due, begins_with_pick_or_post}
-use Rattle.script_walks.specs.Stores.{IsNewest, AreNewest, CopiesOf, IsStored, TookStored, JobsTookStored}
+use Rattle.script_walks.specs.Stores.{IsNewest, AreNewest, CopiesOf, IsStored, IsTakenStored, TookStored, JobsTookStored}
 use Rattle.script_walks.specs.Turn.{TakesNewest, IsOfTurn, IsOneOrNone}
 use Rattle.script_walks.specs.StoreLaws.{TurnsKeepStored, KeepingGoesOn, TurnsGrow}
-use Rattle.script_walks.proofs.Jobs.{each_right, each_kept, hand_stored, waiting_stored}
+use Rattle.script_walks.proofs.Jobs.{content_stored, each_in_hand, each_posted, each_wrote, member_copies, next_has, takes_by}
 
 -- WHAT IS TAKEN
 
--- a content is the store with its number, and nothing is stale
-IsTakenStored : Configuration → List Step → ℕ → Taken → Type 0
-IsTakenStored c before id (TookContent bytes number) = store_content c before id number ≡ Some bytes
-IsTakenStored c before id t = Unit {0}
-
+-- nothing is stale
 IsFresh : Taken → Type 0
 IsFresh (TookStale asked got count) = ⊥
 IsFresh t = Unit {0}
@@ -37,7 +33,7 @@ copy_taken : (c : Configuration) (before : List Step) (stores : List (ℕ × Lis
     → (sync ≡ true → IsNewest c before id (get_or stores id (0, []))) → ((names && sync) ≡ true → asked_store j.request ≤ length (stores_of id before))
     → (names ≡ false → asked_store j.request ≡ 0) → TakesForWrite d b j None sync t → TakesNewest stores (names && sync) id t
     → IsFresh t × ((names && sync) ≡ true → IsTakenStored c before id t)
-unfolding IsFresh IsTakenStored
+unfolding IsFresh
 copy_taken c before stores d b j id names false t newest asked zero takes is = (
   subst IsFresh (sym takes) tt,
   λ both. absurd (never names both),
@@ -64,7 +60,7 @@ content_taken : (c : Configuration) (before : List Step) (stores : List (ℕ × 
     → (sync ≡ true → IsNewest c before id (get_or stores id (0, []))) → ((names && sync) ≡ true → asked_store j.request ≤ length (stores_of id before))
     → (names ≡ false → asked_store j.request ≡ 0) → ((names && sync) ≡ true → IsStored c before id content) → TakesForWrite d b j content sync t
     → TakesNewest stores (not (is_some content) && (names && sync)) id t → IsFresh t × ((names && sync) ≡ true → IsTakenStored c before id t)
-unfolding IsFresh IsTakenStored
+unfolding IsFresh
 content_taken c before stores d b j id (Some x) names sync t newest asked zero stored takes is = (
   subst IsFresh (sym takes) tt,
   λ both. subst (IsTakenStored c before id) (sym takes) (stored both),
@@ -72,7 +68,7 @@ content_taken c before stores d b j id (Some x) names sync t newest asked zero s
 content_taken c before stores d b j id None names sync t newest asked zero stored takes is = copy_taken c before stores d b j id names sync t newest asked zero takes is
 
 nothing_taken : (c : Configuration) (before : List Step) (id : ℕ) (names : Type 0) (t : Taken) → t ≡ TookNothing → IsFresh t × (names → IsTakenStored c before id t)
-unfolding IsFresh IsTakenStored
+unfolding IsFresh
 nothing_taken c before id names t is = (subst IsFresh (sym is) tt, λ both. subst (IsTakenStored c before id) (sym is) tt)
 
 kind_taken : (c : Configuration) (before : List Step) (stores : List (ℕ × List ℕ)) (d : BlockDesc) (b : BlockState) (j : Job) (id : ℕ) (names : Bool) (kind : JobKind) (t : Taken)
@@ -98,73 +94,20 @@ job_taken c before s stores j block kind t newest took pick is =
 
 -- WHAT THE JOBS TOOK BEHIND IT
 
+-- whatever is reserved for a job, and whatever it wrote
+stays : (c : Configuration) (before : List Step) (j : Job) (reserved : ℕ) (written : List ℕ) → TookStored c before j → TookStored c before (record j { reserved = reserved; written = written })
+stays c before j reserved written took = record { asked = took.asked; content = took.content }
+
 -- a job that takes this
 picked_stored : (c : Configuration) (before : List Step) (j : Job) (t : Taken) (handed_on : ℕ) → TookStored c before j → (CopiesOf c j → IsTakenStored c before (job_block j) t) → TookStored c before (picked_job t handed_on j)
-unfolding IsTakenStored
 picked_stored c before j t handed_on took taken = record {
   asked = took.asked;
-  content = λ copies. after t (taken copies) (took.content copies);
+  content = λ copies. content_stored c before (job_block j) j.content t (taken copies) (took.content copies);
 }
-  where
-    after : (t : Taken) → IsTakenStored c before (job_block j) t → IsStored c before (job_block j) j.content → IsStored c before (job_block j) (content_after j.content t)
-    after (TookContent bytes number) is was = is
-    after TookNothing is was = was
-    after (TookRefused count) is was = was
-    after (TookStale wanted got count) is was = was
-
-interrupted_stored : (c : Configuration) (before : List Step) (h : Option Job) (jobs : List Job) → Each (TookStored c before) (option_to_list h) → Each (TookStored c before) jobs → Each (TookStored c before) (interrupted h jobs)
-interrupted_stored c before None jobs hand waiting = waiting
-interrupted_stored c before (Some h) jobs hand waiting = (record { asked = hand.0.asked; content = hand.0.content }, waiting)
 
 -- a job comes in hand
 in_hand_stored : (c : Configuration) (before : List Step) (s : State) (j : Job) (t : Taken) → JobsTookStored c before s → TookStored c before j → (CopiesOf c j → IsTakenStored c before (job_block j) t) → JobsTookStored c before (in_hand c s j t)
-in_hand_stored c before s j t all took taken = (
-  picked_stored c before j t (if is_some s.hand then 2 else 0) took taken,
-  interrupted_stored c before s.hand (without_job j.number s.waiting) (hand_stored (TookStored c before) s.hand s.waiting all)
-      (each_kept (TookStored c before) (λ x. not (x.number == j.number)) s.waiting (waiting_stored (TookStored c before) s.hand s.waiting all)),
-)
-
-wrote_stored : (c : Configuration) (before : List Step) (s : State) (i : Instance) (mark : Mark) (h : Option Job) → s.hand ≡ h → JobsTookStored c before s → JobsTookStored c before (wrote s i mark h)
-wrote_stored c before s i mark None is all = all
-wrote_stored c before s i mark (Some j) is all =
-    let hand : Each (TookStored c before) (option_to_list (Some j)) = subst (λ (h : Option Job). Each (TookStored c before) (option_to_list h)) is (hand_stored (TookStored c before) s.hand s.waiting all) in
-    (record { asked = hand.0.asked; content = hand.0.content }, waiting_stored (TookStored c before) s.hand s.waiting all)
-
-posted_next_stored : (c : Configuration) (before : List Step) (s : State) (r : ReqResult) (given : Option (List ℕ)) (n : Next) → JobsTookStored c before s → JobsTookStored c before (posted_next c s r given n)
-posted_next_stored c before s r given (PostMember sw id) all = all
-posted_next_stored c before s r given (EndSweep sw) all = all
-posted_next_stored c before s r given Nothing all = all
-posted_next_stored c before s r given (PickJob j) all = all
-posted_next_stored c before s r given (BeginSweep sw) all = all
-posted_next_stored c before s r given (PickMember sw id) all = all
-
-posted_stored : (c : Configuration) (before : List Step) (s : State) (r : ReqResult) (given : Option (List ℕ)) (h : Option Job) → JobsTookStored c before s → JobsTookStored c before (posted c s r given h)
-posted_stored c before s r given None all = posted_next_stored c before s r given (next_of c s) all
-posted_stored c before s r given (Some j) all = waiting_stored (TookStored c before) s.hand s.waiting all
-
--- the next job of those that wait is one of them
-next_by_job : (c : Configuration) (s : State) (w h : Option Job) (sweep : Option Sweep) (j : Job) → next_by c s w h sweep ≡ PickJob j → w ≡ Some j
-next_by_job c s (Some x) h sweep j is = cc
-next_by_job c s None None (Some sw) j is = absurd (in_sweep sw.under_way is)
-  where
-    member : (ids : List ℕ) → next_member c s sw ids ≡ PickJob j → ⊥
-    member [] is = cc
-    member (id ∷ ids) is = elim (cases_Bool (is_picked (desc_of c id) (block_at s id) sw id)) [
-      | inl on ↦ let no_ : PickMember sw id ≡ PickJob j = rw on at is in cc
-      | inr off ↦ let no_ : PostMember sw id ≡ PickJob j = rw off at is in cc
-    ]
-
-    in_sweep : (b : Bool) → (if b then next_member c s sw (if sw.canceled then [] else sw.left) else BeginSweep sw) ≡ PickJob j → ⊥
-    in_sweep true is = member (if sw.canceled then [] else sw.left) is
-    in_sweep false is = cc
-next_by_job c s None None None j is = cc
-next_by_job c s None (Some h) (Some sw) j is = cc
-next_by_job c s None (Some h) None j is = cc
-
-next_stored : (c : Configuration) (before : List Step) (s : State) (j : Job) → next_of c s ≡ PickJob j → JobsTookStored c before s → TookStored c before j
-next_stored c before s j is all =
-    let (front, behind, at) = next_is_waiting c s.waiting j (next_by_job c s (next_in c s.waiting) s.hand s.sweep j is) in
-    (each_right (TookStored c before) front (j ∷ behind) (subst (λ (jobs : List Job). Each (TookStored c before) jobs) at (waiting_stored (TookStored c before) s.hand s.waiting all))).0
+in_hand_stored c before s j t all took taken = each_in_hand c (TookStored c before) (stays c before) s j t all (picked_stored c before j t (if is_some s.hand then 2 else 0) took taken)
 
 member_stored : (c : Configuration) (before : List Step) (sw : Sweep) (id : ℕ) → TookStored c before (member_job c sw id)
 member_stored c before sw id = record { asked = λ copies. by_writes sw.writes; content = λ copies. tt }
@@ -172,16 +115,6 @@ member_stored c before sw id = record { asked = λ copies. by_writes sw.writes; 
     by_writes : (b : Bool) → asked_store (member_request b id) ≤ length (stores_of (job_block (member_job c sw id)) before)
     by_writes true = omega arith
     by_writes false = omega arith
-
--- a member names RAM, and took nothing before
-member_flag : (c : Configuration) (writes : Bool) (id : ℕ)
-    → is_synchronized (desc_of c id).ram ≡ (names_ram (member_request writes id) && is_synchronized (desc_of c (asked_block (member_request writes id))).ram)
-member_flag c true id = refl
-member_flag c false id = refl
-
-member_copies : (c : Configuration) (sw : Sweep) (id : ℕ)
-    → is_synchronized (desc_of c id).ram ≡ (names_ram (member_job c sw id).request && is_synchronized (desc_of c (job_block (member_job c sw id))).ram)
-member_copies c sw id = member_flag c sw.writes id
 
 -- THE ENTRY OF A TURN
 
@@ -199,20 +132,12 @@ fresh_is_played block kind (TookContent bytes number) ops fresh = refl
 fresh_is_played block kind (TookRefused count) ops fresh = refl
 fresh_is_played block kind (TookStale wanted got count) ops fresh = absurd fresh
 
-takes_by : (c : Configuration) (before : List Step) (copies : Bool) (block : ℕ) (kind : JobKind) (t : Taken) (ops : ℕ) → (copies ≡ true → IsTakenStored c before block t) → TakesStore c before copies (Pick block kind t ops)
-unfolding IsTakenStored
-takes_by c before false block kind t ops is = tt
-takes_by c before true block kind (TookContent bytes number) ops is = is refl
-takes_by c before true block kind TookNothing ops is = tt
-takes_by c before true block kind (TookRefused count) ops is = tt
-takes_by c before true block kind (TookStale wanted got count) ops is = tt
-
 pick_keeps : (c : Configuration) (before : List Step) (s : State) (stores : List (ℕ × List ℕ)) (block : ℕ) (kind : JobKind) (t : Taken) (ops : ℕ) (n : Next) → next_of c s ≡ n → AreNewest c before stores
     → JobsTookStored c before s → MayPick c s block kind t n → TakesNewest stores (copies_next c n) block t
     → (is_played (Pick block kind t ops) ≡ true) × TakesStore c before (copies_by c n) (Pick block kind t ops) × JobsTookStored c before (picked c s t n)
-unfolding IsFresh IsTakenStored
+unfolding IsFresh
 pick_keeps c before s stores block kind t ops (PickJob j) is newest all may takes =
-    let took = next_stored c before s j is all in
+    let took = next_has c (TookStored c before) (stays c before) s j is all in
     let (fresh, taken) = job_taken c before s stores j block kind t newest took may takes in (
       fresh_is_played block kind t ops fresh,
       takes_by c before (names_ram j.request && is_synchronized (desc_of c (job_block j)).ram) block kind t ops
@@ -275,12 +200,12 @@ entry_keeps c before s stores (Pick block kind t ops) newest all turn =
       last = pick_last c before stores (copies_next c (next_of c s)) block kind t ops (λ copies. newest block (copied_synchronized c s block kind t (next_of c s) turn.may copies)) turn.newest;
       jobs = jobs;
     }
-entry_keeps c before s stores (Wrote i mark ops) newest all turn = record { played = refl; takes = none_taken _; last = tt; jobs = wrote_stored c before s i mark s.hand refl all }
+entry_keeps c before s stores (Wrote i mark ops) newest all turn = record { played = refl; takes = none_taken _; last = tt; jobs = each_wrote c (TookStored c before) (stays c before) s i mark s.hand refl all }
   where
     none_taken : (copies : Bool) → TakesStore c before copies (Wrote i mark ops)
     none_taken true = tt
     none_taken false = tt
-entry_keeps c before s stores (Post block r given refused ops) newest all turn = record { played = refl; takes = none_taken _; last = tt; jobs = posted_stored c before s r given s.hand all }
+entry_keeps c before s stores (Post block r given refused ops) newest all turn = record { played = refl; takes = none_taken _; last = tt; jobs = each_posted c (TookStored c before) (stays c before) s r given s.hand all }
   where
     none_taken : (copies : Bool) → TakesStore c before copies (Post block r given refused ops)
     none_taken true = tt

@@ -1,6 +1,6 @@
 -- What was stored before, as the stack holds it.
 use Rattle.std.specs.Prelude.{◌≡◌, ◌≤◌, ◌&&◌, ℕ, true, List, [], length, get_or, Option, Some, None}
-use Rattle.block_machine.specs.Words.{Configuration}
+use Rattle.block_machine.specs.Words.{Configuration, Taken, TookContent}
 use Rattle.block_machine.specs.State.{State, Job, jobs_of}
 use Rattle.block_machine.specs.Blocks.{desc_of, is_synchronized, names_ram, job_block, asked_store}
 use Rattle.block_laws.specs.Consistent.{Each}
@@ -24,6 +24,11 @@ CopiesOf c j = (names_ram j.request && is_synchronized (desc_of c (job_block j))
 abbrev pub IsStored : Configuration → List Step → ℕ → Option (List ℕ × ℕ) → Type 0
 IsStored c before id None = Unit {0}
 IsStored c before id (Some x) = store_content c before id x.1 ≡ Some x.0
+
+-- a content that is taken is
+abbrev pub IsTakenStored : Configuration → List Step → ℕ → Taken → Type 0
+IsTakenStored c before id (TookContent bytes number) = store_content c before id number ≡ Some bytes
+IsTakenStored c before id t = Unit {0}
 
 -- a job asks for no later store than was made, and took one that was
 pub record TookStored (c : Configuration) (before : List Step) (j : Job) : Type 0 where

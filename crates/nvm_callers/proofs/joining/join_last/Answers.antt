@@ -1,6 +1,6 @@
-use Rattle.nvm_callers.proofs.Common.{slice_index_or, IfSome, vec_len, ◌≡◌, ◌+◌, ◌-◌, ℕ, suc, List, ◌∷◌, drop, length, Option, sym, ap, subst, arith, ◌∙◌, View, both, knows, Entry, Terms, Program, HasWorked, HaveRun, worse, Ending}
+use Rattle.nvm_callers.proofs.Common.{slice_index_or, IfSome, vec_len, ◌≡◌, ◌+◌, ◌-◌, ℕ, suc, List, ◌∷◌, drop, drop-cons, length, Option, sym, ap, subst, arith, ◌∙◌, View, both, knows, Entry, Terms, Program, HasWorked, HaveRun, worse, Ending}
 use Rattle.std.specs.Prelude.{Some}
-use Rattle.nvm_callers.proofs.Passing.{have_run_more, program_before, first_before}
+use Rattle.nvm_callers.proofs.Passing.{have_run_more, program_before}
 use Rattle.nvm_callers.proofs.joining.join_last.Goals as goal
 
 -- the worker at a place is the last one
@@ -25,7 +25,7 @@ returns-clause-ran g c =
     ap (λ (n : ℕ). slice_index_or items n worker) (sym place) ∙ last_of (slice_index_or items (vec_len c.args.workers.now - 1) worker) worker (sym (c.pop.ensures.value worker c.requires.some) ∙ c.in-Some.is) in
     let worked = c.requires.each k worker (omega (arith, one)) in
     let (p, at, is) = program_before programs k (omega (arith, one, few)) in
-    let begins = first_before c.args.firsts.now.value.items k worker.stores (omega (arith, one, few, many)) in
+    let begins = drop-cons c.args.firsts.now.value.items k worker.stores (omega (arith, one, few, many)) in
     let made = subst (λ x. HasWorked g.S.Stores.bytes g.S.Stores.made g.S.Stores.mirrors c.args.shared.now programs k x.pass x.made x.ending x.seen (slice_index_or c.args.firsts.now.value.items k x.stores) x.stores) same worked in
     let ran = subst (λ (n : ℕ). HaveRun g.S.Stores.bytes g.S.Stores.made g.S.Stores.mirrors t (drop n programs) (drop n c.args.firsts.now.value.items) c.args.stores.now.items c.args.ending v) (sym next) c.requires.ran in
     let more = have_run_more g.S.Stores.bytes g.S.Stores.made g.S.Stores.mirrors v w t p (drop (suc k) programs) worker.made made.ended c.args.ending (slice_index_or c.args.firsts.now.value.items k worker.stores) worker.stores (drop (suc k) c.args.firsts.now.value.items) c.args.stores.now.items (made.made_it p at) ran in
