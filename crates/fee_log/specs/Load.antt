@@ -1,11 +1,12 @@
 -- A log that is loaded from the pages of its bank, piece by piece.
-use Rattle.std.specs.Prelude.{◌≡◌, ◌↔◌, ◌<◌, ◌≤◌, ◌+◌, ◌*◌, ℕ, Bool, true, false, IsTrue, List, ◌++◌, length, MatchOption, IfSome}
+use Rattle.std.specs.Prelude.{◌≡◌, ◌↔◌, ◌<◌, ◌≤◌, ◌+◌, ◌*◌, ℕ, Bool, true, false, if◌then◌else◌, IsTrue, List, ◌++◌, length, MatchOption, IfSome}
 use Rattle.fee_format.specs.Formats.{IsFormat, new_format}
 use Rattle.fee_format.specs.Gate.{IsGate}
 use Rattle.fee_format.specs.Pages.{blank_page}
+use Rattle.fee_format.specs.declared.rec_head.RecHead.{RecHead}
 use Rattle.fee_format.specs.RecHead.{IsLegalRecHead, IsRecHead, IsNoRecHead}
 use Rattle.fee_image.specs.Bank.{Bank, page_of}
-use Rattle.fee_image.specs.Places.{places_of}
+use Rattle.fee_image.specs.Places.{noted, places_of}
 use Rattle.fee_image.specs.RecordList.{Rec, HasHead, Stops, IsTailBlank, IsClosed, pages_of_head, records_left, records_of, end_after, end_of}
 use Rattle.fee_view.specs.View.{own_bank}
 use Rattle.fee_log.specs.declared.load.Awaited.{Awaited}
@@ -38,6 +39,10 @@ pub record IsLoad (s : LogState) (load : Load) : Type 0 where
 abbrev pub load_begun : LogState → ℕ → ℕ → LogState
 load_begun s bank format = record (erased_state s.geometry s.banks bank s.numbers) { format = format; tail = Closed }
 
+-- and the log behind one more record, which begins where it ended: its number has it where it is committed
+abbrev pub with_record : LogState → RecHead → Bool → LogState
+with_record s h committed = record s { places = if committed then noted s.numbers s.places s.end h else s.places; end = s.end + pages_of_head s.geometry.page h }
+
 -- WHAT WAS SEEN
 -- the log is one of this bank, wherever that stands
 pub record IsOfBank (s : LogState) (b : Bank) : Type 0 where
@@ -61,11 +66,15 @@ IsSeen b bytes end next (Rest blank) =
     Stops b bytes end × (IsTrue blank ↔ ((q : ℕ) → end ≤ q → q < next → page_of b bytes q ≡ blank_page b.page))
 
 -- so far the log has the places of a bank's first records and the page behind them
-pub record IsLoading (b : Bank) (bytes : List ℕ) (s : LogState) (load : Load) : Type 0 where
+pub record HasTaken (b : Bank) (bytes : List ℕ) (s : LogState) : Type 0 where
   pub taken : List Rec
   pub all : taken ++ records_left b bytes s.end ≡ records_of b bytes
   pub places : s.places ≡ places_of s.numbers taken
   pub ends : end_after b.page s.end (records_left b bytes s.end) ≡ end_of b bytes
+
+-- and this was seen behind them
+pub record IsLoading (b : Bank) (bytes : List ℕ) (s : LogState) (load : Load) : Type 0 where
+  pub first : HasTaken b bytes s
   pub seen : IsSeen b bytes s.end load.next load.awaited
 
 -- WHAT IS LOADED

@@ -1,19 +1,21 @@
 // A load of a bank's log, from its pages in order.
 ghost use Rattle.std.specs.Prelude.{◌≡◌, ◌<◌, ◌≤◌, ◌+◌, ◌*◌, ◌^◌, ℕ, List, IfSome, true, false, length, None, if◌then◌else◌, IsTrue, ◌↔◌};
 ghost use Rattle.fee_format.specs.Formats.{IsFormat};
+ghost use Rattle.fee_format.specs.Pages.{record_pages_of};
 ghost use Rattle.fee_format.specs.RecHead.{IsLegalRecHead};
 ghost use Rattle.fee_image.specs.Bank.{Bank, page_of as page_in};
 ghost use Rattle.fee_image.specs.Places.{noted};
 ghost use Rattle.fee_image.specs.RecordList.{IsTailBlank, end_of};
-ghost use Rattle.fee_log.specs.declared.load.Awaited.TheVariants.{Gate, Commit};
-ghost use Rattle.fee_log.specs.Load.{is_rest, IsNext, IsLoad, load_begun, IsOfBank, HasPages, IsSeen, IsLoading, IsTailOf, IsLoaded};
+ghost use Rattle.fee_log.specs.declared.load.Awaited.TheVariants.{Header, Gate, Commit};
+ghost use Rattle.fee_log.specs.declared.tail.Tail.TheVariants.{Closed};
+ghost use Rattle.fee_log.specs.Load.{is_rest, IsNext, IsLoad, load_begun, with_record, IsOfBank, HasPages, IsSeen, HasTaken, IsLoading, IsTailOf, IsLoaded};
 ghost use Rattle.fee_log.specs.Log.{HasFormat, IsTail, pages_in, work_in};
 
 use crate::index::note;
 use crate::{Log, Tail};
 use fee_format::{NEW_FORMAT, RecHead, gate_stands, pages_of, read_rec_head};
 use fee_image::Place;
-use fee_view::{is_tail_blank, page_of};
+use fee_view::{is_tail_blank, page_of, seen_at};
 use nv_base::{Lengths, all_are};
 
 /// What a load looks at next: the page where a record may begin; the page behind that one, which had this header or none, and
@@ -148,7 +150,7 @@ fn tail_loaded(blank: bool, format: u8) -> Tail
 }
 
 // A record whose header stands at a page: its number has it where it is committed.
-fn take_record(numbers: &Lengths, places: &mut [Place], at: u32, head: RecHead, committed: bool)
+fn note_record(numbers: &Lengths, places: &mut [Place], at: u32, head: RecHead, committed: bool)
     requires each { length places.old ≡ length numbers.now }
     ensures { places.new ≡ (if committed then noted numbers.now places.old at head else places.old) }
 {
@@ -190,8 +192,66 @@ impl Log {
         self.tail = Tail::Closed;
     }
 
+    // The record with this header, where the log ends so far.
+    fn take_record(&mut self, head: RecHead, committed: bool)
+        requires closed { self.old.tail ≡ Closed }
+        requires legal { IsLegalRecHead head }
+        requires inside { self.old.end + record_pages_of head.length self.old.geometry.page ≤ pages_in self.old }
+        ensures { self.new ≡ with_record self.old head committed }
+    {
+        note_record(&self.numbers, &mut self.places, self.end, head, committed);
+        self.end += pages_of(head.length, self.geometry.page);
+    }
+
+    // The records that lie whole in these pages, from the log's end so far up to the first that doesn't.
+    fn take_records(&mut self, from: u32, count: u32, bytes: &[u8])
+        requires closed { self.old.tail ≡ Closed }
+        requires format { IsFormat self.old.format }
+        requires from { from ≤ self.old.end }
+        requires to { self.old.end ≤ from + count }
+        requires size { length bytes.now ≡ count * self.old.geometry.page }
+        requires inside { from + count ≤ pages_in self.old }
+        ensures same { self.new ≡ record self.old { places = self.new.places; end = self.new.end } }
+        ensures further { self.old.end ≤ self.new.end }
+        ensures to { self.new.end ≤ from + count }
+        ensures taken { (b : Bank) (own : List ℕ) → IsOfBank self.old b → HasPages b own from bytes.now → HasTaken b own self.old → HasTaken b own self.new }
+    {
+        while let Some(seen) = seen_at(
+            bytes,
+            self.geometry.page,
+            count,
+            self.format,
+            self.end - from,
+        ) {
+            self.take_record(seen.head, seen.committed);
+        }
+    }
+
+    // The records that lie whole in these pages, and the page behind them, where one may begin.
+    fn load_header(&mut self, load: Load, from: u32, count: u32, bytes: &[u8]) -> Load
+        requires load { IsLoad self.old load }
+        requires awaited { load.awaited ≡ Header }
+        requires from { from ≤ load.next }
+        requires to { load.next < from + count }
+        requires size { length bytes.now ≡ count * self.old.geometry.page }
+        requires inside { from + count ≤ pages_in self.old }
+        ensures same { self.new ≡ record self.old { places = self.new.places; end = self.new.end } }
+        ensures load { IsLoad self.new result }
+        ensures further { load.next < result.next }
+        ensures seen { (b : Bank) (own : List ℕ) → IsOfBank self.old b → HasPages b own from bytes.now → IsLoading b own self.old load → IsLoading b own self.new result }
+    {
+        self.take_records(from, count, bytes);
+        let pages = self.geometry.bank_pages(self.banks);
+        let end = self.end;
+        if from + count <= end || pages < end + 3 {
+            return load_at(end, pages);
+        }
+        let page = page_of(bytes, self.geometry.page, end - from);
+        header_seen(page, self.format, end)
+    }
+
     // The last page of the record that was awaited: its number has it where it is committed.
-    fn load_record(&mut self, load: Load, head: RecHead, page: &[u8]) -> Load
+    fn load_commit(&mut self, load: Load, head: RecHead, page: &[u8]) -> Load
         requires load { IsLoad self.old load }
         requires awaited { load.awaited ≡ Commit head }
         requires page { length page.now ≡ self.old.geometry.page }
@@ -201,28 +261,31 @@ impl Log {
         ensures seen { (b : Bank) (bytes : List ℕ) → IsOfBank self.old b → page_in b bytes load.next ≡ page.now → IsLoading b bytes self.old load → IsLoading b bytes self.new result }
     {
         let committed = gate_stands(page);
-        take_record(&self.numbers, &mut self.places, self.end, head, committed);
-        self.end += pages_of(head.length, self.geometry.page);
+        self.take_record(head, committed);
         load_at(self.end, self.geometry.bank_pages(self.banks))
     }
 
-    // The page that a load looks at next.
-    fn load_page(&mut self, load: Load, page: &[u8]) -> Load
+    // The page that a load looks at next, of these.
+    fn load_page(&mut self, load: Load, from: u32, count: u32, bytes: &[u8]) -> Load
         requires load { IsLoad self.old load }
         requires awaited { is_rest load.awaited ≡ false }
-        requires page { length page.now ≡ self.old.geometry.page }
+        requires from { from ≤ load.next }
+        requires to { load.next < from + count }
+        requires size { length bytes.now ≡ count * self.old.geometry.page }
+        requires inside { from + count ≤ pages_in self.old }
         ensures same { self.new ≡ record self.old { places = self.new.places; end = self.new.end } }
         ensures load { IsLoad self.new result }
         ensures further { load.next < result.next }
-        ensures seen { (b : Bank) (bytes : List ℕ) → IsOfBank self.old b → page_in b bytes load.next ≡ page.now → IsLoading b bytes self.old load → IsLoading b bytes self.new result }
+        ensures seen { (b : Bank) (own : List ℕ) → IsOfBank self.old b → HasPages b own from bytes.now → IsLoading b own self.old load → IsLoading b own self.new result }
     {
+        let page = page_of(bytes, self.geometry.page, load.next - from);
         match load.awaited {
-            Awaited::Header => header_seen(page, self.format, self.end),
+            Awaited::Header => self.load_header(load, from, count, bytes),
             Awaited::Gate { head, blank } => {
                 let pages = self.geometry.bank_pages(self.banks);
                 gate_seen(head, blank, page, pages, self.end)
             }
-            Awaited::Commit { head } => self.load_record(load, head, page),
+            Awaited::Commit { head } => self.load_commit(load, head, page),
             Awaited::Rest { .. } => unreachable!(),
         }
     }
@@ -242,7 +305,7 @@ impl Log {
         let size = self.geometry.page;
         let mut load = load;
         while load.next < from + count && !is_rest(load.awaited) {
-            load = self.load_page(load, page_of(bytes, size, load.next - from));
+            load = self.load_page(load, from, count, bytes);
         }
         rest_seen(load, from, count, size, bytes)
     }

@@ -47,9 +47,10 @@ fn take_banks<F: Flash>(
 }
 
 impl Banks {
-    /// Reads each sector once, whole, in ascending order, a sector of more than 4,096 bytes in pieces of so many, and programs nothing. The active bank is the one that stands with
-    /// the greatest generation, on a tie the lower one, whatever the bytes are; its log is loaded, or without one that of an
-    /// erased bank, and no switch is open. `Failed` comes only where the flash's faults rose; then no bank is active.
+    /// Reads each sector once, in ascending order, one of more than 4,096 bytes in pieces of so many, and programs nothing. The
+    /// active bank is the one that stands with the greatest generation, on a tie the lower one, whatever the bytes are; its log
+    /// is loaded, or without one that of an erased bank, and no switch is open. `Failed` comes only where the flash's faults
+    /// rose; then no bank is active.
     pub fn start<F: Flash>(&mut self, fls: &mut Fls<F>) -> BankStart
         requires idle { IsIdle fls.old }
         requires geometry { fls.old.geometry ≡ self.old.geometry }

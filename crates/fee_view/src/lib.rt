@@ -12,5 +12,5 @@ mod records;
 
 pub use bank_view::{BankView, is_tail_blank};
 pub use page::page_of;
-pub use record::Record;
+pub use record::{Record, Seen, seen_at};
 pub use records::Records;

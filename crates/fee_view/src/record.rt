@@ -23,15 +23,16 @@ pub struct Record<'a> {
     pub payload: &'a [u8],
 }
 
-// The header of a record that stands in a bank, and whether its commit gate is open.
+/// The header of a record that stands in a bank, and whether its commit gate is open.
 #[derive(Clone, Copy)]
-pub(crate) struct Seen {
+pub struct Seen {
     pub head: RecHead,
     pub committed: bool,
 }
 
-// What is seen of the record that stands at a page, unless the list stops there.
-pub(crate) fn seen_at(bank: &[u8], page: u32, pages: u32, format: u8, at: u32) -> Option<Seen>
+/// What is seen of the record that stands at a page, unless the list stops there. `bank` begins with so many pages, of a bank
+/// or of a piece of one.
+pub fn seen_at(bank: &[u8], page: u32, pages: u32, format: u8, at: u32) -> Option<Seen>
     requires low { 16 ≤ page }
     requires high { page ≤ 256 }
     requires whole { pages * page ≤ length bank.now }

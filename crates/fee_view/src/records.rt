@@ -1,7 +1,4 @@
 // The records of a bank, one after another.
-ghost use Rattle.std.specs.Prelude.{◌≡◌};
-ghost use Rattle.fee_view.specs.Record.{IsWalk};
-
 use crate::Record;
 use crate::record::{record_of, seen_at};
 use fee_format::pages_of;
@@ -27,16 +24,6 @@ impl<'a> Model for Records<'a> {
     ghost view = { λ r. record { bytes = r.bytes.now; bank = own_bank r.page r.pages r.format; at = r.at } };
 
     ghost invariant = { λ r. IsWalk (record { bytes = r.bytes.now; bank = own_bank r.page r.pages r.format; at = r.at }) };
-}
-
-impl<'a> Records<'a> {
-    /// The page that comes next: behind the last record, that of the log's end.
-    pub fn next_page(&self) -> u32
-        ensures page { result ≡ self.now.at }
-        ensures walk { IsWalk self.now }
-    {
-        self.at
-    }
 }
 
 impl<'a> Iterator for Records<'a> {

@@ -1,22 +1,18 @@
-use Rattle.std.proofs.Common.{◌≡◌, ◌≤◌, ◌+◌, ◌*◌, ℕ, ◌∙◌, sym, ap, subst, arith}
+use Rattle.std.proofs.Common.{◌≡◌, ◌≤◌, ◌+◌, ℕ, ◌∙◌, sym, ap, subst, arith}
 use Rattle.fee_log.specs.Load.{IsNext}
 use Rattle.fee_log.specs.Log.{LogState, pages_in}
-use Rattle.fee_log.proofs.Loading.{page_there, log_stays, end_before}
+use Rattle.fee_log.proofs.Loading.{log_stays, end_before}
 use Rattle.fee_log.proofs.log.Log.load_pages.Goals as goal
 
 pub loop-load-preserved : goal.loop-load-preserved
 loop-load-preserved c =
     let i = c.loop-load.invariant in
     let p = c.load_page-load.ensures in
-    let size : c.self.inside.geometry.page ≡ c.args.self.now.geometry.page = ap (λ (s : LogState). s.geometry.page) c.self.view_is in
     record {
       same = p.same ∙ ap (λ (s : LogState). record s { places = c.load_page-load.new.self.places; end = c.load_page-load.new.self.end }) i.same;
       load = p.load;
       from = omega (arith, i.from, p.further);
-      seen = λ b own in_log pages was.
-          p.seen b own (log_stays c.args.self.now c.loop-load.self b i.same in_log)
-          (page_there b own c.args.bytes.now c.args.from c.loop-load.load.next c.args.count c.self.inside.geometry.page (in_log.page ∙ sym size) pages (c.requires.size ∙ ap (λ (n : ℕ). c.args.count * n) (sym size)) i.from c.loop-load-test.true
-          ∙ sym c.page_of.ensures.page) (i.seen b own in_log pages was);
+      seen = λ b own in_log pages was. p.seen b own (log_stays c.args.self.now c.loop-load.self b i.same in_log) pages (i.seen b own in_log pages was);
     }
 
 pub returns-clause-load : goal.returns-clause-load
@@ -33,4 +29,4 @@ returns-clause-seen c b own in_log pages was =
     let i = c.loop-load.invariant in
     let on = i.seen b own in_log pages was in
     let size : c.self.inside.geometry.page ≡ c.args.self.now.geometry.page = ap (λ (s : LogState). s.geometry.page) c.self.view_is in
-    record { taken = on.taken; all = on.all; places = on.places; ends = on.ends; seen = c.rest_seen.ensures.seen b own c.loop-load.self.end (in_log.page ∙ sym size) (end_before _ _ _ _ _ i.load.next) pages on.seen }
+    record { first = on.first; seen = c.rest_seen.ensures.seen b own c.loop-load.self.end (in_log.page ∙ sym size) (end_before _ _ _ _ _ i.load.next) pages on.seen }
