@@ -3,13 +3,13 @@ ghost use Rattle.std.specs.Prelude.{◌≡◌, ◌≤◌, ◌↔◌, length, rep
 
 use nv_base::all_are;
 
-/// Whether each of these bytes has this value. Those of the shortest page, so many, are compared at once, without a call.
-pub(crate) fn is_alike(bytes: &[u8], shortest: usize, value: u8) -> bool
-    requires { shortest ≤ 16 }
+/// Whether each of these bytes has this value. As many as the shortest page has are compared at once, without a call.
+pub(crate) fn is_alike<const SHORTEST: usize>(bytes: &[u8], value: u8) -> bool
+    requires { SHORTEST ≤ 16 }
     ensures { IsTrue result ↔ (bytes.now ≡ replicate (length bytes.now) value) }
 {
-    if bytes.len() != shortest {
-        return all_are(bytes, value);
+    match bytes.split_first_chunk::<SHORTEST>() {
+        Some((shortest, rest)) if rest.is_empty() => *shortest == [value; SHORTEST],
+        _ => all_are(bytes, value),
     }
-    bytes == &[value; 16][..shortest]
 }

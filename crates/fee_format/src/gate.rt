@@ -16,5 +16,5 @@ pub fn write_gate(page: &mut [u8])
 pub fn gate_stands(page: &[u8]) -> bool
     ensures { IsTrue result ↔ IsGate (length page.now) page.now }
 {
-    is_alike(page, 16, 0)
+    is_alike::<16>(page, 0)
 }

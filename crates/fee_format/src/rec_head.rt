@@ -133,7 +133,10 @@ fn begins_with(page: &[u8], bytes: [u8; 10]) -> bool
     requires { 10 ≤ length page.now }
     ensures { IsTrue result ↔ (page.now ≡ bytes ++ replicate (length page.now - 10) 255) }
 {
-    &page[..10] == bytes.as_slice() && is_alike(&page[10..], 6, 255)
+    match page.split_first_chunk::<10>() {
+        Some((first, rest)) => *first == bytes && is_alike::<6>(rest, 255),
+        None => false,
+    }
 }
 
 fn has_head(page: &[u8], format: u8, head: RecHead) -> bool
