@@ -75,7 +75,10 @@ fn make_all<D: MemDevice>(alloc: Global, steps: StepList, stack: &mut Stack<D, P
     requires { stack.old.ready ≡ true }
 {
     for step in steps.into_steps() {
-        if !make(alloc, step.kind, stack) {
+        let Ok(made) = step.whole(alloc) else {
+            return false;
+        };
+        if !make(alloc, made.kind, stack) {
             return false;
         }
     }

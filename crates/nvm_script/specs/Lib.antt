@@ -1,5 +1,6 @@
 pub mod Counts
 pub mod Cut
+pub mod KeptStep
 pub mod Line
 pub mod Lines
 pub mod Owners

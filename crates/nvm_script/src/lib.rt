@@ -10,6 +10,7 @@ mod caller;
 mod counts;
 mod cut;
 mod digits;
+mod kept_step;
 mod lines;
 mod owners;
 mod played_cases;
@@ -25,6 +26,7 @@ mod word;
 mod words;
 
 pub use cut::line_length;
+pub use kept_step::KeptStep;
 pub use lines::{end_text, entry_text, entry_text_in};
 pub use played_cases::other_steps_are_not_played;
 pub use script::{Mode, ScriptFault, first_line, read_script};

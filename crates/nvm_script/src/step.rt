@@ -5,7 +5,7 @@ use nv_base::{Bytes, Request};
 /// the stack, turns until no job is left, power on with a start-up, a power cut at the nth changing flash operation
 /// from here on that keeps `keep` bytes, copies of a synchronized block to be refused, or to wait until the block's
 /// status isn't pending.
-#[derive(Drop)]
+#[derive(Clone, Drop)]
 pub enum StepKind {
     Ask(Request),
     Store { block: u16, content: Bytes },

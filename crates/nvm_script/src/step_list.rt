@@ -1,14 +1,14 @@
 // The steps of a script in order.
 ghost use Rattle.std.specs.Prelude.{◌≡◌, ◌<◌, ◌≤◌, ◌^◌, ◌++◌, ◌∷◌, [], length, Some, MatchOption, OnOk, OnErr, slice_get};
 
-use crate::Step;
+use crate::{KeptStep, Step};
 use std::alloc::{AllocError, Global};
 use std::marker::Model;
 
-/// Steps in order, fewer than 2^32. Contracts see the list.
+/// Steps in order, fewer than 2^32, each kept in few bytes where those of its content are equal. Contracts see the list.
 #[derive(Drop)]
 pub struct StepList {
-    items: Vec<Step>,
+    items: Vec<KeptStep>,
 }
 
 impl Model for StepList {
@@ -40,7 +40,7 @@ impl StepList {
     }
 
     /// The step at a place, from 0. None exactly where the place isn't below `len`.
-    pub fn get(&self, i: u32) -> Option<&Step>
+    pub fn get(&self, i: u32) -> Option<&KeptStep>
         ensures { MatchOption result (length self.now ≤ i) (λ s. slice_get self.now i ≡ Some s.now) }
     {
         self.items.get(i as usize)
@@ -52,12 +52,12 @@ impl StepList {
         ensures ok { OnOk result (self.new ≡ self.old ++ step ∷ []) }
         ensures err { OnErr result (self.new ≡ self.old) }
     {
-        self.items.push(step)?;
+        self.items.push(KeptStep::of(step))?;
         Ok(())
     }
 
     /// The steps themselves.
-    pub fn into_steps(self) -> Vec<Step>
+    pub fn into_steps(self) -> Vec<KeptStep>
         ensures steps { result.items ≡ self }
         ensures few { length self < 2 ^ 32 }
     {

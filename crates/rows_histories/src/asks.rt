@@ -65,18 +65,18 @@ fn read_step(alloc: Global, config: &Config, step: &str) -> Parsed<Request> {
         return Ok(None);
     }
     match read_script(alloc, script, config, Mode::Play) {
-        Ok(steps) => first_request(&steps),
+        Ok(steps) => first_request(alloc, &steps),
         Err(ScriptFault::Line { .. }) => Ok(None),
         Err(ScriptFault::Memory) => Err(AllocError),
     }
 }
 
-fn first_request(steps: &StepList) -> Parsed<Request> {
+fn first_request(alloc: Global, steps: &StepList) -> Parsed<Request> {
     let Some(step) = steps.get(0) else {
         return Ok(None);
     };
-    match &step.kind {
-        StepKind::Ask(request) => Ok(Some(request.clone()?)),
+    match step.copy(alloc)?.kind {
+        StepKind::Ask(request) => Ok(Some(request)),
         _ => Ok(None),
     }
 }

@@ -12,7 +12,7 @@ ghost use Rattle.script_callers.specs.Counting.{ram_write, AreOf, AreCounted, Ad
 use crate::store_counts::StoreCounts;
 use crate::{Deed, DeedList, Program};
 use block_config::{Config, RamKind};
-use nv_base::{Bytes, Request, bytes_of};
+use nv_base::Request;
 use nvm_script::{Step, StepKind, StepList};
 use std::alloc::{AllocError, Global};
 
@@ -49,8 +49,9 @@ fn deeds_of_caller(
     for place in 0..steps.len() {
         match steps.get(place) {
             Some(step) => {
-                if step.caller == caller {
-                    add_deed(alloc, config, step, &mut counts, &mut deeds)?;
+                if step.caller() == caller {
+                    let made = step.copy(alloc)?;
+                    add_deed(config, made, &mut counts, &mut deeds)?;
                 }
             }
             None => {}
@@ -61,30 +62,27 @@ fn deeds_of_caller(
 
 // Adds what a step has its caller do.
 fn add_deed(
-    alloc: Global,
     config: &Config,
-    step: &Step,
+    step: Step,
     counts: &mut StoreCounts,
     deeds: &mut DeedList,
 ) -> Result<(), AllocError>
     requires room { length deeds.old < u32.MAX }
-    requires run { CanBeRun config.now step.now.kind }
+    requires run { CanBeRun config.now step.kind }
     requires few { (block : ℕ) → get_or counts.old block 0 < 2 ^ 32 }
     requires size { length counts.old ≡ length config.now.blocks + 1 }
-    ensures added { OnOk result ((before : List Made) → AreOf step.now.caller before → AreCounted before counts.old → AddsDeed config.now before step.now counts.new deeds.old deeds.new) }
+    ensures added { OnOk result ((before : List Made) → AreOf step.caller before → AreCounted before counts.old → AddsDeed config.now before step counts.new deeds.old deeds.new) }
     ensures size { length counts.new ≡ length counts.old }
     ensures count { OnOk result (length deeds.new ≤ length deeds.old + 1) }
 {
-    let line = step.line;
-    match &step.kind {
-        StepKind::Ask(request) => {
-            let request = numbered(config, request, counts)?;
-            deeds.add(Deed::Ask { line, request })
-        }
+    let Step { line, kind, .. } = step;
+    match kind {
+        StepKind::Ask(request) => deeds.add(Deed::Ask {
+            line,
+            request: numbered(config, request, counts),
+        }),
         StepKind::Store { block, content } => {
-            let block = *block;
             let number = counts.of(block) + 1;
-            let content = same_bytes(alloc, content)?;
             counts.note(block);
             deeds.add(Deed::Store {
                 line,
@@ -93,32 +91,23 @@ fn add_deed(
                 content,
             })
         }
-        StepKind::Await { block } => deeds.add(Deed::Await {
-            line,
-            block: *block,
-        }),
+        StepKind::Await { block } => deeds.add(Deed::Await { line, block }),
         _ => Ok(()),
     }
 }
 
-fn same_bytes(alloc: Global, content: &Bytes) -> Result<Bytes, AllocError>
-    ensures { IfOk result (λ bytes. bytes ≡ content.now) }
-{
-    bytes_of(alloc, content.as_slice())
-}
-
 // The request as it is asked: a write of synchronized RAM has the number of its caller's last store.
-fn numbered(config: &Config, request: &Request, counts: &StoreCounts) -> Result<Request, AllocError>
+fn numbered(config: &Config, request: Request, counts: &StoreCounts) -> Request
     requires { length counts.now ≡ length config.now.blocks + 1 }
-    ensures { IfOk result (λ r. (before : List Made) (caller : ℕ) → AreOf caller before → AreCounted before counts.now → r ≡ request_after config.now before caller request.now) }
+    ensures { (before : List Made) (caller : ℕ) → AreOf caller before → AreCounted before counts.now → result ≡ request_after config.now before caller request }
 {
-    match ram_write(request) {
-        Some(block) => Ok(Request::Write {
+    match ram_write(&request) {
+        Some(block) => Request::Write {
             block,
             content: None,
             store: last_store(config, block, counts),
-        }),
-        None => copy_of(request),
+        },
+        None => request,
     }
 }
 
@@ -134,12 +123,6 @@ fn ram_write(request: &Request) -> Option<u16>
         } => Some(*block),
         _ => None,
     }
-}
-
-fn copy_of(request: &Request) -> Result<Request, AllocError>
-    ensures { IfOk result (λ r. r ≡ request.now) }
-{
-    request.clone()
 }
 
 // The number of the last store of a block, and 0 where its RAM isn't synchronized.

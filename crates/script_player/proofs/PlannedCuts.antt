@@ -1,5 +1,6 @@
 -- The power cuts that steps plan.
-use Rattle.script_player.proofs.Common.{slice_get, ◌≡◌, ◌≤◌, ◌+◌, ℕ, List, take, Some, ap, ◌∙◌, arith, take_more, sum_by_push, cuts_in, cuts_of, slice_get_within, get_or_from_slice_get}
+use Rattle.script_player.proofs.Common.{if◌then◌else◌, refl, slice_get, ◌≡◌, ◌≤◌, ◌+◌, ℕ, List, take, Some, ap, ◌∙◌, arith, take_more, sum_by_push, cuts_in, cuts_of, slice_get_within, get_or_from_slice_get}
+use Rattle.nvm_script.specs.KeptStep.{is_cut}
 use Rattle.nvm_script.specs.declared.step.Step.{Step}
 use Rattle.nvm_script.specs.declared.step.StepKind.{StepKind}
 use Rattle.nvm_script.specs.declared.step.StepKind.TheVariants.{Cut}
@@ -13,3 +14,7 @@ one_more steps i x at =
 pub few_in : (kind : StepKind) → cuts_in kind ≤ 1
 few_in (Cut nth keep) = omega arith
 few_in _ = omega arith
+
+pub cuts_tested : (kind : StepKind) → cuts_in kind ≡ (if is_cut kind then 1 else 0)
+cuts_tested (Cut nth keep) = refl
+cuts_tested _ = refl

@@ -2,7 +2,7 @@
 ghost use Rattle.std.specs.Prelude.{◌≡◌};
 ghost use Rattle.script_player.specs.Made.{cuts_in, cuts_of};
 
-use nvm_script::{StepKind, StepList};
+use nvm_script::{KeptStep, StepList};
 
 /// How many power cuts steps plan.
 pub fn cuts_of(steps: &StepList) -> u32
@@ -11,17 +11,14 @@ pub fn cuts_of(steps: &StepList) -> u32
     let mut cuts = 0;
     for i in 0..steps.len() {
         if let Some(step) = steps.get(i) {
-            cuts += cuts_in(&step.kind);
+            cuts += cuts_in(step);
         }
     }
     cuts
 }
 
-fn cuts_in(kind: &StepKind) -> u32
-    ensures { result ≡ cuts_in kind.now }
+fn cuts_in(step: &KeptStep) -> u32
+    ensures { result ≡ cuts_in step.now.kind }
 {
-    match kind {
-        StepKind::Cut { .. } => 1,
-        _ => 0,
-    }
+    if step.is_cut() { 1 } else { 0 }
 }

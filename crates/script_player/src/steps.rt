@@ -13,7 +13,7 @@ ghost use Rattle.script_player.specs.Table.{HasLastStores, HoldsSynchronized};
 
 use crate::turns::{drain, make_turns};
 use crate::{LastStores, PlayedStack};
-use nvm_script::{Step, StepKind, StepList};
+use nvm_script::{KeptStep, Step, StepKind, StepList};
 use std::alloc::Global;
 use uds_gateway::{AskFault, FoundAnswer, Request};
 
@@ -49,11 +49,35 @@ pub fn make_steps<S: PlayedStack>(
         return Err(StepFault::Memory);
     };
     for step in steps.into_steps() {
-        if let Err(fault) = make_step(alloc, step, &mut stores, stack) {
+        if let Err(fault) = make_kept(alloc, step, &mut stores, stack) {
             return Err(fault);
         }
     }
     Ok(())
+}
+
+// Makes a step that is kept.
+fn make_kept<S: PlayedStack>(
+    alloc: Global,
+    kept: KeptStep,
+    stores: &mut LastStores,
+    stack: &mut S,
+) -> Result<(), StepFault>
+    requires ready { (S.told stack.old).ready ≡ true }
+    requires played { IsPlayed (S.told stack.old).configuration kept }
+    requires synchronized { HoldsSynchronized (S.told stack.old).configuration stores.old }
+    ensures synchronized { HoldsSynchronized (S.told stack.old).configuration stores.new }
+    ensures ready { OnOk result ((S.told stack.new).ready ≡ true) }
+    ensures made { OnOk result (Makes (S.seen stack.old) (S.seen stack.new) kept stores.old stores.new (S.told stack.old) (S.told stack.new)) }
+    ensures left { IfErr result (λ fault. IsLeft fault kept (S.told stack.old) (S.told stack.new)) }
+    ensures lasts { OnErr result (LastsOn (S.seen stack.old) (S.seen stack.new)) }
+    ensures keeps { (before : Part → PartTold) → S.kept stack.old before → S.kept stack.new before }
+    ensures starts { S.starts_found stack.old → S.starts_found stack.new }
+{
+    let Ok(step) = kept.whole(alloc) else {
+        return Err(StepFault::Memory);
+    };
+    make_step(alloc, step, stores, stack)
 }
 
 /// Makes one step.

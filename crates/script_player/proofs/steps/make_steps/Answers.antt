@@ -17,8 +17,8 @@ loop-step-init g c = record {
   starts = λ found. found;
 }
 
-pub make_step-requires : goal.make_step-requires
-make_step-requires g c =
+pub make_kept-requires : goal.make_kept-requires
+make_kept-requires g c =
     let way = c.loop-step.invariant.way in
     let config : Configuration = (g.S.PlayedStack.told c.loop-step.stack).configuration in
     let order = c.loop-step.invariant.order ∙ ap (λ (xs : List Step). c.loop-step.yielded ++ xs) c.in-Some.ensures.steps.0 in
@@ -36,15 +36,15 @@ loop-step-preserved g c =
     record {
       order = order ∙ sym (append_assoc at.yielded (c.in-Some.step ∷ []) _);
       left = let few = at.invariant.left in let gone = c.in-Some.ensures.steps.1 in let short = ap length more in omega (arith, few, gone, short);
-      way = go_on (g.S.PlayedStack.seen c.args.stack.now) (g.S.PlayedStack.seen at.stack) (g.S.PlayedStack.seen c.make_step.new.stack) c.args.steps at.yielded _ c.in-Some.step at.stores c.make_step.new.stores (g.S.PlayedStack.told c.args.stack.now) (g.S.PlayedStack.told at.stack) (g.S.PlayedStack.told c.make_step.new.stack) order c.into_steps-step-items.ensures.few c.requires.planned at.invariant.way c.in_default-make_step.ensures.made;
-      keeps = λ before kept. c.make_step.ensures.keeps before (at.invariant.keeps before kept);
-      starts = λ found. c.make_step.ensures.starts (at.invariant.starts found);
+      way = go_on (g.S.PlayedStack.seen c.args.stack.now) (g.S.PlayedStack.seen at.stack) (g.S.PlayedStack.seen c.make_kept.new.stack) c.args.steps at.yielded _ c.in-Some.step at.stores c.make_kept.new.stores (g.S.PlayedStack.told c.args.stack.now) (g.S.PlayedStack.told at.stack) (g.S.PlayedStack.told c.make_kept.new.stack) order c.into_steps-step-items.ensures.few c.requires.planned at.invariant.way c.in_default-make_kept.ensures.made;
+      keeps = λ before kept. c.make_kept.ensures.keeps before (at.invariant.keeps before kept);
+      starts = λ found. c.make_kept.ensures.starts (at.invariant.starts found);
     }
 
 pub returns-in-Err-clause-some : goal.returns-in-Err-clause-some
 returns-in-Err-clause-some g c =
     let at = c.loop-step in
-    some_made (g.S.PlayedStack.seen c.args.stack.now) (g.S.PlayedStack.seen at.stack) (g.S.PlayedStack.seen c.make_step.new.stack) c.in-Err.fault c.args.steps at.yielded _ c.in-Some.step at.stores (g.S.PlayedStack.told c.args.stack.now) (g.S.PlayedStack.told at.stack) (g.S.PlayedStack.told c.make_step.new.stack) (at.invariant.order ∙ ap (λ (xs : List Step). at.yielded ++ xs) c.in-Some.ensures.steps.0) at.invariant.way c.in-Err.ensures.left c.in-Err.ensures.lasts
+    some_made (g.S.PlayedStack.seen c.args.stack.now) (g.S.PlayedStack.seen at.stack) (g.S.PlayedStack.seen c.make_kept.new.stack) c.in-Err.fault c.args.steps at.yielded _ c.in-Some.step at.stores (g.S.PlayedStack.told c.args.stack.now) (g.S.PlayedStack.told at.stack) (g.S.PlayedStack.told c.make_kept.new.stack) (at.invariant.order ∙ ap (λ (xs : List Step). at.yielded ++ xs) c.in-Some.ensures.steps.0) at.invariant.way c.in-Err.ensures.left c.in-Err.ensures.lasts
 
 pub returns-clause-all : goal.returns-clause-all
 returns-clause-all g c =
