@@ -181,6 +181,13 @@ impl KeptStep {
         }
     }
 
+    /// Its line of the input.
+    pub fn line(&self) -> u32
+        ensures { result ≡ self.now.line }
+    {
+        self.line
+    }
+
     /// Who makes it.
     pub fn caller(&self) -> u8
         ensures { result ≡ self.now.caller }

@@ -61,7 +61,7 @@ fn read_soaked<S: Source>(
 {
     let Script { config, steps } = take_script(alloc, Mode::Play, input)?;
     if let Some(step) = steps.get(0) {
-        return Err(Stop::BadScript { line: step.line });
+        return Err(Stop::BadScript { line: step.line() });
     }
     match soak_steps(alloc, &config, seed, count) {
         Ok(steps) => Ok(Script { config, steps }),
