@@ -8,8 +8,8 @@ uint8 NvMShim_Ask(uint8 service, NvM_BlockIdType id, uint8 number, const void *c
     NvMShim.is_at_rest = 0;
     NvMShim_Tell();
     if (code == 0) return 0;
+    if (code == 1) return told;
     switch (code) {
-    case 1: return told;
     case 2:
         if (value) *value = told;
         return 0;

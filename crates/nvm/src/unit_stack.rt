@@ -121,6 +121,7 @@ impl<F: Flash, O: Origin> UnitStack<F, O> {
     /// Takes a request whose content is lent, of a caller, from 0 to 15, where entries aren't kept, as those of a unit aren't, and
     /// replies as `ask` does. The content is at most as long as its block's; a request that brings none lends no bytes. It takes no
     /// memory: Ok comes exactly where its entry fits under the cap, and else `NoRoom`, and nothing changed.
+    #[inline(always)]
     pub fn enter(&mut self, caller: u8, request: LentRequest<'_>) -> Result<Reply, AskFault>
         requires counted { keeps self.old.desk.cap ≡ false }
         requires ready { self.old.ready ≡ true }

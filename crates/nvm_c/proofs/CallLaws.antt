@@ -21,7 +21,7 @@ use Rattle.nvm_c.specs.declared.services.Service.TheVariants as service
 use Rattle.nvm_c.specs.declared.work.Task.{Task}
 use Rattle.nvm_c.specs.declared.work.Outcome.{Outcome}
 use Rattle.nvm_c.specs.declared.work.Outcome.TheVariants.{Asked, Closed, Down, NotOpened}
-use Rattle.nvm_c.specs.declared.work.Task.TheVariants.{Ask, Call, Enter}
+use Rattle.nvm_c.specs.declared.work.Task.TheVariants.{Ask}
 use Rattle.nvm_c.specs.declared.work.Work.TheVariants.{Open, Serve, Close}
 
 -- nothing changed, and this is so of a state that stays
@@ -31,9 +31,7 @@ goes_same (Some k) P is so = (k.state, refl, so k.state)
 
 -- what was done with a task is what was done with its request
 taken_by : (r : Request) (task : Task) (answer : Result Reply AskFault) (s t : UnitState) → IsTaskOf r task → Does task (Asked answer) s t → IsTaken r answer s t
-taken_by r (Ask request) answer s t is does = subst (λ (x : Request). IsTaken x answer s t) is does
-taken_by r (Call kind) answer s t is does = subst (λ (x : Request). IsTaken x answer s t) is does
-taken_by r (Enter kind buffer) answer s t is does = subst (λ (x : Request). IsTaken x answer s t) is does
+taken_by r (Ask kind content) answer s t is does = subst (λ (x : Request). IsTaken x answer s t) is does
 taken_by r task answer s t is does = absurd is
 
 -- each request keeps the rule on numbers of stores
@@ -77,9 +75,7 @@ same_request service.RestorePermanentRam block number content is = refl
 same_request service.PutRam block number content is = cc is
 
 can_do : (r : Request) (task : Task) (s : UnitState) → IsTaskOf r task → HasStore s.desk.config r → CanDo task s
-can_do r (Ask request) s is has = subst (λ (x : Request). HasStore s.desk.config x) (sym is) has
-can_do r (Call kind) s is has = subst (λ (x : Request). HasStore s.desk.config x) (sym is) has
-can_do r (Enter kind buffer) s is has = subst (λ (x : Request). HasStore s.desk.config x) (sym is) has
+can_do r (Ask kind content) s is has = subst (λ (x : Request). HasStore s.desk.config x) (sym is) has
 can_do r task s is has = absurd is
 
 pub can_ask : (kept : Option Kept) (v : Service) (block number : ℕ) (content : List ℕ) (task : Task) → IsSome kept → IsTaskOf (request_of v block number content) task → CanRun kept (Serve task)
@@ -117,15 +113,9 @@ asked (Some k) behind v service block number content task answer code value is_o
 
 -- one that wasn't answered had a unit whose last start-up failed
 down_by : (r : Request) (task : Task) (y : Outcome) (s t : UnitState) → IsTaskOf r task → Does task y s t → ((answer : Result Reply AskFault) → y ≡ Asked answer → ⊥) → StaysDown s t
-down_by r (Ask request) (Asked answer) s t is does other = absurd (other answer refl)
-down_by r (Ask request) Down s t is does other = does
-down_by r (Ask request) y s t is does other = absurd does
-down_by r (Call kind) (Asked answer) s t is does other = absurd (other answer refl)
-down_by r (Call kind) Down s t is does other = does
-down_by r (Call kind) y s t is does other = absurd does
-down_by r (Enter kind buffer) (Asked answer) s t is does other = absurd (other answer refl)
-down_by r (Enter kind buffer) Down s t is does other = does
-down_by r (Enter kind buffer) y s t is does other = absurd does
+down_by r (Ask kind content) (Asked answer) s t is does other = absurd (other answer refl)
+down_by r (Ask kind content) Down s t is does other = does
+down_by r (Ask kind content) y s t is does other = absurd does
 down_by r task y s t is does other = absurd is
 
 stayed_by : (k : Kept) (behind : Option Kept) (r : Request) (service block number : ℕ) (content : List ℕ) (task : Task) (y : Outcome) → IsTaskOf r task → ((answer : Result Reply AskFault) → y ≡ Asked answer → ⊥)

@@ -1,5 +1,5 @@
 -- What is asked of the unit of a handle, and what comes of it.
-use Rattle.std.specs.Prelude.{◌≡◌, ◌⊎◌, ◌≤◌, ℕ, false, true, [], Bool, Option, None, Some, IsSome, IsSomeAnd, IfOk, IfSome, Result, length, option_map}
+use Rattle.std.specs.Prelude.{◌≡◌, ◌⊎◌, ◌≤◌, ℕ, false, true, Bool, Option, None, Some, IsSome, IsSomeAnd, IfOk, Result, length, option_map}
 use Rattle.nvm.specs.block_config.Config.{block_of}
 use Rattle.nvm.specs.block_machine.Blocks.{block_at, status_of}
 use Rattle.nvm.specs.block_machine.Legal.{HasStore}
@@ -23,16 +23,12 @@ use Rattle.nvm_c.specs.declared.work.Outcome.TheVariants as outcome
 -- TASKS
 -- a request keeps the rule on numbers of stores
 abbrev pub CanDo : Task → UnitState → Type 0
-CanDo (task.Ask request) s = HasStore s.desk.config request
-CanDo (task.Call kind) s = HasStore s.desk.config (whole_request kind [])
-CanDo (task.Enter kind buffer) s = HasStore s.desk.config (whole_request kind buffer.content)
+CanDo (task.Ask kind content) s = HasStore s.desk.config (whole_request kind content.now)
 CanDo x s = Unit {0}
 
 -- it asks this
 abbrev pub IsTaskOf : Request → Task → Type 0
-IsTaskOf r (task.Ask request) = request ≡ r
-IsTaskOf r (task.Call kind) = whole_request kind [] ≡ r
-IsTaskOf r (task.Enter kind buffer) = whole_request kind buffer.content ≡ r
+IsTaskOf r (task.Ask kind content) = whole_request kind content.now ≡ r
 IsTaskOf r x = ⊥
 
 -- its last start-up failed, so nothing was done
@@ -53,13 +49,8 @@ abbrev pub PlansNone : (nth : ℕ) → UnitState → Type 0
 PlansNone nth s = (nth ≡ 0) ⊎ ((unit_told s).causes.takes ≡ 0)
 
 abbrev pub Does : Task → Outcome → UnitState → UnitState → Type 0
-Does (task.Ask request) (outcome.Asked answer) s t = IsTaken request answer s t
-Does (task.Ask request) outcome.Down s t = StaysDown s t
-Does (task.Call kind) (outcome.Asked answer) s t = IsTaken (whole_request kind []) answer s t
-Does (task.Call kind) outcome.Down s t = StaysDown s t
-Does (task.Enter kind buffer) (outcome.Asked answer) s t = IsTaken (whole_request kind buffer.content) answer s t
-Does (task.Enter kind buffer) outcome.Down s t = StaysDown s t
-Does (task.Lend bytes) (outcome.Lent buffer) s t = IfSome buffer (λ b. bytes ≤ b.room) × (t ≡ s)
+Does (task.Ask kind content) (outcome.Asked answer) s t = IsTaken (whole_request kind content.now) answer s t
+Does (task.Ask kind content) outcome.Down s t = StaysDown s t
 Does (task.Keep buffer) outcome.Kept s t = t ≡ s
 Does task.Turn (outcome.Turned answer) s t = (s.ready ≡ true) × IsTurnCall answer s t
 Does task.Turn outcome.Down s t = StaysDown s t

@@ -32,9 +32,9 @@ impl Handle {
 
     // The unit is of a type that its own flash picks, so what is done with it is done at that type.
     #[inline(always)]
-    fn run(self, alloc: Global, work: Work) -> (Handle, Outcome)
+    fn run(self, alloc: Global, work: Work<'_>) -> (Handle, Outcome)
         requires { CanRun self.kept work }
-        ensures { Ran self.kept work result.1 result.0.kept }
+        ensures { Ran self.kept work.entry result.1 result.0.kept }
     {
         let Handle { at } = self;
         let room = Room::<LentUnit<Brand>> {
@@ -49,9 +49,9 @@ impl Handle {
 /// Does work with the unit of a handle. Who calls it knows which work, and it is a part of its caller: so no work is handed on but what that
 /// one needs.
 #[inline(always)]
-pub(crate) fn work_on(alloc: Global, handle: &mut Handle, work: Work) -> Outcome
+pub(crate) fn work_on(alloc: Global, handle: &mut Handle, work: Work<'_>) -> Outcome
     requires { CanRun handle.old.kept work }
-    ensures { Ran handle.old.kept work result handle.new.kept }
+    ensures { Ran handle.old.kept work.entry result handle.new.kept }
 {
     let (held, outcome) = replace(handle, Handle::empty()).run(alloc, work);
     *handle = held;

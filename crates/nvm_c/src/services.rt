@@ -1,5 +1,5 @@
 // The services.
-ghost use Rattle.std.specs.Prelude.{◌≡◌, ◌≢◌, ◌≤◌, ℕ, List, length, None, IfOk, IfSome, IsSome, OnErr};
+ghost use Rattle.std.specs.Prelude.{◌≡◌, ◌≢◌, ℕ, List, None, IfSome, IsSome};
 ghost use Rattle.nvm.specs.nv_desk.Request.{whole_request};
 ghost use Rattle.nvm_c.specs.Services.{answer_code, answer_value, brings_content, number_of, request_of};
 ghost use Rattle.nvm_c.specs.Exports.{Goes, IsAsked};
@@ -7,8 +7,8 @@ ghost use Rattle.nvm_c.specs.Held.{IsHandedOn};
 
 use crate::handle::{Handle, work_on};
 use crate::work::{Outcome, Task, Work};
-use nvm::{AskFault, Buffer, Reply, RequestKind, bytes_of, refusal_number, result_code};
-use std::alloc::{AllocError, Global};
+use nvm::{AskFault, Reply, RequestKind, refusal_number, result_code};
+use std::alloc::Global;
 
 /// The services that ask something, by the standard's names; of a null pointer by those of its calls on permanent RAM.
 #[derive(Clone, Copy)]
@@ -95,8 +95,8 @@ fn kind_of(service: Service, block: u16, number: u8) -> RequestKind
     }
 }
 
-// Asks the unit for a service: its content stands in the unit's buffer, or in memory of its own where that has no room for it. Each way is a
-// call of its own, of a task that is known where it is made.
+// Asks the unit for a service. The content of one that brings none isn't handed on.
+#[inline(always)]
 fn ask_unit(
     alloc: Global,
     handle: &mut Handle,
@@ -104,51 +104,18 @@ fn ask_unit(
     block: u16,
     number: u8,
     content: &[u8],
-) -> Result<Outcome, AllocError>
+) -> Outcome
     requires open { IsSome handle.old.kept }
-    ensures asked { IfOk result (λ y. IsHandedOn (request_of service block number content.now) handle.old.kept y handle.new.kept) }
-    ensures same { OnErr result (handle.new.kept ≡ handle.old.kept) }
+    ensures { IsHandedOn (request_of service block number content.now) handle.old.kept result handle.new.kept }
 {
     let kind = kind_of(service, block, number);
-    if !brings_content(service) {
-        let task = Task::Call { kind };
-        return Ok(work_on(alloc, handle, Work::Serve { task }));
-    }
-    match lent_buffer(alloc, handle, content.len()) {
-        Some(buffer) => {
-            let buffer = filled(buffer, content);
-            let task = Task::Enter { kind, buffer };
-            Ok(work_on(alloc, handle, Work::Serve { task }))
-        }
-        None => {
-            let request = kind.whole(bytes_of(alloc, content)?);
-            let task = Task::Ask { request };
-            Ok(work_on(alloc, handle, Work::Serve { task }))
-        }
-    }
-}
-
-// The unit's buffer, where it has room for so many bytes.
-fn lent_buffer(alloc: Global, handle: &mut Handle, bytes: usize) -> Option<Buffer>
-    requires open { IsSome handle.old.kept }
-    ensures same { handle.new.kept ≡ handle.old.kept }
-    ensures room { IfSome result (λ b. bytes ≤ b.room) }
-{
-    let task = Task::Lend { bytes };
-    match work_on(alloc, handle, Work::Serve { task }) {
-        Outcome::Lent { buffer } => buffer,
-        _other => None,
-    }
-}
-
-// A buffer with this content.
-fn filled(buffer: Buffer, content: &[u8]) -> Buffer
-    requires { length content.now ≤ buffer.room }
-    ensures { result.content ≡ content.now }
-{
-    let mut buffer = buffer;
-    buffer.put(content);
-    buffer
+    let content = if brings_content(service) {
+        content
+    } else {
+        &[]
+    };
+    let task = Task::Ask { kind, content };
+    work_on(alloc, handle, Work::Serve { task })
 }
 
 // An answer as C gets it.
@@ -186,10 +153,7 @@ pub extern "C" fn nvm_ask(
     let Some(service) = service_of(service) else {
         return 6;
     };
-    let Ok(outcome) = ask_unit(alloc, handle, service, block, number, content) else {
-        return 4;
-    };
-    match outcome {
+    match ask_unit(alloc, handle, service, block, number, content) {
         Outcome::Asked { answer } => {
             let (code, told) = answer_of(answer);
             *value = told;

@@ -86,6 +86,23 @@ impl<O: Origin> LentUnit<O> {
         Ok(reply)
     }
 
+    // Takes a request with a copy of its content. It stands apart, since it is asked seldom.
+    #[inline(never)]
+    fn ask_copied(
+        &mut self,
+        alloc: Global,
+        kind: RequestKind,
+        content: &[u8],
+    ) -> Result<Reply, AskFault>
+        requires ready { self.old.ready ≡ true }
+        requires store { HasStore self.old.desk.config (whole_request kind content.now) }
+        ensures asks { IsAskCall (whole_request kind content.now) result self.old self.new }
+        ensures replies { IfOk result (λ reply. reply ≡ reply_of self.old.desk.config self.old.desk.cap (state_of self.old.desk) (whole_request kind content.now)) }
+    {
+        let content = bytes_of(alloc, content)?;
+        self.ask(alloc, kind.whole(content))
+    }
+
     /// Takes a request of the one caller, whose content is lent. It takes memory only for a content that is longer than its block's,
     /// which is refused.
     #[inline(always)]
@@ -105,22 +122,13 @@ impl<O: Origin> LentUnit<O> {
         let request = LentRequest { kind, content };
         let before = self.unit.stack();
         if !before.content_fits(request) {
-            let content = bytes_of(alloc, content)?;
-            return self.ask(alloc, kind.whole(content));
+            return self.ask_copied(alloc, kind, content);
         }
         let _device = before.device();
         let reply = self.unit.enter(0, request)?;
         let after = self.unit.stack();
         let _behind = after.device();
         Ok(reply)
-    }
-
-    /// Lends its buffer, where it has that and room for so many bytes.
-    pub fn lend(&mut self, bytes: usize) -> Option<Buffer>
-        ensures same { self.new ≡ self.old }
-        ensures room { IfSome result (λ b. bytes ≤ b.room) }
-    {
-        take_buffer(&mut self.buffer, bytes)
     }
 
     /// This is its buffer from now on.

@@ -10,14 +10,14 @@ use crate::unit::LentUnit;
 use crate::unit_opening::open;
 use lent_flash::{Lent, LentFlash};
 use nvm::{
-    AskFault, Buffer, Bytes, Config, FoundAnswer, MakeFault, Origin, Reply, ReqResult, Request,
-    RequestKind, Turned, longest_content,
+    AskFault, Buffer, Bytes, Config, FoundAnswer, MakeFault, Origin, Reply, ReqResult, RequestKind,
+    Turned, longest_content,
 };
 use std::alloc::Global;
 
 /// What is asked of a unit.
 #[derive(Drop)]
-pub enum Work {
+pub enum Work<'a> {
     Open {
         config: Config,
         flash: LentFlash,
@@ -25,31 +25,42 @@ pub enum Work {
     },
     Close,
     Serve {
-        task: Task,
+        task: Task<'a>,
     },
 }
 
 /// What is asked of a unit that stays.
 #[derive(Drop)]
-pub enum Task {
-    Ask { request: Request },
-    /// A request that brings no content.
-    Call { kind: RequestKind },
-    /// A request whose content stands in the buffer that was lent, which comes back with it.
-    Enter { kind: RequestKind, buffer: Buffer },
-    /// The buffer, for a content of so many bytes.
-    Lend { bytes: usize },
+pub enum Task<'a> {
+    /// A request whose content is lent: no bytes where it brings none.
+    Ask {
+        kind: RequestKind,
+        content: &'a [u8],
+    },
     /// The buffer comes back.
-    Keep { buffer: Buffer },
+    Keep {
+        buffer: Buffer,
+    },
     Turn,
-    Cut { nth: u32, keep: u32 },
+    Cut {
+        nth: u32,
+        keep: u32,
+    },
     Restart,
-    Status { block: u16 },
-    Valid { block: u16 },
+    Status {
+        block: u16,
+    },
+    Valid {
+        block: u16,
+    },
     /// What the configuration says of a block.
-    Facts { block: u16 },
+    Facts {
+        block: u16,
+    },
     /// The buffer, with what a block's RAM holds.
-    Ram { block: u16 },
+    Ram {
+        block: u16,
+    },
     /// The buffer, with what the last entry gave.
     Given,
     Line,
@@ -64,7 +75,6 @@ pub enum Outcome {
     Down,
     NoMemory,
     Asked { answer: Result<Reply, AskFault> },
-    Lent { buffer: Option<Buffer> },
     Kept,
     Turned { turned: Turned },
     Planned,
@@ -85,9 +95,9 @@ pub type UnitRoom<O> = Room<LentUnit<O>>;
 
 /// Serves it.
 #[inline(always)]
-pub fn serve<O: Origin>(alloc: Global, room: UnitRoom<O>, work: Work) -> (UnitRoom<O>, Outcome)
+pub fn serve<O: Origin>(alloc: Global, room: UnitRoom<O>, work: Work<'_>) -> (UnitRoom<O>, Outcome)
     requires { CanServe O.making O.entry work room.value }
-    ensures { Serves O.making O.entry work result.1 room.value result.0.value }
+    ensures { Serves O.making O.entry work.entry result.1 room.value result.0.value }
 {
     match work {
         Work::Open {
@@ -169,9 +179,9 @@ fn boxed<O: Origin>(
 
 // Does a task of a unit. While its last start-up stands it takes requests, makes turns, and plans cuts.
 #[inline(always)]
-fn do_task<O: Origin>(alloc: Global, unit: &mut LentUnit<O>, task: Task) -> Outcome
+fn do_task<O: Origin>(alloc: Global, unit: &mut LentUnit<O>, task: Task<'_>) -> Outcome
     requires { CanDo task unit.old }
-    ensures { Does task result unit.old unit.new }
+    ensures { Does task.entry result unit.old unit.new }
 {
     match task {
         Task::Restart => restart(alloc, unit),
@@ -189,9 +199,6 @@ fn do_task<O: Origin>(alloc: Global, unit: &mut LentUnit<O>, task: Task) -> Outc
             None => Outcome::NoMemory,
         },
         Task::Given => given(unit),
-        Task::Lend { bytes } => Outcome::Lent {
-            buffer: unit.lend(bytes),
-        },
         Task::Keep { buffer } => {
             unit.keep(buffer);
             Outcome::Kept
@@ -200,9 +207,7 @@ fn do_task<O: Origin>(alloc: Global, unit: &mut LentUnit<O>, task: Task) -> Outc
         Task::Entries => Outcome::Count {
             entries: unit.entries(),
         },
-        Task::Ask { request } => ask(alloc, unit, request),
-        Task::Call { kind } => call(alloc, unit, kind),
-        Task::Enter { kind, buffer } => enter(alloc, unit, kind, buffer),
+        Task::Ask { kind, content } => ask(alloc, unit, kind, content),
         Task::Turn => turn(unit),
         Task::Cut { nth, keep } => cut(unit, nth, keep),
     }
@@ -228,49 +233,22 @@ fn line<O: Origin>(alloc: Global, unit: &LentUnit<O>) -> Outcome
     }
 }
 
-#[inline(never)]
-fn ask<O: Origin>(alloc: Global, unit: &mut LentUnit<O>, request: Request) -> Outcome
-    requires { CanDo (Task.Ask request) unit.old }
-    ensures { Does (Task.Ask request) result unit.old unit.new }
-{
-    if !unit.is_up() {
-        return Outcome::Down;
-    }
-    Outcome::Asked {
-        answer: unit.ask(alloc, request),
-    }
-}
-
 #[inline(always)]
-fn call<O: Origin>(alloc: Global, unit: &mut LentUnit<O>, kind: RequestKind) -> Outcome
-    requires { CanDo (Task.Call kind) unit.old }
-    ensures { Does (Task.Call kind) result unit.old unit.new }
-{
-    if !unit.is_up() {
-        return Outcome::Down;
-    }
-    Outcome::Asked {
-        answer: unit.enter(alloc, kind, &[]),
-    }
-}
-
-#[inline(always)]
-fn enter<O: Origin>(
+fn ask<O: Origin>(
     alloc: Global,
     unit: &mut LentUnit<O>,
     kind: RequestKind,
-    buffer: Buffer,
+    content: &[u8],
 ) -> Outcome
-    requires { CanDo (Task.Enter kind buffer) unit.old }
-    ensures { Does (Task.Enter kind buffer) result unit.old unit.new }
+    requires { CanDo (Task.Ask kind content) unit.old }
+    ensures { Does (Task.Ask kind content.entry) result unit.old unit.new }
 {
     if !unit.is_up() {
-        unit.keep(buffer);
         return Outcome::Down;
     }
-    let answer = unit.enter(alloc, kind, buffer.content());
-    unit.keep(buffer);
-    Outcome::Asked { answer }
+    Outcome::Asked {
+        answer: unit.enter(alloc, kind, content),
+    }
 }
 
 fn given<O: Origin>(unit: &mut LentUnit<O>) -> Outcome

@@ -1,4 +1,4 @@
-use Rattle.std.proofs.Common.{refl, subst, inl, inr}
+use Rattle.std.proofs.Common.{refl, subst, inr}
 use Rattle.nvm_c.specs.Exports.{IsAsked}
 use Rattle.nvm_c.specs.Held.{Ran}
 use Rattle.nvm_c.specs.declared.work.Outcome.{Outcome}
@@ -12,20 +12,16 @@ returns-in_default c = record {
       (λ s. inr (refl, inr (inr (refl, refl, c.service_of.ensures.none c.in_default.is))));
 }
 
-pub returns-in_default-ask_unit : goal.returns-in_default-ask_unit
-returns-in_default-ask_unit c = record {
-  asked = rw c.in_default-ask_unit.ensures.same (goes_same c.args.handle.now.kept (IsAsked c.args.service c.args.block c.args.number c.args.content.now 4 0) c.requires.open (λ s. inr (refl, inl (refl, refl))));
-}
-
 pub returns-in-Asked : goal.returns-in-Asked
 returns-in-Asked c =
-    let handed = c.in-Ok.ensures.asked in record {
+    let handed = c.ask_unit.ensures in record {
       asked = asked c.args.handle.now.kept c.ask_unit.new.handle.kept c.in-Some.service c.args.service c.args.block c.args.number c.args.content.now handed.0 c.in-Asked.answer
           c.answer_of-code.result.0 c.answer_of-code.result.1 c.requires.open c.in-Some.ensures.some handed.1 c.answer_of-code.ensures.code c.answer_of-code.ensures.value
           (subst (λ (y : Outcome). Ran c.args.handle.now.kept (Serve handed.0) y c.ask_unit.new.handle.kept) c.in-Asked.is handed.2);
     }
 
-pub returns-in_default-outcome : goal.returns-in_default-outcome
-returns-in_default-outcome c = record {
-  asked = stayed_down c.args.handle.now.kept c.ask_unit.new.handle.kept c.in-Some.service c.args.service c.args.block c.args.number c.args.content.now c.in-Ok.outcome c.requires.open c.in-Ok.ensures.asked c.in_default-outcome.not-Asked;
+pub returns-in_default-ask_unit : goal.returns-in_default-ask_unit
+returns-in_default-ask_unit c = record {
+  asked = stayed_down c.args.handle.now.kept c.ask_unit.new.handle.kept c.in-Some.service c.args.service c.args.block c.args.number c.args.content.now c.ask_unit.result c.requires.open c.ask_unit.ensures
+      c.in_default-ask_unit.not-Asked;
 }
