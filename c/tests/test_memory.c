@@ -9,7 +9,7 @@
 #include <string.h>
 
 /* What a block and a stored instance may take, and all that grows with nothing. */
-enum { TEXT = 65536, MOST_LENGTH = 4096, MOST_READ = 4096, A_BLOCK = 600, A_BLOCK_OF_TEXT = 1400, AN_INSTANCE = 96, BANKS = 2, FIXED = 8192, RESETS = 3 };
+enum { TEXT = 65536, MOST_LENGTH = 4096, MOST_READ = 4096, A_BLOCK = 410, A_BLOCK_OF_TEXT = 1250, AN_INSTANCE = 96, BANKS = 2, FIXED = 8192, RESETS = 3 };
 
 /* A unit of so many blocks of one length, the last one of another. */
 typedef struct {
