@@ -14,7 +14,21 @@ IsLast {N} log x = (front : Contents N) × (log ≡ front ++ x ∷ [])
 
 -- the view of the seat that the table is made with
 abbrev pub maker : {N : Type 0} → ℕ → View N
-maker size = record { size = size; owns = true; takes = true; owner_out = false; taker_out = false; owner_slot = 0; taker_slot = 1; stores = []; got = []; taken = 0; shown = 0; looks = 0; all_shown = [] }
+maker size = record {
+  size = size;
+  owns = true;
+  takes = true;
+  owner_out = false;
+  taker_out = false;
+  owner_slot = 0;
+  taker_slot = 1;
+  stores = [];
+  got = [];
+  taken = 0;
+  shown = 0;
+  looks = 0;
+  all_shown = [];
+}
 
 -- the views after a store, a look and a take
 abbrev pub stored : {N : Type 0} → View N → Store N → ℕ → View N

@@ -52,7 +52,10 @@ impl<N> Model for Taker<N> {
 
     ghost view = { λ t. record { table = t.seat.table_id; size = t.seat.me.0.size; got = t.seat.me.0.got; shown = t.seat.me.0.shown; looks = t.seat.me.0.looks; content = t.buffer.bytes.items; note = t.buffer.note; all_shown = t.seat.me.0.all_shown } };
 
-    ghost invariant = { λ t. (t.seat.me.0.takes ≡ true) × (t.seat.me.0.taker_out ≡ true) × (length t.buffer.bytes.items ≡ t.seat.me.0.size) × (t.slot < 4) × (t.slot ≡ t.seat.me.0.taker_slot) × ((b : _) × (t.seat.me.1 ≡ (t.slot, b) ∷ [])) × (t.seat.me.0.owns ≡ false) × (t.seat.me.0.shown ≡ t.seat.me.0.taken) × (t.number ≡ store_number t.seat.me.0.shown) × (t.count ≡ counted t.seat.me.0.looks) };
+    ghost invariant = { λ t.
+        (t.seat.me.0.takes ≡ true) × (t.seat.me.0.taker_out ≡ true) × (length t.buffer.bytes.items ≡ t.seat.me.0.size)
+        × (t.slot < 4) × (t.slot ≡ t.seat.me.0.taker_slot) × ((b : _) × (t.seat.me.1 ≡ (t.slot, b) ∷ [])) × (t.seat.me.0.owns ≡ false)
+        × (t.seat.me.0.shown ≡ t.seat.me.0.taken) × (t.number ≡ store_number t.seat.me.0.shown) × (t.count ≡ counted t.seat.me.0.looks) };
 }
 
 impl<N: Drop> Taker<N> {
