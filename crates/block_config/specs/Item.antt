@@ -18,7 +18,8 @@ abbrev pub is_content_key : List ℕ → Bool
 is_content_key k = bytes_eq k (codes "kind") || bytes_eq k (codes "length") || bytes_eq k (codes "defaults") || bytes_eq k (codes "nv") || bytes_eq k (codes "rom")
 
 abbrev pub is_flag_key : List ℕ → Bool
-is_flag_key k = bytes_eq k (codes "ram") || bytes_eq k (codes "readall") || bytes_eq k (codes "writeall") || bytes_eq k (codes "once") || bytes_eq k (codes "protected") || bytes_eq k (codes "resistant")
+is_flag_key k = bytes_eq k (codes "ram") || bytes_eq k (codes "readall") || bytes_eq k (codes "writeall")
+    || bytes_eq k (codes "once") || bytes_eq k (codes "protected") || bytes_eq k (codes "resistant")
 
 abbrev pub is_number_key : List ℕ → Bool
 is_number_key k = bytes_eq k (codes "priority") || bytes_eq k (codes "reads") || bytes_eq k (codes "writes") || bytes_eq k (codes "repeats") || bytes_eq k (codes "device")
@@ -110,7 +111,8 @@ abbrev pub truth_of : List ℕ → Data → Bool
 truth_of key d = unwrap_or (truth_at key d) false
 
 abbrev pub are_truths : Data → Bool
-are_truths d = is_some (truth_at (codes "readall") d) && is_some (truth_at (codes "writeall") d) && is_some (truth_at (codes "once") d) && is_some (truth_at (codes "protected") d) && is_some (truth_at (codes "resistant") d)
+are_truths d = is_some (truth_at (codes "readall") d) && is_some (truth_at (codes "writeall") d)
+    && is_some (truth_at (codes "once") d) && is_some (truth_at (codes "protected") d) && is_some (truth_at (codes "resistant") d)
 
 -- 20: a member of a sweep has RAM
 abbrev pub may_be_member : Data → Bool
