@@ -72,4 +72,5 @@ is_legal_rec_head h =
 -- the header that a page of p bytes has
 abbrev pub rec_head_of : ℕ → ℕ → List ℕ → Option RecHead
 rec_head_of format p page =
-    if (is_count_in format (rec_head_in format page).count && is_legal_rec_head (rec_head_in format page)) && same_bytes page (rec_head_page format p (rec_head_in format page)) then Some (rec_head_in format page) else None
+    if (is_count_in format (rec_head_in format page).count && is_legal_rec_head (rec_head_in format page)) && same_bytes page (rec_head_page format p (rec_head_in format page))
+    then Some (rec_head_in format page) else None
