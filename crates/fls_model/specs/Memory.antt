@@ -13,7 +13,15 @@ pub record InMemory : Type 0 where
 -- these bytes, not attached yet
 abbrev pub in_memory : List ℕ → ℕ → InMemory
 in_memory bytes calls = record {
-  told = record { geometry = record { page = 0; sector = 0; sectors = 0 }; bytes = Some (record { now = bytes; changes = Some []; room = calls }); ops = 0; faults = 0; cuts = 0; off = false; planning = no_planning };
+  told = record {
+    geometry = record { page = 0; sector = 0; sectors = 0 };
+    bytes = Some (record { now = bytes; changes = Some []; room = calls });
+    ops = 0;
+    faults = 0;
+    cuts = 0;
+    off = false;
+    planning = no_planning;
+  };
   calls = calls;
   asked = 0;
 }
