@@ -173,7 +173,18 @@ ComesUp (Err _) old new = (new.started ≡ false) × (Rose old.first.faults new.
 
 -- whatever it answers, it is counted, and drops an open job and work of its own
 pub record StartsUp (answer : Result (Unit {0}) StartFault) (old : DeviceTold) (clock : Clock) (new : DeviceTold) (clock_new : Clock) : Type 0 where
-  pub only : new ≡ record old { slots = new.slots; started = new.started; stand = Ended JobOk []; switching = false; starts = old.starts + 1; first = new.first; second = new.second; left = 0; ready = new.ready; wait = new.wait }
+  pub only : new ≡ record old {
+    slots = new.slots;
+    started = new.started;
+    stand = Ended JobOk [];
+    switching = false;
+    starts = old.starts + 1;
+    first = new.first;
+    second = new.second;
+    left = 0;
+    ready = new.ready;
+    wait = new.wait;
+  }
   pub comes_to : ComesUp answer old new
   -- each number's mark and doubts were its settled mark or a doubt of it before
   pub marks : EachNumber (λ n s t. ComesFrom s t) old new
