@@ -40,4 +40,6 @@ in_switch bytes phase = record { old = first_old; target = 1; phase = phase; may
 
 -- the number 128 with 4 bytes, which has a content, and the number 129 with 7, which has no record
 abbrev pub flags : List Flag
-flags = record { number = 128; length = 4; copied = false; written = true; settled = record { mark = Content content_1; count = 1 } } ∷ record { number = 129; length = 7; copied = false; written = false; settled = never_written } ∷ []
+flags =
+    record { number = 128; length = 4; copied = false; written = true; settled = record { mark = Content content_1; count = 1 } }
+    ∷ record { number = 129; length = 7; copied = false; written = false; settled = never_written } ∷ []
