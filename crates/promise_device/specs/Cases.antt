@@ -108,7 +108,9 @@ Tells failed image stand ready left = TellsWork two_banks failed image (record (
 -- WEAR
 -- a record of the number, and as many blank pages behind it
 abbrev pub written : List ℕ
-written = rec_head_page 2 16 (record { number = record { 0 = 128 }; kind = kind.Content; length = 4; count = 1 }) ++ gate_page 16 ++ (1 ∷ 2 ∷ 3 ∷ 4 ∷ replicate 12 255) ++ gate_page 16 ++ replicate 64 255
+written =
+    rec_head_page 2 16 (record { number = record { 0 = 128 }; kind = kind.Content; length = 4; count = 1 })
+    ++ gate_page 16 ++ (1 ∷ 2 ∷ 3 ∷ 4 ∷ replicate 12 255) ++ gate_page 16 ++ replicate 64 255
 
 -- a flash on which no bank stands; one whose active bank has four free pages, of the eight that a record may ask for; and one whose
 -- active bank has the last generation
