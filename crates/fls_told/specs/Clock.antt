@@ -67,7 +67,15 @@ pub record HasFree (d : FlashDevice) (k pages : ℕ) : Type 0 where
   pub few : pages ≤ d.reading.free (take k d.operations) image
 
 abbrev pub flash_clock : FlashDevice → Clock
-flash_clock d = record { may_find = may_find_of d; off_in = off_in_of d; failed = HasFailed (flash_run d); worn = IsWornFor d; of_second = λ k. ⊥; spare = HasFree d; was = λ trait k. IsSuch d.reading (flash_run d) trait k }
+flash_clock d = record {
+  may_find = may_find_of d;
+  off_in = off_in_of d;
+  failed = HasFailed (flash_run d);
+  worn = IsWornFor d;
+  of_second = λ k. ⊥;
+  spare = HasFree d;
+  was = λ trait k. IsSuch d.reading (flash_run d) trait k;
+}
 
 -- WITHOUT AN OPERATION
 pub record MakesNone (d t : FlashDevice) : Type 0 where
