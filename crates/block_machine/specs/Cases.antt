@@ -155,7 +155,9 @@ abbrev pub stale_write : List Entry
 stale_write = Found [] 0 ∷ ok (Write 2 None 3) ∷ Pick 2 WriteJob (TookStale 3 2 2) 0 ∷ post 2 NotOk 0 ∷ []
 
 abbrev pub guarded_config : Configuration
-guarded_config = config_of (record (plain_block 4) { once = true } ∷ record (plain_block 2) { kind = Dataset; nv = 1; rom = (7 ∷ 8 ∷ []) ∷ []; ram = Permanent; writeall = true } ∷ record (plain_block 4) { protected = true } ∷ [])
+guarded_config = config_of
+    (record (plain_block 4) { once = true }
+    ∷ record (plain_block 2) { kind = Dataset; nv = 1; rom = (7 ∷ 8 ∷ []) ∷ []; ram = Permanent; writeall = true } ∷ record (plain_block 4) { protected = true } ∷ [])
 
 -- FOR HISTORIES THAT FAIL
 

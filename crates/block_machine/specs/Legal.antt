@@ -61,8 +61,7 @@ TakesBy d b j kind t = t ≡ TookNothing
 abbrev pub is_unfinished : Configuration → Job → Bool
 is_unfinished c j = nat_lt (length j.written) (records_of c j) || (records_of c j == 0)
 
--- A job in hand may be interrupted by an immediate one, where it isn't immediate itself, and is no write that has written
--- all of its instances.
+-- A job in hand may be interrupted by an immediate one, where it isn't immediate itself, and is no write that has written all of its instances.
 pub record MayInterrupt (c : Configuration) (h : Job) (j : Job) : Type 0 where
   pub immediate : IsTrue (rank_of c j).immediate
   pub standard : IsTrue (not (rank_of c h).immediate)

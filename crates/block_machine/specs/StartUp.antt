@@ -24,8 +24,7 @@ found_instance marks i = record { instance = i; cell = settled_as (listed_mark m
 abbrev pub found_instances : Configuration → List (Instance × Mark) → List InstanceState
 found_instances c marks = map (λ x. found_instance marks (instance_of x.0)) (lengths_of c)
 
--- A block is protected as it is configured, but a write-once block where one of its instances isn't erased. RAM that the
--- manager keeps is zeros.
+-- A block is protected as it is configured, but a write-once block where one of its instances isn't erased. RAM that the manager keeps is zeros.
 abbrev pub started_block : Configuration → List (Instance × Mark) → ℕ → BlockDesc → BlockState
 started_block c marks id d = record no_block {
   protected = if d.once then list_any (λ x. x.0.block == id) marks else d.protected;

@@ -76,8 +76,7 @@ is_done Fine = true
 is_done RedundancyFailed = true
 is_done r = false
 
--- A sweep under way after the Post of a member. A ReadAll posts block 1 with 0 or 7 exactly where it gave the
--- configuration id.
+-- A sweep under way after the Post of a member. A ReadAll posts block 1 with 0 or 7 exactly where it gave the configuration id.
 abbrev pub after_member : ℕ → ReqResult → Sweep → Sweep
 after_member id r sw = if sw.under_way then record sw { same = if id == 1 then is_done r else sw.same; spoiled = sw.spoiled || spoils r } else sw
 

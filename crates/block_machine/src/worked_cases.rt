@@ -39,10 +39,16 @@ pub fn corner_cases_are_legal()
     ensures id_is_same { IsLegal demo_config cap (id_is_read Fine Fine ++ ok WriteAll ∷ pick 0 WriteAllJob 0 ∷ post 2 BlockSkipped 0 ∷ post 1 BlockSkipped 0 ∷ post 0 Fine 0 ∷ []) }
     ensures id_from_copy_1 { IsLegal demo_config cap id_from_copy_1 }
     ensures canceled_early { IsLegal demo_config cap (Found [] 0 ∷ ok (write 2 bytes_1) ∷ ok WriteAll ∷ ok CancelWriteAll ∷ pick_write 2 bytes_1 0 ∷ wrote 2 0 bytes_1 10 ∷ post 2 Fine 10 ∷ pick 0 WriteAllJob 10 ∷ post 0 Canceled 10 ∷ []) }
-    ensures interrupted_between_copies { IsLegal mixed_config cap (Found [] 0 ∷ ok (PutRam 2 bytes_1) ∷ ok (Write 2 None 0) ∷ pick_write 2 bytes_1 0 ∷ wrote 2 0 bytes_1 10 ∷ ok (write 3 bytes_2) ∷ pick_write 3 bytes_2 11 ∷ wrote 3 0 bytes_2 15 ∷ post 3 Fine 15 ∷ pick_write 2 bytes_1 15 ∷ wrote 2 0 bytes_1 19 ∷ wrote 2 1 bytes_1 23 ∷ post 2 Fine 23 ∷ []) }
-    ensures member_copy_refused { IsLegal (config_of (record (plain_block 4) { ram = Sync; repeats = 1; defaults = Some bytes_2; readall = true } ∷ [])) cap (Found [] 0 ∷ ok ReadAll ∷ pick 0 ReadAllJob 0 ∷ pick 1 ReadJob 0 ∷ give 1 Restored (0 ∷ 1 ∷ []) 0 ∷ Post 2 NotOk None 2 0 ∷ post 0 NotOk 0 ∷ []) }
+    ensures interrupted_between_copies { IsLegal mixed_config cap (Found [] 0 ∷ ok (PutRam 2 bytes_1) ∷ ok (Write 2 None 0) ∷ pick_write 2 bytes_1 0
+        ∷ wrote 2 0 bytes_1 10 ∷ ok (write 3 bytes_2) ∷ pick_write 3 bytes_2 11 ∷ wrote 3 0 bytes_2 15 ∷ post 3 Fine 15 ∷ pick_write 2 bytes_1 15
+        ∷ wrote 2 0 bytes_1 19 ∷ wrote 2 1 bytes_1 23 ∷ post 2 Fine 23 ∷ []) }
+    ensures member_copy_refused { IsLegal (config_of (record (plain_block 4) { ram = Sync; repeats = 1; defaults = Some bytes_2; readall = true }
+        ∷ [])) cap (Found [] 0 ∷ ok ReadAll ∷ pick 0 ReadAllJob 0 ∷ pick 1 ReadJob 0 ∷ give 1 Restored (0 ∷ 1 ∷ []) 0 ∷ Post 2 NotOk None 2 0
+        ∷ post 0 NotOk 0 ∷ []) }
     ensures stale_write { IsLegal sync_config cap stale_write }
-    ensures guarded { IsLegal guarded_config cap (Found ((at 2 0, Content bytes_1) ∷ []) 0 ∷ refused (write 2 bytes_2) Protected ∷ ok (SetLock 3 true) ∷ ok (SetIndex 3 1) ∷ Off 0 ∷ refused (read 2) NotStarted ∷ Found ((at 2 0, Content bytes_1) ∷ []) 0 ∷ Ask 0 (GetIndex 3) (IndexIs 0) ∷ ok (SetIndex 3 1) ∷ ok (SetRam 3 true) ∷ ok WriteAll ∷ pick 0 WriteAllJob 0 ∷ post 3 BlockSkipped 0 ∷ post 1 BlockSkipped 0 ∷ post 0 Fine 0 ∷ []) }
+    ensures guarded { IsLegal guarded_config cap (Found ((at 2 0, Content bytes_1) ∷ []) 0 ∷ refused (write 2 bytes_2) Protected ∷ ok (SetLock 3 true)
+        ∷ ok (SetIndex 3 1) ∷ Off 0 ∷ refused (read 2) NotStarted ∷ Found ((at 2 0, Content bytes_1) ∷ []) 0 ∷ Ask 0 (GetIndex 3) (IndexIs 0)
+        ∷ ok (SetIndex 3 1) ∷ ok (SetRam 3 true) ∷ ok WriteAll ∷ pick 0 WriteAllJob 0 ∷ post 3 BlockSkipped 0 ∷ post 1 BlockSkipped 0 ∷ post 0 Fine 0 ∷ []) }
     ensures history_full { IsLegal cancel_config 6 (Found [] 0 ∷ ok (read 2) ∷ refused (write 3 (four 1)) HistoryFull ∷ pick 2 ReadJob 0 ∷ post 2 IntegrityFailed 0 ∷ []) }
 {}
 

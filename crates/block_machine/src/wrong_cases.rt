@@ -15,7 +15,9 @@ pub fn wrong_jobs_are_refuted()
     ensures later_request_first { FailsAtLast queue_config cap (Found [] 0 ∷ ok (write 2 bytes_1) ∷ ok (write 3 bytes_1) ∷ pick_write 3 bytes_1 0 ∷ []) }
     ensures standard_interrupts { FailsAtLast queue_config cap (Found [] 0 ∷ ok (write 2 bytes_1) ∷ ok (write 3 bytes_1) ∷ pick_write 2 bytes_1 0 ∷ pick_write 3 bytes_1 0 ∷ []) }
     ensures takes_ram_again { FailsAtLast mixed_config cap (Found [] 0 ∷ ok (PutRam 2 bytes_1) ∷ ok (Write 2 None 0) ∷ pick_write 2 bytes_1 0 ∷ wrote 2 0 bytes_1 10 ∷ ok (write 3 bytes_2) ∷ pick_write 3 bytes_2 11 ∷ wrote 3 0 bytes_2 15 ∷ post 3 Fine 15 ∷ pick_write 2 bytes_2 15 ∷ []) }
-    ensures copy_not_written_again { FailsAtLast mixed_config cap (Found [] 0 ∷ ok (PutRam 2 bytes_1) ∷ ok (Write 2 None 0) ∷ pick_write 2 bytes_1 0 ∷ wrote 2 0 bytes_1 10 ∷ ok (write 3 bytes_2) ∷ pick_write 3 bytes_2 11 ∷ wrote 3 0 bytes_2 15 ∷ post 3 Fine 15 ∷ pick_write 2 bytes_1 15 ∷ wrote 2 1 bytes_1 19 ∷ post 2 Fine 19 ∷ []) }
+    ensures copy_not_written_again { FailsAtLast mixed_config cap (Found [] 0 ∷ ok (PutRam 2 bytes_1) ∷ ok (Write 2 None 0) ∷ pick_write 2 bytes_1 0
+        ∷ wrote 2 0 bytes_1 10 ∷ ok (write 3 bytes_2) ∷ pick_write 3 bytes_2 11 ∷ wrote 3 0 bytes_2 15 ∷ post 3 Fine 15 ∷ pick_write 2 bytes_1 15
+        ∷ wrote 2 1 bytes_1 19 ∷ post 2 Fine 19 ∷ []) }
     ensures other_mark_written { FailsAtLast demo_config cap (Found [] 0 ∷ ok (write 2 bytes_1) ∷ pick_write 2 bytes_1 0 ∷ wrote 2 0 bytes_2 10 ∷ []) }
     ensures written_twice { FailsAtLast demo_config cap (open_write ++ wrote 2 0 bytes_1 10 ∷ []) }
     ensures read_writes { FailsAtLast demo_config cap (Found [] 0 ∷ ok (read 2) ∷ pick 2 ReadJob 0 ∷ wrote 2 0 bytes_1 10 ∷ []) }
