@@ -1,3 +1,6 @@
 mod Splits
-mod Table
+mod Index
+mod Lines
+mod Fitting
 mod Agreement
+pub mod Places

@@ -8,7 +8,8 @@ use Rattle.block_machine.specs.Blocks.{job_block}
 use Rattle.block_machine.specs.Steps.{without_job}
 use Rattle.block_laws.specs.Consistent.{Each}
 use Rattle.job_queues.specs.Laws.{TellsJob}
-use Rattle.job_pending.specs.Pending.{IsOther, StandsApart, StandApart, job_on}
+use Rattle.job_pending.specs.Slots.{job_on}
+use Rattle.job_pending.specs.Pending.{IsOther, StandsApart, StandApart}
 
 -- one of these jobs, and the others before and behind it
 pub record SplitAt (jobs : List Job) (j : Job) : Type 0 where

@@ -8,6 +8,7 @@ mod interrupt;
 mod job;
 mod pending;
 mod request;
+mod room;
 mod slots;
 mod take;
 mod unpicked;

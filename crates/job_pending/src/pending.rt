@@ -7,13 +7,14 @@ ghost use Rattle.block_machine.specs.Blocks.{job_block, rank_of};
 ghost use Rattle.block_machine.specs.Next.{next_in};
 ghost use Rattle.block_machine.specs.Steps.{without_job, picked_job, interrupted};
 ghost use Rattle.block_machine.specs.Reply.{is_queue_full};
-ghost use Rattle.block_machine.specs.Legal.{MayInterrupt};
+ghost use Rattle.block_machine.specs.Legal.{HandIsFree, MayInterrupt};
 ghost use Rattle.job_pending.specs.Take.{taken_with};
 ghost use Rattle.job_pending.specs.Slots.{slot};
 ghost use Rattle.job_pending.specs.Unpicked.{unpicked_in};
-ghost use Rattle.job_pending.specs.Pending.{Agree, IsNew, IsTakenOut, reserved_in};
+ghost use Rattle.job_pending.specs.Pending.{Agree, IsNew, IsTakenOut, most_of, reserved_in};
 
 use crate::interrupt::may_interrupt;
+use crate::room::room_for;
 use crate::slots::Slots;
 use crate::unpicked::Unpicked;
 use crate::waiting::{is_immediate, waiting_of};
@@ -44,14 +45,16 @@ impl Model for PendingJobs {
 }
 
 impl PendingJobs {
-    /// No job is pending. It takes all the memory that is ever needed for the jobs of a configuration.
+    /// No job is pending. It takes all the memory that is ever needed for the jobs of a configuration: for one on each block, or where
+    /// these are fewer for as many as the queues take, and one of each priority, which was interrupted.
     pub fn make(alloc: Global, config: &Config) -> Result<PendingJobs, AllocError>
-        ensures places { IfOk result (λ p. length p.slots ≡ length config.now.blocks + 1) }
-        ensures agrees { IfOk result (λ p. (c : Configuration) → Agree c p [] None) }
+        ensures places { IfOk result (λ p. p.slots.places ≡ length config.now.blocks + 1) }
+        ensures agrees { IfOk result (λ p. Agree config.now p [] None) }
     {
         let ids = config.blocks() + 1;
-        let slots = Slots::make(alloc, ids)?;
-        let queues = Queues::make(alloc, ids, ids)?;
+        let room = room_for(config, ids);
+        let slots = Slots::make(alloc, ids, room.all)?;
+        let queues = Queues::make(alloc, room.standard, room.immediate)?;
         Ok(PendingJobs {
             slots,
             hand: None,
@@ -135,25 +138,26 @@ impl PendingJobs {
 
     /// A job begins to be pending.
     pub fn accept(&mut self, config: &Config, job: Job)
-        requires known { job_block job < length self.old.slots }
-        requires room { unpicked_in (rank_of config.now job).immediate self.old.unpicked < 2 ^ 16 - 1 }
+        requires known { job_block job < self.old.slots.places }
+        requires room { unpicked_in (rank_of config.now job).immediate self.old.unpicked < most_of config.now (rank_of config.now job).immediate }
         requires reserved { self.old.reserved + job.reserved < 2 ^ 32 }
-        ensures places { length self.new.slots ≡ length self.old.slots }
+        ensures places { self.new.slots.places ≡ self.old.slots.places }
         ensures agrees { (waiting : List MachineJob) (held : Option MachineJob) → Agree config.now self.old waiting held → IsNew job waiting held → job.taken ≡ None → Agree config.now self.new (waiting ++ job ∷ []) held }
     {
+        let _sizes = config.queue_sizes();
         let waiting = waiting_of(config, &job);
         let _added = self.queues.add(waiting);
         self.unpicked.accept(waiting.immediate);
         self.reserved += job.reserved();
-        self.slots.put(waiting.block, job);
+        self.slots.put(job);
     }
 
     /// The next job comes in hand with what its Pick takes, and the copy of that, if one was made. One that is in hand is
     /// interrupted: it waits again, and gets two of its entries. It does nothing where no job waits.
     pub fn pick(&mut self, config: &Config, take: Take, copy: Option<Bytes>)
         requires reserved { IfSome self.old.hand (λ h. self.old.reserved + h.reserved + 2 < 2 ^ 32) }
-        ensures places { length self.new.slots ≡ length self.old.slots }
-        ensures agrees { (waiting : List MachineJob) (held : Option MachineJob) (j : MachineJob) → Agree config.now self.old waiting held → next_in config.now waiting ≡ Some j → Agree config.now self.new (interrupted held (without_job j.number waiting)) (Some (picked_job (taken_with j.content (take, copy)) (if is_some held then 2 else 0) j)) }
+        ensures places { self.new.slots.places ≡ self.old.slots.places }
+        ensures agrees { (waiting : List MachineJob) (held : Option MachineJob) (j : MachineJob) → Agree config.now self.old waiting held → next_in config.now waiting ≡ Some j → HandIsFree config.now held j → Agree config.now self.new (interrupted held (without_job j.number waiting)) (Some (picked_job (taken_with j.content (take, copy)) (if is_some held then 2 else 0) j)) }
     {
         let Some(mut job) = self.take_out() else {
             return;
@@ -165,8 +169,8 @@ impl PendingJobs {
 
     /// A member of a request on all blocks comes in hand with what its Pick takes, where no job is pending.
     pub fn pick_member(&mut self, job: Job, take: Take, copy: Option<Bytes>)
-        requires { job_block job < length self.old.slots }
-        ensures places { length self.new.slots ≡ length self.old.slots }
+        requires { job_block job < self.old.slots.places }
+        ensures places { self.new.slots.places ≡ self.old.slots.places }
         ensures agrees { (c : Configuration) → Agree c self.old [] None → Agree c self.new [] (Some (picked_job (taken_with job.content (take, copy)) 0 job)) }
     {
         let mut job = job;
@@ -177,7 +181,7 @@ impl PendingJobs {
     /// The job in hand wrote one of its instances.
     pub fn wrote(&mut self, index: u8)
         requires { IfSome self.old.hand (λ h. length h.written < 2) }
-        ensures places { length self.new.slots ≡ length self.old.slots }
+        ensures places { self.new.slots.places ≡ self.old.slots.places }
         ensures agrees { (c : Configuration) (waiting : List MachineJob) (h : MachineJob) → Agree c self.old waiting (Some h) → Agree c self.new waiting (Some (record h { reserved = h.reserved - 1; written = h.written ++ index ∷ [] })) }
     {
         let Some(job) = &mut self.hand else {
@@ -189,7 +193,7 @@ impl PendingJobs {
     /// The job in hand ends.
     pub fn end(&mut self) -> Option<Job>
         ensures job { result ≡ self.old.hand }
-        ensures places { length self.new.slots ≡ length self.old.slots }
+        ensures places { self.new.slots.places ≡ self.old.slots.places }
         ensures agrees { (c : Configuration) (waiting : List MachineJob) (held : Option MachineJob) → Agree c self.old waiting held → Agree c self.new waiting None }
     {
         self.hand.take()
@@ -197,7 +201,7 @@ impl PendingJobs {
 
     // The next job doesn't wait any more.
     fn take_out(&mut self) -> Option<Job>
-        ensures places { length self.new.slots ≡ length self.old.slots }
+        ensures places { self.new.slots.places ≡ self.old.slots.places }
         ensures hand { self.new.hand ≡ self.old.hand }
         ensures reserved { self.new.reserved ≤ self.old.reserved }
         ensures agrees { (c : Configuration) (waiting : List MachineJob) (held : Option MachineJob) (j : MachineJob) → Agree c self.old waiting held → next_in c waiting ≡ Some j → IsTakenOut c self.old self.new waiting held j result }
@@ -212,9 +216,9 @@ impl PendingJobs {
     // A job in hand waits again, with two entries more. Answers how many it got.
     fn put_back(&mut self, config: &Config) -> u32
         requires reserved { IfSome self.old.hand (λ h. self.old.reserved + h.reserved + 2 < 2 ^ 32) }
-        ensures places { length self.new.slots ≡ length self.old.slots }
+        ensures places { self.new.slots.places ≡ self.old.slots.places }
         ensures more { result ≡ (if is_some self.old.hand then 2 else 0) }
-        ensures agrees { (waiting : List MachineJob) (held : Option MachineJob) → Agree config.now self.old waiting held → Agree config.now self.new (interrupted held waiting) None }
+        ensures agrees { (waiting : List MachineJob) (held : Option MachineJob) → Agree config.now self.old waiting held → IfSome held (λ h. (rank_of config.now h).immediate ≡ false) → Agree config.now self.new (interrupted held waiting) None }
     {
         let Some(mut job) = self.hand.take() else {
             return 0;
@@ -223,7 +227,7 @@ impl PendingJobs {
         let _added = self.queues.put_back(waiting);
         job.wait_again();
         self.reserved += job.reserved();
-        self.slots.put(waiting.block, job);
+        self.slots.put(job);
         2
     }
 
@@ -236,7 +240,7 @@ impl PendingJobs {
 
     /// The power went off and on again: no job is pending any more.
     pub fn clear(&mut self)
-        ensures places { length self.new.slots ≡ length self.old.slots }
+        ensures places { self.new.slots.places ≡ self.old.slots.places }
         ensures agrees { (c : Configuration) (waiting : List MachineJob) (held : Option MachineJob) → Agree c self.old waiting held → Agree c self.new [] None }
     {
         self.slots.clear();

@@ -37,8 +37,8 @@ fn is_immediate_request(config: &Config, request: &Request) -> bool
     }
 }
 
-// The priority of a block, or the usual one where it isn't configured.
-fn priority_of(config: &Config, block: u16) -> u8
+/// The priority of a block, or the usual one where it isn't configured.
+pub fn priority_of(config: &Config, block: u16) -> u8
     ensures { result ≡ (desc_of config.now block).priority }
 {
     match config.block(block) {

@@ -4,8 +4,8 @@ use Rattle.std.specs.Option.{option_map_or}
 use Rattle.std.proofs.lemmas.Bool.{ltb-false, eq-eqb, eqb-true, not-false, or_parts, or_right}
 use Rattle.block_machine.specs.Words.{Configuration, Entry, Request, Read, Write, Restore, Erase, Invalidate, PutRam, ReadAll, WriteAll, Reply, Accepted, Refused, Refusal, RamKind, NoRamBlock, Permanent, Sync}
 use Rattle.block_machine.specs.State.{State}
-use Rattle.block_machine.specs.Blocks.{asked_block, asked_content, job_kind, desc_of, is_pending, is_permanent, is_synchronized, names_ram, status_of}
-use Rattle.block_machine.specs.Reply.{reply_of, holds, tested, answer_to, fits, needed, reserved_entries, has_no_ram}
+use Rattle.block_machine.specs.Blocks.{asked_block, asked_content, job_kind, desc_of, is_immediate, is_pending, is_permanent, is_synchronized, names_ram, status_of}
+use Rattle.block_machine.specs.Reply.{reply_of, is_queue_full, holds, tested, answer_to, fits, needed, reserved_entries, has_no_ram}
 use Rattle.block_machine.specs.Steps.{after}
 use Rattle.block_laws.proofs.HistoryLaws.{entries_are_counted}
 use Rattle.block_states.specs.States.{rooms_of}
@@ -49,29 +49,30 @@ has_ram c id some = kept_or_shared (desc_of c id).ram (id == 1) some
 
 by_parts : (c : Configuration) (cap : ℕ) (s : State) (r : Request) → ((asked_block r == 0) || nat_lt (length c.blocks) (asked_block r)) ≡ false
     → IfSome (asked_content r) (λ x. length x.0 ≡ (desc_of c (asked_block r)).length) → (names_ram r ≡ true → HasRam c (asked_block r))
-    → is_pending (status_of s 0) ≡ false → is_pending (status_of s (asked_block r)) ≡ false → not (fits c cap s (1 + needed c r)) ≡ false
+    → is_pending (status_of s 0) ≡ false → is_pending (status_of s (asked_block r)) ≡ false → is_queue_full c s.waiting (is_immediate c r) ≡ false
+    → not (fits c cap s (1 + needed c r)) ≡ false
     → IsJobAccepted c cap s r
-by_parts c cap s r known content ram alone free room =
-    record { known = known; content = content; ram = ram; alone = alone; free = free; room = not-false (fits c cap s (1 + needed c r)) room }
+by_parts c cap s r known content ram alone free queue room =
+    record { known = known; content = content; ram = ram; alone = alone; free = free; queue = queue; room = not-false (fits c cap s (1 + needed c r)) room }
 
 pub job_accepted : (c : Configuration) (cap : ℕ) (s : State) (r : Request) → is_some (job_kind r) ≡ true → Accepted ≡ reply_of c cap s r
     → IsJobAccepted c cap s r
 job_accepted c cap s (Read block false) job is = let p = passed c cap s (Read block false) is in
-    by_parts c cap s (Read block false) p.0 tt (λ e. cc) p.1.1.0 p.1.1.1.0 p.1.1.1.1.1.0
+    by_parts c cap s (Read block false) p.0 tt (λ e. cc) p.1.1.0 p.1.1.1.0 p.1.1.1.1.0 p.1.1.1.1.1.0
 job_accepted c cap s (Read block true) job is = let p = passed c cap s (Read block true) is in
-    by_parts c cap s (Read block true) p.0 tt (λ e. has_ram c block p.1.1.0) p.1.1.1.0 p.1.1.1.1.0 p.1.1.1.1.1.1.0
+    by_parts c cap s (Read block true) p.0 tt (λ e. has_ram c block p.1.1.0) p.1.1.1.0 p.1.1.1.1.0 p.1.1.1.1.1.0 p.1.1.1.1.1.1.0
 job_accepted c cap s (Write block (Some content) store) job is = let p = passed c cap s (Write block (Some content) store) is in
-    by_parts c cap s (Write block (Some content) store) p.0 (length_is (length content) (desc_of c block).length p.1.1.1.0) (λ e. cc) p.1.1.1.1.0 p.1.1.1.1.1.0 p.1.1.1.1.1.1.1.1.1.1.0
+    by_parts c cap s (Write block (Some content) store) p.0 (length_is (length content) (desc_of c block).length p.1.1.1.0) (λ e. cc) p.1.1.1.1.0 p.1.1.1.1.1.0 p.1.1.1.1.1.1.1.1.1.0 p.1.1.1.1.1.1.1.1.1.1.0
 job_accepted c cap s (Write block None store) job is = let p = passed c cap s (Write block None store) is in
-    by_parts c cap s (Write block None store) p.0 tt (λ e. has_ram c block p.1.1.1.0) p.1.1.1.1.0 p.1.1.1.1.1.0 p.1.1.1.1.1.1.1.1.1.1.0
+    by_parts c cap s (Write block None store) p.0 tt (λ e. has_ram c block p.1.1.1.0) p.1.1.1.1.0 p.1.1.1.1.1.0 p.1.1.1.1.1.1.1.1.1.0 p.1.1.1.1.1.1.1.1.1.1.0
 job_accepted c cap s (Restore block false) job is = let p = passed c cap s (Restore block false) is in
-    by_parts c cap s (Restore block false) p.0 tt (λ e. cc) p.1.1.1.1.0 p.1.1.1.1.1.0 p.1.1.1.1.1.1.1.0
+    by_parts c cap s (Restore block false) p.0 tt (λ e. cc) p.1.1.1.1.0 p.1.1.1.1.1.0 p.1.1.1.1.1.1.0 p.1.1.1.1.1.1.1.0
 job_accepted c cap s (Restore block true) job is = let p = passed c cap s (Restore block true) is in
-    by_parts c cap s (Restore block true) p.0 tt (λ e. has_ram c block p.1.1.1.0) p.1.1.1.1.1.0 p.1.1.1.1.1.1.0 p.1.1.1.1.1.1.1.1.0
+    by_parts c cap s (Restore block true) p.0 tt (λ e. has_ram c block p.1.1.1.0) p.1.1.1.1.1.0 p.1.1.1.1.1.1.0 p.1.1.1.1.1.1.1.0 p.1.1.1.1.1.1.1.1.0
 job_accepted c cap s (Erase block) job is = let p = passed c cap s (Erase block) is in
-    by_parts c cap s (Erase block) p.0 tt (λ e. cc) p.1.1.1.1.0 p.1.1.1.1.1.0 p.1.1.1.1.1.1.1.1.1.1.0
+    by_parts c cap s (Erase block) p.0 tt (λ e. cc) p.1.1.1.1.0 p.1.1.1.1.1.0 p.1.1.1.1.1.1.1.1.1.0 p.1.1.1.1.1.1.1.1.1.1.0
 job_accepted c cap s (Invalidate block) job is = let p = passed c cap s (Invalidate block) is in
-    by_parts c cap s (Invalidate block) p.0 tt (λ e. cc) p.1.1.1.0 p.1.1.1.1.0 p.1.1.1.1.1.1.1.1.1.0
+    by_parts c cap s (Invalidate block) p.0 tt (λ e. cc) p.1.1.1.0 p.1.1.1.1.0 p.1.1.1.1.1.1.1.1.0 p.1.1.1.1.1.1.1.1.1.0
 job_accepted c cap s r job is = cc
 
 pub sweep_accepted : (c : Configuration) (cap : ℕ) (s : State) (writes : Bool) → Accepted ≡ reply_of c cap s (sweep_request writes)

@@ -244,7 +244,7 @@ post_places d places block r given refused ops at content j is hand on gives cha
     gives ∙ ap (λ (o : Option Job). option_map (λ x. x.0) (option_and_then (λ h. h.content) o)) (is.agrees.jobs.hand ∙ hand) in
     let all : places ≡ put_back d.places (job_block j) (option_map (λ x. x.0) j.content) =
     changed ∙ ap (λ (n : ℕ). put_back d.places n content) here ∙ ap (put_back d.places (job_block j)) own in
-    let low : job_block j < length d.places = omega (arith, place_of s.hand (length d.kept.jobs.slots) s.waiting j hand is.agrees.jobs.hand_apart, is.agrees.places, is.one_each) in
+    let low : job_block j < length d.places = omega (arith, place_of s.hand d.kept.jobs.slots.places s.waiting j hand is.agrees.jobs.hand_apart, is.agrees.places, is.one_each) in
     let held : AreReady c (j ∷ s.waiting) d.places = subst (λ (o : Option Job). AreReady c (option_to_list o ++ s.waiting) d.places) hand is.ready in
     let sound : IsPendingJob c s j = first_by (IsPendingJob c s) s.hand s.waiting j hand is.sound.jobs in
     let jobs : jobs_of (changed_by c s (Post block r given refused ops)) ≡ s.waiting = ap (λ (o : Option Job). jobs_of (posted c s r given o)) hand in
@@ -265,4 +265,4 @@ held_by n waiting (Some x) j is h = let e : x ≡ j = cc in subst (λ k. StandsA
 
 pub held_apart : (c : Configuration) (p : Pending) (waiting : List Job) (held : Option Job) (j : Job) → Agree c p waiting held
     → held ≡ Some j → StandsApart j waiting
-held_apart c p waiting held j h is = held_by (length p.slots) waiting held j is h.hand_apart
+held_apart c p waiting held j h is = held_by p.slots.places waiting held j is h.hand_apart

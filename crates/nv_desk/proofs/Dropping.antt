@@ -10,6 +10,7 @@ use Rattle.block_laws.specs.Consistent.{AreApart, Each}
 use Rattle.block_laws.proofs.JobLists.{apart_parts, each_more, each_parts, without_split}
 use Rattle.block_laws.proofs.NextLaws.{next_is_waiting}
 use Rattle.job_pending.specs.Pending.{Agree, Pending}
+use Rattle.job_pending.proofs.Places.{few_waiting}
 use Rattle.nv_desk_state.specs.Pending.{IsAlone}
 use Rattle.nv_desk_state.specs.Kept.{Agrees}
 use Rattle.nv_desk_state.specs.declared.kept.Kept.{Kept}
@@ -22,7 +23,7 @@ use Rattle.block_machine.specs.Steps.{after}
 
 -- the job in hand gives its content back
 pub hand_dropped : (c : Configuration) (p q : Pending) (waiting : List Job) (j : Job) (places new : Ready) → AreHeld c p waiting (Some j) places
-    → Agree c q waiting None → length q.slots ≡ length p.slots → new ≡ put_back places (job_block j) (option_map (λ x. x.0) j.content) → AreHeld c q waiting None new
+    → Agree c q waiting None → q.slots.places ≡ p.slots.places → new ≡ put_back places (job_block j) (option_map (λ x. x.0) j.content) → AreHeld c q waiting None new
 hand_dropped c p q waiting j places new is agree slots back = record {
   agree = agree;
   apart = is.apart;
@@ -34,13 +35,13 @@ hand_dropped c p q waiting j places new is agree slots back = record {
 }
 
 pub none_dropped : (c : Configuration) (p q : Pending) (waiting : List Job) (places : Ready) → AreHeld c p waiting None places → Agree c q waiting None
-    → length q.slots ≡ length p.slots → AreHeld c q waiting None places
+    → q.slots.places ≡ p.slots.places → AreHeld c q waiting None places
 none_dropped c p q waiting places is agree slots =
     record { agree = agree; apart = is.apart; slots = slots ∙ is.slots; count = is.count; whole = is.whole; ready = is.ready }
 
 -- the next one comes in hand first
 pub next_held : (c : Configuration) (p q : Pending) (waiting : List Job) (j : Job) (places : Ready) → AreHeld c p waiting None places → next_in c waiting ≡ Some j
-    → length q.slots ≡ length p.slots → Agree c q (without_job j.number waiting) (Some (picked_job TookNothing 0 j))
+    → q.slots.places ≡ p.slots.places → Agree c q (without_job j.number waiting) (Some (picked_job TookNothing 0 j))
     → AreHeld c q (without_job j.number waiting) (Some (picked_job TookNothing 0 j)) places
 next_held c p q waiting j places is next slots agree =
     let (before, behind, split) = next_is_waiting c waiting j next in
@@ -78,7 +79,7 @@ few_left waiting n most few end = empty_list waiting (omega (arith, few, end))
 
 -- no more wait than there are blocks
 pub few_wait : (c : Configuration) (p : Pending) (waiting : List Job) (held : Option Job) (places : Ready) → AreHeld c p waiting held places → length waiting ≤ length c.blocks + 1
-few_wait c p waiting held places is = omega (arith, is.agree.room, is.slots)
+few_wait c p waiting held places is = omega (arith, few_waiting c p waiting held is.agree, is.slots)
 
 -- THE DESK
 whole_by : (c : Configuration) (s : State) (jobs : List Job) → Each (IsPendingJob c s) jobs → Each (IsWhole c) jobs

@@ -1,17 +1,18 @@
 -- A job that is accepted.
-use Rattle.std.proofs.Common.{◌≡◌, ◌≤◌, ◌<◌, ℕ, zero, suc, ◌+◌, ◌-◌, ◌^◌, ◌&&◌, not, Bool, true, false, List, [], ◌∷◌, ◌++◌, length, get_or, sum_by, option_to_list, Contains, IfSome, IsTrue, is_some, is_none, unwrap_or, refl, sym, ap, ◌∙◌, subst, arith, Option, Some, None}
-use Rattle.std.proofs.lemmas.List.Sums.{sum_by-append, count_by-le-length}
+use Rattle.std.proofs.Common.{◌≡◌, ◌≤◌, ◌<◌, ℕ, zero, suc, ◌+◌, ◌-◌, ◌^◌, nat_le, Bool, true, false, List, [], ◌∷◌, ◌++◌, length, get_or, sum_by, option_to_list, Contains, IfSome, IsTrue, is_some, is_none, unwrap_or, refl, sym, ap, ◌∙◌, subst, arith, Option, Some, None}
+use Rattle.std.proofs.lemmas.Bool.Decides.{nat_tests}
+use Rattle.std.proofs.lemmas.List.Sums.{sum_by-append}
 use Rattle.block_machine.specs.Words.{Configuration, Pending, Ask, Request, Write, JobKind, ReadJob, WriteJob, Accepted}
 use Rattle.block_machine.specs.State.{State, Job, Sweep, jobs_of}
 use Rattle.block_machine.specs.Blocks.{asked_block, asked_content, job_block, job_kind, names_ram, is_pending, rank_of, status_of}
-use Rattle.block_machine.specs.Reply.{reserved_entries, needed}
+use Rattle.block_machine.specs.Reply.{is_queue_full, reserved_entries, needed}
 use Rattle.block_machine.specs.Steps.{after, step, accepted, accepted_by, job_at, with_status}
 use Rattle.block_machine.specs.Legal.{IsAsk}
 use Rattle.block_laws.specs.Consistent.{Each, IsConsistent, IsWaitingJob, IsJobInHand, IsPendingSweep}
 use Rattle.block_laws.proofs.NextLaws.{fitting_has_room}
 use Rattle.job_pending.specs.declared.unpicked.Unpicked.{Unpicked}
 use Rattle.job_pending.specs.Unpicked.{unpicked_in}
-use Rattle.job_pending.specs.Pending.{IsNew, reserved_by}
+use Rattle.job_pending.specs.Pending.{IsNew, most_of, reserved_by, unpicked_of}
 use Rattle.nv_desk.specs.declared.desk.Desk.TheInside.{Inside}
 use Rattle.nv_desk.specs.Asks.{IsJobAccepted}
 use Rattle.nv_desk.specs.Desk.{IsKept}
@@ -35,11 +36,16 @@ all_below c s (Some h) is waiting held x (suc k, below, at) = (each_at (IsWaitin
 
 pub new_job : (c : Configuration) (cap : ℕ) (s : State) (r : Request) (j : Job) → IsSound c s → IsJobAccepted c cap s r
     → job_block j ≡ asked_block r → j.number ≡ s.count → IsNew j s.waiting s.hand
-new_job c cap s r j sound passed block number x at = record {
-  block = λ e. let same : job_block x ≡ asked_block r = e ∙ block in
-      cc ((each_at (IsPendingJob c s) (jobs_of s) x at.0 at.1 at.2 sound.jobs).pending, same, passed.free);
-  number = λ e. let low = all_below c s s.hand refl sound.consistent.waiting sound.consistent.hand x at in absurd (omega (arith, low, e, number));
-}
+new_job c cap s r j sound passed block number x at =
+    let low = all_below c s s.hand refl sound.consistent.waiting sound.consistent.hand x at in
+    let less : x.number < j.number = omega (arith, low, number) in (
+      record {
+        block = λ e. let same : job_block x ≡ asked_block r = e ∙ block in
+            cc ((each_at (IsPendingJob c s) (jobs_of s) x at.0 at.1 at.2 sound.jobs).pending, same, passed.free);
+        number = λ e. absurd (omega (arith, less, e));
+      },
+      less,
+    )
 
 -- what it changes, and what it reserves
 pub accepted_job : (c : Configuration) (s : State) (r : Request) (kind : Option JobKind) → job_kind r ≡ kind → is_some kind ≡ true
@@ -84,22 +90,19 @@ few_reserved d caller r more is kind allowed need =
 
 -- its block has a place
 pub has_place : (c : Configuration) (cap : ℕ) (s : State) (k : Kept) (r : Request) (j : Job) → IsJobAccepted c cap s r → Agrees c k s
-    → job_block j ≡ asked_block r → job_block j < length k.jobs.slots
+    → job_block j ≡ asked_block r → job_block j < k.jobs.slots.places
 has_place c cap s k r j passed agrees block =
     let known = known_of (length c.blocks) (asked_block r) passed.known in
     omega (arith, known.1, agrees.places, block)
 
--- jobs that were never picked are among those that wait, which are on different blocks
-pub few_unpicked : (c : Configuration) (k : Kept) (s : State) (immediate : Bool) → length c.blocks ≤ 512 → Agrees c k s
-    → unpicked_in immediate k.jobs.unpicked < 2 ^ 16 - 1
-few_unpicked c k s true low agrees =
-    let most = count_by-le-length (λ (j : Job). (rank_of c j).immediate && is_none j.taken) s.waiting in
-    let same = ap (λ (u : Unpicked). u.immediate) agrees.jobs.unpicked in
-    omega (arith, most, same, agrees.jobs.room, agrees.places, low)
-few_unpicked c k s false low agrees =
-    let most = count_by-le-length (λ (j : Job). not (rank_of c j).immediate && is_none j.taken) s.waiting in
-    let same = ap (λ (u : Unpicked). u.standard) agrees.jobs.unpicked in
-    omega (arith, most, same, agrees.jobs.room, agrees.places, low)
+not_le : (a b : ℕ) → nat_le a b ≡ false → b < a
+not_le a b no_ = grind (arith, nat_tests)
+
+-- fewer jobs were never picked than their queue takes
+pub few_unpicked : (c : Configuration) (k : Kept) (s : State) (immediate : Bool) → is_queue_full c s.waiting immediate ≡ false → Agrees c k s
+    → unpicked_in immediate k.jobs.unpicked < most_of c immediate
+few_unpicked c k s true free agrees = omega (arith, not_le c.immediate (unpicked_of c s.waiting).immediate free, ap (λ (u : Unpicked). u.immediate) agrees.jobs.unpicked)
+few_unpicked c k s false free agrees = omega (arith, not_le c.standard (unpicked_of c s.waiting).standard free, ap (λ (u : Unpicked). u.standard) agrees.jobs.unpicked)
 
 -- the job that is made is the machine's
 pub job_is : (c : Configuration) (n number reserved : ℕ) (r request : Request) (j : Job)

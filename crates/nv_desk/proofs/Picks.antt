@@ -6,10 +6,10 @@ use Rattle.nv_recorder.specs.Recorder.{Recorded}
 use Rattle.block_machine.specs.Words.{Configuration, JobKind, Taken, Pick}
 use Rattle.block_machine.specs.State.{State, Job, jobs_of}
 use Rattle.block_machine.specs.Blocks.{desc_of, job_block, kind_of, rank_of}
-use Rattle.block_machine.specs.Next.{PickJob, next_in, next_of}
+use Rattle.block_machine.specs.Next.{PickJob, next_by, next_in, next_of}
 use Rattle.block_machine.specs.Reply.{reserved_entries}
 use Rattle.block_machine.specs.Steps.{after, step, changed_by, in_hand, content_after}
-use Rattle.block_machine.specs.Legal.{MayInterrupt}
+use Rattle.block_machine.specs.Legal.{HandIsFree, IsAllowed, MayInterrupt, MayPick}
 use Rattle.block_laws.specs.Consistent.{Each, IsConsistent, IsWaitingJob, IsJobInHand}
 use Rattle.block_laws.proofs.NextLaws.{next_is_waiting}
 use Rattle.job_pending.specs.declared.take.Take.{Take}
@@ -209,3 +209,8 @@ not_interrupting d told = (
   λ t. cc,
   λ i. let is = told ∙ ap (λ (o : Option Job). option_map_or (λ j. (rank_of d.config j).immediate) o false) i.first in cc (is, i.may.immediate),
 )
+
+-- the Pick of a job leaves none in hand that it may not interrupt
+pub hand_free : (c : Configuration) (cap : ℕ) (s : State) (j : Job) (block : ℕ) (kind : JobKind) (t : Taken) (ops : ℕ) → next_in c s.waiting ≡ Some j
+    → IsAllowed c cap s (Pick block kind t ops) → HandIsFree c s.hand j
+hand_free c cap s j block kind t ops next allowed = (subst (λ (o : Option Job). MayPick c s block kind t (next_by c s o s.hand s.sweep)) next allowed.1).free

@@ -203,7 +203,7 @@ none_beside : (c : Configuration) (p : Pending) (s : State) (j : Job) → Agree 
     → NoneHolds (jobs_of s) (job_block j)
 none_beside c p s j agree next none =
     let (before, after, is) = next_is_waiting c s.waiting j next in
-    none_held (length p.slots) s.waiting s.hand before j after is agree.hand_apart
+    none_held p.slots.places s.waiting s.hand before j after is agree.hand_apart
     (subst (λ js. NoneHolds js (job_block j)) (sym is) (none_among before j after none (subst StandApart is agree.apart)))
 
 -- PENDING blocks are known

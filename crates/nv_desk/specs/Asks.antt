@@ -2,8 +2,8 @@
 use Rattle.std.specs.Prelude.{◌≡◌, ℕ, ◌+◌, ◌==◌, ◌||◌, nat_lt, true, false, length, IfSome}
 use Rattle.block_machine.specs.Words.{Configuration, Request}
 use Rattle.block_machine.specs.State.{State}
-use Rattle.block_machine.specs.Blocks.{desc_of, status_of, is_pending, asked_block, asked_content, names_ram}
-use Rattle.block_machine.specs.Reply.{needed, fits}
+use Rattle.block_machine.specs.Blocks.{desc_of, status_of, is_immediate, is_pending, asked_block, asked_content, names_ram}
+use Rattle.block_machine.specs.Reply.{needed, fits, is_queue_full}
 use Rattle.nv_desk.specs.Sound.{HasRam}
 
 -- one that makes a job on a block
@@ -13,6 +13,8 @@ pub record IsJobAccepted (c : Configuration) (cap : ℕ) (s : State) (r : Reques
   pub ram : names_ram r ≡ true → HasRam c (asked_block r)
   pub alone : is_pending (status_of s 0) ≡ false
   pub free : is_pending (status_of s (asked_block r)) ≡ false
+  -- fewer jobs than its queue takes were accepted and not yet picked
+  pub queue : is_queue_full c s.waiting (is_immediate c r) ≡ false
   pub room : fits c cap s (1 + needed c r) ≡ true
 
 -- one on all blocks

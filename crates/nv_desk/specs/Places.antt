@@ -34,7 +34,7 @@ IsWhole c j = IfSome j.content (λ x. length x.0 ≡ (desc_of c (job_block j)).l
 pub record AreHeld (c : Configuration) (p : Pending) (waiting : List Job) (held : Option Job) (places : Ready) : Type 0 where
   pub agree : Agree c p waiting held
   pub apart : AreApart waiting
-  pub slots : length p.slots ≡ length c.blocks + 1
+  pub slots : p.slots.places ≡ length c.blocks + 1
   pub count : length places ≡ length c.blocks + 1
   pub whole : Each (IsWhole c) (option_to_list held ++ waiting)
   pub ready : AreReady c (option_to_list held ++ waiting) places

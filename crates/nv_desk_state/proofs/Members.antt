@@ -1,9 +1,9 @@
 -- A request on all blocks through its steps.
-use Rattle.std.proofs.Common.{◌≡◌, ◌<◌, ◌≤◌, ℕ, ◌+◌, ◌-◌, Bool, true, false, if◌then◌else◌, List, [], ◌∷◌, drop, length, sum_by, refl, ◌∙◌, sym, ap, subst, unwrap_or, arith, Option, Some, None}
+use Rattle.std.proofs.Common.{◌≡◌, ◌<◌, ◌≤◌, ℕ, ◌+◌, ◌-◌, Bool, true, false, if◌then◌else◌, List, [], ◌∷◌, drop, length, sum_by, refl, ◌∙◌, sym, ap, subst, unwrap_or, option_map, arith, Option, Some, None}
 use Rattle.std.proofs.lemmas.List.Sums.{sum_by-cons}
 use Rattle.block_machine.specs.Words.{ReqResult, Pending as PendingResult, ReadJob, Taken, Configuration}
 use Rattle.block_machine.specs.State.{State, Job, Sweep}
-use Rattle.block_machine.specs.Blocks.{asked_block, job_kind, desc_of, keeps_ram}
+use Rattle.block_machine.specs.Blocks.{asked_block, job_block, job_kind, desc_of, keeps_ram}
 use Rattle.block_machine.specs.Sweeps.{after_member, is_done, member_entries, member_job, member_kind, member_request, sweep_entries}
 use Rattle.block_machine.specs.Next.{BeginSweep, PostMember, next_by, next_in_sweep}
 use Rattle.block_machine.specs.Steps.{ended, in_hand, picked_job, posted_next, with_member}
@@ -18,7 +18,7 @@ use Rattle.multi_jobs.proofs.Noted.{members_are_noted}
 use Rattle.multi_jobs.proofs.Taken.{takes_the_first}
 use Rattle.nv_desk_state.specs.declared.sweep.PendingSweep.{PendingSweep}
 use Rattle.nv_desk_state.specs.declared.kept.Kept.{Kept}
-use Rattle.nv_desk_state.specs.Pending.{IsSweep, IsNoted, AreSweeps, IsAtMember, IsTaken}
+use Rattle.nv_desk_state.specs.Pending.{IsAlone, IsMember, IsSweep, IsNoted, AreSweeps, IsAtMember, IsTaken}
 use Rattle.nv_desk_state.specs.Kept.{Agrees}
 
 pub canceled_noted : (c : Configuration) (p : PendingSweep) (sw : Sweep) (id : ℕ) → IsNoted c p sw id
@@ -100,7 +100,7 @@ sweep_at_member c p s sw id x h = subst (AreSweeps c p) x.sweep h
 pub member_picked : (c : Configuration) (k : Kept) (s : State) (sw : Sweep) (id : ℕ) (t : Taken) (p : Option PendingSweep) (jobs : Pending)
     (blocks : KeptBlocks) (o : Option Job) → Agrees c k s → IsAtMember s sw id → IsTaken c p sw id o
     → blocks ≡ changed_at id (λ b. record b { status = PendingResult }) k.blocks
-    → AreJobs c jobs [] (Some (picked_job t 0 (member_job c sw id))) → length jobs.slots ≡ length k.jobs.slots
+    → AreJobs c jobs [] (Some (picked_job t 0 (member_job c sw id))) → jobs.slots.places ≡ k.jobs.slots.places
     → Agrees c (record k { blocks = blocks; jobs = jobs; sweep = p }) (in_hand c (with_member s sw id) (member_job c sw id) t)
 member_picked c k s sw id t p jobs blocks o h x taken is agree places = rw (x.waiting, x.hand) (record {
   started = h.started;
@@ -138,7 +138,7 @@ known_by c None sw id rest some h left = absurd h
 known_by c (Some p) sw id rest some h left = members_are_configured c p.members id rest some (h.members.left ∙ left)
 
 pub member_known : (c : Configuration) (k : Kept) (s : State) (sw : Sweep) (id : ℕ) → 0 < length c.blocks → Agrees c k s
-    → IsAtMember s sw id → id < length k.jobs.slots
+    → IsAtMember s sw id → id < k.jobs.slots.places
 member_known c k s sw id some h x = omega (arith, h.places, known_by c k.sweep sw id x.rest some (sweep_at_member c k.sweep s sw id x h.sweep) x.left)
 
 -- one that is kept and wasn't picked begins next
@@ -150,3 +150,26 @@ sweep_begins c s (Some x) (Some sw) p is off h =
     let same : x ≡ p = cc in
     let before : sw.under_way ≡ false = sym h.under_way ∙ ap (λ (y : PendingSweep). y.under_way) same ∙ off in
     (sw, rw before refl)
+
+-- A WRITEALL IS CANCELED
+
+abbrev pub canceled : Option Sweep → Option Sweep
+canceled o = option_map (λ (sw : Sweep). record sw { canceled = true }) o
+
+pub sweep_canceled : (c : Configuration) (p q : PendingSweep) (o : Option PendingSweep) (w : Option Sweep) → o ≡ Some p
+    → ((sw : Sweep) → IsSweep c p sw → IsSweep c q (record sw { canceled = true })) → AreSweeps c o w → AreSweeps c (Some q) (canceled w)
+sweep_canceled c p q None w is step h = cc
+sweep_canceled c p q (Some x) None is step h = absurd h
+sweep_canceled c p q (Some x) (Some sw) is step h = let same : x ≡ p = cc in step sw (subst (λ y. IsSweep c y sw) same h)
+
+pub member_canceled : (c : Configuration) (p q : PendingSweep) (o : Option PendingSweep) (held : Option Job) (w : Option Sweep) → o ≡ Some p
+    → ((sw : Sweep) (id : ℕ) → IsNoted c p sw id → IsNoted c q (record sw { canceled = true }) id) → IsMember c held o w → IsMember c held (Some q) (canceled w)
+member_canceled c p q o None w is step h = tt
+member_canceled c p q None (Some j) w is step h = cc
+member_canceled c p q (Some x) (Some j) None is step h = tt
+member_canceled c p q (Some x) (Some j) (Some sw) is step h =
+    let same : x ≡ p = cc in λ on. step sw (job_block j) (subst (λ y. IsNoted c y sw (job_block j)) same (h on))
+
+pub alone_canceled : (waiting : List Job) (w : Option Sweep) → IsAlone waiting w → IsAlone waiting (canceled w)
+alone_canceled waiting None h = tt
+alone_canceled waiting (Some sw) h = h

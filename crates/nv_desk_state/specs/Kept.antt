@@ -17,7 +17,7 @@ pub record Agrees (c : Configuration) (k : Kept) (s : State) : Type 0 where
   pub alone : IsAlone s.waiting s.sweep
   -- there is room for the RAM of each block, and a place for its job
   pub rooms : k.blocks.rooms ≡ rooms_of c
-  pub places : length k.jobs.slots ≡ length c.blocks + 1
+  pub places : k.jobs.slots.places ≡ length c.blocks + 1
 
 -- a request that makes no job, with a content of the length that its block's RAM has
 abbrev pub IsChange : List ℕ → Request → Type 0

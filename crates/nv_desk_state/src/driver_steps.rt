@@ -5,6 +5,7 @@ ghost use Rattle.block_machine.specs.Words.{Configuration, Instance, Mark};
 ghost use Rattle.block_machine.specs.State.{State, Job as MachineJob, Sweep as MachineSweep};
 ghost use Rattle.block_machine.specs.Blocks.{job_block, kind_of, names_ram, keeps_ram};
 ghost use Rattle.block_machine.specs.Sweeps.{after_member};
+ghost use Rattle.block_machine.specs.Legal.{HandIsFree};
 ghost use Rattle.block_machine.specs.Next.{next_in};
 ghost use Rattle.block_machine.specs.StartUp.{at_first, started_with};
 ghost use Rattle.block_machine.specs.Steps.{in_hand, wrote, posted};
@@ -31,7 +32,7 @@ impl Kept {
     pub fn pick(&mut self, config: &Config, take: Take, copy: Option<Bytes>)
         requires { IfSome self.old.jobs.hand (λ h. self.old.jobs.reserved + h.reserved + 2 < 2 ^ 32) }
         ensures { (s : State) (j : MachineJob) → Agrees config.now self.old s → next_in config.now s.waiting ≡ Some j
-            → Agrees config.now self.new (in_hand config.now s j (taken_with j.content (take, copy))) }
+            → HandIsFree config.now s.hand j → Agrees config.now self.new (in_hand config.now s j (taken_with j.content (take, copy))) }
     {
         self.jobs.pick(config, take, copy);
     }

@@ -8,7 +8,7 @@ ghost use Rattle.block_machine.specs.Sweeps.{sweep_entries, sweep_at};
 ghost use Rattle.block_machine.specs.Reply.{reserved_entries};
 ghost use Rattle.block_machine.specs.StartUp.{at_first};
 ghost use Rattle.block_machine.specs.Steps.{with_status, with_sweep, accepted};
-ghost use Rattle.job_pending.specs.Pending.{IsNew};
+ghost use Rattle.job_pending.specs.Pending.{IsNew, most_of};
 ghost use Rattle.job_pending.specs.Unpicked.{unpicked_in};
 ghost use Rattle.nv_desk_state.specs.Kept.{Agrees, IsChange};
 
@@ -79,8 +79,8 @@ impl Kept {
 
     /// A job begins to be pending.
     pub fn accept(&mut self, config: &Config, job: Job)
-        requires known { job_block job < length self.old.jobs.slots }
-        requires room { unpicked_in (rank_of config.now job).immediate self.old.jobs.unpicked < 2 ^ 16 - 1 }
+        requires known { job_block job < self.old.jobs.slots.places }
+        requires room { unpicked_in (rank_of config.now job).immediate self.old.jobs.unpicked < most_of config.now (rank_of config.now job).immediate }
         requires reserved { self.old.jobs.reserved + job.reserved < 2 ^ 32 }
         ensures { (s : State) → Agrees config.now self.old s → IsNew job s.waiting s.hand → job.taken ≡ None → s.sweep ≡ None
             → Agrees config.now self.new (record (with_status (job_block job) Pending s) { waiting = s.waiting ++ job ∷ [] }) }

@@ -16,7 +16,7 @@ impl Kept {
     /// What comes next in the sweep under way. The member that it is at has a place for its job.
     pub fn next_step(&self, config: &Config) -> SweepStep
         ensures next { (s : State) (sw : MachineSweep) → Agrees config.now self.now s → s.sweep ≡ Some sw → sw.under_way ≡ true → IsNext result sw (next_in_sweep config.now s sw) }
-        ensures known { (s : State) (sw : MachineSweep) (id : ℕ) → Agrees config.now self.now s → IsAtMember s sw id → id < length self.now.jobs.slots }
+        ensures known { (s : State) (sw : MachineSweep) (id : ℕ) → Agrees config.now self.now s → IsAtMember s sw id → id < self.now.jobs.slots.places }
     {
         let _blocks = config.blocks();
         let Some(sweep) = &self.sweep else {

@@ -31,7 +31,7 @@ impl Kept {
 
     /// The next member, this block, comes in hand with what it takes, and the copy of that, if one was made.
     pub fn pick_member(&mut self, config: &Config, block: u16, take: Take, copy: Option<Bytes>)
-        requires { block < length self.old.jobs.slots }
+        requires { block < self.old.jobs.slots.places }
         ensures { (s : State) (sw : MachineSweep) → Agrees config.now self.old s → IsAtMember s sw block
             → Agrees config.now self.new (in_hand config.now (with_member s sw block) (member_job config.now sw block)
             (taken_with None (take, copy))) }

@@ -24,5 +24,5 @@ returns-clause-agrees c c' waiting held j agrees next =
     let g = first_is c' _ waiting held j h next in
     let same : c.in_ok-job.job ≡ j = cc (c.in_ok-job.ensures.value, f, next) in
     let place : c.in_ok-first.first ≡ waiting_of c' j = cc (c.in_ok-first.ensures.first, g) in
-    rw (← c.self.view_is, c.take.ensures.empty, c.next.ensures.taken, c.pick.ensures, c.was_picked.ensures, c.saturating_sub-self-inside.ensures, c.reserved.ensures, same, place)
-    (taken c' _ waiting held j h next)
+    rw (← c.self.view_is, c.next.ensures.taken, c.pick.ensures, c.was_picked.ensures, c.saturating_sub-self-inside.ensures, c.reserved.ensures, same, place)
+    (taken c' _ waiting held j c.take.new.self h next (rw place at c.take.ensures.left))

@@ -1,9 +1,11 @@
-use Rattle.std.proofs.Common.{◌∙◌, length, ap, arith}
+use Rattle.std.proofs.Common.{◌≡◌, ◌<◌, ◌∙◌, length, sym, ap, subst, arith}
 use Rattle.block_machine.specs.Words.{Ask, Accepted}
 use Rattle.block_machine.specs.State.{Job}
-use Rattle.block_machine.specs.Blocks.{asked_block, asked_content, job_block, rank_of}
+use Rattle.block_machine.specs.Blocks.{asked_block, asked_content, is_immediate, job_block, rank_of}
 use Rattle.block_machine.specs.Reply.{needed}
 use Rattle.block_machine.specs.Steps.{after}
+use Rattle.job_pending.specs.Unpicked.{unpicked_in}
+use Rattle.job_pending.specs.Pending.{most_of}
 use Rattle.nv_desk.specs.Incoming.{request_in}
 use Rattle.nv_desk.proofs.Asks.{job_accepted, known_of}
 use Rattle.nv_desk.proofs.Coming.{ask_below, recordable, recordable_still}
@@ -59,8 +61,13 @@ accept-requires-clause-known c =
 pub accept-requires-clause-room : goal.accept-requires-clause-room
 accept-requires-clause-room c =
     let d = c.self.inside in
-    few_unpicked d.config d.kept (after d.config d.history.entries) (rank_of d.config c.accepted-job.result).immediate
-    c.queue_sizes-sizes.ensures.legal.blocks_high c.self.invariant.agrees
+    let s = after d.config d.history.entries in
+    let r = request_in c.args.incoming in
+    let allowed = rw (← c.self.view_is) at c.requires.allowed in
+    let passed = job_accepted d.config d.history.cap s r c.requires.kind allowed.replies in
+    let immediate : (rank_of d.config c.accepted-job.result).immediate ≡ is_immediate d.config r =
+    ap (λ (j : Job). (rank_of d.config j).immediate) c.accepted-job.ensures ∙ ap (is_immediate d.config) (c.in_place-asked_for.ensures.request ∙ c.lent-request.ensures) in
+    subst (λ i. unpicked_in i d.kept.jobs.unpicked < most_of d.config i) (sym immediate) (few_unpicked d.config d.kept s (is_immediate d.config r) passed.queue c.self.invariant.agrees)
 
 pub accept-requires-clause-reserved : goal.accept-requires-clause-reserved
 accept-requires-clause-reserved c =

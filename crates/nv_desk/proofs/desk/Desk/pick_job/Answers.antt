@@ -10,7 +10,7 @@ use Rattle.nv_recorder.specs.Event.{taken_of}
 use Rattle.nv_desk.specs.Picks.{own_first, took_of}
 use Rattle.nv_desk.proofs.Drivers.{allowed_kept}
 use Rattle.nv_desk.proofs.Ready.{copy_fits}
-use Rattle.nv_desk.proofs.Picks.{entry_of, job_pick, own_next, pick_places, pick_room, pick_step, picked_sound, ready, some_is, takes_own, whole_own}
+use Rattle.nv_desk.proofs.Picks.{entry_of, hand_free, job_pick, own_next, pick_places, pick_room, pick_step, picked_sound, ready, some_is, takes_own, whole_own}
 use Rattle.nv_desk.proofs.desk.Desk.pick_job.Goals as goal
 
 pub copy_of-copy-requires : goal.copy_of-copy-requires
@@ -62,7 +62,7 @@ invariant_of-self c =
     (picked_sound d.config s may.job (job_block may.job) (kind_of may.job) took c.args.ops c.self.invariant.sound may.is p.ready p.whole)
     (entry_of _ _ _ _ _ x may.job took c.args.ops c.block-block.ensures c.kind-job.ensures takes same c.add_pick.ensures)
     (pick_step d.config c.pick.new.self s may.job (job_block may.job) (kind_of may.job) taken c.args.ops may.is
-    (rw (c.copy_of-copy.ensures.copy, own, one) at (c.pick.ensures s may.job c.self.invariant.agrees may.is)))
+    (rw (c.copy_of-copy.ensures.copy, own, one) at (c.pick.ensures s may.job c.self.invariant.agrees may.is (hand_free d.config d.history.cap s may.job (job_block may.job) (kind_of may.job) taken c.args.ops may.is may.allowed))))
     (pick_places d c.copy_of-copy.new.places (job_block may.job) (kind_of may.job) c.args.take c.own_first-take.result lent c.args.ops c.block-block.result x may.job
     c.self.invariant may.is same c.own_first-take.ensures c.block-block.ensures one c.copy_of-copy.ensures.places)
 

@@ -1,4 +1,3 @@
-use Rattle.std.proofs.Common.{◌≡◌}
 use Rattle.nv_desk_state.proofs.Members.{sweep_begins}
 use Rattle.nv_desk_state.proofs.kept.Kept.next_of_sweep.Goals as goal
 
