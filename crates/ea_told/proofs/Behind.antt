@@ -18,13 +18,14 @@ use Rattle.ea_image.specs.declared.step.SlotStep.{SlotStep}
 use Rattle.ea_image.specs.declared.step.SlotStep.TheVariants.{EraseHead, EraseBody, Body, Head, Gate}
 use Rattle.ea_image.specs.Memory.{HoldsSlots}
 use Rattle.ea_image.specs.Slots.{slot_bytes, other, standing}
+use Rattle.fls_told.proofs.Counted.{few_faults, next_length}
+use Rattle.fls_told.proofs.ToldBytes.{before_told, each_told}
 use Rattle.ea_told.specs.declared.job.EaJob.{EaJob}
 use Rattle.ea_told.specs.Making.{Making}
 use Rattle.ea_told.specs.Parts.{Parts}
 use Rattle.ea_told.specs.Inside.{IsMadeFor, IsJob, HoldAll, StandAll, HasComeTo, IsSound}
 use Rattle.ea_told.specs.Turn.{last_after, given_after, off_after}
 use Rattle.ea_told.specs.Laws.{IsStepping}
-use Rattle.ea_told.proofs.Bytes.{each_told, before_told, next_length, few_faults}
 use Rattle.ea_told.proofs.Stepping.{op, size, started, power}
 use Rattle.ea_told.proofs.Stepped.{t, d0, after, cuts, run, worn_same, hold_all, stand_all}
 

@@ -1,8 +1,7 @@
 -- The calls that aren't turns.
-use Rattle.std.specs.Prelude.{IfSome, ◌&&◌, if◌then◌else◌, nat_le, ◌-◌}
-use Rattle.std.proofs.Common.{◌≡◌, ◌⊎◌, inl, inr, ◌≤◌, ◌+◌, ℕ, Bool, true, false, List, [], Option, Some, None, refl, sym, ap, ◌∙◌, subst, arith}
+use Rattle.std.specs.Prelude.{IfSome}
+use Rattle.std.proofs.Common.{◌≡◌, ◌⊎◌, inl, inr, ◌≤◌, ◌+◌, ℕ, Bool, true, List, [], Option, Some, None, refl, sym, ap, ◌∙◌, subst, arith}
 use Rattle.nv_base.specs.Count.{last_count, WereCounted}
-use Rattle.nv_base.specs.Plan.{Planning, planned}
 use Rattle.nv_base.specs.declared.instance.DeviceNumber.{DeviceNumber}
 use Rattle.memif.specs.declared.answer.JobResult.TheVariants.{JobCanceled}
 use Rattle.memif.specs.Told.{Slot, no_slot, slot_at, Ended}
@@ -16,6 +15,7 @@ use Rattle.fls_told.proofs.Clocks.{clocks_stay}
 use Rattle.fls_told.proofs.Making.{runs_stay}
 use Rattle.fls_told.proofs.Tells.{tells_keep}
 use Rattle.ea_image.specs.Slots.{slot_bytes}
+use Rattle.fls_told.proofs.Counted.{came_stay, cuts_stay}
 use Rattle.ea_told.specs.declared.job.EaJob.{EaJob}
 use Rattle.ea_told.specs.Making.{Making, entry_of, at_entry}
 use Rattle.ea_told.specs.Parts.{Parts}
@@ -28,21 +28,6 @@ use Rattle.ea_told.proofs.Order.{order}
 use Rattle.ea_told.proofs.Slot.{AreFewer, keeps_same, no_marks}
 
 -- A PLAN
-same_cuts : (b : Bool) (p q : Planning) → q.unplanned ≡ p.unplanned → (if b then q else p).unplanned ≡ p.unplanned
-same_cuts true p q e = e
-same_cuts false p q e = refl
-
-cuts_stay : (nth keep : ℕ) (p : Planning) → (planned nth keep p).unplanned ≡ p.unplanned
-cuts_stay nth keep p = same_cuts (nat_le 1 p.takes && nat_le 1 nth) p (record p { plan = Some (record { left = nth; keep = keep }); takes = p.takes - 1 }) refl
-
-came_stay : (nth keep : ℕ) (p : Planning) → ((planned nth keep p).came ≡ p.came) × ((planned nth keep p).withheld ≡ p.withheld)
-came_stay nth keep p = by_test (nat_le 1 p.takes && nat_le 1 nth)
-  where
-    by_test : (b : Bool) → ((if b then record p { plan = Some (record { left = nth; keep = keep }); takes = p.takes - 1 } else p).came ≡ p.came)
-        × ((if b then record p { plan = Some (record { left = nth; keep = keep }); takes = p.takes - 1 } else p).withheld ≡ p.withheld)
-    by_test true = (refl, refl)
-    by_test false = (refl, refl)
-
 module _ (m : Making) (entry : Told) (s : Parts) (nth keep : ℕ) (sound : IsSound m entry s) where
   abbrev t : Parts
   t = with_plan nth keep s

@@ -34,6 +34,7 @@ use Rattle.ea_image.specs.Slots.{SlotBytes, slot_bytes, other, standing}
 use Rattle.ea_image.specs.Steps.{steps_left, step_next, body_or_head, IsStepOf, HasCome}
 use Rattle.ea_image.proofs.Done.{steps_go_on, gates_open}
 use Rattle.ea_image.proofs.Holds.{done_steps_hold}
+use Rattle.fls_told.proofs.ToldBytes.{before_told, each_told}
 use Rattle.ea_told.specs.declared.job.EaJob.{EaJob}
 use Rattle.ea_told.specs.declared.state.SlotState.{SlotState}
 use Rattle.ea_told.specs.Making.{Making, entry_of, at_entry}
@@ -42,7 +43,6 @@ use Rattle.ea_told.specs.Device.{state_at, can_write, kind_of, mark_of, stand_of
 use Rattle.ea_told.specs.Inside.{IsJob, HasComeTo}
 use Rattle.ea_told.specs.Turn.{job_done, last_done, given_done}
 use Rattle.ea_told.specs.Laws.{Turned, IsStepping}
-use Rattle.ea_told.proofs.Bytes.{each_told, before_told}
 use Rattle.ea_told.proofs.Lists.{entry_is}
 use Rattle.ea_told.proofs.Order.{order, is_of_first}
 use Rattle.ea_told.proofs.Slot.{same_marks, keeps_same, done_keeps, gate_settles}

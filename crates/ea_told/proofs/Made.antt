@@ -6,17 +6,17 @@ use Rattle.nv_base.specs.declared.geometry.Geometry.{Geometry}
 use Rattle.fls_model.specs.Attach.{IsFilled, AreBytesOf}
 use Rattle.fls_model.specs.Told.{Told, ToldBytes, IfBothTold}
 use Rattle.fls_jobs.specs.State.{FlsState}
-use Rattle.fls_told.specs.Runs.{IsMade, HasRun}
+use Rattle.fls_told.specs.Runs.{IsMade, HasRun, CountsEachCut}
 use Rattle.fls_told.proofs.Making.{runs_begin}
 use Rattle.fls_told.proofs.Runs.{runs_bridge}
+use Rattle.fls_told.proofs.Counted.{run_counts}
 use Rattle.ea_told.specs.Making.{Making, entry_of, at_entry}
 use Rattle.ea_told.specs.Parts.{Parts}
 use Rattle.ea_told.specs.States.{no_state}
 use Rattle.ea_told.specs.Device.{state_at, flash_device}
-use Rattle.ea_told.specs.Inside.{CountsCuts, IsSound}
+use Rattle.ea_told.specs.Inside.{IsSound}
 use Rattle.ea_told.specs.Made.{fresh, IsNew}
 use Rattle.ea_told.specs.Laws.{PartsBegin, PartsBridge}
-use Rattle.ea_told.proofs.Bytes.{run_counts}
 use Rattle.ea_told.proofs.Reading.{slots_attach_sound}
 
 filled_bytes : (g : Geometry) (x y : Option ToldBytes) → IfBothTold x y (IsFilled g) → IfSome y (λ b. AreBytesOf g b.now)
@@ -45,7 +45,7 @@ module _ (m : Making) (entry : Told) (f : FlsState) (content : List ℕ) (new : 
       let few = new.attached.unplanned in
       omega (arith, same, cuts, few)
 
-  cuts : CountsCuts entry f.flash
+  cuts : CountsEachCut entry f.flash
   cuts = record { before = counted; since = inl (let same : f.flash.planning.unplanned ≡ entry.planning.unplanned = ap (λ (p : Planning). p.unplanned) new.attached.planning in let c = new.attached.cuts in omega arith) }
 
   is_made : IsMade (flash_device m entry s)

@@ -22,6 +22,7 @@ use Rattle.ea_image.specs.declared.step.SlotStep.{SlotStep}
 use Rattle.ea_image.specs.declared.step.SlotStep.TheVariants.{EraseHead, EraseBody, Body, Head, Gate}
 use Rattle.ea_image.specs.Slots.{slot_bytes, found_at}
 use Rattle.ea_image.specs.Steps.{steps_left}
+use Rattle.fls_told.proofs.ToldBytes.{each_told, now_at, told_at}
 use Rattle.ea_told.specs.declared.job.EaJob.{EaJob}
 use Rattle.ea_told.specs.Making.{Making, HasSlots, entry_of, at_entry}
 use Rattle.ea_told.specs.Parts.{Parts}
@@ -29,7 +30,7 @@ use Rattle.ea_told.specs.Reading.{held_in}
 use Rattle.ea_told.specs.Device.{figures_for, fixed_for, state_at, can_write, mark_of, stand_of, job_left, left_of, wait_of, job_leaves, slot_told, slots_in, flash_device, told_of, clock_of}
 use Rattle.ea_told.specs.Inside.{IsLengthOf, IsJob, HoldAll, IsSound}
 use Rattle.ea_told.specs.Laws.{PartsOrder}
-use Rattle.ea_told.proofs.Bytes.{has_bytes, attached_is, each_told, told_at, now_at}
+use Rattle.ea_told.proofs.Bytes.{has_bytes, attached_is}
 use Rattle.ea_told.proofs.Lists.{at_listed, at_mapped, entry_length}
 use Rattle.ea_told.proofs.Slot.{found_possible}
 

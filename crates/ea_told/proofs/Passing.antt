@@ -17,7 +17,7 @@ use Rattle.fls_model.specs.Told.{Told, ToldBytes, bytes_now}
 use Rattle.fls_jobs.specs.State.{FlsState}
 use Rattle.fls_told.specs.Device.{FlashDevice, slot_with}
 use Rattle.fls_told.specs.Clock.{MakesNone}
-use Rattle.fls_told.specs.Runs.{HasRun, IsWornSince, CountsCuts as RunCounts}
+use Rattle.fls_told.specs.Runs.{HasRun, IsWornSince, CountsCuts as RunCounts, CountsEachCut}
 use Rattle.fls_told.proofs.Clocks.{clocks_pass}
 use Rattle.fls_told.proofs.Making.{runs_stay}
 use Rattle.fls_told.proofs.Parts.{parts_read}
@@ -30,7 +30,7 @@ use Rattle.ea_told.specs.declared.state.SlotState.{SlotState}
 use Rattle.ea_told.specs.Making.{Making, entry_of, at_entry}
 use Rattle.ea_told.specs.Parts.{Parts}
 use Rattle.ea_told.specs.Device.{fixed_for, state_at, mark_of, stand_of, wait_of, job_leaves, slot_told, slots_in, flash_device, told_of, clock_of}
-use Rattle.ea_told.specs.Inside.{HoldAll, StandAll, CountsCuts, IsSound}
+use Rattle.ea_told.specs.Inside.{HoldAll, StandAll, IsSound}
 use Rattle.ea_told.specs.Laws.{Turned}
 use Rattle.ea_told.proofs.Lists.{at_listed}
 use Rattle.ea_told.proofs.Order.{order, is_of_first, urgent_is}
@@ -155,7 +155,7 @@ module _ (m : Making) (entry : Told) (s : Parts) (j : EaJob) (f : FlsState) (sta
         stands = λ up. subst (λ (o : Option (List ℕ)). IfSome o (StandAll m t)) (sym now_same) (each_bytes (bytes_now s.fls.flash) (StandAll m s) (StandAll m t) stand_then (is.sound.stands up));
         job = tt;
         work = λ on. tt;
-        cuts = subst (CountsCuts entry) (sym is.flash) (record { before = is.sound.cuts.before; since = is.sound.cuts.since });
+        cuts = subst (CountsEachCut entry) (sym is.flash) (record { before = is.sound.cuts.before; since = is.sound.cuts.since });
         worn = is.worn_ops;
         faults = few_faults faults is.faults_are;
         ops = is.sound.ops;

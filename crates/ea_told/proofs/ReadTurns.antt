@@ -32,6 +32,8 @@ use Rattle.ea_image.specs.Slots.{SlotBytes, slot_bytes, other, body_sector, plac
 use Rattle.ea_image.specs.SlotHead.{slot_head_of}
 use Rattle.ea_image.proofs.Standing.{standing_open}
 use Rattle.ea_image.proofs.Torn.{stands_open}
+use Rattle.fls_told.proofs.Counted.{rose_next}
+use Rattle.fls_told.proofs.ToldBytes.{told_at}
 use Rattle.ea_told.specs.declared.job.EaJob.{EaJob}
 use Rattle.ea_told.specs.Making.{Making, entry_from, at_entry}
 use Rattle.ea_told.specs.Parts.{Parts}
@@ -39,7 +41,6 @@ use Rattle.ea_told.specs.Device.{state_at, mark_of, stand_of, job_left, left_of,
 use Rattle.ea_told.specs.Inside.{IsLengthOf, IsJob, StandAll, IsSound}
 use Rattle.ea_told.specs.Turn.{ended_as, read_as, ReadsKind, ReadsHead}
 use Rattle.ea_told.specs.Laws.{Turned}
-use Rattle.ea_told.proofs.Bytes.{told_at, rose_next}
 use Rattle.ea_told.proofs.Lists.{entry_length}
 use Rattle.ea_told.proofs.Passing.{passed, IsPassing, passed_turn, before_is, before, now_same}
 use Rattle.ea_told.proofs.Stepping.{rests_not}

@@ -14,7 +14,7 @@ use Rattle.fls_model.specs.Told.{Told, ToldBytes, bytes_now}
 use Rattle.fls_jobs.specs.State.{FlsState}
 use Rattle.fls_told.specs.Device.{FlashDevice, slot_with}
 use Rattle.fls_told.specs.Clock.{MakesNone}
-use Rattle.fls_told.specs.Runs.{HasRun, CountsCuts as RunCounts}
+use Rattle.fls_told.specs.Runs.{HasRun, CountsCuts as RunCounts, CountsEachCut}
 use Rattle.fls_told.specs.Tells.{IsSame}
 use Rattle.fls_told.proofs.Clocks.{clocks_stay}
 use Rattle.fls_told.proofs.Making.{runs_stay}
@@ -24,14 +24,15 @@ use Rattle.ea_image.specs.declared.memory.SlotMemory.{SlotMemory}
 use Rattle.ea_image.specs.Memory.{HoldsSlots, memory_loaded}
 use Rattle.ea_image.specs.Slots.{slot_bytes, found_at}
 use Rattle.ea_image.proofs.Holds.{loaded_holds}
+use Rattle.fls_told.proofs.Counted.{rose_next}
+use Rattle.fls_told.proofs.ToldBytes.{each_told, told_at}
 use Rattle.ea_told.specs.declared.state.SlotState.{SlotState}
 use Rattle.ea_told.specs.Making.{Making, entry_of, at_entry}
 use Rattle.ea_told.specs.Parts.{Parts}
 use Rattle.ea_told.specs.Device.{state_at, slot_told, slots_in, flash_device, told_of, clock_of}
-use Rattle.ea_told.specs.Inside.{HoldAll, StandAll, CountsCuts, IsSound}
+use Rattle.ea_told.specs.Inside.{HoldAll, StandAll, IsSound}
 use Rattle.ea_told.specs.Laws.{PartsStart}
 use Rattle.ea_told.specs.Start.{LoadsAll, started_as, StartsWith}
-use Rattle.ea_told.proofs.Bytes.{told_at, each_told, rose_next}
 use Rattle.ea_told.proofs.Lists.{at_listed}
 use Rattle.ea_told.proofs.Order.{order, now_possible}
 use Rattle.ea_told.proofs.Passing.{counted_more, counted_next}
@@ -116,7 +117,7 @@ module _ (m : Making) (entry : Told) (s : Parts) (sound : IsSound m entry s) (f 
         stands = λ is. subst (λ (o : Option (List ℕ)). IfSome o (StandAll m t)) (sym now_same) (each_told s.fls.flash.bytes (StandAll m t) (λ b now. stand_loaded b (loaded b now is)));
         job = tt;
         work = λ on. tt;
-        cuts = subst (CountsCuts entry) (sym with'.flash) (record { before = sound.cuts.before; since = sound.cuts.since });
+        cuts = subst (CountsEachCut entry) (sym with'.flash) (record { before = sound.cuts.before; since = sound.cuts.since });
         worn = λ i since is. sound.worn i since (sym (with'.worn i) ∙ is);
         faults = few_faults faults faults_are;
         ops = sound.ops;

@@ -20,7 +20,7 @@ use Rattle.fls_jobs.specs.State.{FlsState}
 use Rattle.fls_told.specs.Device.{FlashDevice, tells_held, tells_now, slot_with, asked_ops, flash_part}
 use Rattle.fls_told.specs.Clock.{Makes, change_of, turn_of}
 use Rattle.fls_told.specs.Parts.{Counts}
-use Rattle.fls_told.specs.Runs.{HasRun, KeepsWorn, counts_fault}
+use Rattle.fls_told.specs.Runs.{HasRun, KeepsWorn, counts_fault, CountsEachCut}
 use Rattle.fls_told.specs.Tells.{IsSame, AreTold}
 use Rattle.fls_told.proofs.Clocks.{now_behind, clocks_tick}
 use Rattle.fls_told.proofs.Making.{runs_go_on}
@@ -32,6 +32,8 @@ use Rattle.ea_image.specs.declared.memory.SlotMemory.{SlotMemory}
 use Rattle.ea_image.specs.declared.which.Which.{Which}
 use Rattle.ea_image.specs.Memory.{HoldsSlots}
 use Rattle.ea_image.specs.Slots.{SlotBytes, slot_bytes, newest_of, other, standing}
+use Rattle.fls_told.proofs.Counted.{failure_counted, one_later, run_counts, still_counted}
+use Rattle.fls_told.proofs.ToldBytes.{before_told, both_left, each_told, told_at}
 use Rattle.ea_told.specs.declared.job.EaJob.{EaJob}
 use Rattle.ea_told.specs.declared.state.SlotState.{SlotState}
 use Rattle.ea_told.specs.Making.{Making, entry_of, at_entry}
@@ -39,10 +41,10 @@ use Rattle.ea_told.specs.Parts.{Parts}
 use Rattle.ea_told.specs.Reading.{last_in, is_last_head, is_last_at, is_apart, begins_at}
 use Rattle.ea_told.specs.States.{no_state}
 use Rattle.ea_told.specs.Device.{state_at, stand_of, job_leaves, slot_told, slots_in, flash_device, told_of, clock_of}
-use Rattle.ea_told.specs.Inside.{HoldAll, StandAll, CountsCuts}
+use Rattle.ea_told.specs.Inside.{HoldAll, StandAll}
 use Rattle.ea_told.specs.Turn.{memory_after, states_after, job_after, last_after, given_after, off_after}
 use Rattle.ea_told.specs.Laws.{IsStepping}
-use Rattle.ea_told.proofs.Bytes.{each_told, told_at, both_left, before_told, still_counted, run_counts, one_later, some_later, failure_counted}
+use Rattle.ea_told.proofs.Bytes.{some_later}
 use Rattle.ea_told.proofs.Lists.{at_listed}
 use Rattle.ea_told.proofs.Reading.{step_begins, apart_is}
 use Rattle.ea_told.proofs.Slot.{keeps_same, same_marks, AreFewer}
@@ -113,7 +115,7 @@ module _ (m : Making) (entry : Told) (s : Parts) (j : EaJob) (at : IsStepping m 
   pub counts : Counts (op m entry s j at) a d0 e
   counts = record { makes = makes; on = power m entry s j at; faults = refl; small = at.sound.faults }
 
-  pub cuts : CountsCuts entry f.flash
+  pub cuts : CountsEachCut entry f.flash
   cuts = still_counted entry s.fls.flash f.flash a asked.cause asked.counted at.sound.cuts
 
   pub left : (old new : List ℕ) → bytes_now s.fls.flash ≡ Some old → bytes_now f.flash ≡ Some new → MayLeave (op m entry s j at) old new × Leaves (op m entry s j at) a old new

@@ -40,6 +40,7 @@ use Rattle.ea_image.specs.Laws.{IsSlotOf, IsAtStep}
 use Rattle.ea_image.proofs.Bodies.{bodies_have_room, body_reads}
 use Rattle.ea_image.proofs.Reach.{sector_inside, steps_touch_one_slot, steps_leave}
 use Rattle.ea_image.proofs.Soundness.{sound_slot_images_compute, steps_keep_sound}
+use Rattle.fls_told.proofs.ToldBytes.{each_told, now_at, told_at}
 use Rattle.ea_told.specs.declared.job.EaJob.{EaJob}
 use Rattle.ea_told.specs.declared.state.SlotState.{SlotState}
 use Rattle.ea_told.specs.Making.{Making, entry_of, at_entry}
@@ -48,7 +49,7 @@ use Rattle.ea_told.specs.Reading.{held_in, reading_of}
 use Rattle.ea_told.specs.Device.{state_at, kind_of, head_of, mark_of, stand_of, job_leaves, left_by, slot_told, slots_in, flash_device}
 use Rattle.ea_told.specs.Inside.{IsLengthOf, IsJob, HasComeTo, HoldAll, StandAll}
 use Rattle.ea_told.specs.Laws.{IsStepping}
-use Rattle.ea_told.proofs.Bytes.{has_bytes, attached_is, left_size, piece_size, each_told, told_at, now_at}
+use Rattle.ea_told.proofs.Bytes.{has_bytes, attached_is, left_size, piece_size}
 use Rattle.ea_told.proofs.Lists.{at_listed, pair, same_entry, entry_is, same_number, entry_length}
 use Rattle.ea_told.proofs.Reading.{slots_path}
 use Rattle.ea_told.proofs.Slot.{found_possible, found_behind}

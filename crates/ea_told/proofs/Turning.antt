@@ -23,6 +23,7 @@ use Rattle.ea_image.specs.Memory.{memory_failed}
 use Rattle.ea_image.specs.declared.step.SlotStep.TheVariants.{EraseHead, EraseBody, Body, Head, Gate}
 use Rattle.ea_image.specs.Slots.{slot_bytes, other, standing}
 use Rattle.ea_image.proofs.Holds.{failed_steps_hold}
+use Rattle.fls_told.proofs.Counted.{rose_next}
 use Rattle.ea_told.specs.declared.job.EaJob.{EaJob}
 use Rattle.ea_told.specs.declared.state.SlotState.{SlotState}
 use Rattle.ea_told.specs.Making.{Making}
@@ -30,7 +31,6 @@ use Rattle.ea_told.specs.Parts.{Parts}
 use Rattle.ea_told.specs.Device.{state_at, can_write, mark_of, wait_of, fixed_for, told_of, clock_of}
 use Rattle.ea_told.specs.Turn.{memory_after}
 use Rattle.ea_told.specs.Laws.{Turned, IsStepping}
-use Rattle.ea_told.proofs.Bytes.{rose_next}
 use Rattle.ea_told.proofs.Order.{order, is_of_first, urgent_is}
 use Rattle.ea_told.proofs.Slot.{same_marks, no_marks, failed_keeps}
 use Rattle.ea_told.proofs.Stepping.{h, content, pages, mem, op, size, started, is_job, next, jm, stand_is, job_here, job_elsewhere, come, body, at_step}

@@ -24,6 +24,7 @@ use Rattle.ea_image.specs.declared.which.Which.TheVariants.{Slot0, Slot1}
 use Rattle.ea_image.specs.Memory.{has_next_head}
 use Rattle.ea_image.specs.Slots.{SlotBytes, slot_bytes, other, standing, newest}
 use Rattle.ea_image.proofs.Torn.{stands_open}
+use Rattle.fls_told.proofs.ToldBytes.{each_told, now_at, told_at}
 use Rattle.ea_told.specs.declared.job.EaJob.{EaJob}
 use Rattle.ea_told.specs.declared.state.SlotState.{SlotState}
 use Rattle.ea_told.specs.Making.{Making, entry_of, at_entry}
@@ -34,7 +35,7 @@ use Rattle.ea_told.specs.Device.{state_at, can_write, mark_of, stand_of, job_lef
 use Rattle.ea_told.specs.Inside.{IsJob, StandAll, IsSound}
 use Rattle.ea_told.specs.Turn.{worn_after}
 use Rattle.ea_told.specs.Laws.{Turned}
-use Rattle.ea_told.proofs.Bytes.{has_bytes, attached_is, each_told, told_at, now_at}
+use Rattle.ea_told.proofs.Bytes.{has_bytes, attached_is}
 use Rattle.ea_told.proofs.Lists.{entry_is, same_number}
 use Rattle.ea_told.proofs.Passing.{passed, IsPassing, passed_turn, keeps_all}
 use Rattle.ea_told.proofs.Stepping.{rests_not, job_mark}

@@ -1,5 +1,5 @@
 -- What holds of each device.
-use Rattle.std.specs.Prelude.{◌≡◌, ◌≢◌, ◌⊎◌, ◌<◌, ◌≤◌, ◌+◌, ℕ, min, true, false, IsTrue, List, length, take, Some, None, IfSome}
+use Rattle.std.specs.Prelude.{◌≡◌, ◌≢◌, ◌<◌, ◌≤◌, ℕ, min, true, false, IsTrue, List, length, take, Some, None, IfSome}
 use Rattle.std.specs.List.{All}
 use Rattle.nv_base.specs.Count.{last_count}
 use Rattle.nv_base.specs.declared.job.DeviceOp.{DeviceOp}
@@ -10,7 +10,7 @@ use Rattle.fls_model.specs.Attach.{AreBytesOf}
 use Rattle.fls_model.specs.Told.{Told, bytes_now}
 use Rattle.fls_jobs.specs.Start.{IsIdle}
 use Rattle.fls_told.specs.Device.{tells_now}
-use Rattle.fls_told.specs.Runs.{HasRun}
+use Rattle.fls_told.specs.Runs.{HasRun, CountsEachCut}
 use Rattle.fee_format.specs.Pages.{body_pages_of}
 use Rattle.ea_image.specs.declared.step.SlotStep.TheVariants.{EraseHead}
 use Rattle.ea_image.specs.Memory.{HoldsSlots}
@@ -74,11 +74,6 @@ pub record HasComeTo (m : Making) (s : Parts) (j : EaJob) (bytes : List ℕ) : T
   pub doubt : j.step ≢ EraseHead → (state_at s.states j.place).memory.doubt ≡ None
 
 -- ITS COUNTS
--- its flash counted each power cut that no plan asked for
-pub record CountsCuts (entry flash : Told) : Type 0 where
-  pub before : entry.planning.unplanned ≤ entry.cuts
-  pub since : (flash.planning.unplanned + entry.cuts ≤ entry.planning.unplanned + flash.cuts) ⊎ (last_count ≤ flash.cuts)
-
 pub record IsSound (m : Making) (entry : Told) (s : Parts) : Type 0 where
   pub made_for : IsMadeFor m s
   pub run : HasRun (flash_device m entry s)
@@ -88,7 +83,8 @@ pub record IsSound (m : Making) (entry : Told) (s : Parts) : Type 0 where
   pub job : IfSome s.job (IsJob m s)
   -- while the power is on
   pub work : s.fls.flash.off ≡ false → IfSome s.job (λ j. IfSome (bytes_now s.fls.flash) (HasComeTo m s j))
-  pub cuts : CountsCuts entry s.fls.flash
+  -- its flash counted each power cut that no plan asked for
+  pub cuts : CountsEachCut entry s.fls.flash
   pub worn : (i since : ℕ) → (state_at s.states i).worn ≡ Some since → since ≤ s.ops
   pub faults : s.faults ≤ last_count
   pub ops : s.ops ≡ min (length s.operations) last_count

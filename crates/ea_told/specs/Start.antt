@@ -20,7 +20,18 @@ LoadsAll m states bytes = (n i : ℕ) (x : DeviceNumber × ℕ) → entry_of m n
 
 -- the power is on; what each number is worn out since stays
 abbrev pub started_as : Parts → FlsState → List SlotState → List ℕ → Bool → ℕ → Parts
-started_as s f states content up faults = record s { fls = f; states = states; content = content; job = None; last = JobOk; given = 0; starts = s.starts + 1; started = up; off = false; faults = faults }
+started_as s f states content up faults = record s {
+  fls = f;
+  states = states;
+  content = content;
+  job = None;
+  last = JobOk;
+  given = 0;
+  starts = s.starts + 1;
+  started = up;
+  off = false;
+  faults = faults;
+}
 
 pub record StartsWith (s : Parts) (f : FlsState) (states : List SlotState) (content : List ℕ) : Type 0 where
   pub flash : f.flash ≡ record (powered s.fls.flash) { faults = f.flash.faults }

@@ -12,7 +12,7 @@ use Rattle.fls_model.specs.declared.flash.FlashAnswer.{FlashAnswer}
 use Rattle.fls_model.specs.declared.flash.FlashAnswer.TheVariants.{Done, Failed, Off}
 use Rattle.fls_model.specs.Op.{Op}
 use Rattle.fls_model.specs.Read.{IsRead}
-use Rattle.fls_model.specs.Step.{IsStep}
+use Rattle.fls_model.specs.Step.{IsStep, CountsUnplanned}
 use Rattle.fls_model.specs.Told.{Told, Change}
 use Rattle.fls_jobs.specs.State.{FlsState, IsDriverState}
 use Rattle.fee_format.specs.declared.rec_head.RecHead.{RecHead}
@@ -29,7 +29,7 @@ use Rattle.promise_device.specs.Making.{Making}
 use Rattle.fee_laws.specs.fls_told.Clock.{change_of}
 use Rattle.fee_laws.specs.fls_told.Runs.{counts_fault}
 use Rattle.fee_laws.specs.Inside.{Parts, HasSwitch}
-use Rattle.fee_laws.specs.Turn.{IsOn, IsCounted, Turned, operated}
+use Rattle.fee_laws.specs.Turn.{IsOn, Turned, operated}
 use Rattle.fee_laws.specs.Switches.{IsBehind, IsStepping, IsWithin, step_op, failed_with}
 use Rattle.fee_laws.specs.Follows.{Follows}
 use Rattle.fee_laws.specs.Wears.{Wears}
@@ -59,10 +59,10 @@ module _ {m : Making} {entry : Told} {s : Parts} {listed : List (DeviceNumber ×
   may_step = steps_may_be_made m.reserve s.banks on.banks on.log (on.sound.room on.started (sym (on.sound.off on.started)))
 
 -- CUTS ARE COUNTED
-same_counted : (s t : Told) → t.planning.unplanned ≡ s.planning.unplanned → t.cuts ≡ s.cuts → IsCounted s t
+same_counted : (s t : Told) → t.planning.unplanned ≡ s.planning.unplanned → t.cuts ≡ s.cuts → CountsUnplanned s t
 same_counted s t planned cuts = inl (omega (arith, planned, cuts))
 
-read_counted : (a : ℕ) (before into : List ℕ) (s t : Told) (answer : FlashAnswer) → IsRead a s before answer into t → IsCounted s t
+read_counted : (a : ℕ) (before into : List ℕ) (s t : Told) (answer : FlashAnswer) → IsRead a s before answer into t → CountsUnplanned s t
 read_counted a before into s t Done is = (let same = is.1 in same_counted s t (ap (λ (x : Told). x.planning.unplanned) same) (ap (λ (x : Told). x.cuts) same))
 read_counted a before into s t Failed is = (let same = is.1 in same_counted s t (ap (λ (x : Told). x.planning.unplanned) same) (ap (λ (x : Told). x.cuts) same))
 read_counted a before into s t Off is = (let same = is.1 in same_counted s t (ap (λ (x : Told). x.planning.unplanned) same) (ap (λ (x : Told). x.cuts) same))
@@ -70,17 +70,17 @@ read_counted a before into s t Off is = (let same = is.1 in same_counted s t (ap
 abbrev mark_begun : BanksState → Place → DeviceNumber → ℕ → Op
 mark_begun b at n size = op_of (begun b.copies (head_at at n size)) []
 
-begun_counted : (at : Place) (b : BanksState) (n : DeviceNumber) (size : ℕ) (s : Told) (answer : FlashAnswer) (t : BanksState) (s' : Told) → s.off ≡ false → BeginsAt at b n size s answer t s' → IsCounted s s'
+begun_counted : (at : Place) (b : BanksState) (n : DeviceNumber) (size : ℕ) (s : Told) (answer : FlashAnswer) (t : BanksState) (s' : Told) → s.off ≡ false → BeginsAt at b n size s answer t s' → CountsUnplanned s s'
 begun_counted (place.Content q count) b n size s answer t s' on is = read_counted (address_of_page b.geometry b.banks b.log.bank (q + 2)) (take size b.buffer) (take size t.buffer) s s' answer is.0
 begun_counted (place.Invalid count) b n size s answer t s' on is = (asked_on s.off (mark_begun b (place.Invalid count) n size) s answer s' on is.0).counted
 begun_counted (place.Erased count) b n size s answer t s' on is = (asked_on s.off (mark_begun b (place.Erased count) n size) s answer s' on is.0).counted
 begun_counted place.Unwritten b n size s answer t s' on is = (asked_on s.off (mark_begun b place.Unwritten n size) s answer s' on is.0).counted
 
-copy_counted : (b : BanksState) (o : Option RecHead) (s : Told) (answer : FlashAnswer) (s' : Told) → s.off ≡ false → IsSome o → ForSome o (λ h. IsStep (op_of b.copies (take h.length b.buffer)) s answer s') → IsCounted s s'
+copy_counted : (b : BanksState) (o : Option RecHead) (s : Told) (answer : FlashAnswer) (s' : Told) → s.off ≡ false → IsSome o → ForSome o (λ h. IsStep (op_of b.copies (take h.length b.buffer)) s answer s') → CountsUnplanned s s'
 copy_counted b None s answer s' on some is = cc some
 copy_counted b (Some h) s answer s' on some is = (asked_on s.off (op_of b.copies (take h.length b.buffer)) s answer s' on (is h refl)).counted
 
-made_counted : (b : BanksState) (c : Course) (s : Told) (answer : FlashAnswer) (t : BanksState) (s' : Told) → s.off ≡ false → CanGoOn b c → MakesNext b c s answer t s' → IsCounted s s'
+made_counted : (b : BanksState) (c : Course) (s : Told) (answer : FlashAnswer) (t : BanksState) (s' : Told) → s.off ≡ false → CanGoOn b c → MakesNext b c s answer t s' → CountsUnplanned s s'
 made_counted b (Erase n) s answer t s' on can is = (asked_on s.off (step_op b (Erase n)) s answer s' on is.0).counted
 made_counted b (Copy None) s answer t s' on can is = begun_counted is.source.place b is.number is.source.length s answer t s' on is.begins
 made_counted b (Copy (Some w)) s answer t s' on can is = copy_counted b (work_in b.copies.tail) s answer s' on can.work is.0

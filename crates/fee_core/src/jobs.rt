@@ -95,7 +95,8 @@ impl<F: Flash, O: Origin> FeeParts<F, O> {
     ) -> Result<(), DeviceRefusal>
         requires { Sound O.making O.entry self.old }
         ensures sound { Sound O.making O.entry self.new }
-        ensures accepts { Accepts (record { job = record { number = number.0; mark = Some (mark.Content content.now); urgent = urgent }; length = Some (length content.now) }) result (told_in O.making O.entry self.old) (clock_in O.making O.entry self.old) (told_in O.making O.entry self.new) (clock_in O.making O.entry self.new) }
+        ensures accepts { Accepts (record { job = record { number = number.0; mark = Some (mark.Content content.now); urgent = urgent }; length = Some (length content.now) }) result
+            (told_in O.making O.entry self.old) (clock_in O.making O.entry self.old) (told_in O.making O.entry self.new) (clock_in O.making O.entry self.new) }
     {
         let length = self.check(number, Some(content.len()))?;
         let pages = pages_of_op(self.banks.geometry().page, DeviceOp::Write, length);

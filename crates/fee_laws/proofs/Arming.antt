@@ -1,8 +1,6 @@
 -- A plan of a power cut.
-use Rattle.std.specs.Prelude.{nat_le, ◌-◌, ◌&&◌, if◌then◌else◌}
-use Rattle.std.proofs.Common.{◌≡◌, ◌⊎◌, inl, inr, ◌≤◌, ◌+◌, ℕ, Bool, true, false, List, Some, refl, subst, arith}
+use Rattle.std.proofs.Common.{◌⊎◌, inl, inr, ◌≤◌, ◌+◌, ℕ, Bool, List, refl, subst, arith}
 use Rattle.nv_base.specs.Count.{WereCounted, last_count}
-use Rattle.nv_base.specs.Plan.{Planning, planned}
 use Rattle.memif.specs.Calls.{ClockStays}
 use Rattle.fls_model.specs.Told.{Told, armed}
 use Rattle.promise_device.specs.Making.{Making}
@@ -12,27 +10,13 @@ use Rattle.fee_told.proofs.Clocks.{clocks_stay}
 use Rattle.fee_told.proofs.Making.{runs_stay}
 use Rattle.fee_told.specs.Device.{Device, told_of, clock_of, flash_device}
 use Rattle.nv_base.specs.declared.instance.DeviceNumber.{DeviceNumber}
+use Rattle.fee_told.proofs.Counted.{came_stay, cuts_stay}
 use Rattle.fee_laws.specs.Inside.{Parts, device_of, IsDevice, IsSound, ShowsCopies}
 use Rattle.fee_laws.proofs.Making.{shown_as}
 use Rattle.fee_laws.specs.Parts.{with_plan}
 use Rattle.fee_laws.proofs.CallOrder.{finds_on}
 use Rattle.fee_laws.specs.CallLaws.{PlansAreSound}
 use Rattle.fee_laws.proofs.MadeFor.{still_made}
-
-same_cuts : (b : Bool) (p q : Planning) → q.unplanned ≡ p.unplanned → (if b then q else p).unplanned ≡ p.unplanned
-same_cuts true p q e = e
-same_cuts false p q e = refl
-
-cuts_stay : (nth keep : ℕ) (p : Planning) → (planned nth keep p).unplanned ≡ p.unplanned
-cuts_stay nth keep p = same_cuts (nat_le 1 p.takes && nat_le 1 nth) p (record p { plan = Some (record { left = nth; keep = keep }); takes = p.takes - 1 }) refl
-
-came_stay : (nth keep : ℕ) (p : Planning) → ((planned nth keep p).came ≡ p.came) × ((planned nth keep p).withheld ≡ p.withheld)
-came_stay nth keep p = by_test (nat_le 1 p.takes && nat_le 1 nth)
-  where
-    by_test : (b : Bool) → ((if b then record p { plan = Some (record { left = nth; keep = keep }); takes = p.takes - 1 } else p).came ≡ p.came)
-        × ((if b then record p { plan = Some (record { left = nth; keep = keep }); takes = p.takes - 1 } else p).withheld ≡ p.withheld)
-    by_test true = (refl, refl)
-    by_test false = (refl, refl)
 
 module _ (m : Making) (entry : Told) (s : Parts) (nth keep : ℕ) where
   abbrev d : Device

@@ -21,23 +21,12 @@ use Rattle.fee_told.specs.SlotLaws.{IsHeld}
 use Rattle.fee_told.specs.Device.{Device, flash_device, tells, tells_now}
 use Rattle.fee_told.specs.Whole.{HoldsBanks}
 use Rattle.fee_told.proofs.Attached.{images_attach}
+use Rattle.fee_told.proofs.ToldBytes.{told_at}
 use Rattle.fee_laws.specs.Inside.{Parts, device_of, memory_of, ShowsCopies, HoldsBehind}
 use Rattle.fee_laws.specs.Turn.{IsOn}
 use Rattle.fee_laws.proofs.MadeFor.{legal_made}
 
 -- BYTES
-pub told_at : (o : Option ToldBytes) (P : List ℕ → Type 0) (bytes : List ℕ) → option_map (λ (b : ToldBytes). b.now) o ≡ Some bytes → IfSome (option_map (λ (b : ToldBytes). b.now) o) P → P bytes
-told_at None P bytes is holds = cc is
-told_at (Some b) P bytes is holds = subst P (cc is) holds
-
-pub now_at : (o : Option ToldBytes) (P : List ℕ → Type 0) (bytes : List ℕ) → option_map (λ (b : ToldBytes). b.now) o ≡ Some bytes → IfSome o (λ b. P b.now) → P bytes
-now_at None P bytes is holds = cc is
-now_at (Some b) P bytes is holds = subst P (cc is) holds
-
-pub each_told : (o : Option ToldBytes) (P : List ℕ → Type 0) → ((bytes : List ℕ) → option_map (λ (b : ToldBytes). b.now) o ≡ Some bytes → P bytes) → IfSome (option_map (λ (b : ToldBytes). b.now) o) P
-each_told None P holds = tt
-each_told (Some b) P holds = holds b.now refl
-
 pub each_now : (o : Option ToldBytes) (P : List ℕ → Type 0) → ((bytes : List ℕ) → option_map (λ (b : ToldBytes). b.now) o ≡ Some bytes → P bytes) → IfSome o (λ b. P b.now)
 each_now None P holds = tt
 each_now (Some b) P holds = holds b.now refl

@@ -17,13 +17,14 @@ use Rattle.fee_told.specs.Slots.{settled_in}
 use Rattle.fee_told.specs.SlotLaws.{IsHeld}
 use Rattle.fee_told.proofs.Kept.{copies_widen}
 use Rattle.fee_told.proofs.Steps.{same_settled}
+use Rattle.fee_told.proofs.ToldBytes.{now_at}
 use Rattle.fee_laws.specs.declared.job.FeeJob.{FeeJob}
 use Rattle.fee_laws.specs.Copied.{flags_of, IsCopying}
 use Rattle.fee_laws.specs.Inside.{Parts, memory_of, flags_in, IsActiveOf, IsAtWork, ShowsCopies, TellsCopies, IsSound}
 use Rattle.fee_laws.specs.Record.{IsInWork, IsReady}
 use Rattle.fee_laws.specs.Turn.{IsOn}
 use Rattle.fee_laws.specs.Begins.{MayBegin, RecordsBegin}
-use Rattle.fee_laws.proofs.Before.{each_now, now_at}
+use Rattle.fee_laws.proofs.Before.{each_now}
 use Rattle.fee_laws.proofs.Beside.{still_copied, appended_again, appended_some, clear_again, flags_set, clears_copying, appended_copying}
 use Rattle.fee_laws.proofs.Begun.{no_course}
 use Rattle.fee_laws.proofs.GoesOn.{each_some}

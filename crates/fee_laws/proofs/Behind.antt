@@ -38,13 +38,15 @@ use Rattle.fee_switch_laws.specs.fee_switch.Banks.{BanksState, IsSameFlash}
 use Rattle.fee_switch_laws.specs.KeepsRoom.{KeepsRoom}
 use Rattle.fee_told.specs.FigureLaws.{IsWork}
 use Rattle.fee_told.proofs.Kept.{same_places}
+use Rattle.fee_told.proofs.Counted.{few_faults, next_length, one_later}
+use Rattle.fee_told.proofs.ToldBytes.{each_told}
 use Rattle.fee_laws.specs.declared.job.FeeJob.{FeeJob}
 use Rattle.fee_laws.specs.Inside.{Parts, stand_of, memory_of, device_of, IsMadeFor, IsAtWork, HoldsBehind, TellsCopies, SealsEarlier, is_copying, IsSound}
 use Rattle.fee_laws.specs.Work.{work_of, seal_turns}
 use Rattle.fee_laws.specs.Turn.{IsOn, Drives}
-use Rattle.fee_laws.proofs.Before.{shape, lengths, legal, some_told, each_told}
+use Rattle.fee_laws.proofs.Before.{shape, lengths, legal, some_told}
 use Rattle.fee_laws.proofs.Order.{behind_finds, in_order}
-use Rattle.fee_laws.proofs.Operation.{cuts, next_length, few_faults, one_later, are_told}
+use Rattle.fee_laws.proofs.Operation.{cuts, are_told}
 use Rattle.fee_laws.proofs.MadeFor.{still_made}
 
 later : (n : ℕ) (xs : List Change) (x : Change) → n ≤ min (length xs) last_count → n ≤ min (length (xs ++ x ∷ [])) last_count

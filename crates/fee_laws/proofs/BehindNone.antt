@@ -19,7 +19,7 @@ use Rattle.promise_device.specs.Traits.{is_such}
 use Rattle.fee_told.specs.SlotLaws.{IsHeld}
 use Rattle.fee_told.specs.fls_told.Device.{asked_ops, flash_part}
 use Rattle.fee_told.specs.fls_told.Clock.{MakesNone}
-use Rattle.fee_told.specs.fls_told.Runs.{HasRun, IsWornSince, CountsCuts as RunCounts}
+use Rattle.fee_told.specs.fls_told.Runs.{HasRun, IsWornSince, CountsCuts as RunCounts, CountsEachCut}
 use Rattle.fee_told.proofs.Clocks.{clocks_pass, now_before}
 use Rattle.fee_told.proofs.Making.{runs_stay}
 use Rattle.fee_told.proofs.Parts.{parts_read}
@@ -27,10 +27,11 @@ use Rattle.fee_told.specs.Device.{Device, tells_now, told_of, clock_of, flash_de
 use Rattle.fee_told.specs.FigureLaws.{IsWork}
 use Rattle.fee_told.specs.Turns.{TakesTurn}
 use Rattle.fee_told.proofs.Kept.{same_places}
-use Rattle.fee_laws.specs.Inside.{Parts, stand_of, memory_of, device_of, CountsCuts, IsAtWork, IsWorn, HoldsBehind, TellsCopies, is_copying, IsSound}
+use Rattle.fee_told.proofs.ToldBytes.{each_told}
+use Rattle.fee_laws.specs.Inside.{Parts, stand_of, memory_of, device_of, IsAtWork, IsWorn, HoldsBehind, TellsCopies, is_copying, IsSound}
 use Rattle.fee_laws.specs.Work.{work_of}
 use Rattle.fee_laws.specs.Turn.{IsOn, Turned}
-use Rattle.fee_laws.proofs.Before.{power, shape, lengths, legal, some, each_told}
+use Rattle.fee_laws.proofs.Before.{power, shape, lengths, legal, some}
 use Rattle.fee_laws.proofs.MadeFor.{still_made}
 use Rattle.fee_laws.proofs.Order.{behind_finds, in_order, is_of_first}
 
@@ -153,7 +154,7 @@ module _ (m : Making) (entry : Told) (s : Parts) (listed : List (DeviceNumber ×
     works = λ started'. is.at_work;
     room = λ started' power. is.room;
     copies = is.copies;
-    cuts = subst (CountsCuts entry) (sym flash) (record { before = on.sound.cuts.before; since = on.sound.cuts.since });
+    cuts = subst (CountsEachCut entry) (sym flash) (record { before = on.sound.cuts.before; since = on.sound.cuts.since });
     worn = is.worn;
     seals = λ k x many at such. is.still (sealed_before k x many at such);
     numbers = on.sound.numbers;

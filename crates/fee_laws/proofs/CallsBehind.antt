@@ -19,12 +19,12 @@ use Rattle.fee_told.proofs.Making.{runs_stay}
 use Rattle.fee_told.specs.Device.{Device, tells_now, told_of, slots_told, clock_of, flash_device}
 use Rattle.fee_told.proofs.Steps.{places_tell}
 use Rattle.fee_told.proofs.Whole.{held_finds_now}
+use Rattle.fee_told.proofs.ToldBytes.{each_told}
 use Rattle.fee_laws.specs.declared.job.FeeJob.{FeeJob}
 use Rattle.fee_laws.specs.Inside.{Parts, device_of, body_of, HoldsBehind}
 use Rattle.fee_laws.specs.Record.{IsInWork}
 use Rattle.fee_laws.proofs.CallOrder.{finds_on}
 use Rattle.fee_told.specs.Whole.{HoldsBanks}
-use Rattle.fee_laws.proofs.Before.{each_told}
 use Rattle.fee_told.specs.SlotLaws.{IsHeld}
 
 -- NO RECORD IN WORK

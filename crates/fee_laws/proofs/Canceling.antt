@@ -22,10 +22,10 @@ use Rattle.fee_told.specs.Device.{Device, tells_now, told_of, flash_device}
 use Rattle.fee_told.proofs.Kept.{same_places}
 use Rattle.fee_told.proofs.Jobs.{jobs_change}
 use Rattle.fee_told.proofs.Steps.{jobs_keep, places_tell}
+use Rattle.fee_told.proofs.ToldBytes.{told_at}
 use Rattle.fee_laws.specs.Inside.{Parts, device_of, memory_of, HoldsBehind, IsSound}
 use Rattle.fee_laws.specs.Parts.{canceled}
 use Rattle.fee_laws.proofs.Starting.{same_bytes}
-use Rattle.fee_laws.proofs.Before.{told_at}
 use Rattle.memif.specs.declared.answer.JobResult.TheVariants.{JobCanceled}
 use Rattle.fee_laws.proofs.CallsBehind.{holds_still}
 

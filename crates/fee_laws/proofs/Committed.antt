@@ -59,6 +59,7 @@ use Rattle.fee_told.specs.Figures.{Work, Waits, turns_owed, left_of as turns_lef
 use Rattle.fee_told.proofs.Appends.{appends_commit as told_appends_commit}
 use Rattle.fee_told.proofs.Kept.{copies_widen}
 use Rattle.fee_told.proofs.Whole.{commits_are_told, told_behind}
+use Rattle.fee_told.proofs.ToldBytes.{before_told, now_at}
 use Rattle.fee_laws.specs.declared.job.FeeJob.{FeeJob}
 use Rattle.fee_laws.specs.Copied.{flags_of, IsCopying}
 use Rattle.fee_laws.specs.Inside.{Parts, device_of, memory_of, body_of, flags_in, mark_of, stand_of, fixed_in, HoldsBehind, ShowsCopies, TellsCopies}
@@ -66,12 +67,12 @@ use Rattle.fee_laws.specs.Record.{IsInWork, IsLengthOf}
 use Rattle.fee_laws.specs.Work.{work_of, switch_turns, pages_of_job, pages_left, is_owed, waits_of, turns_before, seal_turns, is_urgent_job, pages_free}
 use Rattle.fee_laws.specs.Turn.{Turned, ended_as}
 use Rattle.fee_laws.specs.Appends.{IsAppending, work_op, after_page, AppendsCommit}
-use Rattle.fee_laws.proofs.Before.{power, log_geometry, copied, held_before, copies_before, each_now, now_at}
+use Rattle.fee_laws.proofs.Before.{power, log_geometry, copied, held_before, copies_before, each_now}
 use Rattle.fee_laws.proofs.Beside.{content_beside, flags_set, named}
 use Rattle.fee_laws.proofs.Noted.{noted_set}
 use Rattle.fee_laws.proofs.Settled.{flags_settled, notes, settles_one, settled_count, settled_many, noted_many, settles_in, sets_none}
 use Rattle.fee_laws.proofs.Order.{urgent_is}
-use Rattle.fee_laws.proofs.Operation.{left, before_told, started, are_told}
+use Rattle.fee_laws.proofs.Operation.{left, started, are_told}
 use Rattle.fee_laws.proofs.Behind.{Facts, held_behind}
 use Rattle.fee_laws.proofs.Taken.{takes_one}
 use Rattle.fee_laws.proofs.Turning.{worked}

@@ -27,13 +27,14 @@ use Rattle.fee_told.specs.Figures.{Work}
 use Rattle.fee_told.specs.FigureLaws.{IsWork}
 use Rattle.fee_told.proofs.Appends.{appends_fail as told_appends_fail, failed_places}
 use Rattle.fee_told.proofs.Kept.{none_closed, none_open}
+use Rattle.fee_told.proofs.ToldBytes.{before_told}
 use Rattle.fee_laws.specs.declared.job.FeeJob.{FeeJob}
 use Rattle.fee_laws.specs.Inside.{Parts, device_of, memory_of, stand_of, IsAtWork, HoldsBehind}
 use Rattle.fee_laws.specs.Work.{work_of, pages_of_op, pages_of_job}
 use Rattle.fee_laws.specs.Turn.{Turned}
 use Rattle.fee_laws.specs.Appends.{IsAppending, work_op, after_page, AppendsAreCut}
 use Rattle.fee_laws.proofs.Before.{copied, held_before}
-use Rattle.fee_laws.proofs.Operation.{left, before_told}
+use Rattle.fee_laws.proofs.Operation.{left}
 use Rattle.fee_laws.proofs.Behind.{Facts, held_torn, torn_keeps}
 use Rattle.fee_laws.proofs.Turning.{was_cut as turn_is_cut}
 use Rattle.fee_laws.proofs.Figures.{switch_is}

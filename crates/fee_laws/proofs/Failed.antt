@@ -18,12 +18,12 @@ use Rattle.fee_told.specs.Slots.{Memory}
 use Rattle.fee_told.specs.Device.{told_of, clock_of}
 use Rattle.fee_told.specs.Kept.{IsKept}
 use Rattle.fee_told.proofs.Appends.{appends_fail as told_appends_fail}
+use Rattle.fee_told.proofs.Counted.{rose_next}
 use Rattle.fee_laws.specs.declared.job.FeeJob.{FeeJob}
 use Rattle.fee_laws.specs.Inside.{Parts, device_of, memory_of, stand_of}
 use Rattle.fee_laws.specs.Turn.{Turned, ended_as}
 use Rattle.fee_laws.specs.Appends.{IsAppending, work_op, after_page, AppendsFail}
 use Rattle.fee_laws.proofs.Before.{log_geometry}
-use Rattle.fee_laws.proofs.Operation.{rose_next}
 use Rattle.fee_laws.proofs.Behind.{Facts}
 use Rattle.fee_laws.proofs.Turning.{fails_as, worked}
 use Rattle.fee_laws.proofs.Tails.{shown, failed_shown, failed_idle, failed_places}

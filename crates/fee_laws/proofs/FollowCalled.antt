@@ -22,6 +22,7 @@ use Rattle.fee_switch_laws.specs.fee_switch.Banks.{BanksState, FindsActive, Load
 use Rattle.fee_course.specs.declared.course.Course.TheVariants as course
 use Rattle.fee_switch_laws.specs.Space.{free_pages}
 use Rattle.promise_device.specs.Making.{Making}
+use Rattle.fee_told.proofs.ToldBytes.{now_at}
 use Rattle.fee_laws.specs.declared.job.FeeJob.{FeeJob}
 use Rattle.fee_laws.specs.Inside.{Parts, body_of}
 use Rattle.fee_laws.specs.Record.{IsJobOf, IsLengthOf, IsInWork, head_of}
@@ -36,7 +37,7 @@ use Rattle.fee_laws.proofs.FollowBegins.{MayBeginIn, each, record_begins, record
 use Rattle.fee_laws.proofs.FollowStarts.{found_follows}
 use Rattle.fee_laws.proofs.FollowKnown.{knows}
 use Rattle.fee_laws.proofs.FollowLifts.{memory_follows, read_bytes}
-use Rattle.fee_laws.proofs.Before.{now_at, each_now, power}
+use Rattle.fee_laws.proofs.Before.{each_now, power}
 use Rattle.fee_laws.proofs.Begun.{room_is}
 
 -- WHAT IS KNOWN

@@ -27,6 +27,7 @@ use Rattle.promise_device.specs.Room.{job_pages}
 use Rattle.fee_told.specs.Device.{fixed_of, told_of}
 use Rattle.fee_told.specs.Figures.{figures_for, left_of}
 use Rattle.fee_told.proofs.Figures.{figures_found}
+use Rattle.fee_told.proofs.ToldBytes.{now_at}
 use Rattle.fee_laws.specs.declared.job.FeeJob.{FeeJob}
 use Rattle.fee_laws.specs.Inside.{Parts, device_of, fixed_in, mark_of, stand_of}
 use Rattle.fee_laws.specs.Record.{IsLengthOf}
@@ -34,7 +35,7 @@ use Rattle.fee_laws.specs.Turn.{IsOn}
 use Rattle.fee_laws.specs.Work.{fits_in, pages_of_op, work_of}
 use Rattle.fee_laws.specs.Follows.{failed_of, may_be_closed_beside, FollowsBytes}
 use Rattle.fee_laws.specs.FollowLaws.{RoomIsEnough}
-use Rattle.fee_laws.proofs.Before.{each_now, now_at, power}
+use Rattle.fee_laws.proofs.Before.{each_now, power}
 use Rattle.fee_laws.proofs.FollowKnown.{own_bank, shows_active}
 use Rattle.fee_laws.proofs.FollowPages.{IsFree, few_free, has_pages, is_a_read, none_free}
 use Rattle.fee_laws.proofs.FollowRoom.{free_beside, idle_work, of, own_pages, written}

@@ -15,12 +15,12 @@ use Rattle.fee_switch_laws.specs.fee_switch.Banks.{BanksState}
 use Rattle.fee_switch_laws.specs.Shown.{layout_in}
 use Rattle.promise_device.specs.Making.{Making}
 use Rattle.fee_told.specs.fls_told.Clock.{change_of}
+use Rattle.fee_told.proofs.ToldBytes.{before_told, both_left, now_at}
 use Rattle.fee_laws.specs.Inside.{Parts}
 use Rattle.fee_laws.specs.Turn.{IsOn, operated}
 use Rattle.fee_laws.specs.Follows.{FollowsBytes, Follows}
-use Rattle.fee_laws.proofs.Before.{each_now, now_at}
+use Rattle.fee_laws.proofs.Before.{each_now}
 use Rattle.fee_laws.proofs.FollowStarts.{wide}
-use Rattle.fee_laws.proofs.Operation.{both_left, before_told}
 
 -- AN OPERATION
 not_off : (answer : FlashAnswer) (s t : Told) → HasCause answer s t → t.off ≡ false → answer ≡ Off → ⊥

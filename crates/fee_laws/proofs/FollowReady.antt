@@ -22,13 +22,14 @@ use Rattle.fee_told.specs.Device.{fixed_of, told_of}
 use Rattle.fee_told.specs.Figures.{ready_of}
 use Rattle.fee_told.specs.Slots.{banks_with, may_told}
 use Rattle.fee_told.specs.SlotLaws.{IsHeld}
+use Rattle.fee_told.proofs.ToldBytes.{now_at}
 use Rattle.fee_laws.specs.declared.job.FeeJob.{FeeJob}
 use Rattle.fee_laws.specs.Inside.{Parts, body_of, device_of, mark_of, memory_of, stand_of}
 use Rattle.fee_laws.specs.Turn.{IsOn}
 use Rattle.fee_laws.specs.Work.{pages_free, pages_of_op, seal_turns, claimed, takes_append, is_waiting, fits_in, is_urgent_job}
 use Rattle.fee_laws.specs.Follows.{FollowsBytes}
 use Rattle.fee_laws.specs.FollowLaws.{FreeIsReady}
-use Rattle.fee_laws.proofs.Before.{copied, each_now, held_before, legal, now_at, power}
+use Rattle.fee_laws.proofs.Before.{copied, each_now, held_before, legal, power}
 use Rattle.fee_laws.proofs.FollowFree.{free_there, own_few}
 use Rattle.fee_laws.proofs.FollowRoom.{claims}
 use Rattle.fee_laws.proofs.Order.{urgent_is}

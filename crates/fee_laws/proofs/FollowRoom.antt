@@ -30,6 +30,7 @@ use Rattle.promise_device.specs.Room.{mark_pages, job_pages, pages_needed, turns
 use Rattle.promise_device.proofs.Readings.{closed_banks_compute}
 use Rattle.fee_told.specs.Device.{told_of}
 use Rattle.fee_told.specs.Figures.{ready_of, left_of, turns_of, turns_owed}
+use Rattle.fee_told.proofs.ToldBytes.{now_at}
 use Rattle.fee_laws.specs.declared.job.FeeJob.{FeeJob}
 use Rattle.fee_laws.specs.Inside.{Parts, body_of, device_of, mark_of, stand_of, IsActiveOf, IsAtWork}
 use Rattle.fee_laws.specs.Record.{IsJobOf, IsInWork, head_of}
@@ -38,7 +39,7 @@ use Rattle.fee_laws.specs.Work.{pages_of_op, pages_left, pages_free, is_owed, is
 use Rattle.fee_laws.specs.Follows.{anything, FollowsBytes, may_be_closed_beside}
 use Rattle.fee_laws.specs.FollowLaws.{RoomIsTold}
 use Rattle.fee_laws.proofs.Appended.{pages_few}
-use Rattle.fee_laws.proofs.Before.{now_at, each_now, power}
+use Rattle.fee_laws.proofs.Before.{each_now, power}
 use Rattle.fee_laws.proofs.CallsBehind.{no_work}
 use Rattle.fee_laws.proofs.FollowDue.{copies_of, begins_with}
 use Rattle.fee_laws.proofs.FollowKnown.{test, follows_log, bank_is, closed_beside, may_by, free_is, shows_active}

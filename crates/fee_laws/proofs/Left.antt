@@ -27,13 +27,14 @@ use Rattle.fee_told.specs.Device.{Device, told_of, flash_device}
 use Rattle.fee_told.specs.Kept.{IsKept}
 use Rattle.fee_told.specs.Whole.{CutsKeep}
 use Rattle.fee_told.proofs.Whole.{kept_is_told, told_behind}
+use Rattle.fee_told.proofs.ToldBytes.{before_told, now_at}
 use Rattle.fee_laws.specs.declared.job.FeeJob.{FeeJob}
 use Rattle.fee_laws.specs.Copied.{flags_of, IsCopying}
 use Rattle.fee_laws.specs.Inside.{Parts, device_of, memory_of, stand_of, flags_in, IsActiveOf, IsAtWork, HasSwitch, ShowsCopies, HoldsBehind, TellsCopies}
 use Rattle.fee_laws.specs.Appends.{IsAppending, work_op, after_page}
 use Rattle.fee_laws.proofs.Appended.{has_switch, flags_clear, resting_work, idle_at_work}
-use Rattle.fee_laws.proofs.Before.{power, copied, now_at, each_now, held_before, copies_before}
-use Rattle.fee_laws.proofs.Operation.{left, before_told, run, worn_by, started, are_told}
+use Rattle.fee_laws.proofs.Before.{power, copied, each_now, held_before, copies_before}
+use Rattle.fee_laws.proofs.Operation.{left, run, worn_by, started, are_told}
 use Rattle.fee_laws.proofs.Behind.{Facts, held_behind}
 use Rattle.fee_laws.proofs.Page.{active_is, at_work, cut_keeps, formats, keeps_last}
 use Rattle.fee_laws.proofs.Copies.{settled_stays}

@@ -27,6 +27,7 @@ use Rattle.fee_told.specs.Device.{Device, tells_now, told_of, clock_of, flash_de
 use Rattle.fee_told.specs.Figures.{Work, fixed_for, left_of, turns_of, Waits, ready_of, wait_of}
 use Rattle.fee_told.proofs.Jobs.{jobs_change}
 use Rattle.fee_told.proofs.Figures.{owed_few, urgent_starts}
+use Rattle.fee_told.proofs.ToldBytes.{told_at}
 use Rattle.fee_laws.specs.declared.job.FeeJob.{FeeJob}
 use Rattle.fee_laws.specs.Inside.{Parts, device_of, memory_of, stand_of, mark_of, fixed_in, body_of, HoldsBehind, IsSound, IsAtWork, ShowsCopies}
 use Rattle.fee_laws.specs.Record.{IsJobOf, IsInWork, IsReady}
@@ -36,7 +37,6 @@ use Rattle.fee_laws.proofs.CallsBehind.{no_work, same_body, job_in, finds_now, r
 use Rattle.fee_laws.proofs.Bounds.{part_is, copies_few, calm_waits, pages_are}
 use Rattle.fee_laws.proofs.CallOrder.{few_before, ready_kept}
 use Rattle.fee_laws.proofs.Raising.{raises, raises_beside, adds, base_few, left_wanted, ready_calm, writes_pages}
-use Rattle.fee_laws.proofs.Before.{told_at}
 use Rattle.nv_base.specs.Pages.{record_pages_of}
 use Rattle.memif.specs.Marks.{DoubtsAt}
 use Rattle.fee_format.specs.declared.rec_head.RecHead.{RecHead}

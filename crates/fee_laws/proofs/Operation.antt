@@ -1,19 +1,17 @@
 -- A turn that asked for a changing operation.
-use Rattle.std.specs.Prelude.{IsTrue, min, option_map, length}
-use Rattle.std.proofs.Common.{◌≡◌, ◌≢◌, ◌⊎◌, inl, inr, ◌≤◌, ◌+◌, ◌++◌, ◌∷◌, ℕ, false, List, [], Option, Some, None, refl, subst, arith}
-use Rattle.std.proofs.Math.ListN.{length-append}
-use Rattle.std.proofs.lemmas.Bool.{cases_lt}
-use Rattle.nv_base.specs.Count.{Rose, next_count, last_count, WereCounted}
+use Rattle.std.specs.Prelude.{IsTrue}
+use Rattle.std.proofs.Common.{◌≡◌, ◌≢◌, ◌≤◌, ◌++◌, ◌∷◌, ℕ, false, List, [], Option, Some, refl}
+use Rattle.nv_base.specs.Count.{last_count}
 use Rattle.nv_base.specs.declared.instance.DeviceNumber.{DeviceNumber}
 use Rattle.memif.specs.declared.answer.JobResult.{JobResult}
 use Rattle.memif.specs.Told.{First}
 use Rattle.memif.specs.Calls.{PartTurns}
 use Rattle.memif.specs.Clock.{Ticks}
 use Rattle.fls_model.specs.declared.flash.FlashAnswer.{FlashAnswer}
-use Rattle.fls_model.specs.declared.flash.FlashAnswer.TheVariants.{Done, Failed, Off}
+use Rattle.fls_model.specs.declared.flash.FlashAnswer.TheVariants.{Off}
 use Rattle.fls_model.specs.Op.{Op, MayLeave}
-use Rattle.fls_model.specs.Step.{IsAsked, IsChanged, Leaves, HasCause}
-use Rattle.fls_model.specs.Told.{Told, ToldBytes, IfBothTold, Change, bytes_now}
+use Rattle.fls_model.specs.Step.{IsAsked, Leaves}
+use Rattle.fls_model.specs.Told.{Told, Change, bytes_now}
 use Rattle.fls_jobs.specs.State.{FlsState}
 use Rattle.fee_switch_laws.specs.fee_switch.Banks.{BanksState}
 use Rattle.promise_device.specs.Making.{Making}
@@ -23,7 +21,7 @@ use Rattle.promise_device.proofs.Readings.{last_generations_compute}
 use Rattle.fee_told.specs.fls_told.Device.{asked_ops, flash_part}
 use Rattle.fee_told.specs.fls_told.Clock.{Makes, CutsArePossible, TakesKeptPages, change_of, turn_of}
 use Rattle.fee_told.specs.fls_told.Parts.{Counts}
-use Rattle.fee_told.specs.fls_told.Runs.{HasRun, LeavesSound, KeepsWorn, CountsCuts as RunCounts, counts_fault}
+use Rattle.fee_told.specs.fls_told.Runs.{HasRun, LeavesSound, KeepsWorn, counts_fault, CountsEachCut}
 use Rattle.fee_told.specs.fls_told.Tells.{IsSame, AreTold}
 use Rattle.fee_told.proofs.Clocks.{clocks_tick}
 use Rattle.fee_told.proofs.Making.{runs_go_on}
@@ -31,80 +29,17 @@ use Rattle.fee_told.proofs.Parts.{parts_work}
 use Rattle.fee_told.specs.Device.{Device, tells, told_of, clock_of, flash_device}
 use Rattle.fee_told.specs.Whole.{CutsKeep, AreStarted}
 use Rattle.fee_told.proofs.Whole.{cuts_are_told, told_behind}
+use Rattle.fee_told.proofs.Counted.{failure_counted, few_faults, one_later, run_counts, still_counted}
+use Rattle.fee_told.proofs.ToldBytes.{before_told, both_left, each_told, told_at}
 use Rattle.fee_laws.specs.declared.job.FeeJob.{FeeJob}
-use Rattle.fee_laws.specs.Inside.{Parts, device_of, CountsCuts}
-use Rattle.fee_laws.specs.Turn.{IsOn, Drives, IsCounted}
-use Rattle.fee_laws.proofs.Before.{power, holds, copied, told_at, each_told}
-
--- COUNTS
-pub more_counted : (s t : Told) (answer : FlashAnswer) → HasCause answer s t → s.cuts ≤ t.cuts
-more_counted s t Done cause = let h = cause.1 in omega (arith, h)
-more_counted s t Failed cause = let h = cause.1 in omega (arith, h)
-more_counted s t Off cause = more_by s.cuts t.cuts cause.1
-  where
-    more_by : (a b : ℕ) → Rose a b → a ≤ b
-    more_by a b (inl less) = omega arith
-    more_by a b (inr (big, le)) = le
-
-counted_by : (u0 c0 u c v e : ℕ) → c ≤ e → (v + c ≤ u + e) ⊎ (last_count ≤ e) → (u + c0 ≤ u0 + c) ⊎ (last_count ≤ c) → (v + c0 ≤ u0 + e) ⊎ (last_count ≤ e)
-counted_by u0 c0 u c v e more (inl a) (inl b) = inl (omega arith)
-counted_by u0 c0 u c v e more (inl a) (inr b) = inr (omega arith)
-counted_by u0 c0 u c v e more (inr a) _ = inr a
-
-pub still_counted : (entry s t : Told) (answer : FlashAnswer) → HasCause answer s t → IsCounted s t → CountsCuts entry s → CountsCuts entry t
-still_counted entry s t answer cause counted was = record {
-  before = was.before;
-  since = counted_by entry.planning.unplanned entry.cuts s.planning.unplanned s.cuts t.planning.unplanned t.cuts (more_counted s t answer cause) counted was.since;
-}
-
-run_by : (u0 c0 v e n : ℕ) → u0 ≤ c0 → (v + c0 ≤ u0 + e) ⊎ (last_count ≤ e) → WereCounted n u0 v → WereCounted n c0 e
-run_by u0 c0 v e n low (inl a) (inl w) = inl (omega arith)
-run_by u0 c0 v e n low (inl a) (inr w) = inr (omega arith)
-run_by u0 c0 v e n low (inr a) w = inr a
-
-pub run_counts : (entry t : Told) → CountsCuts entry t → RunCounts entry t
-run_counts entry t c n were = run_by entry.planning.unplanned entry.cuts t.planning.unplanned t.cuts n c.before c.since were
-
--- one operation more
-pub next_length : (xs : List Change) (x : Change) (count : ℕ) → count ≡ min (length xs) last_count → next_count count ≡ min (length (xs ++ x ∷ [])) last_count
-next_length xs x count is = let h = length-append xs (x ∷ []) in omega (arith, is, h)
-
-pub rose_next : (n : ℕ) → n ≤ last_count → Rose n (next_count n)
-rose_next n few = elim (cases_lt n last_count) [ inl less ↦ inl (omega arith) | inr big ↦ inr (big, omega arith) ]
-
-pub few_faults : (answer : FlashAnswer) (n : ℕ) → n ≤ last_count → counts_fault answer n ≤ last_count
-few_faults Done n few = few
-few_faults Failed n few = omega arith
-few_faults Off n few = few
-
-pub failure_counted : (answer : FlashAnswer) (n : ℕ) → n ≤ last_count → answer ≡ Failed → Rose n (counts_fault answer n)
-failure_counted Done n few failed = cc
-failure_counted Failed n few failed = rose_next n few
-failure_counted Off n few failed = cc
-
-pub one_later : (xs : List Change) (x : Change) → length xs ≤ length (xs ++ x ∷ [])
-one_later xs x = (let h = length-append xs (x ∷ []) in omega (arith, h))
+use Rattle.fee_laws.specs.Inside.{Parts, device_of}
+use Rattle.fee_laws.specs.Turn.{IsOn, Drives}
+use Rattle.fee_laws.proofs.Before.{power, holds, copied}
 
 -- behind an operation only a sound image is told
 pub are_told : (d e : Device) (xs : List Change) (x : Change) (old new : List ℕ) → e.operations ≡ xs ++ x ∷ [] → AreTold (flash_device d) (flash_device e) old new
     → IsTrue (tells e) × (bytes_now d.flash ≡ Some old) × (bytes_now e.flash ≡ Some new)
 are_told d e xs x old new is told = (told_behind e xs x is told.0, told.1, told.2)
-
--- BYTES
-pub both_left : (x y : Option ToldBytes) (op : Op) (answer : FlashAnswer) (old new : List ℕ) → option_map (λ (b : ToldBytes). b.now) x ≡ Some old → option_map (λ (b : ToldBytes). b.now) y ≡ Some new
-    → IfBothTold x y (IsChanged op answer) → MayLeave op old new × Leaves op answer old new
-both_left None y op answer old new a b both = cc a
-both_left (Some x) None op answer old new a b both = cc b
-both_left (Some x) (Some y) op answer old new a b both =
-    let h : x.now ≡ old = cc a in
-    let k : y.now ≡ new = cc b in
-    subst (λ (o : List ℕ). MayLeave op o new × Leaves op answer o new) h (subst (λ (n : List ℕ). MayLeave op x.now n × Leaves op answer x.now n) k (both.within, both.bytes))
-
-pub before_told : (x y : Option ToldBytes) (op : Op) (answer : FlashAnswer) (new : List ℕ) → IfBothTold x y (IsChanged op answer) → option_map (λ (b : ToldBytes). b.now) y ≡ Some new
-    → (old : List ℕ) × (option_map (λ (b : ToldBytes). b.now) x ≡ Some old)
-before_told None None op answer new both at = cc at
-before_told None (Some y) op answer new both at = absurd both
-before_told (Some x) y op answer new both at = (x.now, refl)
 
 module _ (m : Making) (entry : Told) (s : Parts) (listed : List (DeviceNumber × ℕ)) (kept count : ℕ) (on : IsOn m entry s listed kept count) (op : Op) (answer : FlashAnswer) (f : FlsState) (drives : Drives s.fls f) (asked : IsAsked op s.fls.flash answer f.flash) where
   abbrev d : Device
@@ -114,7 +49,7 @@ module _ (m : Making) (entry : Told) (s : Parts) (listed : List (DeviceNumber ×
   pub left : (old new : List ℕ) → bytes_now s.fls.flash ≡ Some old → bytes_now f.flash ≡ Some new → MayLeave op old new × Leaves op answer old new
   left old new a b = both_left s.fls.flash.bytes f.flash.bytes op answer old new a b asked.bytes
 
-  pub cuts : CountsCuts entry f.flash
+  pub cuts : CountsEachCut entry f.flash
   cuts = still_counted entry s.fls.flash f.flash answer asked.cause drives.counted on.sound.cuts
 
   module _ (keeps : CutsKeep op d) where

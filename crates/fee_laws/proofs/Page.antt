@@ -38,11 +38,12 @@ use Rattle.fee_told.specs.Kept.{with_log}
 use Rattle.fee_told.specs.Whole.{CutsKeep, IsKeptSo}
 use Rattle.fee_told.proofs.Appends.{appends_fail as told_appends_fail}
 use Rattle.fee_told.proofs.Programs.{programs_keep_last}
+use Rattle.fee_told.proofs.ToldBytes.{each_told}
 use Rattle.fee_laws.specs.Inside.{Parts, device_of, memory_of, body_of, IsActiveOf, IsAtWork}
 use Rattle.fee_laws.specs.Record.{IsInWork}
 use Rattle.fee_laws.specs.Turn.{IsOn}
 use Rattle.fee_laws.specs.Appends.{work_body, work_op}
-use Rattle.fee_laws.proofs.Before.{lengths, legal, copied, held_before, log_geometry, log_banks, each_told}
+use Rattle.fee_laws.proofs.Before.{lengths, legal, copied, held_before, log_geometry, log_banks}
 use Rattle.fee_laws.proofs.FollowLifts.{some_of}
 
 -- IN MEMORY

@@ -32,15 +32,16 @@ use Rattle.promise_device.specs.Making.{Making, banks_of}
 use Rattle.fee_told.specs.Slots.{job_leaves, settled_in, slots_found, slots_held}
 use Rattle.fee_told.proofs.Parts.{rose_more}
 use Rattle.fee_told.specs.Device.{slots_in}
+use Rattle.fee_told.proofs.Counted.{rose_next}
+use Rattle.fee_told.proofs.ToldBytes.{now_at}
 use Rattle.fee_laws.specs.declared.job.FeeJob.{FeeJob}
 use Rattle.fee_laws.specs.Inside.{Parts, body_of, device_of, memory_of}
 use Rattle.fee_laws.specs.Record.{IsJobOf, IsLengthOf}
 use Rattle.fee_laws.specs.Turn.{Turned, ended_as}
 use Rattle.fee_laws.specs.Reads.{IsReading, IsAsked, IsErasedAt, place_now, ContentsAreRead, ReadsFail, MarksAreRead}
-use Rattle.fee_laws.proofs.Before.{lengths, log_geometry, log_banks, now_at}
+use Rattle.fee_laws.proofs.Before.{lengths, log_geometry, log_banks}
 use Rattle.fee_laws.proofs.Heads.{among}
 use Rattle.fee_laws.proofs.Marks.{settled_of, shows_at}
-use Rattle.fee_laws.proofs.Operation.{rose_next}
 use Rattle.fee_laws.proofs.Reading.{read_so}
 use Rattle.fee_laws.proofs.FollowLifts.{some_of}
 

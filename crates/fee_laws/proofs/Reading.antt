@@ -32,6 +32,7 @@ use Rattle.fee_told.specs.SlotLaws.{IsHeld}
 use Rattle.fee_told.specs.Device.{Device, tells_now, told_of, slots_in, clock_of}
 use Rattle.fee_told.specs.Figures.{ready_of, turns_of, left_of as turns_left}
 use Rattle.fee_told.proofs.Jobs.{jobs_change}
+use Rattle.fee_told.proofs.ToldBytes.{now_at}
 use Rattle.fee_laws.specs.declared.job.FeeJob.{FeeJob}
 use Rattle.fee_laws.specs.Copied.{flags_of, IsCopying}
 use Rattle.fee_laws.specs.Inside.{Parts, body_of, device_of, memory_of, mark_of, stand_of, fixed_in, flags_in, HoldsBehind, IsAtWork, ShowsCopies, TellsCopies}
@@ -39,7 +40,7 @@ use Rattle.fee_laws.specs.Record.{IsInWork, IsJobOf}
 use Rattle.fee_laws.specs.Work.{work_of, switch_turns, begins_next, claimed, pages_free, pages_of_op, seal_turns, is_waiting, fits_in, takes_append}
 use Rattle.fee_laws.specs.Turn.{Turned}
 use Rattle.fee_laws.specs.Reads.{IsReading}
-use Rattle.fee_laws.proofs.Before.{power, lengths, legal, copied, held_at, now_at, each_now}
+use Rattle.fee_laws.proofs.Before.{power, lengths, legal, copied, held_at, each_now}
 use Rattle.fee_laws.proofs.Order.{urgent_is, tells_by}
 use Rattle.fee_laws.proofs.Heads.{not_read}
 use Rattle.fee_laws.proofs.Marks.{same_with}

@@ -54,6 +54,8 @@ use Rattle.fee_told.proofs.Held.{images_find}
 use Rattle.fee_told.proofs.Jobs.{banks_start as told_banks_start, no_bank_starts}
 use Rattle.fee_told.proofs.Steps.{places_tell, unstarted_find, unstarted_is_found}
 use Rattle.fee_told.proofs.Whole.{held_finds_now, unstarted_finds_now}
+use Rattle.fee_told.proofs.Counted.{rose_next}
+use Rattle.fee_told.proofs.ToldBytes.{each_told, now_at, told_at}
 use Rattle.fee_laws.specs.Inside.{Parts, memory_of, body_of, device_of, IsMadeFor, IsDevice, IsSound, HoldsBehind, HasSwitch, IsAtWork, ShowsCopies, is_copying}
 use Rattle.fee_laws.specs.Record.{IsInWork}
 use Rattle.fee_laws.specs.Parts.{started_with}
@@ -61,8 +63,7 @@ use Rattle.fee_laws.specs.Work.{work_of}
 use Rattle.fee_laws.specs.CallLaws.{AreOf, AreReady, StartsAreReady, StartsFail}
 use Rattle.fee_laws.proofs.Making.{none_shows}
 use Rattle.fee_laws.proofs.CallOrder.{at_rest, nothing_left}
-use Rattle.fee_laws.proofs.Before.{each_told, now_at, some_told, told_at}
-use Rattle.fee_laws.proofs.Operation.{rose_next}
+use Rattle.fee_laws.proofs.Before.{some_told}
 use Rattle.fee_laws.proofs.BehindNone.{Counted, were_counted, few_counted}
 use Rattle.fee_laws.proofs.MadeFor.{still_made}
 

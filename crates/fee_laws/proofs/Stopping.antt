@@ -23,6 +23,7 @@ use Rattle.fee_told.specs.Device.{Device, is_switching}
 use Rattle.fee_told.specs.Kept.{with_log}
 use Rattle.fee_told.proofs.Kept.{same_places}
 use Rattle.fee_told.proofs.Appends.{records_give_up}
+use Rattle.fee_told.proofs.ToldBytes.{told_at}
 use Rattle.fee_laws.specs.declared.job.FeeJob.{FeeJob}
 use Rattle.fee_laws.specs.Inside.{Parts, device_of, memory_of, body_of, HoldsBehind, IsSound, ShowsCopies}
 use Rattle.fee_laws.specs.Record.{IsInWork}
@@ -34,7 +35,6 @@ use Rattle.fee_laws.proofs.Raising.{ready_calm}
 use Rattle.fee_laws.proofs.GivenUp.{given_log, none_left, places_left, free_left, ready_up, phase_same, active_same, switch_same, takes, no_course}
 use Rattle.fee_laws.proofs.Making.{none_shows}
 use Rattle.fee_laws.proofs.CallOrder.{nothing_left}
-use Rattle.fee_laws.proofs.Before.{told_at}
 use Rattle.fee_laws.proofs.Appended.{idle_at_work}
 use Rattle.fee_laws.proofs.MadeFor.{still_made, legal_made}
 use Rattle.memif.specs.declared.answer.JobResult.TheVariants.{JobCanceled}

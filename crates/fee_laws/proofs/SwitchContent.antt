@@ -29,6 +29,7 @@ use Rattle.fee_told.specs.Kept.{IsKept}
 use Rattle.fee_told.proofs.Switches.{copies_fail}
 use Rattle.fee_told.proofs.Parts.{rose_more}
 use Rattle.fee_told.proofs.Slots.{keeps_same}
+use Rattle.fee_told.proofs.ToldBytes.{now_at}
 use Rattle.fee_laws.specs.Copied.{flags_of, IsCopying}
 use Rattle.fee_laws.specs.Inside.{Parts, memory_of, body_of, flags_in, ShowsCopies, stand_of}
 use Rattle.fee_laws.specs.Turn.{Turned}
@@ -62,7 +63,6 @@ use Rattle.fls_model.specs.Bytes.{SameOutside}
 use Rattle.fee_image.specs.Laws.{place_in_image}
 use Rattle.fee_format.specs.Pages.{gate_page}
 use Rattle.fee_laws.specs.Inside.{IsActiveOf}
-use Rattle.fee_laws.proofs.Before.{now_at}
 use Rattle.fee_laws.proofs.SwitchReadOn.{went_read}
 use Rattle.fee_laws.proofs.SwitchReadFailed.{failed_read}
 use Rattle.fee_laws.proofs.SwitchShown.{flags_hidden}

@@ -19,6 +19,7 @@ use Rattle.fee_told.specs.fls_told.Clock.{TakesKeptPages}
 use Rattle.fee_told.specs.fls_told.Runs.{HasRun}
 use Rattle.fee_told.specs.Device.{Device, tells, told_of, flash_device}
 use Rattle.fee_told.proofs.Kept.{same_places}
+use Rattle.fee_told.proofs.ToldBytes.{before_told}
 use Rattle.fee_laws.specs.Inside.{Parts, device_of, IsAtWork, HasSwitch}
 use Rattle.fee_laws.specs.Record.{IsReady}
 use Rattle.fee_laws.specs.Work.{begins_next}
@@ -35,7 +36,7 @@ use Rattle.fee_image.specs.Copies.{copied_of}
 use Rattle.fee_told.specs.SlotLaws.{IsHeld, SamePlaces}
 use Rattle.fee_told.specs.Kept.{IsKept}
 use Rattle.fee_laws.specs.Inside.{memory_of, flags_in, HoldsBehind}
-use Rattle.fee_laws.proofs.Operation.{left, before_told}
+use Rattle.fee_laws.proofs.Operation.{left}
 use Rattle.fee_laws.proofs.Switching.{shows, may_in}
 use Rattle.fee_laws.proofs.SwitchShown.{no_job}
 use Rattle.fee_laws.proofs.SwitchNearer.{switch_is_open, all_write, no_read, each_job}

@@ -41,6 +41,7 @@ use Rattle.fee_told.specs.FigureLaws.{IsWork}
 use Rattle.fee_told.proofs.Figures.{ready_stays, turns_lower, urgent_nears}
 use Rattle.fee_told.proofs.Switches.{gates_end}
 use Rattle.fee_told.proofs.Whole.{kept_is_told}
+use Rattle.fee_told.proofs.ToldBytes.{before_told}
 use Rattle.fee_laws.specs.declared.job.FeeJob.{FeeJob}
 use Rattle.fee_laws.specs.Inside.{Parts, body_of, device_of, mark_of, stand_of, fixed_in, IsAtWork}
 use Rattle.fee_laws.specs.Record.{IsReady, IsJobOf}
@@ -90,7 +91,7 @@ use Rattle.fee_laws.specs.Record.{IsLengthOf, kind_of}
 use Rattle.fee_laws.proofs.Heads.{has_kind, head_with, same_kind}
 use Rattle.fee_laws.specs.Work.{pages_of_op, fits_in, is_waiting, needs_switch, claimed}
 use Rattle.fee_laws.specs.Switches.{step_op}
-use Rattle.fee_laws.proofs.Operation.{run, left, before_told, started, are_told}
+use Rattle.fee_laws.proofs.Operation.{run, left, started, are_told}
 use Rattle.fee_laws.proofs.Behind.{held_behind}
 use Rattle.fee_laws.proofs.Switching.{asked, not_worn, keeps, shows, may_in}
 use Rattle.fee_laws.proofs.SwitchNearer.{switch_is_open, all_write, no_read, turns_keep, each_job, both_jobs}

@@ -24,12 +24,12 @@ use Rattle.promise_device.specs.Traits.{is_such}
 use Rattle.fee_told.specs.Slots.{Memory}
 use Rattle.fee_told.specs.fls_told.Clock.{TakesKeptPages, change_of}
 use Rattle.fee_told.specs.Device.{told_of, clock_of, flash_device}
+use Rattle.fee_told.proofs.Counted.{rose_next}
 use Rattle.fee_laws.specs.declared.job.FeeJob.{FeeJob}
 use Rattle.fee_laws.specs.Inside.{Parts, device_of, stand_of, IsActiveOf, HasSwitch}
 use Rattle.fee_laws.specs.Work.{seal_turns}
 use Rattle.fee_laws.specs.Turn.{Turned, operated}
 use Rattle.fee_laws.specs.Switches.{IsStepping}
-use Rattle.fee_laws.proofs.Operation.{rose_next}
 use Rattle.fee_laws.proofs.Behind.{Facts}
 use Rattle.fee_laws.proofs.Turning.{fails_as, worked}
 use Rattle.fee_laws.proofs.Appended.{idle_at_work}
@@ -40,7 +40,6 @@ use Rattle.memif.specs.declared.answer.JobResult.TheVariants.{JobPending}
 use Rattle.fls_model.specs.declared.flash.FlashAnswer.TheVariants.{Failed}
 use Rattle.fee_told.specs.SlotLaws.{GoesOn}
 use Rattle.fee_laws.specs.Switches.{failed_with}
-use Rattle.fee_laws.proofs.Operation.{rose_next}
 use Rattle.fee_laws.proofs.SwitchNearer.{switch_is_open, all_write, no_read}
 
 -- THE JOB THAT WAITED

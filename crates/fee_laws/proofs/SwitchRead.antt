@@ -15,6 +15,7 @@ use Rattle.promise_device.specs.Making.{Making, banks_of}
 use Rattle.fee_told.specs.SlotLaws.{IsHeld}
 use Rattle.fee_told.specs.Kept.{IsKept}
 use Rattle.fee_told.proofs.Whole.{kept_is_told}
+use Rattle.fee_told.proofs.ToldBytes.{now_at}
 use Rattle.fee_laws.specs.Copied.{IsCopying}
 use Rattle.fee_laws.specs.Inside.{Parts, memory_of, flags_in, ShowsCopies, stand_of, is_copying}
 use Rattle.fee_laws.proofs.Before.{power}
@@ -33,7 +34,7 @@ use Rattle.fls_model.specs.Told.{bytes_now}
 use Rattle.fee_told.specs.Whole.{AreStarted}
 use Rattle.fee_laws.specs.Inside.{HoldsBehind, TellsCopies}
 use Rattle.fls_jobs.specs.declared.answer.FlsResult.{FlsResult}
-use Rattle.fee_laws.proofs.Before.{each_now, now_at}
+use Rattle.fee_laws.proofs.Before.{each_now}
 use Rattle.fee_laws.proofs.Switching.{may_in}
 use Rattle.fee_laws.proofs.BehindNone.{AsksNone, Counted, Facts, run, held_behind}
 

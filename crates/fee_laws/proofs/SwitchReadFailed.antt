@@ -13,13 +13,13 @@ use Rattle.nv_base.specs.declared.job.DeviceOp.TheVariants.{Read}
 use Rattle.fee_switch_laws.specs.KeepsRoom.{KeepsRoom}
 use Rattle.promise_device.specs.Making.{Making}
 use Rattle.fee_told.specs.Device.{told_of, clock_of}
+use Rattle.fee_told.proofs.Counted.{rose_next}
 use Rattle.fee_laws.specs.Inside.{Parts, device_of, IsActiveOf, HasSwitch, is_copying}
 use Rattle.fee_laws.specs.Turn.{Turned}
 use Rattle.fee_laws.specs.Switches.{IsBehind}
 use Rattle.fee_laws.proofs.Appended.{idle_at_work}
 use Rattle.fee_laws.proofs.SwitchFigures.{work_none}
 use Rattle.nv_base.specs.Count.{Rose}
-use Rattle.fee_laws.proofs.Operation.{rose_next}
 use Rattle.fee_laws.proofs.SwitchNearer.{switch_is_open, all_write, no_read}
 use Rattle.fls_jobs.specs.declared.answer.FlsResult.{FlsResult}
 use Rattle.fee_laws.specs.Turn.{IsOn}

@@ -42,6 +42,7 @@ use Rattle.fee_told.specs.fls_told.Device.{is_told_sound}
 use Rattle.fee_told.specs.Device.{told_of}
 use Rattle.fee_told.specs.Figures.{Work, left_of, turns_owed}
 use Rattle.fee_told.specs.Slots.{Memory, banks_with, held_all, may_told, settled_in}
+use Rattle.fee_told.proofs.ToldBytes.{now_at}
 use Rattle.fee_laws.specs.declared.job.FeeJob.{FeeJob}
 use Rattle.fee_laws.specs.Copied.{flags_of}
 use Rattle.fee_laws.specs.Inside.{HasSwitch, Parts, IsActiveOf, IsAtWork, ShowsCopies, body_of, device_of, flags_in, memory_of, stand_of}
@@ -50,7 +51,7 @@ use Rattle.fee_laws.specs.Work.{switch_turns, work_of}
 use Rattle.fee_laws.specs.Follows.{FollowsBanks, FollowsBytes, FollowsNext, FollowsTarget, IsPlacedFor, failed_of}
 use Rattle.fee_laws.specs.FollowLaws.{SwitchIsTold}
 use Rattle.fee_laws.specs.SwitchTold.{HasCome, HasCopied, TellsSwitch, active_failed, active_records, head_behind, job_turns}
-use Rattle.fee_laws.proofs.Before.{copies_before, each_now, legal, lengths, log_banks, log_geometry, now_at, power, shape}
+use Rattle.fee_laws.proofs.Before.{copies_before, each_now, legal, lengths, log_banks, log_geometry, power, shape}
 use Rattle.fee_laws.proofs.FollowKnown.{bank_is, follows_log, own_bank}
 use Rattle.fee_laws.proofs.SwitchJob.{appended_in, few, once_owed, sum_of, turns_beside_are, urgent_by}
 use Rattle.fee_laws.proofs.SwitchCopies.{copies_are, last_of, placed_hold}

@@ -24,12 +24,13 @@ use Rattle.fee_told.specs.Device.{Device, tells, told_of, flash_device}
 use Rattle.fee_told.specs.Kept.{IsKept}
 use Rattle.fee_told.specs.Whole.{CutsKeep, IsKeptSo}
 use Rattle.fee_told.proofs.Whole.{kept_is_told, told_behind}
+use Rattle.fee_told.proofs.ToldBytes.{before_told, each_told, now_at}
 use Rattle.fee_laws.specs.declared.job.FeeJob.{FeeJob}
 use Rattle.fee_laws.specs.Copied.{IsCopying}
 use Rattle.fee_laws.specs.Inside.{Parts, device_of, memory_of, flags_in, ShowsCopies, HoldsBehind, TellsCopies}
 use Rattle.fee_laws.specs.Switches.{IsStepping}
-use Rattle.fee_laws.proofs.Before.{power, copies_before, sound_before, now_at, each_now, each_told}
-use Rattle.fee_laws.proofs.Operation.{left, before_told, run, started, are_told}
+use Rattle.fee_laws.proofs.Before.{power, copies_before, sound_before, each_now}
+use Rattle.fee_laws.proofs.Operation.{left, run, started, are_told}
 use Rattle.fee_laws.proofs.Behind.{held_behind}
 use Rattle.fee_image.specs.Sound.{IsSoundImage}
 

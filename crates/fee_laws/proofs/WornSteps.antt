@@ -27,6 +27,7 @@ use Rattle.promise_device.specs.Wear.{finds_blank, is_repeated, leaves_room, com
 use Rattle.promise_device.proofs.Wears.{all_two, one_of, due_go_on}
 use Rattle.fee_told.specs.fls_told.Clock.{change_of}
 use Rattle.fee_told.specs.fls_told.Device.{is_told_sound}
+use Rattle.fee_told.proofs.ToldBytes.{now_at}
 use Rattle.fee_laws.specs.declared.job.FeeJob.{FeeJob}
 use Rattle.fee_laws.specs.Inside.{Parts, body_of}
 use Rattle.fee_laws.specs.Record.{IsInWork}
@@ -35,7 +36,7 @@ use Rattle.fee_laws.specs.Appends.{work_op, work_body}
 use Rattle.fee_laws.specs.Switches.{IsStepping, op_in, copy_op_of, step_op, failed_with}
 use Rattle.fee_laws.specs.Follows.{target_head, FollowsBanks, FollowsTarget, FollowsNext, FollowsBytes, Follows}
 use Rattle.fee_laws.specs.Wears.{Wears, StepsWear, PagesWear}
-use Rattle.fee_laws.proofs.Before.{power, now_at}
+use Rattle.fee_laws.proofs.Before.{power}
 use Rattle.fee_laws.proofs.FollowOperations.{page_is_blank}
 use Rattle.fee_laws.proofs.FollowBanks.{some_page, legal}
 use Rattle.fee_laws.proofs.FollowKnown.{follows_log}

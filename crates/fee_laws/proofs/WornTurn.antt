@@ -42,13 +42,14 @@ use Rattle.fee_told.proofs.Kept.{same_places}
 use Rattle.fee_told.proofs.Jobs.{jobs_change}
 use Rattle.fee_told.proofs.Steps.{jobs_keep}
 use Rattle.fee_told.proofs.Whole.{kept_is_told}
+use Rattle.fee_told.proofs.ToldBytes.{each_told, now_at, told_at}
 use Rattle.fee_laws.specs.declared.job.FeeJob.{FeeJob}
 use Rattle.fee_laws.specs.Inside.{Parts, body_of, device_of, memory_of, mark_of, stand_of, fixed_in, HoldsBehind, IsAtWork, IsWorn, ShowsCopies}
 use Rattle.fee_laws.specs.Record.{IsJobOf, IsReady}
 use Rattle.fee_laws.specs.Work.{work_of, waits_of, switch_turns, begins_next, claimed, pages_free, pages_left, pages_of_job, pages_of_op, seal_turns}
 use Rattle.fee_laws.specs.Turn.{IsOn, Turned}
 use Rattle.fee_laws.specs.Worn.{IsWornNow, KnowsRoom, ShowsRoom, WearsOut, worn_with}
-use Rattle.fee_laws.proofs.Before.{power, shape, lengths, legal, copied, held_at, each_told, each_now, told_at, now_at}
+use Rattle.fee_laws.proofs.Before.{power, shape, lengths, legal, copied, held_at, each_now}
 use Rattle.fee_laws.proofs.Order.{urgent_is}
 use Rattle.fee_laws.proofs.Reading.{has_none}
 use Rattle.fee_laws.proofs.GoneOn.{if_else}

@@ -33,7 +33,7 @@ use Rattle.promise_device.specs.Making.{Making, banks_of}
 use Rattle.promise_device.specs.Traits.{is_such}
 use Rattle.fee_told.specs.Slots.{Memory, HasJob, settled_in}
 use Rattle.fee_told.specs.SlotLaws.{IsHeld, SamePlaces}
-use Rattle.fee_told.specs.fls_told.Runs.{HasRun}
+use Rattle.fee_told.specs.fls_told.Runs.{HasRun, CountsEachCut}
 use Rattle.fee_told.specs.Device.{Device, tells_now, told_of, clock_of, flash_device}
 use Rattle.fee_told.specs.Whole.{HoldsBanks}
 use Rattle.fee_told.specs.Figures.{fixed_for, left_of, ready_of, wait_of}
@@ -188,11 +188,6 @@ pub record IsDevice (d : Device) : Type 0 where
   pub order : InOrder (told_of d) (clock_of d)
   pub faults : d.faults ≤ last_count
 
--- its flash counted each power cut that no plan asked for
-pub record CountsCuts (entry flash : Told) : Type 0 where
-  pub before : entry.planning.unplanned ≤ entry.cuts
-  pub since : (flash.planning.unplanned + entry.cuts ≤ entry.planning.unplanned + flash.cuts) ⊎ (last_count ≤ flash.cuts)
-
 -- while the power is on: where it tells its numbers, a switch's target is as its flags say
 abbrev pub TellsCopies : Making → Told → Parts → Type 0
 TellsCopies m entry s = s.fls.flash.off ≡ false → IsTrue (tells_now (device_of m entry s)) → IfSome s.fls.flash.bytes (λ b. IfSome s.banks.course (λ c. ShowsCopies m s c b.now))
@@ -204,7 +199,8 @@ pub record IsSound (m : Making) (entry : Told) (s : Parts) (listed : List (Devic
   pub works : s.started ≡ true → IsAtWork m s
   pub room : s.started ≡ true → s.fls.flash.off ≡ false → KeepsRoom m.reserve s.banks
   pub copies : TellsCopies m entry s
-  pub cuts : CountsCuts entry s.fls.flash
+  -- its flash counted each power cut that no plan asked for
+  pub cuts : CountsEachCut entry s.fls.flash
   pub worn : (since : ℕ) → s.worn ≡ Some since → IsWorn s since
   pub seals : SealsEarlier m s
   pub numbers : listed ≡ m.numbers

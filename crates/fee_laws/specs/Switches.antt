@@ -84,7 +84,8 @@ failed_with (Some j) s = ended_as JobFailed s
 -- what a turn in which it had this answer comes to: the switch goes on, or ends with its gate, it failed, or the power went off
 abbrev pub StepTurned : FlashAnswer → Making → Told → Parts → List (DeviceNumber × ℕ) → ℕ → ℕ → Course → BanksState → FlsState → Type 0
 StepTurned Done m entry s listed kept count c made f = Turned m entry turn.Worked s (operated (step_op s.banks c) Done f (after_answer made c Done) s) listed kept (next_count count) false
-StepTurned Failed m entry s listed kept count c made f = Turned m entry turn.Worked s (failed_with s.job (operated (step_op s.banks c) Failed f (after_answer made c Failed) s)) listed kept (next_count count) false
+StepTurned Failed m entry s listed kept count c made f =
+    Turned m entry turn.Worked s (failed_with s.job (operated (step_op s.banks c) Failed f (after_answer made c Failed) s)) listed kept (next_count count) false
 StepTurned Off m entry s listed kept count c made f = Turned m entry turn.Off s (operated (step_op s.banks c) Off f (after_answer made c Off) s) listed kept (next_count count) true
 
 -- AN ERASE, A PAGE OF THE COPY IN WORK, THE HEAD, THE GATE

@@ -1,12 +1,12 @@
 -- A turn of a device, from its parts before it and behind it.
-use Rattle.std.specs.Prelude.{◌≡◌, ◌⊎◌, ◌≤◌, ◌+◌, ◌++◌, ◌∷◌, [], ℕ, Bool, true, false, List, None}
-use Rattle.nv_base.specs.Count.{last_count}
+use Rattle.std.specs.Prelude.{◌≡◌, ◌++◌, ◌∷◌, [], ℕ, Bool, true, false, List, None}
 use Rattle.nv_base.specs.declared.instance.DeviceNumber.{DeviceNumber}
 use Rattle.memif.specs.declared.answer.DeviceTurn.{DeviceTurn}
 use Rattle.memif.specs.declared.answer.JobResult.{JobResult}
 use Rattle.memif.specs.Calls.{Turns}
 use Rattle.fls_model.specs.declared.flash.FlashAnswer.{FlashAnswer}
 use Rattle.fls_model.specs.Op.{Op}
+use Rattle.fls_model.specs.Step.{CountsUnplanned}
 use Rattle.fls_model.specs.Told.{Told}
 use Rattle.fls_jobs.specs.State.{FlsState, IsDriverState}
 use Rattle.fee_switch_laws.specs.fee_log.Log.{IsLogState}
@@ -26,13 +26,10 @@ pub record IsOn (m : Making) (entry : Told) (s : Parts) (listed : List (DeviceNu
   pub banks : IsBanksState s.banks
   pub log : IsLogState s.banks.log
 
--- each power cut that no plan asked for is counted
-abbrev pub IsCounted : Told → Told → Type 0
-IsCounted s t = (t.planning.unplanned + s.cuts ≤ s.planning.unplanned + t.cuts) ⊎ (last_count ≤ t.cuts)
-
 -- the driver behind a call of the flash
 pub record Drives (s f : FlsState) : Type 0 where
-  pub counted : IsCounted s.flash f.flash
+  -- each power cut that no plan asked for is counted
+  pub counted : CountsUnplanned s.flash f.flash
   pub only : f ≡ record s { flash = f.flash; result = f.result }
   pub state : IsDriverState f
 

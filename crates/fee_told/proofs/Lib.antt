@@ -15,3 +15,5 @@ pub use Rattle.fls_told.proofs.Making as Making
 pub use Rattle.fls_told.proofs.Parts as Parts
 pub use Rattle.fls_told.proofs.Tells as Tells
 pub use Rattle.fls_told.proofs.Runs as Runs
+pub use Rattle.fls_told.proofs.ToldBytes as ToldBytes
+pub use Rattle.fls_told.proofs.Counted as Counted

@@ -3,3 +3,5 @@ pub mod Making
 pub mod Parts
 pub mod Runs
 pub mod Tells
+pub mod ToldBytes
+pub mod Counted

@@ -8,6 +8,7 @@ use Rattle.fls_model.specs.declared.flash.FlashAnswer.{FlashAnswer}
 use Rattle.fls_model.specs.declared.flash.FlashAnswer.TheVariants.{Failed}
 use Rattle.fls_model.specs.Attach.{IsAttached}
 use Rattle.fls_model.specs.Op.{Op, MayLeave}
+use Rattle.fls_model.specs.Step.{CountsUnplanned}
 use Rattle.fls_model.specs.Told.{Told, TellsFor, bytes_now, changes_in}
 use Rattle.promise_device.specs.Bridge.{Bridges, has_failed}
 use Rattle.promise_device.specs.FlashRun.{TellsBytes, IsChain, IsCutImage, CountsAll, is_none_done}
@@ -19,6 +20,11 @@ use Rattle.fls_told.specs.Clock.{flash_clock, MakesNone, Makes, ToldAlike}
 -- a flash counts each cut that no plan asked for
 abbrev pub CountsCuts : Told → Told → Type 0
 CountsCuts s t = (n : ℕ) → WereCounted n s.planning.unplanned t.planning.unplanned → WereCounted n s.cuts t.cuts
+
+-- so it did from its making on, and counted no fewer before
+pub record CountsEachCut (entry flash : Told) : Type 0 where
+  pub before : entry.planning.unplanned ≤ entry.cuts
+  pub since : CountsUnplanned entry flash
 
 -- of the planned cuts that came those that let nothing be done are counted
 abbrev pub CountsWithheld : Planning → Type 0
