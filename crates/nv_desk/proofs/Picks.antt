@@ -67,12 +67,12 @@ ready c s j sound next =
       other = other_by c s s.hand before j after is sound.consistent.hand;
     }
 
-next_by : (c : Configuration) (s : State) (o : Option Job) → ((j : Job) → o ≡ Some j → IsPendingJob c s j) → IfSome o (IsPendingJob c s)
-next_by c s None each = tt
-next_by c s (Some j) each = each j refl
+some_pending : (c : Configuration) (s : State) (o : Option Job) → ((j : Job) → o ≡ Some j → IsPendingJob c s j) → IfSome o (IsPendingJob c s)
+some_pending c s None each = tt
+some_pending c s (Some j) each = each j refl
 
 pub next_pending : (c : Configuration) (s : State) → IsSound c s → IfSome (next_in c s.waiting) (IsPendingJob c s)
-next_pending c s sound = next_by c s (next_in c s.waiting) (λ j next. (ready c s j sound next).pending)
+next_pending c s sound = some_pending c s (next_in c s.waiting) (λ j next. (ready c s j sound next).pending)
 
 -- the entries of a job in hand and two more have a number
 room_by : (c : Configuration) (s : State) (p : Pending) (held o : Option Job) (j : Job) (n m : ℕ) → Agree c p s.waiting held → s.hand ≡ held
