@@ -5,14 +5,14 @@ from nvmtools.contents import read_content
 
 # what follows a step's word: B a block, C a content, I an index, F a flag, N a count, K bytes
 FORMS = {"write": "BC", "ram": "BC", "setindex": "BI", "protect": "BF", "lock": "BF", "setram": "BF", "turn": "N", "cut": "NK",
-         "refuse": "BN", "await": "B",
+         "cutee": "NK", "refuse": "BN", "await": "B",
          **dict.fromkeys("read readram writeram restore restoreram erase invalidate getindex status".split(), "B"),
          **dict.fromkeys("readall writeall cancel drain restart".split(), "")}
 NAMES = {"B": "BLOCK", "C": "CONTENT", "I": "INDEX", "F": "0|1", "N": "COUNT", "K": "BYTES"}
-WITHOUT_CALLER = ("turn", "drain", "restart", "cut", "refuse")
+WITHOUT_CALLER = ("turn", "drain", "restart", "cut", "cutee", "refuse")
 # the steps of one command alone
 OF_PLAY, OF_RUN = WITHOUT_CALLER, ("await",)
-COUNTS = {"turn": 100_000, "cut": 1_000_000, "refuse": 1_000}
+COUNTS = {"turn": 100_000, "cut": 1_000_000, "cutee": 1_000_000, "refuse": 1_000}
 LIMITS = {"B": (0, 65535), "I": (0, 255), "F": (0, 1), "K": (0, 256)}
 MOST_CALLERS = 15
 
@@ -91,7 +91,9 @@ def why_not_owner(unit, words, caller, owners):
 
 
 def why_not_of_block(unit, words):
-    """What the program refuses as a step since the block isn't of that kind."""
+    """What the program refuses as a step since the unit has no second device, or the block isn't of that kind."""
+    if words[0] == "cutee" and "eeprom" not in unit.source:
+        return 'there is no "eeprom", so no flash of a second device is cut'
     if words[0] == "await" and int(words[1]) > max(unit.blocks):
         return f"there is no block {words[1]}; the last one is {max(unit.blocks)}"
     if words[0] not in ("refuse", "ram"):

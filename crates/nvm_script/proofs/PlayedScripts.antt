@@ -6,7 +6,7 @@ use Rattle.nv_base.specs.declared.request.Request.TheVariants as request
 use Rattle.block_config.specs.Config.{Configuration}
 use Rattle.nvm_script.specs.declared.step.Step.{Step}
 use Rattle.nvm_script.specs.declared.step.StepKind.{StepKind}
-use Rattle.nvm_script.specs.declared.step.StepKind.TheVariants.{Ask, Store, Turn, Refuse, Await}
+use Rattle.nvm_script.specs.declared.step.StepKind.TheVariants.{Ask, Store, Turn, CutSecond, Refuse, Await}
 use Rattle.nvm_script.specs.declared.script.Mode.TheVariants.{Play}
 use Rattle.nvm_script.specs.Step.{IsStep}
 use Rattle.nvm_script.specs.Line.{IsCalled, IsStepLine}
@@ -20,6 +20,7 @@ can_be_played c called text (Ask (request.Write block None store)) step = step.0
 can_be_played c called text (Ask asked) step = tt
 can_be_played c called text (Store block content) step = step.1
 can_be_played c called text (Turn count) step = step.0.0
+can_be_played c called text (CutSecond nth keep) step = step.1.1
 can_be_played c called text (Refuse block count) step = step.1.1
 can_be_played c called text (Await block) step = absurd (cc step.1.0)
 can_be_played c called text kind step = tt

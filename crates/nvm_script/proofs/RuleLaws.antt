@@ -3,9 +3,10 @@ use Rattle.std.proofs.Common.{◌≡◌, ◌==◌, ℕ, Bool, true, false, nat_l
 use Rattle.std.proofs.lemmas.Bool.{eqb-true, eq-eqb, leb-true, le-leb}
 use Rattle.std.specs.Option.{option_map, is_some}
 use Rattle.nv_base.specs.declared.request.Request.TheVariants as request
+use Rattle.nv_base.specs.declared.geometry.Geometry.{Geometry}
 use Rattle.block_config.specs.Config.{Configuration}
 use Rattle.nvm_script.specs.declared.step.StepKind.{StepKind}
-use Rattle.nvm_script.specs.declared.step.StepKind.TheVariants.{Ask, Store, Refuse, Await}
+use Rattle.nvm_script.specs.declared.step.StepKind.TheVariants.{Ask, Store, CutSecond, Refuse, Await}
 use Rattle.nvm_script.specs.declared.script.Mode.{Mode}
 use Rattle.nvm_script.specs.declared.script.Mode.TheVariants.{Play, Run}
 use Rattle.nvm_script.specs.Rules.{sync_length_of, IsPlayed, Allows, settled_put, where_played, where_run, settled}
@@ -40,6 +41,11 @@ refuse_sound : (c : Configuration) (mode : Mode) (called : Bool) (text : List �
 refuse_sound c mode called text block count None e is played = tt
 refuse_sound c mode called text block count (Some n) e is played = (is, (played, ap is_some e))
 
+second_sound : (c : Configuration) (mode : Mode) (called : Bool) (text : List ℕ) (nth keep : ℕ) (o : Option Geometry) → c.eeprom ≡ o → Spells (CutSecond nth keep) text → IsPlayed mode called
+    → IsSettled c mode called text (option_map (λ _. CutSecond nth keep) o)
+second_sound c mode called text nth keep None e is played = tt
+second_sound c mode called text nth keep (Some g) e is played = (is, (played, ap is_some e))
+
 await_sound : (c : Configuration) (mode : Mode) (called : Bool) (text : List ℕ) (block : ℕ) (b : Bool) → nat_le block (length c.blocks) ≡ b → Spells (Await block) text → mode ≡ Run
     → IsSettled c mode called text (if b then Some (Await block) else None)
 await_sound c mode called text block true within is run = (is, (run, leb-true block (length c.blocks) within))
@@ -49,6 +55,8 @@ pub settled-sound : (c : Configuration) (mode : Mode) (called : Bool) (text : Li
 settled-sound c mode called text (Ask (request.PutRam block content)) is = put_sound c mode called text block content (sync_length_of c block) refl is
 settled-sound c mode called text (Ask asked) is = (is, tt)
 settled-sound c mode called text (Store block content) is = tt
+settled-sound c mode called text (CutSecond nth keep) is =
+    played_sound mode called (option_map (λ _. CutSecond nth keep) c.eeprom) (λ kind. IsStep c mode called text kind) (λ played. second_sound c mode called text nth keep c.eeprom refl is played)
 settled-sound c mode called text (Refuse block count) is =
     played_sound mode called (option_map (λ _. Refuse block count) (sync_length_of c block)) (λ kind. IsStep c mode called text kind) (λ played. refuse_sound c mode called text block count (sync_length_of c block) refl is played)
 settled-sound c mode called text (Await block) is =
@@ -61,15 +69,17 @@ is_played mode called o played = ap (λ (m : Mode). where_played m called o) pla
 is_run : (mode : Mode) (o : Option StepKind) → mode ≡ Run → where_run mode o ≡ o
 is_run mode o run = ap (λ (m : Mode). where_run m o) run
 
-refused : (block count : ℕ) (o : Option ℕ) → IsSome o → option_map (λ _. Refuse block count) o ≡ Some (Refuse block count)
-refused block count None has = cc
-refused block count (Some n) has = refl
+mapped : {A : Type 0} (kind : StepKind) (o : Option A) → IsSome o → option_map (λ _. kind) o ≡ Some kind
+mapped kind None has = cc
+mapped kind (Some x) has = refl
 
 pub settled-complete : (c : Configuration) (mode : Mode) (called : Bool) (kind : StepKind) → Allows c mode called kind → settled c mode called (read_as kind) ≡ Some kind
 settled-complete c mode called (Ask (request.PutRam block content)) may = ap (settled_put block content) may
 settled-complete c mode called (Ask asked) may = refl
 settled-complete c mode called (Store block content) may = ap (settled_put block content) may ∙ rw (eq-eqb (length content) (length content) refl) refl
+settled-complete c mode called (CutSecond nth keep) may =
+    is_played mode called (option_map (λ _. CutSecond nth keep) c.eeprom) may.0 ∙ mapped (CutSecond nth keep) c.eeprom may.1
 settled-complete c mode called (Refuse block count) may =
-    is_played mode called (option_map (λ _. Refuse block count) (sync_length_of c block)) may.0 ∙ refused block count (sync_length_of c block) may.1
+    is_played mode called (option_map (λ _. Refuse block count) (sync_length_of c block)) may.0 ∙ mapped (Refuse block count) (sync_length_of c block) may.1
 settled-complete c mode called (Await block) may = is_run mode _ may.0 ∙ rw (le-leb block (length c.blocks) may.1) refl
 settled-complete c mode called kind may = is_played mode called (Some kind) may

@@ -9,12 +9,12 @@ use Rattle.block_config.specs.Content.{content_of}
 use Rattle.nvm_script.specs.declared.step.StepKind.{StepKind}
 use Rattle.nvm_script.specs.declared.step.StepKind.TheVariants as step
 use Rattle.nvm_script.specs.declared.word.Word.{Word}
-use Rattle.nvm_script.specs.declared.word.Word.TheVariants.{Read, ReadRam, Write, WriteRam, Restore, RestoreRam, Erase, Invalidate, SetIndex, GetIndex, Protect, Lock, SetRam, Ram, Status, ReadAll, WriteAll, Cancel, Turn, Drain, Restart, Cut, Refuse, Await}
+use Rattle.nvm_script.specs.declared.word.Word.TheVariants.{Read, ReadRam, Write, WriteRam, Restore, RestoreRam, Erase, Invalidate, SetIndex, GetIndex, Protect, Lock, SetRam, Ram, Status, ReadAll, WriteAll, Cancel, Turn, Drain, Restart, Cut, CutSecond, Refuse, Await}
 use Rattle.nvm_script.specs.Cut.{cut_at}
 use Rattle.nv_base.specs.Decimal.{decimal_number_of}
 use Rattle.nvm_script.specs.Word.{word_text, word_of}
 use Rattle.nvm_script.specs.Words.{of_block_with as block_text_with, switch_text}
-use Rattle.nvm_script.specs.Reading.{without_fields, of_block, with_one, with_number, with_content, of_block_with, with_two, with_field, with_fields, spelled}
+use Rattle.nvm_script.specs.Reading.{without_fields, of_block, with_one, with_number, with_content, of_block_with, cut_place, with_two, with_field, with_fields, spelled}
 use Rattle.nvm_script.specs.Spelling.{OfBlock, SpellsRequest, Spells}
 use Rattle.nvm_script.specs.Values.{IsBlockNumber}
 use Rattle.nvm_script.proofs.Cuts.{Joins, cut_at-joins, cut_at-append, cut_at-lacks}
@@ -111,11 +111,22 @@ two_block : (w : Word) (first second text : List ℕ) → text ≡ word_text w +
 two_block w first second text e =
     bind_sound (IsNumber 0 65535 first) (decimal_number_of 0 65535 first) (λ block. of_block_with w block second) text (decimal_number_of-spelled 0 65535 first (small 65535 (omega arith))) (λ b is. with_sound w b second text (is.1, e ∙ ap (λ (l : List ℕ). word_text w ++ 32 ∷ (l ++ 32 ∷ second)) is.2))
 
+-- a planned cut is spelled by a word, and what its place was read from
+cut_sound : (w : Word) (plan : ℕ → ℕ → StepKind) (first second text : List ℕ)
+    → ((nth keep : ℕ) → (1 ≤ nth) × (nth ≤ 1000000) × (keep ≤ 256) × (text ≡ word_text w ++ 32 ∷ (decimal nth ++ 32 ∷ decimal keep)) → Spells (plan nth keep) text)
+    → text ≡ word_text w ++ 32 ∷ (first ++ 32 ∷ second) → IsSound (option_map (λ (at : ℕ × ℕ). plan at.0 at.1) (cut_place first second)) text
+cut_sound w plan first second text spells e =
+    placed (decimal_number_of 1 1000000 first) (decimal_number_of 0 256 second) (decimal_number_of-spelled 1 1000000 first (small 1000000 (omega arith))) (decimal_number_of-spelled 0 256 second (small 256 (omega arith)))
+  where
+    placed : (n k : Option ℕ) → IfSome n (IsNumber 1 1000000 first) → IfSome k (IsNumber 0 256 second) → IsSound (option_map (λ (at : ℕ × ℕ). plan at.0 at.1) (option_and_then (λ nth. option_map (λ keep. (nth, keep)) k) n)) text
+    placed None k nth keep = tt
+    placed (Some n) None nth keep = tt
+    placed (Some n) (Some k) nth keep =
+        spells n k (nth.0, nth.1, keep.1, e ∙ ap (λ (l : List ℕ). word_text w ++ 32 ∷ (l ++ 32 ∷ second)) nth.2 ∙ ap (λ (l : List ℕ). word_text w ++ 32 ∷ (decimal n ++ 32 ∷ l)) keep.2)
+
 two_sound : (w : Word) (first second text : List ℕ) → text ≡ word_text w ++ 32 ∷ (first ++ 32 ∷ second) → IsSound (with_two w first second) text
-two_sound Cut first second text e =
-    bind_sound (IsNumber 1 1000000 first) (decimal_number_of 1 1000000 first) (λ nth. option_map (λ keep. step.Cut nth keep) (decimal_number_of 0 256 second)) text (decimal_number_of-spelled 1 1000000 first (small 1000000 (omega arith))) (λ nth n.
-    map_sound (IsNumber 0 256 second) (decimal_number_of 0 256 second) (λ keep. step.Cut nth keep) text (decimal_number_of-spelled 0 256 second (small 256 (omega arith))) (λ keep k.
-    (n.0, n.1, k.1, e ∙ ap (λ (l : List ℕ). word_text Cut ++ 32 ∷ (l ++ 32 ∷ second)) n.2 ∙ ap (λ (l : List ℕ). word_text Cut ++ 32 ∷ (decimal nth ++ 32 ∷ l)) k.2)))
+two_sound Cut first second text e = cut_sound Cut step.Cut first second text (λ nth keep is. is) e
+two_sound CutSecond first second text e = cut_sound CutSecond step.CutSecond first second text (λ nth keep is. is) e
 two_sound w first second text e = two_block w first second text e
 
 field_sound : (w : Word) (text fields first : List ℕ) (second : Option (List ℕ)) → text ≡ word_text w ++ 32 ∷ fields → Joins 32 fields first second → IsSound (with_field w first second) text
@@ -204,6 +215,12 @@ request_read request.ReadAll text is = alone_read ReadAll text is.1
 request_read request.WriteAll text is = alone_read WriteAll text is.1
 request_read request.CancelWriteAll text is = alone_read Cancel text is.1
 
+-- the place of a cut
+place_read : (nth keep : ℕ) → 1 ≤ nth → nth ≤ 1000000 → keep ≤ 256 → cut_place (decimal nth) (decimal keep) ≡ Some (nth, keep)
+place_read nth keep some few least =
+    ap (λ (o : Option ℕ). option_and_then (λ n. option_map (λ k. (n, k)) (decimal_number_of 0 256 (decimal keep))) o) (decimal_number_of-decimal 1 1000000 nth some few (small 1000000 (omega arith)))
+    ∙ ap (λ (o : Option ℕ). option_map (λ k. (nth, k)) o) (decimal_number_of-decimal 0 256 keep (omega arith) least (small 256 (omega arith)))
+
 -- what the text spells is read
 pub spelled-complete : (kind : StepKind) (text : List ℕ) → Spells kind text → spelled text ≡ Some (read_as kind)
 spelled-complete (step.Ask asked) text is = request_read asked text is
@@ -212,10 +229,8 @@ spelled-complete (step.Turn count) text is =
     ap spelled is.2 ∙ one_read Turn count (omega (arith, is.1)) ∙ ap (λ (o : Option ℕ). option_map (λ n. step.Turn n) o) (decimal_number_of-decimal 1 100000 count is.0 is.1 (small 100000 (omega arith)))
 spelled-complete step.Drain text is = alone_read Drain text is
 spelled-complete step.Restart text is = alone_read Restart text is
-spelled-complete (step.Cut nth keep) text is =
-    ap spelled is.3 ∙ two_read Cut nth (decimal keep) is.1
-    ∙ ap (λ (o : Option ℕ). option_and_then (λ nth. option_map (λ keep. step.Cut nth keep) (decimal_number_of 0 256 (decimal keep))) o) (decimal_number_of-decimal 1 1000000 nth is.0 is.1 (small 1000000 (omega arith)))
-    ∙ ap (λ (o : Option ℕ). option_map (λ keep. step.Cut nth keep) o) (decimal_number_of-decimal 0 256 keep (omega arith) is.2 (small 256 (omega arith)))
+spelled-complete (step.Cut nth keep) text is = ap spelled is.3 ∙ two_read Cut nth (decimal keep) is.1 ∙ ap (λ (o : Option (ℕ × ℕ)). option_map (λ (at : ℕ × ℕ). step.Cut at.0 at.1) o) (place_read nth keep is.0 is.1 is.2)
+spelled-complete (step.CutSecond nth keep) text is = ap spelled is.3 ∙ two_read CutSecond nth (decimal keep) is.1 ∙ ap (λ (o : Option (ℕ × ℕ)). option_map (λ (at : ℕ × ℕ). step.CutSecond at.0 at.1) o) (place_read nth keep is.0 is.1 is.2)
 spelled-complete (step.Refuse block count) text is =
     with_read Refuse block (decimal count) text (is.2, is.3) refl ∙ ap (λ (o : Option ℕ). option_map (λ n. step.Refuse block n) o) (decimal_number_of-decimal 1 1000 count is.0 is.1 (small 1000 (omega arith)))
 spelled-complete (step.Await block) text is = block_read Await block text is refl

@@ -4,7 +4,7 @@ use Rattle.nv_base.specs.declared.request.Request.TheVariants as request
 use Rattle.nvm_script.specs.declared.step.StepKind.{StepKind}
 use Rattle.nvm_script.specs.declared.step.StepKind.TheVariants as step
 use Rattle.nvm_script.specs.declared.word.Word.{Word}
-use Rattle.nvm_script.specs.declared.word.Word.TheVariants.{Read, ReadRam, Write, WriteRam, Restore, RestoreRam, Erase, Invalidate, SetIndex, GetIndex, Protect, Lock, SetRam, Ram, Status, ReadAll, WriteAll, Cancel, Turn, Drain, Restart, Cut, Refuse, Await}
+use Rattle.nvm_script.specs.declared.word.Word.TheVariants.{Read, ReadRam, Write, WriteRam, Restore, RestoreRam, Erase, Invalidate, SetIndex, GetIndex, Protect, Lock, SetRam, Ram, Status, ReadAll, WriteAll, Cancel, Turn, Drain, Restart, Cut, CutSecond, Refuse, Await}
 use Rattle.std.specs.Prelude.{true, false}
 use Rattle.nvm_script.specs.Cut.{cut_at}
 use Rattle.nv_base.specs.Decimal.{decimal_number_of}
@@ -51,8 +51,9 @@ abbrev pub with_content : Word → ℕ → List ℕ → Option StepKind
 with_content Ram block field = option_map (λ content. step.Ask (request.PutRam block content)) (content_of field)
 with_content word block field = option_map (λ content. step.Ask (request.Write block (Some content) 0)) (content_of field)
 
-abbrev pub cut_step : List ℕ → List ℕ → Option StepKind
-cut_step first second = option_and_then (λ nth. option_map (λ keep. step.Cut nth keep) (decimal_number_of 0 256 second)) (decimal_number_of 1 1000000 first)
+-- where the power is cut: at which operation, and how many of its bytes are done
+abbrev pub cut_place : List ℕ → List ℕ → Option (ℕ × ℕ)
+cut_place first second = option_and_then (λ nth. option_map (λ keep. (nth, keep)) (decimal_number_of 0 256 second)) (decimal_number_of 1 1000000 first)
 
 -- a word with a block and one field more
 abbrev pub of_block_with : Word → ℕ → List ℕ → Option StepKind
@@ -61,7 +62,8 @@ of_block_with Ram block field = with_content Ram block field
 of_block_with word block field = with_number word block field
 
 abbrev pub with_two : Word → List ℕ → List ℕ → Option StepKind
-with_two Cut first second = cut_step first second
+with_two Cut first second = option_map (λ at. step.Cut at.0 at.1) (cut_place first second)
+with_two CutSecond first second = option_map (λ at. step.CutSecond at.0 at.1) (cut_place first second)
 with_two word first second = option_and_then (λ block. of_block_with word block second) (decimal_number_of 0 65535 first)
 
 -- a word with its first field, and the second where there is one

@@ -5,7 +5,7 @@ use Rattle.block_config.specs.Config.{Configuration, block_of}
 use Rattle.block_config.specs.declared.block.RamKind.{RamKind}
 use Rattle.block_config.specs.declared.block.RamKind.TheVariants as ram
 use Rattle.nvm_script.specs.declared.step.StepKind.{StepKind}
-use Rattle.nvm_script.specs.declared.step.StepKind.TheVariants.{Ask, Store, Refuse, Await}
+use Rattle.nvm_script.specs.declared.step.StepKind.TheVariants.{Ask, Store, CutSecond, Refuse, Await}
 use Rattle.nvm_script.specs.declared.script.Mode.{Mode}
 use Rattle.nvm_script.specs.declared.script.Mode.TheVariants.{Play, Run}
 
@@ -26,6 +26,7 @@ abbrev pub Allows : Configuration → Mode → Bool → StepKind → Type 0
 Allows c mode called (Ask (PutRam block content)) = sync_length_of c block ≡ None
 Allows c mode called (Ask request) = Unit {0}
 Allows c mode called (Store block content) = sync_length_of c block ≡ Some (length content)
+Allows c mode called (CutSecond nth keep) = IsPlayed mode called × IsSome c.eeprom
 Allows c mode called (Refuse block count) = IsPlayed mode called × IsSome (sync_length_of c block)
 Allows c mode called (Await block) = (mode ≡ Run) × (block ≤ length c.blocks)
 Allows c mode called _ = IsPlayed mode called
@@ -48,6 +49,7 @@ abbrev pub settled : Configuration → Mode → Bool → StepKind → Option Ste
 settled c mode called (Ask (PutRam block content)) = settled_put block content (sync_length_of c block)
 settled c mode called (Ask request) = Some (Ask request)
 settled c mode called (Store block content) = None
+settled c mode called (CutSecond nth keep) = where_played mode called (option_map (λ _. CutSecond nth keep) c.eeprom)
 settled c mode called (Refuse block count) = where_played mode called (option_map (λ _. Refuse block count) (sync_length_of c block))
 settled c mode called (Await block) = where_run mode (if nat_le block (length c.blocks) then Some (Await block) else None)
 settled c mode called kind = where_played mode called (Some kind)

@@ -33,6 +33,7 @@ Spells (step.Turn count) text = (1 ≤ count) × (count ≤ 100000) × (text ≡
 Spells step.Drain text = text ≡ codes "drain"
 Spells step.Restart text = text ≡ codes "restart"
 Spells (step.Cut nth keep) text = (1 ≤ nth) × (nth ≤ 1000000) × (keep ≤ 256) × (text ≡ codes "cut " ++ (decimal nth ++ (codes " " ++ decimal keep)))
+Spells (step.CutSecond nth keep) text = (1 ≤ nth) × (nth ≤ 1000000) × (keep ≤ 256) × (text ≡ codes "cutee " ++ (decimal nth ++ (codes " " ++ decimal keep)))
 Spells (step.Refuse block count) text =
     (1 ≤ count) × (count ≤ 1000) × IsBlockNumber block × (text ≡ of_block_with (codes "refuse") block (decimal count))
 Spells (step.Await block) text = OfBlock (codes "await") block text

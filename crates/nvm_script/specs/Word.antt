@@ -3,7 +3,7 @@ use Rattle.std.specs.Prelude.{ℕ, nat_eq, List, [], ◌∷◌, codes, Option}
 use Rattle.std.specs.List.{find}
 use Rattle.std.specs.Cmp.Lexicographic.{pointwise}
 use Rattle.nvm_script.specs.declared.word.Word.{Word}
-use Rattle.nvm_script.specs.declared.word.Word.TheVariants.{Read, ReadRam, Write, WriteRam, Restore, RestoreRam, Erase, Invalidate, SetIndex, GetIndex, Protect, Lock, SetRam, Ram, Status, ReadAll, WriteAll, Cancel, Turn, Drain, Restart, Cut, Refuse, Await}
+use Rattle.nvm_script.specs.declared.word.Word.TheVariants.{Read, ReadRam, Write, WriteRam, Restore, RestoreRam, Erase, Invalidate, SetIndex, GetIndex, Protect, Lock, SetRam, Ram, Status, ReadAll, WriteAll, Cancel, Turn, Drain, Restart, Cut, CutSecond, Refuse, Await}
 
 abbrev pub word_text : Word → List ℕ
 word_text Read = codes "read"
@@ -28,13 +28,14 @@ word_text Turn = codes "turn"
 word_text Drain = codes "drain"
 word_text Restart = codes "restart"
 word_text Cut = codes "cut"
+word_text CutSecond = codes "cutee"
 word_text Refuse = codes "refuse"
 word_text Await = codes "await"
 
 abbrev pub all_words : List Word
 all_words =
     Write ∷ Read ∷ Drain ∷ Turn ∷ ReadRam ∷ WriteRam ∷ Restore ∷ RestoreRam ∷ Erase ∷ Invalidate ∷ SetIndex ∷ GetIndex ∷ Protect ∷ Lock
-    ∷ SetRam ∷ Ram ∷ Status ∷ ReadAll ∷ WriteAll ∷ Cancel ∷ Restart ∷ Cut ∷ Refuse ∷ Await ∷ []
+    ∷ SetRam ∷ Ram ∷ Status ∷ ReadAll ∷ WriteAll ∷ Cancel ∷ Restart ∷ Cut ∷ CutSecond ∷ Refuse ∷ Await ∷ []
 
 -- the word that a text is
 unfoldable pub word_of : List ℕ → Option Word

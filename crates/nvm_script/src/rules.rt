@@ -63,6 +63,14 @@ pub fn settled(config: &Config, mode: Mode, called: bool, kind: StepKind) -> Opt
             block: _,
             content: _,
         } => None,
+        StepKind::CutSecond { nth, keep } => {
+            let second = config.second();
+            played(
+                mode,
+                called,
+                second.map(|_| StepKind::CutSecond { nth, keep }),
+            )
+        }
         StepKind::Refuse { block, count } => {
             let sync = sync_length(config, block);
             played(

@@ -1,6 +1,6 @@
 // The step that a line spells, without its caller.
 ghost use Rattle.std.specs.Prelude.{◌≡◌, IfOk, MatchOption};
-ghost use Rattle.nvm_script.specs.Reading.{without_fields as read_without, of_block as read_block, with_one as read_one, with_number as read_number, with_content as read_content, cut_step as read_cut, with_two as read_two, spelled as read_text};
+ghost use Rattle.nvm_script.specs.Reading.{without_fields as read_without, of_block as read_block, with_one as read_one, with_number as read_number, with_content as read_content, cut_place as read_place, with_two as read_two, spelled as read_text};
 ghost use Rattle.nvm_script.specs.Step.{IsStep};
 ghost use Rattle.nvm_script.specs.declared.step.StepKind.{StepKind as Kind};
 
@@ -125,13 +125,13 @@ fn with_content(
     }
 }
 
-// Where the power is cut.
-fn cut_step(first: &[u8], second: &[u8]) -> Option<StepKind>
-    ensures { result ≡ read_cut first.now second.now }
+// Where the power is cut: at which operation, and how many of its bytes are done.
+fn cut_place(first: &[u8], second: &[u8]) -> Option<(u32, u32)>
+    ensures { result ≡ read_place first.now second.now }
 {
     let nth = decimal_number(first, 1, 1_000_000)?;
     let keep = decimal_number(second, 0, 256)?;
-    Some(StepKind::Cut { nth, keep })
+    Some((nth, keep))
 }
 
 // A word with two fields.
@@ -144,7 +144,12 @@ fn with_two(
     ensures { IfOk result (λ o. o ≡ read_two word first.now second.now) }
 {
     if matches!(word, Word::Cut) {
-        return Ok(cut_step(first, second));
+        let place = cut_place(first, second);
+        return Ok(place.map(|(nth, keep)| StepKind::Cut { nth, keep }));
+    }
+    if matches!(word, Word::CutSecond) {
+        let place = cut_place(first, second);
+        return Ok(place.map(|(nth, keep)| StepKind::CutSecond { nth, keep }));
     }
     let Some(block) = decimal_number(first, 0, 65_535) else {
         return Ok(None);

@@ -28,12 +28,13 @@ pub enum Word {
     Drain,
     Restart,
     Cut,
+    CutSecond,
     Refuse,
     Await,
 }
 
 // In the order in which they are tried: what most scripts say most comes first.
-static WORDS: [Word; 24] = [
+static WORDS: [Word; 25] = [
     Word::Write,
     Word::Read,
     Word::Drain,
@@ -56,6 +57,7 @@ static WORDS: [Word; 24] = [
     Word::Cancel,
     Word::Restart,
     Word::Cut,
+    Word::CutSecond,
     Word::Refuse,
     Word::Await,
 ];
@@ -94,6 +96,7 @@ fn is_word(word: Word, text: &[u8]) -> bool
         Word::Drain => is_name("drain", text),
         Word::Restart => is_name("restart", text),
         Word::Cut => is_name("cut", text),
+        Word::CutSecond => is_name("cutee", text),
         Word::Refuse => is_name("refuse", text),
         Word::Await => is_name("await", text),
     }

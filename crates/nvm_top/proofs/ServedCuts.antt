@@ -13,7 +13,7 @@ use Rattle.script_player.specs.Requests.{is_of_request, AreOfRequests, LeavesReq
 use Rattle.script_player.specs.uds_gateway.Jobs.{EndsOff}
 use Rattle.script_player.specs.uds_gateway.declared.stop.ServeStop.TheVariants as serve
 use Rattle.script_player.specs.script_walks.Walk.{IsWalkBy, joined}
-use Rattle.script_player.specs.script_walks.Words.{Step, StepKind, AskStep, Store, Turn, Drain, Restart, Cut, Refuse, Await}
+use Rattle.script_player.specs.script_walks.Words.{Step, StepKind, AskStep, Store, Turn, Drain, Restart, Cut, CutSecond, Refuse, Await}
 
 -- WHERE IT WENT OFF
 
@@ -63,6 +63,7 @@ asks_or_turns (Store block content) ops more is = absurd (cc is)
 asks_or_turns Drain ops more is = absurd (cc is)
 asks_or_turns Restart ops more is = absurd (cc is)
 asks_or_turns (Cut number keep) ops more is = absurd (cc is)
+asks_or_turns (CutSecond number keep) ops more is = absurd (cc is)
 asks_or_turns (Refuse block count) ops more is = absurd (cc is)
 asks_or_turns (Await block) ops more is = absurd (cc is)
 

@@ -7,7 +7,7 @@ use Rattle.block_machine.specs.nv_base.Entry.{ops_of}
 use Rattle.memif.specs.Clock.{TakesKept}
 use Rattle.memif.proofs.Turning.{rose_before, rose_since}
 use Rattle.fee_image.specs.Laws.{SoundImagesCompute}
-use Rattle.script_walks.specs.Words.{Step, StepKind, AskStep, Store, Turn, Drain, Cut, Refuse, Restart, Await}
+use Rattle.script_walks.specs.Words.{Step, StepKind, AskStep, Store, Turn, Drain, Cut, CutSecond, Refuse, Restart, Await}
 use Rattle.block_machine.specs.Words.{Fine, NotOk, Content, Write, WriteJob, TookContent, Entry, Pick, Wrote, Post, Found, Configuration}
 use Rattle.block_machine.specs.State.{State}
 use Rattle.block_machine.specs.Steps.{step, after, after_from}
@@ -59,6 +59,7 @@ step_falls Restart before [] are = absurd are
 step_falls Restart before (m ∷ n ∷ ms) are = absurd are
 step_falls (Store block content) before ms are = none_made before ms are
 step_falls (Cut nth keep) before ms are = none_made before ms are
+step_falls (CutSecond nth keep) before ms are = none_made before ms are
 step_falls (Refuse block count) before ms are = none_made before ms are
 step_falls (Await block) before ms are = none_made before ms are
 

@@ -8,7 +8,7 @@ use Rattle.fls_model.specs.Told.{Change}
 use Rattle.block_machine.specs.nv_base.Count.{last_count}
 use Rattle.block_machine.specs.Words.{Entry, Found}
 use Rattle.block_machine.specs.State.{State, Job}
-use Rattle.script_walks.specs.Words.{Step, StepKind, AskStep, Store, Turn, Drain, Restart, Cut, Refuse, Await}
+use Rattle.script_walks.specs.Words.{Step, StepKind, AskStep, Store, Turn, Drain, Restart, Cut, CutSecond, Refuse, Await}
 use Rattle.promise_blocks.specs.OverDevice.{HasStarted, BeginsBefore}
 use Rattle.promise_device.specs.FlashRun.{FlashRun, TellsOperations, HasRoom, IsCutImage}
 use Rattle.promise_run.specs.Beside.{Beside}
@@ -62,6 +62,7 @@ step_ops Restart before [] is moves = absurd moves
 step_ops Restart before (m ∷ x ∷ ms) is moves = absurd moves
 step_ops (Store block content) before ms is moves = no_ops before ms moves
 step_ops (Cut nth keep) before ms is moves = no_ops before ms moves
+step_ops (CutSecond nth keep) before ms is moves = no_ops before ms moves
 step_ops (Refuse block count) before ms is moves = no_ops before ms moves
 step_ops (Await block) before ms is moves = no_ops before ms moves
 

@@ -12,7 +12,7 @@ use Rattle.block_machine.specs.Prices.{refused_copies, price_in_refusals, block_
 use Rattle.block_machine.specs.Legal.{IsAllowed, IsLegalFrom, MayPick, MayPost}
 use Rattle.block_machine.specs.Next.{Next, Nothing, PickJob, BeginSweep, PickMember, PostMember, EndSweep, next_of}
 use Rattle.block_machine.specs.Steps.{step, after_from, asked, accepted_by, changed, picked, wrote, posted, posted_next}
-use Rattle.script_walks.specs.Words.{Step, StepKind, AskStep, Store, Turn, Drain, Restart, Cut, Refuse, Await}
+use Rattle.script_walks.specs.Words.{Step, StepKind, AskStep, Store, Turn, Drain, Restart, Cut, CutSecond, Refuse, Await}
 use Rattle.script_walks.specs.Walk.{joined}
 use Rattle.promise_run.specs.Refusals.{copied_out, copied_in, copy_told, IsAsAsked, left_by, AreAsAsked, StepsRefuse, asked_by}
 use Rattle.promise_run.specs.RefusalLaws.{refusals_of, RefusalsArePaid}
@@ -190,6 +190,7 @@ asked_more id left (Turn count) = omega arith
 asked_more id left Drain = omega arith
 asked_more id left Restart = omega arith
 asked_more id left (Cut nth keep) = omega arith
+asked_more id left (CutSecond nth keep) = omega arith
 asked_more id left (Await block) = omega arith
 
 steps_paid : (c : Configuration) (cap id : ℕ) (s : State) (left : ℕ) (xs : List Step) (ps : List (List Entry)) (behind : ℕ) → length ps ≡ length xs → IsLegalFrom c cap s (joined ps)

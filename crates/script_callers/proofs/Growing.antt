@@ -7,7 +7,7 @@ use Rattle.std.proofs.lemmas.List.Elements.{All-append, All-cons, All-nil, All-h
 use Rattle.block_machine.specs.Words.{Request, Write, Configuration}
 use Rattle.block_machine.specs.Blocks.{desc_of, is_synchronized}
 use Rattle.block_machine.specs.Legal.{HasStore}
-use Rattle.script_walks.specs.Words.{Step, StepKind, AskStep, Store, Turn, Drain, Restart, Cut, Refuse, Await}
+use Rattle.script_walks.specs.Words.{Step, StepKind, AskStep, Store, Turn, Drain, Restart, Cut, CutSecond, Refuse, Await}
 use Rattle.script_walks.specs.Walk.{stores_of, last_store, request_after}
 use Rattle.script_walks.specs.Callers.{program_of, request_of_step, requests_from}
 use Rattle.script_callers.specs.declared.deed.Deed.{Deed}
@@ -68,6 +68,7 @@ may_by c before line caller (Turn count) can = absurd can
 may_by c before line caller Drain can = absurd can
 may_by c before line caller Restart can = absurd can
 may_by c before line caller (Cut nth keep) can = absurd can
+may_by c before line caller (CutSecond nth keep) can = absurd can
 may_by c before line caller (Refuse block count) can = absurd can
 
 may_from : (c : Configuration) (before xs : List Step) → All (IsRunBy c) xs → All (MayDo c) (deeds_from c before xs)
@@ -103,6 +104,7 @@ of_kind id caller line who (Turn count) xs same of = of
 of_kind id caller line who Drain xs same of = of
 of_kind id caller line who Restart xs same of = of
 of_kind id caller line who (Cut nth keep) xs same of = of
+of_kind id caller line who (CutSecond nth keep) xs same of = of
 of_kind id caller line who (Refuse block count) xs same of = of
 of_kind id caller line who (Await block) xs same of = of
 

@@ -7,7 +7,7 @@ use Rattle.std.proofs.lemmas.List.Elements.{filter_map-append}
 use Rattle.std.proofs.lemmas.Option.{slice_get_within, get_or_from_slice_get}
 use Rattle.nvm_script.specs.Owners.{ram_block_of, owner_of}
 use Rattle.nvm_script.specs.Rules.{sync_length_of}
-use Rattle.script_walks.specs.Words.{Step, StepKind, AskStep, Store, Turn, Drain, Restart, Cut, Refuse, Await}
+use Rattle.script_walks.specs.Words.{Step, StepKind, AskStep, Store, Turn, Drain, Restart, Cut, CutSecond, Refuse, Await}
 use Rattle.script_walks.specs.Walk.{store_by, stores_of}
 use Rattle.script_walks.specs.Callers.{program_of}
 use Rattle.block_machine.specs.Words.{Configuration}
@@ -30,6 +30,7 @@ none_by id line caller (Turn count) other = refl
 none_by id line caller Drain other = refl
 none_by id line caller Restart other = refl
 none_by id line caller (Cut nth keep) other = refl
+none_by id line caller (CutSecond nth keep) other = refl
 none_by id line caller (Refuse block count) other = refl
 none_by id line caller (Await block) other = refl
 

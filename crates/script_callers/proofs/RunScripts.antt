@@ -12,7 +12,7 @@ use Rattle.nvm_script.specs.Owners.{ram_block_of, owner_of, may_own, keeps_owner
 use Rattle.nvm_script.specs.Rules.{sync_length_of}
 use Rattle.nvm_script.specs.Script.{Follows, IsScript}
 use Rattle.nvm_script.proofs.OwnerLaws.{later, is_block, is_owner, owner_of-append}
-use Rattle.script_walks.specs.Words.{Step, StepKind, AskStep, Store, Turn, Drain, Restart, Cut, Refuse, Await}
+use Rattle.script_walks.specs.Words.{Step, StepKind, AskStep, Store, Turn, Drain, Restart, Cut, CutSecond, Refuse, Await}
 use Rattle.block_machine.specs.Words.{Configuration}
 use Rattle.script_callers.specs.RunScripts.{CanBeRun, IsRunBy, HasOneOwner, AreRun}
 use Rattle.script_callers.specs.Laws.{ScriptsAreRun}
@@ -27,6 +27,7 @@ can_be_run c called text (Turn count) step = absurd (cc step.1.0)
 can_be_run c called text Drain step = absurd (cc step.1.0)
 can_be_run c called text Restart step = absurd (cc step.1.0)
 can_be_run c called text (Cut nth keep) step = absurd (cc step.1.0)
+can_be_run c called text (CutSecond nth keep) step = absurd (cc step.1.0.0)
 can_be_run c called text (Refuse block count) step = absurd (cc step.1.0.0)
 
 few : (called : Option ℕ) (text line : List ℕ) → IsCalled called text line → unwrap_or called 0 ≤ 15

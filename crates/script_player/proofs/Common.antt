@@ -3,7 +3,7 @@ pub use Rattle.std.proofs.Common.{◌≡◌, ℕ, Bool, false, inl, inr, Option,
 pub use Rattle.std.proofs.lemmas.List.{append_cancel_left, map-append, take_more, map-set, length-map, ext_get_or, length-replicate, take_all, take-append-drop, nil_from_length}
 pub use Rattle.uds_gateway.specs.block_machine.Words.{Instance, Mark, Request, Reply, Entry, Ask, Pick, Wrote, Post, Off, Found, Configuration, ReqResult, JobKind, WriteJob, Taken, TookNothing, TookContent, TookRefused, TookStale, BlockDesc, Accepted, Refused, StatusIs, IndexIs}
 pub use Rattle.uds_gateway.specs.block_machine.State.{State, Job, BlockState, Sweep}
-pub use Rattle.uds_gateway.specs.script_walks.Words.{Step, Drain, StepKind, AskStep, Refuse, Cut, Store, Turn, Restart}
+pub use Rattle.uds_gateway.specs.script_walks.Words.{Step, Drain, StepKind, AskStep, Refuse, Cut, CutSecond, Store, Turn, Restart}
 pub use Rattle.uds_gateway.specs.script_walks.Turn.{IsTurn, TakesNewest, IsOfTurn, IsOneOrNone}
 pub use Rattle.uds_gateway.specs.promise_run.Turns.{Moment, Move, entry_list, entries_of, moment_behind, moment_after, AreMovesOf, AreMoves, FindsWork, all_moves, IsInTime, AreInTime, Planned, planned_by, CutsCome, AreTurnsMade, HasMoves, ClosesAtDrains, FindWorkAtDrains, turns_beside}
 pub use Rattle.uds_gateway.specs.block_machine.Steps.{after_from, step, after}

@@ -1,5 +1,5 @@
 -- Each kind of step is made.
-use Rattle.script_player.proofs.Common.{◌≡◌, ◌<◌, ◌≤◌, ◌+◌, ◌^◌, ℕ, zero, suc, Bool, true, false, IsTrue, List, [], ◌∷◌, ◌++◌, length, get_or, refl, sym, ap, ◌∙◌, subst, arith, Option, append-nil, length-set, not, slice_set, Instance, Mark, Request, Reply, Entry, Ask, Found, Configuration, State, desc_of, is_synchronized, next_of, fits, step, after, next_number, Step, StepKind, AskStep, Store, Turn, Drain, Restart, Cut, Refuse, HasNoRoom, DueCut, plan_after, is_drain, stores_of, request_after, CanBePlayed, AreNewest, JobsTookStored, is_store, histories_step, starts_keep_stored, StackTold, state_of, moment_of, Arms, Stores, Refuses, StaysCalm, HasTurned, AreMade, MakesTurns, Drains, PlansCuts, cuts_in, IsMade, Makes, IsAsked, IsExplained, Moment, Move, Planned, planned_by, AreMovesOf, FindsWork, Seen, MovesBy, AskMoves, asked_by, Rose, HasLastStores, OnOk, IfErr, min-eq_left, copies_by, TakesStore, IsPieceBy, others_keep_newest, stores_are_newest, stores_are_few, steps_keep_stored, asks_keep_stored, StartsAgain, StartsAnew, at_first}
+use Rattle.script_player.proofs.Common.{none_moves, ◌≡◌, ◌<◌, ◌≤◌, ◌+◌, ◌^◌, ℕ, zero, suc, Bool, true, false, IsTrue, List, [], ◌∷◌, ◌++◌, length, get_or, refl, sym, ap, ◌∙◌, subst, arith, Option, append-nil, length-set, not, slice_set, Instance, Mark, Request, Reply, Entry, Ask, Found, Configuration, State, desc_of, is_synchronized, next_of, fits, step, after, next_number, Step, StepKind, AskStep, Store, Turn, Drain, Restart, Cut, CutSecond, Refuse, HasNoRoom, DueCut, plan_after, is_drain, stores_of, request_after, CanBePlayed, AreNewest, JobsTookStored, is_store, histories_step, starts_keep_stored, StackTold, state_of, moment_of, Arms, Stores, Refuses, StaysCalm, HasTurned, AreMade, MakesTurns, Drains, PlansCuts, cuts_in, IsMade, Makes, IsAsked, IsExplained, Moment, Move, Planned, planned_by, AreMovesOf, FindsWork, Seen, MovesBy, AskMoves, asked_by, Rose, HasLastStores, OnOk, IfErr, min-eq_left, copies_by, TakesStore, IsPieceBy, others_keep_newest, stores_are_newest, stores_are_few, steps_keep_stored, asks_keep_stored, StartsAgain, StartsAnew, at_first}
 use Rattle.std.specs.Prelude.{Result, Ok, Err}
 use Rattle.script_player.specs.Kept.{IsKept}
 use Rattle.script_player.proofs.Coming.{pending_same, refuse_cuts, ask_cuts, turns_cuts}
@@ -73,6 +73,12 @@ arm_made p q x nth keep table old new is arms moves =
 pub refuse_made : (p q : Seen) (x : Step) (block count : ℕ) (table : List ℕ) (old new : StackTold) → x.kind ≡ Refuse block count → Refuses block count old new → MovesBy false [] p q → Makes p q x table table old new
 refuse_made p q x block count table old new is refuses moves =
     causes_made p q x (Refuse block count) table old new is refl (λ no. no) refl refl (λ before. refl) (refuses.only ∙ ap (λ y. record old { causes = y }) (sym (ap (λ t. t.causes) refuses.only))) (by_refuse block count old new refuses) moves (λ few. refuse_cuts block count old new refuses)
+
+-- a cut of a second flash plans nothing over one
+pub second_made : (p : Seen) (x : Step) (nth keep : ℕ) (table : List ℕ) (t : StackTold) → x.kind ≡ CutSecond nth keep → Makes p p x table table t t
+second_made p x nth keep table t is =
+    causes_made p p x (CutSecond nth keep) table t t is refl (λ no. no) refl refl (λ before. refl) refl
+    (by_nothing (CutSecond nth keep) t t (λ plan ops. refl) (λ id left. refl) refl refl) (none_moves false p) (λ few one plan pending. (tt, pending))
 
 ask_takes : (c : Configuration) (before : List Step) (copies : Bool) (e : Entry) (caller : ℕ) (r : Request) (reply : Reply) → TakesStore c before copies (Ask caller r reply)
 ask_takes c before true e caller r reply = tt

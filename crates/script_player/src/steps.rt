@@ -119,6 +119,7 @@ pub fn make_step<S: PlayedStack>(
             stack.arm(nth, keep);
             Ok(())
         }
+        StepKind::CutSecond { .. } => Ok(()),
         StepKind::Refuse { block, count } => {
             stack.refuse(block, count);
             Ok(())

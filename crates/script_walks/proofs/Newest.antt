@@ -8,7 +8,7 @@ use Rattle.std.proofs.lemmas.List.Elements.{filter_map-append}
 use Rattle.std.proofs.lemmas.List.Sums.{fold-append}
 use Rattle.std.proofs.Common.{get_or-set_same, get_or-set_other}
 use Rattle.block_machine.specs.Words.{Configuration}
-use Rattle.script_walks.specs.Words.{Step, StepKind, AskStep, Store, Turn, Drain, Restart, Cut, Refuse, Await}
+use Rattle.script_walks.specs.Words.{Step, StepKind, AskStep, Store, Turn, Drain, Restart, Cut, CutSecond, Refuse, Await}
 use Rattle.script_walks.specs.Walk.{store_by, stores_of, store_content}
 use Rattle.script_walks.specs.Stores.{IsNewest}
 use Rattle.script_walks.specs.StoreLaws.{is_store, OthersKeepNewest, StoresAreNewest, StoresAreFew, LastStoresGrow}
@@ -28,6 +28,7 @@ none_by id line caller (Turn count) no_store = refl
 none_by id line caller Drain no_store = refl
 none_by id line caller Restart no_store = refl
 none_by id line caller (Cut nth keep) no_store = refl
+none_by id line caller (CutSecond nth keep) no_store = refl
 none_by id line caller (Refuse block count) no_store = refl
 none_by id line caller (Await block) no_store = refl
 
@@ -96,6 +97,7 @@ one_by id line caller (Turn count) = omega arith
 one_by id line caller Drain = omega arith
 one_by id line caller Restart = omega arith
 one_by id line caller (Cut nth keep) = omega arith
+one_by id line caller (CutSecond nth keep) = omega arith
 one_by id line caller (Refuse block count) = omega arith
 one_by id line caller (Await block) = omega arith
 

@@ -1,7 +1,7 @@
 use Rattle.script_player.proofs.Common.{ℕ, List, ◌++◌, ◌∷◌, [], refl, sym, ◌∙◌, subst, Step, CanBePlayed, Stores, Makes, IsLeft, HasLastStores}
 use Rattle.nvm_script.specs.declared.step.StepKind.{StepKind}
 use Rattle.nvm_script.specs.declared.step.StepKind.TheVariants as kind
-use Rattle.script_player.proofs.Making.{at_kind, on_ok, if_err, step_made, ask_made, restart_made, turns_made, drain_made, arm_made, refuse_made, store_made, next_store}
+use Rattle.script_player.proofs.Making.{at_kind, on_ok, if_err, step_made, ask_made, restart_made, turns_made, drain_made, arm_made, second_made, refuse_made, store_made, next_store}
 use Rattle.script_player.proofs.Table.{noted_table, is_sync, is_within}
 use Rattle.script_player.proofs.steps.make_step.Goals as goal
 
@@ -55,6 +55,10 @@ returns-in-Restart-clause-left g c =
 pub returns-in-Cut-clause-made : goal.returns-in-Cut-clause-made
 returns-in-Cut-clause-made g c =
     arm_made (g.S.PlayedStack.seen c.args.stack.now) (g.S.PlayedStack.seen c.arm.new.self) c.args.step c.in-Cut.nth c.in-Cut.keep c.args.stores.now (g.S.PlayedStack.told c.args.stack.now) (g.S.PlayedStack.told c.arm.new.self) c.in-Cut.is c.arm.ensures.arms c.arm.ensures.moved
+
+pub returns-in-CutSecond-clause-made : goal.returns-in-CutSecond-clause-made
+returns-in-CutSecond-clause-made g c =
+    second_made (g.S.PlayedStack.seen c.args.stack.now) c.args.step c.in-CutSecond.nth c.in-CutSecond.keep c.args.stores.now (g.S.PlayedStack.told c.args.stack.now) c.in-CutSecond.is
 
 pub returns-in-Refuse-clause-made : goal.returns-in-Refuse-clause-made
 returns-in-Refuse-clause-made g c =
