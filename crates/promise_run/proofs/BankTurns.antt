@@ -27,7 +27,7 @@ module _ (r : Run) (begins : BeginsUnused r) (promise : PromiseOfEither r) (star
   chain : IsChain (attached r.configuration.geometry begins.tells.first) r.flash.operations begins.tells.last
   chain = elim promise [
     | inl one ↦ (one.operations started).chain begins.tells
-    | inr (b, both) ↦ (both.operations started).3.chain begins.tells
+    | inr (b, both) ↦ (both.operations started).0.chain begins.tells
   ]
 
   wear : OperationsAreDue (making_of r.configuration) r.flash

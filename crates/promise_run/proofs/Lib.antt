@@ -25,7 +25,7 @@ mod WrongOperations
 mod EraseCases
 pub mod SectorErases
 mod KeptRuns
-mod TwoFlashes
+pub mod TwoFlashes
 mod LostWrite
 mod WrongCalls
 mod OneByOne

@@ -24,7 +24,7 @@ use Rattle.promise_device.specs.FlashRun.{FlashRun, HasFailed}
 use Rattle.promise_run.specs.Beside.{Beside}
 use Rattle.promise_run.specs.Call.{Call}
 use Rattle.promise_run.specs.Promise.{Promise}
-use Rattle.promise_run.specs.TwoFlashes.{PromiseOfBoth}
+use Rattle.promise_run.specs.TwoFlashes.{PromiseOfBoth, HasCutsOfBoth}
 use Rattle.promise_run.specs.BankTurns.{HasCausedErases}
 use Rattle.promise_run.specs.Turns.{Moment, Move, EndsCanceled, StaysAtRest, ClosesAtDrains, FindWorkAtDrains, CountFailed, ArePaidSince, BeginWhatIsDue}
 use Rattle.block_machine.specs.Steps.{after}
@@ -164,6 +164,16 @@ picks_one = Pick 2 WriteJob (TookContent one 0) 0
 
 abbrev pub taken : List Entry
 taken = Found [] 0 ∷ Ask 0 (Write 2 (Some one) 0) Accepted ∷ picks_one ∷ []
+
+-- the second flash has block 2, and the power goes off in the first operation of its write, when 16 bytes of it are done; this step
+-- planned a cut
+abbrev pub cut_beside : StepKind → Run
+cut_beside kind =
+    record (plays ((kind, []) ∷ asks_one ∷ (Drain, picks_one ∷ Off 1 ∷ []) ∷ []) (unchanged [] blank)) { cuts = 16 ∷ []; beside = Some (second_of one one) }
+
+-- which isn't the cut that came
+abbrev pub CutsAnother : StepKind → Type 0
+CutsAnother kind = BothBreakBy (cut_beside kind) (second_of one one) (HasCutsOfBoth (cut_beside kind) (second_of one one))
 
 -- with these operations of the flash it is written and posted
 abbrev pub written_at : ℕ → List Entry

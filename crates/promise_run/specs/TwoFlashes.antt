@@ -1,9 +1,11 @@
 -- What the stack promises of each run over two flashes: the same as over one, of both together.
-use Rattle.std.specs.Prelude.{◌≡◌, ◌⊎◌, ◌<◌, ◌+◌, ℕ, Bool, true, false, not, if◌then◌else◌, IsTrue, List, length, Contains, Some, IfSome}
-use Rattle.block_machine.specs.nv_base.Count.{last_count}
+use Rattle.std.specs.Prelude.{◌≡◌, ◌⊎◌, ◌<◌, ◌≤◌, ◌+◌, ℕ, zero, suc, Bool, true, false, not, if◌then◌else◌, IsTrue, List, [], ◌∷◌, length, Contains, Option, Some, None, IfSome}
+use Rattle.block_machine.specs.nv_base.Count.{last_count, WereCounted}
+use Rattle.block_machine.specs.nv_base.Entry.{ops_behind}
 use Rattle.block_machine.specs.nv_base.Held.{Held}
 use Rattle.block_machine.specs.nv_base.Marks.{instance_of}
-use Rattle.block_machine.specs.Words.{Instance, Mark, Entry, Found, Configuration}
+use Rattle.script_walks.specs.Words.{StepKind, CutSecond, Restart}
+use Rattle.block_machine.specs.Words.{Instance, Mark, Entry, Off, Found, Configuration}
 use Rattle.block_machine.specs.Legal.{IsLegal}
 use Rattle.block_machine.specs.History.{up_to}
 use Rattle.promise_blocks.specs.Marks.{KeepsMarks, Lists, marks_in}
@@ -17,7 +19,7 @@ use Rattle.promise_device.specs.Reading.{BeginsSound}
 use Rattle.promise_device.specs.Bridge.{IsWornOut, IsWornBy}
 use Rattle.promise_device.specs.Wear.{OperationsAreDue}
 use Rattle.promise_run.specs.Beside.{Beside, AreCutImages, IsMerged, is_beside, ops_of}
-use Rattle.promise_run.specs.Run.{Run, HasOrder, CutsExplain}
+use Rattle.promise_run.specs.Run.{Run, HasOrder, DueCut, plan_after, Event, Made, Added, CutsAre, events_in}
 use Rattle.promise_run.specs.Refusals.{RefusesAsAsked}
 use Rattle.promise_run.specs.Promise.{MayBeKept, Promise, making_of}
 
@@ -72,11 +74,59 @@ pub record MayBeKeptOf (r : Run) (b : Beside) (second : Bool) (n : ℕ) : Type 0
   pub number : ops_of second r.configuration r.history b operation ≡ n
   pub kept : MayBeKept r operation
 
--- the operations are those of the flashes, but for these, each done as far as its cut says; each flash has its own cuts
-abbrev pub OperationsAreBoth : Run → Beside → Type 0
-OperationsAreBoth r b =
-    (own other : List ℕ) × IsMerged own other r.cuts × AreOperations r.configuration.geometry r.flash (MayBeKeptOf r b false) own
-    × AreOperations b.reading.geometry b.flash (MayBeKeptOf r b true) other
+-- the operations are those of the flashes, but for these, each done as far as the planned cut of its flash says
+abbrev pub OperationsAreBoth : Run → Beside → (own other : List ℕ) → Type 0
+OperationsAreBoth r b own other =
+    AreOperations r.configuration.geometry r.flash (MayBeKeptOf r b false) own × AreOperations b.reading.geometry b.flash (MayBeKeptOf r b true) other
+
+-- POWER CUTS
+-- what the Offs of a run tell of one flash: of each of its planned cuts that came, in their order, how many bytes of its operation it
+-- let be done, and how many others came
+pub record CutsOf : Type 0 where
+  pub came : List ℕ
+  pub others : ℕ
+
+-- the cut of the second flash that stands from a step on, if one does
+abbrev pub second_after : StepKind → Option DueCut → ℕ → Option DueCut
+second_after (CutSecond zero keep) plan ops = plan
+second_after (CutSecond (suc n) keep) plan ops = Some (record { due = ops + suc n; keep = keep })
+second_after Restart plan ops = None
+second_after kind plan ops = plan
+
+-- An Off of a flash behind so many operations of its own is the cut that is planned for it, and not for later, whose bytes are the
+-- next of the flash's; or it is one of the flash's others.
+abbrev pub IsOffOf : Option DueCut → (own now : ℕ) → CutsOf → CutsOf → Type 0
+IsOffOf plan own now all behind =
+    ((p : DueCut) × (plan ≡ Some p) × ((p.due ≤ own) ⊎ (last_count ≤ now)) × (all ≡ record behind { came = p.keep ∷ behind.came }))
+    ⊎ (all ≡ record behind { others = suc behind.others })
+
+-- Each Off is one of the first flash or one of the second, each with its own plan, by the count of its own operations among the first
+-- ones of both. Behind it none is planned.
+abbrev pub CutsAreBoth : (count : Bool → ℕ → ℕ) → (first second : Option DueCut) → ℕ → List Event → (own other : CutsOf) → Type 0
+CutsAreBoth count first second ops [] own other = (own ≡ record { came = []; others = 0 }) × (other ≡ record { came = []; others = 0 })
+CutsAreBoth count first second ops (Made kind ∷ es) own other =
+    CutsAreBoth count (plan_after kind first (count false ops)) (second_after kind second (count true ops)) ops es own other
+CutsAreBoth count first second ops (Added (Off now) ∷ es) own other =
+    ((behind : CutsOf) × IsOffOf first (count false now) now own behind × CutsAreBoth count None None now es behind other)
+    ⊎ ((behind : CutsOf) × IsOffOf second (count true now) now other behind × CutsAreBoth count None None now es own behind)
+CutsAreBoth count first second ops (Added e ∷ es) own other = CutsAreBoth count first second (ops_behind ops (e ∷ [])) es own other
+
+-- the Offs of a run are these planned cuts of both flashes, and others that each flash counted
+pub record CutsExplainBoth (r : Run) (b : Beside) (own other : CutsOf) : Type 0 where
+  pub merged : IsMerged own.came other.came r.cuts
+  pub are : CutsAreBoth (λ second. ops_of second r.configuration r.history b) None None 0 (events_in r.course r.history) own other
+  pub counted : WereCounted own.others r.flash.entry.cuts r.flash.exit.cuts
+  pub counted_beside : WereCounted other.others b.flash.entry.cuts b.flash.exit.cuts
+
+-- there are such cuts
+abbrev pub HasCutsOfBoth : Run → Beside → Type 0
+HasCutsOfBoth r b = (own other : CutsOf) × CutsExplainBoth r b own other
+
+-- where all operations are the first flash's, the cuts of a run over it alone are those of both
+abbrev pub CutsOfOneAreBoth : Type 0
+CutsOfOneAreBoth =
+    (count : Bool → ℕ → ℕ) → ((k : ℕ) → count false k ≡ k) → (plan second : Option DueCut) (ops : ℕ) (es : List Event) (cuts : List ℕ) (others : ℕ)
+    → CutsAre plan ops es cuts others → CutsAreBoth count plan second ops es (record { came = cuts; others = others }) (record { came = []; others = 0 })
 
 -- each flash's faults pay for the failures of its own blocks, but where it is worn out
 abbrev pub FailuresArePaidByBoth : Run → Beside → Type 0
@@ -97,8 +147,10 @@ pub record PromiseOfBoth (r : Run) (b : Beside) : Type 0 where
   pub faults : FailuresArePaidByBoth r b
   pub wear : OperationsAreDue (making_of r.configuration) r.flash
   pub refusals : (id : ℕ) → RefusesAsAsked r.configuration r.course r.history id
-  pub off : CutsExplain r.course r.history r.cuts (of_both (λ f. f.entry.cuts) r b) (of_both (λ f. f.exit.cuts) r b)
-  pub operations : HasStarted r.history → OperationsAreBoth r b
+  pub own : CutsOf
+  pub other : CutsOf
+  pub off : CutsExplainBoth r b own other
+  pub operations : HasStarted r.history → OperationsAreBoth r b own.came other.came
   pub begins : BeginsBefore r.history
   pub counted : TellsAtMost (of_both (λ f. length f.operations) r b) r.history
 

@@ -1,5 +1,5 @@
 // Runs that keep the promise, and runs that break it.
-ghost use Rattle.std.specs.Prelude.{ℕ, ◌<◌, [], ◌∷◌, true, false, Some, None};
+ghost use Rattle.std.specs.Prelude.{ℕ, List, ◌<◌, [], ◌∷◌, true, false, Some, None};
 ghost use Rattle.nvm_script.specs.Printed.{history_lines};
 ghost use Rattle.std.specs.List.{concat};
 ghost use Rattle.block_machine.specs.Legal.{IsLegal};
@@ -10,14 +10,14 @@ ghost use Rattle.promise_run.specs.Run.{cap, HasOrder, CutsExplain};
 ghost use Rattle.promise_run.specs.Refusals.{RefusesAsAsked};
 ghost use Rattle.promise_device.specs.Wear.{OperationsAreDue};
 ghost use Rattle.promise_run.specs.Promise.{making_of, BeginsWell, OperationsAre, Promise, StartUpsFind, CutsCount, CutsKeep, ExitKeeps, FailuresArePaid, MayBeKept};
-ghost use Rattle.promise_run.specs.TwoFlashes.{OperationsAreBoth, PromiseOfBoth};
+ghost use Rattle.promise_run.specs.TwoFlashes.{OperationsAreBoth, PromiseOfBoth, HasCutsOfBoth};
 ghost use Rattle.promise_run.specs.Call.{IsRunOf, text_of};
 ghost use Rattle.promise_run.specs.Completeness.{Completeness};
-ghost use Rattle.script_walks.specs.Words.{AskStep, Restart};
+ghost use Rattle.script_walks.specs.Words.{AskStep, Restart, Cut, CutSecond};
 ghost use Rattle.block_machine.specs.Words.{Status, Fine, Canceled, BlockSkipped, Post};
 ghost use Rattle.promise_run.specs.Run.{FlashFault, HistoryFull};
 ghost use Rattle.promise_run.specs.Turns.{BeginsAt, EndsBy, KeepsTurns};
-ghost use Rattle.promise_run.specs.Cases.{ahead, six_beside, six_turns, lazy, leaps, at_faults, faulty, PassesBy, PaysFailed, CountsFailed, HadRoomAt, LeftAt, LeftOf, DrainsTo, TurnsOn, WorksAt, EndsWith, mended, posts_on_credit, starts_on_credit, untold, BothBreakBy, BreaksBy, small, one, two, quiet, quiet_beside, second_of, wiped, empty_at_11, made_up_mark, off_without_a_cut, cut_within, cut_twice, stale_in_play, invented_store, second_found, other_dataset, worn_but_roomy, worn_but_kept, worn_and_full, kept_write, lost_write, two_callers, written_at, always, turned, not_drained, fails_for_nothing, ends_for_nothing, demo_run, demo_call, untold_write, unseen_stale, later_store, full_for_nothing, not_served, worn_long_ago, cut_comes, cut_missed, last_in_two, erased_with_room, erased_when_full, erased_beside_last, off_untold, programmed_over};
+ghost use Rattle.promise_run.specs.Cases.{ahead, six_beside, six_turns, lazy, leaps, at_faults, faulty, PassesBy, PaysFailed, CountsFailed, HadRoomAt, LeftAt, LeftOf, DrainsTo, TurnsOn, WorksAt, EndsWith, mended, posts_on_credit, starts_on_credit, untold, BothBreakBy, CutsAnother, cut_beside, BreaksBy, small, one, two, quiet, quiet_beside, second_of, wiped, empty_at_11, made_up_mark, off_without_a_cut, cut_within, cut_twice, stale_in_play, invented_store, second_found, other_dataset, worn_but_roomy, worn_but_kept, worn_and_full, kept_write, lost_write, two_callers, written_at, always, turned, not_drained, fails_for_nothing, ends_for_nothing, demo_run, demo_call, untold_write, unseen_stale, later_store, full_for_nothing, not_served, worn_long_ago, cut_comes, cut_missed, last_in_two, erased_with_room, erased_when_full, erased_beside_last, off_untold, programmed_over};
 
 /// A start-up alone keeps it, and so do a write that a cut breaks off with a restart behind it, and the requests of two
 /// callers.
@@ -29,10 +29,15 @@ pub fn runs_that_keep_it()
 {}
 
 /// A start-up alone over two flashes keeps it. Where the bytes of the second one change without an operation, they aren't those
-/// of its operations.
+/// of its operations. A cut of the second flash that its own step planned explains an Off in its first operation; one that was
+/// planned for the first flash doesn't, nor one that was planned for later, or for other bytes.
 pub fn runs_over_two_flashes()
     ensures keeps { PromiseOfBoth (quiet_beside one one) (second_of one one) }
-    ensures changes { BothBreakBy (quiet_beside one two) (second_of one two) (OperationsAreBoth (quiet_beside one two) (second_of one two)) }
+    ensures changes { BothBreakBy (quiet_beside one two) (second_of one two) ((own other : List ℕ) × OperationsAreBoth (quiet_beside one two) (second_of one two) own other) }
+    ensures second_is_cut { HasCutsOfBoth (cut_beside (CutSecond 1 16)) (second_of one one) }
+    ensures cut_of_first { CutsAnother (Cut 1 16) }
+    ensures cut_later { CutsAnother (CutSecond 2 16) }
+    ensures cut_of_other_bytes { CutsAnother (CutSecond 1 15) }
 {}
 
 /// A run that wipes the flash or ends with a full history before a start-up breaks it by its order, and so does one that
