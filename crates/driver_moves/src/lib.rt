@@ -33,6 +33,6 @@ pub fn make_turn<W: Wait, D: MemDevice, C: NotedCopies + Drop>(
     requires lock { C.is_of shared.now.gate }
     ensures moved { HasMoved true (seen_of D.told D.clock (desk_with shared.now.terms (knows pass.old).seen) driver.old) (seen_of D.told D.clock (desk_with shared.now.terms (knows pass.new).seen) driver.new) }
 {
-    let turned = driver.turn(rt, shared, pass);
+    let turned = shared.turn(rt, pass, driver);
     turned
 }

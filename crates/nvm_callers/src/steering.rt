@@ -40,7 +40,7 @@ fn make_turn<W: Wait, D: MemDevice, C: NotedCopies + Drop>(
     ensures steers { HasSteered D.told D.clock C.told C.is_store C.looked C.over C.stands shared.now.terms (knows pass.old) (knows pass.new) driver.old driver.new }
 {
     let news = round.news();
-    let turned = driver.turn(rt, shared, pass);
+    let turned = shared.turn(rt, pass, driver);
     give_way(rt, round, news, turned);
 }
 
@@ -116,7 +116,7 @@ pub(crate) fn see<W: Wait, D: MemDevice, C: NotedCopies + Drop>(
     ensures seen { entries ≤ length (knows pass.new).seen }
 {
     for _ in rt.forever() {
-        if entries <= driver.count(rt, shared, pass) {
+        if entries <= shared.count_with(rt, pass, driver) {
             return;
         }
         thread::yield_now();
@@ -163,7 +163,7 @@ fn ends_turns<W: Wait, D: MemDevice, C: NotedCopies + Drop>(
 {
     let busy = driver.is_busy();
     let faults = driver.faults();
-    let turned = driver.turn(rt, shared, pass);
+    let turned = shared.turn(rt, pass, driver);
     let risen = has_risen(faults, driver.faults());
     is_last(turned, busy, risen)
 }

@@ -52,5 +52,6 @@ pub record PaysSince (since : ℕ) (old new : DeskState) (hand : Option HandStat
 -- So a turn pays, since whatever count what the job in hand owes was counted, where all is kept.
 abbrev pub TurnPays : {D C : Type 0} → (told : D → DeviceTold) → (clock : D → Clock) → StackState D C → StackState D C → Type 0
 TurnPays told clock old new =
-    (before : Part → PartTold) (since : ℕ) → StackKeeps before old.desk old.hand (told old.device) (clock old.device) → OwesSince (has_urgent old.desk) since old.hand (told old.device) (clock old.device)
+    (before : Part → PartTold) (since : ℕ) → StackKeeps before old.desk old.hand (told old.device) (clock old.device)
+    → OwesSince (has_urgent old.desk) since old.hand (told old.device) (clock old.device)
     → PaysSince since old.desk new.desk new.hand (told old.device) (told new.device) (clock new.device)

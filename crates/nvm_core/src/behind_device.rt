@@ -7,24 +7,23 @@ ghost use Rattle.nvm_laws.specs.Ties.{IsTied};
 ghost use Rattle.nvm_laws.specs.Turns.{AddsBy, hand_by};
 ghost use Rattle.nvm_core.specs.BehindDevice.{IsBehindTurn, TakesTurn};
 
+use crate::Driver;
 use crate::operation_end::end_operation;
 use nvm_laws::memif::{DeviceTurn, MemDevice};
-use nvm_laws::{Desk, Hand, Turned};
+use nvm_laws::{Desk, Hand, SyncCalls, Turned};
 
-/// Takes the answer of the device's turn: adds a Wrote where the job in hand wrote its mark, or an Off where the power went
-/// off. It doesn't change the device, and takes no memory.
-pub fn second_half<D: MemDevice>(
-    desk: &mut Desk,
-    hand: &mut Option<Hand>,
-    device: &D,
-    turned: DeviceTurn,
-) -> Turned
-    requires { (old : DeviceTold) × IsBehindTurn turned desk.old hand.old old (D.told device.now) }
-    ensures takes { TakesTurn turned result desk.old desk.new hand.old hand.new (D.told device.now) }
-    ensures tied { IsTied desk.new hand.new (D.told device.now) }
-{
-    let _blocks = desk.config().blocks();
-    take(desk, hand, device, turned)
+impl<D: MemDevice, C: SyncCalls + Drop> Driver<D, C> {
+    /// Takes the answer of the device's turn: adds a Wrote where the job in hand wrote its mark, or an Off where the power went
+    /// off. It changes neither the device nor the copies, and takes no memory.
+    pub fn second_half(&mut self, desk: &mut Desk, turned: DeviceTurn) -> Turned
+        requires { (old : DeviceTold) × IsBehindTurn turned desk.old self.old.hand old (D.told self.old.device) }
+        ensures takes { TakesTurn turned result desk.old desk.new self.old.hand self.new.hand (D.told self.old.device) }
+        ensures tied { IsTied desk.new self.new.hand (D.told self.old.device) }
+        ensures only { self.new ≡ record self.old { hand = self.new.hand } }
+    {
+        let _blocks = desk.config().blocks();
+        take(desk, &mut self.hand, &self.device, turned)
+    }
 }
 
 // Adds the entry that the device's turn asks for.

@@ -37,7 +37,8 @@ pub(crate) fn interrupt<D: MemDevice, C: SyncCalls>(
     requires may { IsInterruption front.old.desk }
     requires staging { StagesAll front.old.desk.config front.old.staging }
     requires synchronized { AreSynchronized front.old.desk.config (C.told copies.old) }
-    ensures picks { AddsPick (λ block t. IsCopied (λ n x. C.is_store copies.new block n x × C.looked copies.old copies.new block n) front.old.desk.config block (C.told copies.old) (C.told copies.new) (copies_out_next front.old.desk.config (next_of front.old.desk.config (state_of front.old.desk))) t)
+    ensures picks { AddsPick (λ block t. IsCopied (λ n x. C.is_store copies.new block n x × C.looked copies.old copies.new block n) front.old.desk.config block (C.told copies.old) (C.told copies.new)
+        (copies_out_next front.old.desk.config (next_of front.old.desk.config (state_of front.old.desk))) t)
         (ops_of (D.told device.new)) front.old.desk front.new.desk }
     ensures tied { IsTied front.new.desk hand.new (D.told device.new) }
     ensures unread { NotesReads front.old.desk front.new.desk front.old.unread front.new.unread }
@@ -68,7 +69,8 @@ pub(crate) fn pick<D: MemDevice, C: SyncCalls>(
     requires next { IsNextEntry next (next_of front.old.desk.config (state_of front.old.desk)) }
     requires staging { StagesAll front.old.desk.config front.old.staging }
     requires synchronized { AreSynchronized front.old.desk.config (C.told copies.old) }
-    ensures picks { AddsPick (λ block t. IsCopied (λ n x. C.is_store copies.new block n x × C.looked copies.old copies.new block n) front.old.desk.config block (C.told copies.old) (C.told copies.new) (copies_out_next front.old.desk.config (next_of front.old.desk.config (state_of front.old.desk))) t)
+    ensures picks { AddsPick (λ block t. IsCopied (λ n x. C.is_store copies.new block n x × C.looked copies.old copies.new block n) front.old.desk.config block (C.told copies.old) (C.told copies.new)
+        (copies_out_next front.old.desk.config (next_of front.old.desk.config (state_of front.old.desk))) t)
         (ops_of (D.told device.now)) front.old.desk front.new.desk }
     ensures tied { IsTied front.new.desk hand.new (D.told device.now) }
     ensures unread { NotesReads front.old.desk front.new.desk front.old.unread front.new.unread }

@@ -29,7 +29,7 @@ impl<D: MemDevice, C: SyncCalls + Drop> Stack<D, C> {
             return false;
         }
         match self.front.desk.next() {
-            NextEntry::Nothing => self.device.status() == MemStatus::Idle,
+            NextEntry::Nothing => self.driver.device.status() == MemStatus::Idle,
             _ => false,
         }
     }
@@ -53,7 +53,7 @@ impl<D: MemDevice, C: SyncCalls + Drop> Stack<D, C> {
         let Ok(history) = self.front.desk.hand_out(alloc) else {
             return Renewed::Memory;
         };
-        self.hand = None;
+        self.driver.hand = None;
         self.room = Some(room);
         self.ready = false;
         match self.start_in() {

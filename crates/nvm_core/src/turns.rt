@@ -10,7 +10,7 @@ ghost use Rattle.nvm_core.specs.Work.{Lowers, TakesTurns};
 ghost use Rattle.nvm_core.specs.Due.{now_of};
 ghost use Rattle.nvm_core.specs.Paying.{TurnPays};
 
-use crate::{Stack, device_turn, first_half};
+use crate::Stack;
 use nvm_laws::memif::MemDevice;
 use nvm_laws::{Act, SyncCalls, Turned};
 
@@ -30,19 +30,14 @@ impl<D: MemDevice, C: SyncCalls + Drop> Stack<D, C> {
         ensures seals { KeepsSeal (D.told self.old.device) (D.clock self.old.device) (D.told self.new.device) (D.clock self.new.device) }
         ensures kept { TakesKeptInHand self.old.desk (D.told self.old.device) (D.told self.new.device) (D.clock self.new.device) }
     {
-        match first_half(
-            &mut self.front,
-            &mut self.hand,
-            &mut self.device,
-            &mut self.copies,
-        ) {
+        match self.driver.first_half(&mut self.front) {
             Act::Ended(turned) => {
-                let _status = self.device.status();
+                let _status = self.driver.device.status();
                 turned
             }
             Act::Device => {
-                let _status = self.device.status();
-                let turned = device_turn(&mut self.front.desk, &mut self.hand, &mut self.device);
+                let _status = self.driver.device.status();
+                let turned = self.driver.device_turn(&mut self.front.desk);
                 let _blocks = self.front.desk.config().blocks();
                 let _count = self.front.desk.len();
                 turned

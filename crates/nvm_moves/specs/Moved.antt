@@ -135,7 +135,8 @@ pub record IsTurnTold (old new : Seen) : Type 0 where
   pub fits : FitsHand (state_of old.desk) entry
   -- behind a Pick at most the most turns of its job are left
   pub most : is_picked entry ≡ true → IfSome (state_of new.desk).hand (λ j. IsBound new (bound_of (frame_in false old.desk.config old.device.fixed) (state_of new.desk) j))
-  pub leaves : is_picked entry ≡ false → (state_of new.desk).off ≡ false → is_none (state_of new.desk).hand ≡ false → LeavesTurns (most_seen old) (left_seen old) (all_seen old) (Rose (faults_of old.device) (faults_of new.device) → ⊥) new
+  pub leaves : is_picked entry ≡ false → (state_of new.desk).off ≡ false → is_none (state_of new.desk).hand ≡ false
+      → LeavesTurns (most_seen old) (left_seen old) (all_seen old) (Rose (faults_of old.device) (faults_of new.device) → ⊥) new
   pub rests : IsTrue (is_at_rest (state_of old.desk)) → (moment_seen old).busy ≡ false → (entry ≡ None) × (moment_seen new ≡ moment_seen old)
   pub adds : new.desk ≡ with_entries old.desk (entry_list entry)
   pub one : new.device.ops ≤ old.device.ops + 1

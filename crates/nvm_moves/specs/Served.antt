@@ -47,7 +47,8 @@ pub record IsServable (since : ℕ) (s : Seen) : Type 0 where
 
 -- From what is due before moves to what is due behind them: it is posted soon, and so is what is accepted in them, within its pages and so
 -- many turns.
-pub record AreServed (more : ℕ) (c : Configuration) (pages : State → ℕ → ℕ) (free : (since operations pages : ℕ) → Type 0) (P Q : Bool → ℕ → ℕ → Type 0) (since : ℕ) (before : Moment) (s : State) (moves : List Move) : Type 0 where
+pub record AreServed (more : ℕ) (c : Configuration) (pages : State → ℕ → ℕ) (free : (since operations pages : ℕ) → Type 0)
+    (P Q : Bool → ℕ → ℕ → Type 0) (since : ℕ) (before : Moment) (s : State) (moves : List Move) : Type 0 where
   pub dues : (one : Bool) (id turns : ℕ) → P one id turns → IsPostedSoon (λ o n. Q o id n) one id turns before.faults moves
   pub urgent : EachMoveSince c (PostsUrgent c more pages free (λ id o n. Q o id n)) since s moves
 

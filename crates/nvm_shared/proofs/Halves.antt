@@ -44,23 +44,17 @@ may_end told clock copies is_store looked tells turned desk desk_new old between
   turned = turns;
 }
 
-module _ {D C : Type 0} (told : D → DeviceTold) (clock : D → Clock) (copies : C → List Told) (t : Terms) (v u : V) (x : LockedState) (enters : Enters t v u x) (self now : DriverState D C) (view : now ≡ self) where
+module _ {D C : Type 0} (told : D → DeviceTold) (clock : D → Clock) (copies : C → List Told) (t : Terms) (v u : V) (x : LockedState) (enters : Enters t v u x) (now : DriverState D C) where
   -- THE FIRST
-  module _ (of_self : Drives told clock copies t.tells (desk_with t v.seen) self) where
-    pub drives : Drives told clock copies t.tells (desk_with t v.seen) now
-    drives = subst (λ (s : DriverState D C). Drives told clock copies t.tells (desk_with t v.seen) s) (sym view) of_self
-
+  module _ (drives : Drives told clock copies t.tells (desk_with t v.seen) now) where
     pub stands : Behind t v.seen x now.hand (told now.device) (clock now.device)
     stands = behind t v u x now.hand (told now.device) (clock now.device) enters drives.pending drives.tied
 
-    pub fits : (t.tells ≡ true → TellsSlots (told self.device)) → x.tells ≡ true → HandFits x.desk.config (state_of x.desk) now.hand (told now.device)
-    fits telling = fits_behind t v.seen x now.hand (told now.device) (clock now.device) stands drives.kept (subst (λ (s : DriverState D C). t.tells ≡ true → TellsSlots (told s.device)) (sym view) telling)
+    pub fits : (t.tells ≡ true → TellsSlots (told now.device)) → x.tells ≡ true → HandFits x.desk.config (state_of x.desk) now.hand (told now.device)
+    fits = fits_behind t v.seen x now.hand (told now.device) (clock now.device) stands drives.kept
 
   -- THE SECOND
-  module _ (turned : DeviceTurn) (s : DriverState D C) (of_self : MayEnd told clock copies t.tells turned (desk_with t v.seen) s self) where
-    may : MayEnd told clock copies t.tells turned (desk_with t v.seen) s now
-    may = subst (λ (z : DriverState D C). MayEnd told clock copies t.tells turned (desk_with t v.seen) s z) (sym view) of_self
-
+  module _ (turned : DeviceTurn) (s : DriverState D C) (may : MayEnd told clock copies t.tells turned (desk_with t v.seen) s now) where
     same_hand : now.hand ≡ s.hand
     same_hand = ap (λ (z : DriverState D C). z.hand) may.turned.only
 

@@ -23,7 +23,8 @@ use Rattle.nvm_core.specs.nvm_laws.DueCalls.{IsCalmTurn}
 use Rattle.nvm_core.specs.nvm_device_laws.Cuts.{CutsInATurnKeep}
 use Rattle.nvm_core.specs.nvm_laws.Calls.{DeviceTurnsKeep}
 use Rattle.nvm_core.specs.BehindDevice.{TurnsDevice, asked_by}
-use Rattle.nvm_core.specs.Stack.{StackState, stack_with}
+pub use Rattle.nvm_core.specs.declared.driver.Driver.{Driver as DriverState}
+pub use Rattle.nvm_core.specs.Stack.{driver_of, stack_of}
 use Rattle.nvm_core.specs.Turns.{IsFirstHalf}
 use Rattle.nvm_core.specs.Due.{now_of}
 use Rattle.nvm_core.specs.Work.{LowersWork}
@@ -31,20 +32,6 @@ use Rattle.turn_gate.specs.Pass.{knows}
 use Rattle.nvm_shared.specs.Behind.{AreAsks, AsksStandBehind, HandIsPending, with_more}
 use Rattle.nvm_shared.specs.Locked.{desk_with}
 use Rattle.nvm_shared.specs.Passes.{PassValue, SharedState, IsUserOf}
-
--- the device, the application's copies, and the job in hand
-pub record DriverState (D C : Type 0) : Type 0 where
-  pub device : D
-  pub copies : C
-  pub hand : Option HandState
-
--- the driver of these parts
-abbrev pub driver_of : {D C : Type 0} → D → C → Option HandState → DriverState D C
-driver_of device copies hand = record { device = device; copies = copies; hand = hand }
-
--- with a desk it is a stack behind its start-up
-abbrev pub stack_of : {D C : Type 0} → DeskState → DriverState D C → StackState D C
-stack_of desk s = stack_with desk s.hand s.device s.copies
 
 module _ {D C : Type 0} (told : D → DeviceTold) (clock : D → Clock) (copies : C → List Told) where
   -- The parts are tied to a desk, and where it was picked that the device tells what it holds, the promise is kept, as far as it
@@ -78,7 +65,8 @@ pub record SeesRequests {D C : Type 0} (told : D → DeviceTold) (clock : D → 
   pub ready : TellsReady (told s.device) (clock s.device)
 
 -- the first half of a turn, behind requests of others
-pub record BeginsTurn {D C : Type 0} (told : D → DeviceTold) (clock : D → Clock) (copies : C → List Told) (is_store : C → ℕ → ℕ → List ℕ → Type 0) (looked : C → C → ℕ → ℕ → Type 0) (act : Act) (desk desk_new : DeskState) (old new : DriverState D C) : Type 0 where
+pub record BeginsTurn {D C : Type 0} (told : D → DeviceTold) (clock : D → Clock) (copies : C → List Told) (is_store : C → ℕ → ℕ → List ℕ → Type 0)
+    (looked : C → C → ℕ → ℕ → Type 0) (act : Act) (desk desk_new : DeskState) (old new : DriverState D C) : Type 0 where
   pub asks : List Entry
   pub are : AreAsks asks
   -- each has the machine's reply, and leaves tied what is tied
@@ -109,7 +97,8 @@ pub record IsTurned {D C : Type 0} (told : D → DeviceTold) (clock : D → Cloc
 
 -- the second half is due: the device made its turn, at the operation of the job in hand, if one is in hand, with parts that are
 -- tied to a desk whose power is on
-pub record MayEnd {D C : Type 0} (told : D → DeviceTold) (clock : D → Clock) (copies : C → List Told) (tells : Bool) (answer : DeviceTurn) (desk : DeskState) (before now : DriverState D C) : Type 0 where
+pub record MayEnd {D C : Type 0} (told : D → DeviceTold) (clock : D → Clock) (copies : C → List Told) (tells : Bool)
+    (answer : DeviceTurn) (desk : DeskState) (before now : DriverState D C) : Type 0 where
   pub drives : Drives told clock copies tells desk before
   pub on : (state_of desk).off ≡ false
   pub started : IfSome before.hand (λ h. h.started ≡ true)
@@ -139,7 +128,8 @@ pub record EndsTurn {D C : Type 0} (told : D → DeviceTold) (clock : D → Cloc
 
 -- A turn is its first half alone, or behind one that adds nothing the device's turn, whose cuts leave only marks that the state
 -- then allows, with the second half; requests of others come before each half.
-abbrev pub TurnsBehind : {D C : Type 0} → (told : D → DeviceTold) → (clock : D → Clock) → (copies : C → List Told) → (is_store : C → ℕ → ℕ → List ℕ → Type 0) → (looked : C → C → ℕ → ℕ → Type 0)
+abbrev pub TurnsBehind : {D C : Type 0} → (told : D → DeviceTold) → (clock : D → Clock) → (copies : C → List Told)
+    → (is_store : C → ℕ → ℕ → List ℕ → Type 0) → (looked : C → C → ℕ → ℕ → Type 0)
     → Turned → (desk desk_new : DeskState) → (old new : DriverState D C) → Type 0
 TurnsBehind {D} {C} told clock copies is_store looked answer desk desk_new old new =
     BeginsTurn told clock copies is_store looked (Ended answer) desk desk_new old new

@@ -22,7 +22,8 @@ HasSeen looked block number old new = (n : ℕ) × (number ≤ n) × looked old 
 
 -- The copies go on: nothing is told otherwise of them, stores stay, they are over what they were over, and what is shown behind is
 -- shown behind what was before.
-pub record GoOn {C : Type 0} (told : C → List Told) (is_store : C → ℕ → ℕ → List ℕ → Type 0) (looked : C → C → ℕ → ℕ → Type 0) (over : C → C → Type 0) (old new : C) : Type 0 where
+pub record GoOn {C : Type 0} (told : C → List Told) (is_store : C → ℕ → ℕ → List ℕ → Type 0) (looked : C → C → ℕ → ℕ → Type 0)
+    (over : C → C → Type 0) (old new : C) : Type 0 where
   pub same : told new ≡ told old
   pub stores_stay : (b n : ℕ) (x : List ℕ) → is_store old b n x → is_store new b n x
   pub stays_over : (first : C) → over first old → over first new
@@ -37,7 +38,8 @@ abbrev pub SeesBlock : {C : Type 0} → (told : C → List Told) → (looked : C
 SeesBlock told looked block number old new = (bytes : ℕ) → IsSynchronized (told old) block bytes → HasSeen looked block number old new
 
 -- A PICK
-module _ {C : Type 0} (is_store : C → ℕ → ℕ → List ℕ → Type 0) (looked : C → C → ℕ → ℕ → Type 0) (over : C → C → Type 0) (stands : C → ℕ → ℕ → List Entry → Type 0) (c : Configuration) where
+module _ {C : Type 0} (is_store : C → ℕ → ℕ → List ℕ → Type 0) (looked : C → C → ℕ → ℕ → Type 0) (over : C → C → Type 0)
+    (stands : C → ℕ → ℕ → List Entry → Type 0) (c : Configuration) where
   -- The Pick behind these entries, between these two values of the copies: a content that it copied is the store that a look showed;
   -- one that was too old came behind a look that had shown a later one; and with what a look showed came what stands in these entries.
   pub record IsPickShown (before : List Entry) (block : ℕ) (t : Taken) (old new : C) : Type 0 where

@@ -45,7 +45,8 @@ pub record IsShared {D C : Type 0} (told : D → DeviceTold) (copies : C → Lis
   pub synchronized : AreSynchronized s.desk.config (copies s.copies)
 
 -- they are those of this stack behind its first start-up, and the driver's turns may begin
-pub record IsMade {D C : Type 0} (told : D → DeviceTold) (clock : D → Clock) (copies : C → List Told) (s : StackState D C) (tells : Bool) (shared : SharedState) (p : PassValue) (r : DriverState D C) : Type 0 where
+pub record IsMade {D C : Type 0} (told : D → DeviceTold) (clock : D → Clock) (copies : C → List Told) (s : StackState D C) (tells : Bool)
+    (shared : SharedState) (p : PassValue) (r : DriverState D C) : Type 0 where
   pub terms : shared.terms ≡ terms_at s.desk tells
   pub own : IsUserOf shared p
   pub knows_it : knows p ≡ beginner (knows p).seen shared.terms

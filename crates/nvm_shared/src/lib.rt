@@ -17,10 +17,11 @@ mod status_words;
 mod telling;
 mod terms;
 
-pub use driver::Driver;
+pub use driver::device_turn;
 pub use known::{Known, Naming};
 pub use locked::{Locked, LockedOf};
 pub use noted::NotedCopies;
+pub use nvm_core::Driver;
 pub use opening::{NotShared, ShareFault, make, share};
 pub use shared::{Shared, SharedOf, StackPass, TellsGate, TellsTerms};
 pub(crate) use status_words::{picked_last, told_last};

@@ -27,14 +27,14 @@ ghost use Rattle.nvm_core.specs.Lowers.{HalfLeft};
 ghost use Rattle.nvm_core.specs.BehindDevice.{IsBehindTurn, TakesTurn};
 ghost use Rattle.nvm_core.specs.Turns.{IsFirstHalf};
 ghost use Rattle.nvm_shared.specs.Locked.{terms_of};
-ghost use Rattle.nvm_core.specs.Stack.{stack_with};
+ghost use Rattle.nvm_core.specs.Stack.{stack_of};
 
 use crate::telling::{Telling, Tells};
 use crate::terms::Terms;
 use crate::{picked_last, told_last};
 use nvm_core::{
-    Act, AskFault, DeviceTurn, Entry, Front, Hand, Last, MemDevice, Reply, Request, SyncCalls,
-    Turned, first_half, second_half,
+    Act, AskFault, DeviceTurn, Driver, Entry, Front, Last, MemDevice, Reply, Request, SyncCalls,
+    Turned,
 };
 use std::alloc::{AllocError, Global};
 use std::marker::Model;
@@ -194,40 +194,38 @@ impl Locked {
     }
 
     /// The first half of a turn: all but the device's own turn.
-    pub fn first_half<D: MemDevice, C: SyncCalls>(
+    pub fn first_half<D: MemDevice, C: SyncCalls + Drop>(
         &mut self,
-        hand: &mut Option<Hand>,
-        device: &mut D,
-        copies: &mut C,
+        driver: &mut Driver<D, C>,
     ) -> Act
-        requires tied { IsTied self.old.desk hand.old (D.told device.old) }
-        requires fits { self.old.tells ≡ true → HandFits self.old.desk.config (state_of self.old.desk) hand.old (D.told device.old) }
-        requires synchronized { AreSynchronized self.old.desk.config (C.told copies.old) }
-        ensures half { IsFirstHalf D.told C.told C.is_store C.looked result (stack_with self.old.desk hand.old device.old copies.old) (stack_with self.new.desk hand.new device.new copies.new) }
+        requires tied { IsTied self.old.desk driver.old.hand (D.told driver.old.device) }
+        requires fits { self.old.tells ≡ true → HandFits self.old.desk.config (state_of self.old.desk) driver.old.hand (D.told driver.old.device) }
+        requires synchronized { AreSynchronized self.old.desk.config (C.told driver.old.copies) }
+        ensures half { IsFirstHalf D.told C.told C.is_store C.looked result (stack_of self.old.desk driver.old) (stack_of self.new.desk driver.new) }
         ensures terms { terms_of self.new ≡ terms_of self.old }
-        ensures synchronized { AreSynchronized self.old.desk.config (C.told copies.new) }
+        ensures synchronized { AreSynchronized self.old.desk.config (C.told driver.new.copies) }
         ensures off { result ≡ Act.Ended Turned.Off → (state_of self.new.desk).off ≡ true }
         ensures first { result ≡ Act.Device → ¬ IsInterruption self.old.desk }
-        ensures left { HalfLeft result (program_in_hand hand.old) (D.told device.old) (program_in_hand hand.new) (D.told device.new) }
-        ensures stays_over { (first : C) → C.over first copies.old → C.over first copies.new }
-        ensures clock { SameClock (D.clock device.old) (D.clock device.new) }
-        ensures keeps { StaysKept self.old.desk hand.old (D.told device.old) (D.clock device.old) self.new.desk hand.new (D.told device.new) (D.clock device.new) }
+        ensures left { HalfLeft result (program_in_hand driver.old.hand) (D.told driver.old.device) (program_in_hand driver.new.hand) (D.told driver.new.device) }
+        ensures stays_over { (first : C) → C.over first driver.old.copies → C.over first driver.new.copies }
+        ensures clock { SameClock (D.clock driver.old.device) (D.clock driver.new.device) }
+        ensures keeps { StaysKept self.old.desk driver.old.hand (D.told driver.old.device) (D.clock driver.old.device) self.new.desk driver.new.hand (D.told driver.new.device) (D.clock driver.new.device) }
     {
-        first_half(&mut *self.front, hand, device, copies)
+        driver.first_half(&mut *self.front)
     }
 
     /// The second half of a turn: what the device's turn came to.
-    pub fn second_half<D: MemDevice>(
+    pub fn second_half<D: MemDevice, C: SyncCalls + Drop>(
         &mut self,
-        hand: &mut Option<Hand>,
-        device: &D,
+        driver: &mut Driver<D, C>,
         turned: DeviceTurn,
     ) -> Turned
-        requires { (old : DeviceTold) × IsBehindTurn turned self.old.desk hand.old old (D.told device.now) }
-        ensures takes { TakesTurn turned result self.old.desk self.new.desk hand.old hand.new (D.told device.now) }
-        ensures tied { IsTied self.new.desk hand.new (D.told device.now) }
+        requires { (old : DeviceTold) × IsBehindTurn turned self.old.desk driver.old.hand old (D.told driver.old.device) }
+        ensures takes { TakesTurn turned result self.old.desk self.new.desk driver.old.hand driver.new.hand (D.told driver.old.device) }
+        ensures tied { IsTied self.new.desk driver.new.hand (D.told driver.old.device) }
+        ensures only { driver.new ≡ record driver.old { hand = driver.new.hand } }
         ensures terms { terms_of self.new ≡ terms_of self.old }
     {
-        second_half(&mut self.front.desk, hand, device, turned)
+        driver.second_half(&mut self.front.desk, turned)
     }
 }

@@ -8,10 +8,9 @@ ghost use Rattle.nvm_core.specs.Stack.{first_stack};
 ghost use Rattle.nvm_shared.specs.Opening.{IsFirst, IsMade, IsShared, TellsAtFirst, WhyNot};
 
 use crate::WORD_COUNT;
-use crate::driver::Driver;
 use crate::locked::{Locked, LockedOf};
 use crate::shared::{Shared, SharedOf, StackPass};
-use nvm_core::{Config, FoundAnswer, MemDevice, Stack, SyncCalls};
+use nvm_core::{Config, Driver, FoundAnswer, MemDevice, Stack, SyncCalls};
 use std::alloc::Global;
 use std::snapshot::Snapshot;
 use thiserror::Error;
@@ -97,28 +96,20 @@ pub fn share<D: MemDevice, C: SyncCalls + Drop>(
     ensures shared { IfOk result (λ r. IsShared D.told C.told stack tells r.0 r.1 r.2) }
     ensures fault { IfErr result (λ f. (f.fault ≡ ShareFault.Memory) × (f.device ≡ stack.device)) }
 {
-    let (front, device, copies, hand) = stack.into_parts();
+    let (front, driver) = stack.into_parts();
     let Ok(value) = Locked::of(alloc, front) else {
         return Err(NotShared {
             fault: ShareFault::Memory,
-            device,
+            device: driver.into_device(),
         });
     };
     let _len = value.len();
     let first = Snapshot::of(&value);
     match turn_gate::make(alloc, value, WORD_COUNT) {
-        Ok((gate, pass)) => Ok((
-            SharedOf { gate, first },
-            pass,
-            Driver {
-                device,
-                copies,
-                hand,
-            },
-        )),
+        Ok((gate, pass)) => Ok((SharedOf { gate, first }, pass, driver)),
         Err(_) => Err(NotShared {
             fault: ShareFault::Memory,
-            device,
+            device: driver.into_device(),
         }),
     }
 }

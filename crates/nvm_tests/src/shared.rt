@@ -38,7 +38,7 @@ fn rest<W: Wait, D: MemDevice, C: NotedCopies + Drop>(
     ensures parts { (knows pass.new).parts ≡ (knows pass.old).parts }
 {
     for _ in 0..100 {
-        if matches!(driver.turn(rt, shared, pass), Turned::Idle) {
+        if matches!(shared.turn(rt, pass, driver), Turned::Idle) {
             return true;
         }
     }

@@ -6,7 +6,7 @@ pub returns-clause-steers : goal.returns-clause-steers
 returns-clause-steers g c =
     let is = c.turn-turned.ensures in
     turn_steers g.D.MemDevice.told g.D.MemDevice.clock g.C.SyncCalls.told g.C.SyncCalls.is_store g.C.SyncCalls.looked g.C.SyncCalls.over g.C.NotedCopies.stands c.args.shared.now.terms
-    (knows c.args.pass.now) (knows c.turn-turned.new.pass) c.args.driver.now c.turn-turned.new.self (record {
+    (knows c.args.pass.now) (knows c.turn-turned.new.pass) c.args.driver.now c.turn-turned.new.driver (record {
       answer = c.turn-turned.result;
       drives = c.requires.driver.drives;
       turns = is.turns;

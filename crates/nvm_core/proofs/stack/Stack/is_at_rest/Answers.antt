@@ -10,4 +10,4 @@ returns-in_default g c =
     let inside = c.self.inside in
     let told = g.D.MemDevice.told in
     subst (λ (s : StackState g.row.D.Denot g.row.C.Denot). IsTrue false ↔ IsAtRest s.desk (told s.device)) c.self.view_is
-    (not_at_rest c.next.result inside.front.desk (told inside.device) c.next.ensures c.in_default.not-Nothing)
+    (not_at_rest c.next.result inside.front.desk (told inside.driver.device) c.next.ensures c.in_default.not-Nothing)

@@ -16,5 +16,5 @@ returns-in-Ready-clause-keeps g c =
     let starts = c.in-Ready.ensures.starts in
     subst (λ (s : StackState g.row.D.Denot g.row.C.Denot). (before : Part → PartTold) → TellsSlots (told new.device)
     → StackKeeps before s.desk s.hand (told s.device) (clock s.device) → MarksStay s.desk new.desk) c.self.view_is
-    (marks_stay inside.front.desk c.hand_out.new.self new.desk inside.hand (told inside.device) (told new.device) (clock inside.device) starts.marks _
+    (marks_stay inside.front.desk c.hand_out.new.self new.desk inside.driver.hand (told inside.driver.device) (told new.device) (clock inside.driver.device) starts.marks _
     c.in-Ok-hand_out.ensures.ok (ap (λ s. s.desk.entries) starts.only) starts.finds)

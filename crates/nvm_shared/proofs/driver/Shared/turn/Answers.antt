@@ -22,22 +22,22 @@ use Rattle.nvm_core.specs.BehindDevice.{TurnsDevice}
 use Rattle.nvm_core.specs.nvm_laws.declared.turned.Act.TheVariants.{Ended}
 use Rattle.nvm_core.specs.nvm_laws.declared.turned.Turned.{Turned}
 use Rattle.nvm_core.specs.nvm_laws.declared.turned.Turned.TheVariants as turned
-use Rattle.nvm_shared.proofs.driver.Driver.turn.Goals as goal
+use Rattle.nvm_shared.proofs.driver.Shared.turn.Goals as goal
 
 pub finish-answer-requires-clause-turned : goal.finish-answer-requires-clause-turned
 finish-answer-requires-clause-turned g c =
     let is = c.in-Device.ensures in
-    (c.begin.new.self, may_end g.D.MemDevice.told g.D.MemDevice.clock g.C.SyncCalls.told g.C.SyncCalls.is_store g.C.SyncCalls.looked c.args.shared.now.terms.tells c.device_turn-turned.result _ _ _ _ _ is.begins is.driver.drives c.device_turn-turned.ensures.turns)
+    (c.begin.new.driver, may_end g.D.MemDevice.told g.D.MemDevice.clock g.C.SyncCalls.told g.C.SyncCalls.is_store g.C.SyncCalls.looked c.args.self.now.terms.tells c.device_turn-turned.result _ _ _ _ _ is.begins is.driver.drives c.device_turn-turned.ensures.turns)
 
 pub returns-in-Ended : goal.returns-in-Ended
 returns-in-Ended g c =
     let told = g.D.MemDevice.told in
     let clocks = g.D.MemDevice.clock in
     let answer = c.in-Ended.turned in
-    let old = c.args.self.now in
-    let new = c.begin.new.self in
-    let desk = desk_with c.args.shared.now.terms (knows c.args.pass.now).seen in
-    let desk_new = desk_with c.args.shared.now.terms (knows c.begin.new.pass).seen in
+    let old = c.args.driver.now in
+    let new = c.begin.new.driver in
+    let desk = desk_with c.args.self.now.terms (knows c.args.pass.now).seen in
+    let desk_new = desk_with c.args.self.now.terms (knows c.begin.new.pass).seen in
     let is = c.in-Ended.ensures in
     let half = is.begins.half in
     let asked = with_more desk is.begins.asks in
@@ -67,17 +67,17 @@ returns-in-Device g c =
     let told = g.D.MemDevice.told in
     let clocks = g.D.MemDevice.clock in
     let answer = c.finish-answer.result in
-    let old = c.args.self.now in
-    let between = c.begin.new.self in
-    let new = c.finish-answer.new.self in
-    let desk = desk_with c.args.shared.now.terms (knows c.args.pass.now).seen in
-    let desk_between = desk_with c.args.shared.now.terms (knows c.begin.new.pass).seen in
-    let desk_new = desk_with c.args.shared.now.terms (knows c.finish-answer.new.pass).seen in
+    let old = c.args.driver.now in
+    let between = c.begin.new.driver in
+    let new = c.finish-answer.new.driver in
+    let desk = desk_with c.args.self.now.terms (knows c.args.pass.now).seen in
+    let desk_between = desk_with c.args.self.now.terms (knows c.begin.new.pass).seen in
+    let desk_new = desk_with c.args.self.now.terms (knows c.finish-answer.new.pass).seen in
     let is = c.in-Device.ensures in
     let half = is.begins.half in
     let behind = c.finish-answer.ensures in
     let ends = behind.ends between
-    (may_end told clocks g.C.SyncCalls.told g.C.SyncCalls.is_store g.C.SyncCalls.looked c.args.shared.now.terms.tells c.device_turn-turned.result desk desk_between old between _ is.begins is.driver.drives c.device_turn-turned.ensures.turns) in
+    (may_end told clocks g.C.SyncCalls.told g.C.SyncCalls.is_store g.C.SyncCalls.looked c.args.self.now.terms.tells c.device_turn-turned.result desk desk_between old between _ is.begins is.driver.drives c.device_turn-turned.ensures.turns) in
     let less = less_before told desk is.begins.asks old in
     let same = leaves_counts (told old.device) (told between.device) half.device in
     let more = device_counts answer (told between.device) (clocks between.device) (told new.device) (clocks new.device) ends.turns in

@@ -1,4 +1,0 @@
-use Rattle.nvm_core.proofs.before_device.first_half.Goals as goal
-
-pub returns-in-Pick-clause-keeps : goal.returns-in-Pick-clause-keeps
-returns-in-Pick-clause-keeps g c = c.pick.ensures.keeps c.args.hand.now
