@@ -169,7 +169,8 @@ impl Locked {
         }
     }
 
-    // The last entry, where it is the one behind so many others.
+    // The last entry, where it is the one behind so many others. Most halves of turns add none: it is a part of its caller.
+    #[inline(always)]
     fn entry_behind(&self, count: u32) -> Option<Last<'_>>
         ensures none { length self.now.desk.entries ≡ count → option_map last_of result ≡ None }
         ensures some { (h : List MachineEntry) (e : MachineEntry) → self.now.desk.entries ≡ h ++ e ∷ [] → length h ≡ count → option_map last_of result ≡ Some e }

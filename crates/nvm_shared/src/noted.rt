@@ -104,7 +104,9 @@ fn see_block<'a, W: Wait, J: Naming>(
     unreachable!()
 }
 
-// Looks at what the next job asks for, until it was shown that. It is there, since the caller stored it before its request.
+// Looks at what the next job asks for, until it was shown that. It is there, since the caller stored it before its request. Most turns find
+// no such job: it is a part of its caller.
+#[inline(always)]
 pub(crate) fn see_asked<W: Wait, C: NotedCopies>(rt: &W, copies: &mut C, asked: Option<(u16, u64)>)
     ensures goes_on { GoOn C.told C.is_store C.looked C.over copies.old copies.new }
     ensures seen { IfSome asked (λ a. 0 < a.1 → SeesBlock C.told C.looked a.0 a.1 copies.old copies.new) }
