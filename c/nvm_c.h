@@ -45,7 +45,7 @@ uint8_t nvm_cut(nvm_handle *handle, uint32_t nth, uint32_t keep);
 uint8_t nvm_restart(nvm_handle *handle);
 
 /* Looks, which change nothing. A content goes to the front of into where there is room for it; size is always its own. 0 it was
-   copied, 1 the last entry gave nothing (nvm_given), or there is none (nvm_line), 4 no memory. */
+   copied, as always by nvm_ram; 1 the last entry gave nothing (nvm_given), or there is none (nvm_line); 4 no memory (nvm_line). */
 uint8_t nvm_status(nvm_handle *handle, uint16_t block);
 uint32_t nvm_entries(nvm_handle *handle);
 uint8_t nvm_ram(nvm_handle *handle, uint16_t block, uint8_t *into, size_t room, size_t *size);

@@ -30,7 +30,7 @@ uint8 NvMShim_SetChanged(NvM_BlockIdType id, uint8 is_changed) {
     return why;
 }
 
-/* The RAM block gets the stack's copy. Tells whether it did: there may be no memory for it. */
+/* The RAM block gets the stack's copy, if that is as long as it. */
 int NvMShim_TakeRam(NvM_BlockIdType id) {
     const NvM_BlockDescriptorType *block = NvMShim_BlockOf(id);
     size_t size = 0;

@@ -1,4 +1,4 @@
-/* Calls of one kind, whose instructions tools/dev/c_costs counts: so many of them, of a unit of so many blocks. */
+/* Calls of one kind, whose instructions tools/dev/instructions_c counts: so many of them, of a unit of so many blocks. */
 #include "NvM.h"
 #include "NvM_Sim.h"
 #include <stdio.h>

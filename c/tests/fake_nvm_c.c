@@ -1,6 +1,6 @@
 /* A stand-in of the proved library, for tests of the services that need no proof: docs/MODEL.md's machine over a table of marks, which
-   stands in the memory that is lent. It reads the text's keys by itself, so that a wrong block table is seen, and each of its calls can
-   fail for want of memory. It knows no banks, no switches and no retries. */
+   stands in the memory that is lent. It reads the text's keys by itself, so that a wrong block table is seen, and each of its calls that
+   may want memory can fail so. It knows no banks, no switches and no retries. */
 #include "fake_nvm_c.h"
 #include "nvm_c.h"
 #include <stdio.h>
@@ -493,13 +493,12 @@ static uint8_t fill(const uint8_t *from, size_t length, uint8_t *into, size_t ro
 uint8_t nvm_ram(nvm_handle *handle, uint16_t block, uint8_t *into, size_t room, size_t *size) {
     (void)handle;
     *size = 0;
-    return fails() ? (uint8_t)4 : fill(states[block].ram, facts[block].length, into, room, size);
+    return fill(states[block].ram, facts[block].length, into, room, size);
 }
 
 uint8_t nvm_given(nvm_handle *handle, uint8_t *into, size_t room, size_t *size) {
     (void)handle;
     *size = 0;
-    if (fails()) return 4;
     return given_length ? fill(given, given_length, into, room, size) : (uint8_t)1;
 }
 

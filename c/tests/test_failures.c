@@ -1,4 +1,4 @@
-/* A day of a unit over the stand-in of the library, of which each call in turn fails for want of memory: the unit goes on. It ends with 0 where
+/* A day of a unit over the stand-in of the library, of which each call that may want memory fails so in turn: the unit goes on. It ends with 0 where
    all is as wanted. */
 #include "application.h"
 #include "NvM_Sim.h"

@@ -1,7 +1,7 @@
 /* What a unit takes of memory beside its flash, which is used where it lies: each byte is counted that the C library's heap is asked for. A unit
-   may take what docs/COST.md has: room for one read, its blocks' contents, once more those of permanent RAM, three of the longest content, a page, so
-   much for each block and each stored instance with its content twice, and 8 KB; an opening no less than its text asks for. A reset takes nothing,
-   and leaves as many bytes as it found. */
+   may take what docs/COST.md has: room for one read, its blocks' contents, once more those of permanent RAM, two of the longest content, a page, so
+   much for each block and each stored instance with its content twice, and what grows with nothing; an opening no less than its text asks for. A
+   reset takes nothing, and leaves as many bytes as it found. */
 #include "heap.h"
 #include "nvm_c.h"
 #include <stdio.h>
@@ -9,7 +9,7 @@
 #include <string.h>
 
 /* What a block and a stored instance may take, and all that grows with nothing. */
-enum { TEXT = 65536, MOST_LENGTH = 4096, MOST_READ = 4096, A_BLOCK = 410, A_BLOCK_OF_TEXT = 1250, AN_INSTANCE = 96, BANKS = 2, FIXED = 8192, RESETS = 3 };
+enum { TEXT = 65536, MOST_LENGTH = 4096, MOST_READ = 4096, A_BLOCK = 364, A_BLOCK_OF_TEXT = 1220, AN_INSTANCE = 102, BANKS = 2, FIXED = 7020, RESETS = 3 };
 
 /* A unit of so many blocks of one length, the last one of another. */
 typedef struct {
@@ -48,7 +48,7 @@ static size_t found(const unit *it) {
 static size_t allowed(const unit *it) {
     size_t contents = (size_t)(it->count - 1) * it->length + it->longest, flash = (size_t)it->sector * it->sectors;
     size_t bank = flash / BANKS;
-    return (bank < MOST_READ ? bank : MOST_READ) + contents * (it->is_permanent ? 2u : 1u) + 3u * it->longest + it->page + (size_t)A_BLOCK * it->count + found(it)
+    return (bank < MOST_READ ? bank : MOST_READ) + contents * (it->is_permanent ? 2u : 1u) + 2u * it->longest + it->page + (size_t)A_BLOCK * it->count + found(it)
            + FIXED;
 }
 

@@ -1,5 +1,5 @@
 -- What a call of C does.
-use Rattle.std.specs.Prelude.{◌≡◌, ◌≢◌, ◌⊎◌, ◌<◌, ◌≤◌, ℕ, List, take, drop, length, Option, None, Some, IsSomeAnd, IfSome, IfOk, Result, Ok, Err}
+use Rattle.std.specs.Prelude.{◌≡◌, ◌≢◌, ◌⊎◌, ℕ, List, Option, None, Some, IsSomeAnd, IfSome, IfOk, Result, Ok, Err}
 use Rattle.nvm.specs.block_config.Config.{Configuration}
 use Rattle.nvm.specs.block_config.Reading.{meaning_of}
 use Rattle.nvm.specs.block_machine.Blocks.{block_at}
@@ -17,6 +17,7 @@ use Rattle.nvm.specs.nvm_flash.nvm_laws.declared.turned.Turned.TheVariants as tu
 use Rattle.nvm.specs.nvm_flash.nvm_laws.declared.turned.FoundAnswer.{FoundAnswer}
 use Rattle.nvm.specs.nvm_flash.nvm_laws.declared.turned.FoundAnswer.TheVariants as found
 use Rattle.lent_flash.specs.Flash.{flash_over}
+use Rattle.nvm_c.specs.Filled.{IsFilled}
 use Rattle.nvm_c.specs.Held.{Kept, origin_by}
 use Rattle.nvm_c.specs.Services.{answer_code, answer_value, number_of, request_of}
 use Rattle.nvm_c.specs.Unit.{UnitState, IsAskCall, IsStartCall, IsTurnCall, given_last, last_line, Opens}
@@ -105,28 +106,20 @@ IsStopped text bytes code back =
     ⊎ (((c : Configuration) × (meaning_of text ≡ Ok c) × IsNotOpened c (flash_over bytes) code back) ⊎ ((code ≡ 4) × (back ≡ Some bytes)))
 
 -- CONTENTS
--- so many bytes of a content stand at the front, where there is room for them; all else stays
-pub record IsFilled (content : List ℕ) (size : ℕ) (old new : List ℕ) : Type 0 where
-  pub size_is : size ≡ length content
-  pub room : length new ≡ length old
-  pub front : size ≤ length old → take size new ≡ content
-  pub rest : size ≤ length old → drop size new ≡ drop size old
-  pub none : length old < size → new ≡ old
-
--- of a block's RAM, or there was no memory
+-- of a block's RAM
 abbrev pub IsRam : (block code size : ℕ) → List ℕ → List ℕ → UnitState → Type 0
-IsRam block code size old new s = ((code ≡ 0) × IsFilled (block_at (state_of s.desk) block).ram size old new) ⊎ ((code ≡ 4) × (size ≡ 0) × (new ≡ old))
+IsRam block code size old new s = (code ≡ 0) × IsFilled (block_at (state_of s.desk) block).ram size old new
 
--- of a content that there may be, or there was no memory
+-- of a content that there may be
 abbrev pub IsShown : Option (List ℕ) → (code size : ℕ) → List ℕ → List ℕ → Type 0
 IsShown shown code size old new =
     ((content : List ℕ) × (shown ≡ Some content) × (code ≡ 0) × IsFilled content size old new)
-    ⊎ (((shown ≡ None) × (code ≡ 1) × (size ≡ 0) × (new ≡ old)) ⊎ ((code ≡ 4) × (size ≡ 0) × (new ≡ old)))
+    ⊎ ((shown ≡ None) × (code ≡ 1) × (size ≡ 0) × (new ≡ old))
 
 -- of what the last entry gave, if it gave something
 abbrev pub IsGiven : (code size : ℕ) → List ℕ → List ℕ → UnitState → Type 0
 IsGiven code size old new s = IsShown (given_last s) code size old new
 
--- of the line of the last entry, if there is one
+-- of the line of the last entry, if there is one; or there was no memory
 abbrev pub IsLine : (code size : ℕ) → List ℕ → List ℕ → UnitState → Type 0
-IsLine code size old new s = IsShown (last_line s) code size old new
+IsLine code size old new s = IsShown (last_line s) code size old new ⊎ ((code ≡ 4) × (size ≡ 0) × (new ≡ old))

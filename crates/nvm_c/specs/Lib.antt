@@ -4,4 +4,5 @@ pub mod Work
 pub mod Held
 pub mod Services
 pub mod Exports
+pub mod Filled
 pub mod Texts

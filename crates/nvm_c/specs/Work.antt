@@ -1,5 +1,5 @@
 -- What is asked of the unit of a handle, and what comes of it.
-use Rattle.std.specs.Prelude.{◌≡◌, ◌⊎◌, ◌≤◌, ℕ, false, true, Bool, Option, None, Some, IsSome, IsSomeAnd, IfOk, Result, length, option_map}
+use Rattle.std.specs.Prelude.{◌≡◌, ◌⊎◌, ◌≤◌, ℕ, List, false, true, Bool, Option, None, Some, IsSome, IsSomeAnd, IfOk, Result, length, option_map}
 use Rattle.nvm.specs.block_config.Config.{block_of}
 use Rattle.nvm.specs.block_machine.Blocks.{block_at, status_of}
 use Rattle.nvm.specs.block_machine.Legal.{HasStore}
@@ -11,6 +11,7 @@ use Rattle.nvm.specs.nv_desk.Request.{whole_request}
 use Rattle.nvm.specs.nv_desk.declared.ask.AskFault.{AskFault}
 use Rattle.nvm.specs.nvm_flash.Made.{ComesBack, IsOrigin}
 use Rattle.nvm.specs.nvm_flash.promise_device.Making.{Making}
+use Rattle.nvm_c.specs.Filled.{IsFilled}
 use Rattle.nvm_c.specs.Texts.{facts_of}
 use Rattle.nvm_c.specs.Unit.{UnitState, unit_told, IsAskCall, IsPlanCall, IsStartCall, IsTurnCall, given_last, last_line, Opens, CameBack}
 use Rattle.nvm_c.specs.declared.work.Task.{Task}
@@ -51,7 +52,6 @@ PlansNone nth s = (nth ≡ 0) ⊎ ((unit_told s).causes.takes ≡ 0)
 abbrev pub Does : Task → Outcome → UnitState → UnitState → Type 0
 Does (task.Ask kind content) (outcome.Asked answer) s t = IsTaken (whole_request kind content.now) answer s t
 Does (task.Ask kind content) outcome.Down s t = StaysDown s t
-Does (task.Keep buffer) outcome.Kept s t = t ≡ s
 Does task.Turn (outcome.Turned answer) s t = (s.ready ≡ true) × IsTurnCall answer s t
 Does task.Turn outcome.Down s t = StaysDown s t
 Does (task.Cut nth keep) outcome.Planned s t = (s.ready ≡ true) × PlansCut nth keep s t
@@ -61,15 +61,20 @@ Does task.Restart (outcome.Found answer) s t = IsStartCall answer s t
 Does (task.Status block) (outcome.StatusIs result) s t = (result ≡ status_of (state_of s.desk) block) × (t ≡ s)
 Does (task.Valid block) (outcome.Is valid) s t = (valid ≡ (block_at (state_of s.desk) block).valid) × (t ≡ s)
 Does (task.Facts block) (outcome.FactsAre facts) s t = (facts ≡ option_map facts_of (block_of s.desk.config block)) × (t ≡ s)
-Does (task.Ram block) (outcome.Content buffer) s t = (buffer.content ≡ (block_at (state_of s.desk) block).ram) × (t ≡ s)
-Does (task.Ram block) outcome.NoMemory s t = t ≡ s
-Does task.Given (outcome.Content buffer) s t = (given_last s ≡ Some buffer.content) × (t ≡ s)
+Does (task.Ram block) (outcome.Copied size) s t = t ≡ s
+Does task.Given (outcome.Copied size) s t = t ≡ s
 Does task.Given outcome.Nothing s t = (given_last s ≡ None) × (t ≡ s)
-Does task.Given outcome.NoMemory s t = t ≡ s
 Does task.Line (outcome.Line text) s t = (text ≡ last_line s) × (t ≡ s)
 Does task.Line outcome.NoMemory s t = t ≡ s
 Does task.Entries (outcome.Count entries) s t = (entries ≡ length s.desk.entries) × (t ≡ s)
 Does x y s t = ⊥
+
+-- what a task copies to the caller: a block's RAM, or what the last entry gave
+abbrev pub Copies : Task → Outcome → UnitState → (old new : List ℕ) → Type 0
+Copies (task.Ram block) (outcome.Copied size) s old new = IsFilled (block_at (state_of s.desk) block).ram size old new
+Copies task.Given (outcome.Copied size) s old new = IsSomeAnd (given_last s) (λ content. IsFilled content size old new)
+Copies task.Given outcome.Nothing s old new = new ≡ old
+Copies x y s old new = Unit {0}
 
 -- WORK
 abbrev pub CanServe : Making → Told → Work → Option UnitState → Type 0
@@ -84,3 +89,7 @@ Serves making entry (work.Open config flash cuts) (outcome.NotOpened fault lent)
 Serves making entry work.Close (outcome.Closed lent) (Some s) behind = (behind ≡ None) × CameBack entry s lent.bytes
 Serves making entry (work.Serve x) y (Some s) (Some t) = Does x y s t
 Serves making entry w y before behind = ⊥
+
+abbrev pub Hands : Work → Outcome → Option UnitState → (old new : List ℕ) → Type 0
+Hands (work.Serve x) y (Some s) old new = Copies x y s old new
+Hands w y before old new = Unit {0}

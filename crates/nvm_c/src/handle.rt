@@ -1,10 +1,12 @@
 // What C holds of a unit.
 ghost use Rattle.std.specs.Prelude.{◌≡◌, Option, None};
-ghost use Rattle.nvm_c.specs.Held.{Kept, held, kept_coded, CanRun, Ran};
+ghost use Rattle.nvm_c.specs.Held.{Kept, held, kept_coded, state_in, CanRun, Ran};
+ghost use Rattle.nvm_c.specs.Work.{Hands};
+ghost use Rattle.nvm_c.specs.declared.work.Work.TheVariants as Work;
 
 use crate::room::Room;
 use crate::unit::LentUnit;
-use crate::work::{Outcome, Work, serve};
+use crate::work::{Outcome, Task, Work, serve};
 use std::alloc::Global;
 use std::marker::{Brand, Model};
 use std::mem::replace;
@@ -32,17 +34,17 @@ impl Handle {
 
     // The unit is of a type that its own flash picks, so what is done with it is done at that type.
     #[inline(always)]
-    fn run(self, alloc: Global, work: Work<'_>) -> (Handle, Outcome)
+    fn run(self, alloc: Global, work: Work<'_>, into: &mut [u8]) -> (Handle, Outcome)
         requires { CanRun self.kept work }
-        ensures { Ran self.kept work.entry result.1 result.0.kept }
+        ensures { Ran self.kept work.entry result.1 result.0.kept × Hands work.entry result.1 (state_in self.kept) into.old into.new }
     {
         let Handle { at } = self;
         let room = Room::<LentUnit<Brand>> {
             at: at as *mut LentUnit<Brand>,
         };
-        let (room, outcome) = serve::<Brand>(alloc, room, work);
-        let Room { at } = room;
-        (Handle { at: at as *mut u8 }, outcome)
+        let served = serve::<Brand>(alloc, room, work, into);
+        let Room { at } = served.0;
+        (Handle { at: at as *mut u8 }, served.1)
     }
 }
 
@@ -53,7 +55,25 @@ pub(crate) fn work_on(alloc: Global, handle: &mut Handle, work: Work<'_>) -> Out
     requires { CanRun handle.old.kept work }
     ensures { Ran handle.old.kept work.entry result handle.new.kept }
 {
-    let (held, outcome) = replace(handle, Handle::empty()).run(alloc, work);
+    let (held, outcome) = replace(handle, Handle::empty()).run(alloc, work, &mut []);
+    *handle = held;
+    outcome
+}
+
+/// Does a task with the unit of a handle that copies something to the caller, to the front of `into`.
+#[inline(always)]
+pub(crate) fn copy_out(
+    alloc: Global,
+    handle: &mut Handle,
+    task: Task<'_>,
+    into: &mut [u8],
+) -> Outcome
+    requires { CanRun handle.old.kept (Work.Serve task) }
+    ensures ran { Ran handle.old.kept (Work.Serve task.entry) result handle.new.kept }
+    ensures copied { Hands (Work.Serve task.entry) result (state_in handle.old.kept) into.old into.new }
+{
+    let work = Work::Serve { task };
+    let (held, outcome) = replace(handle, Handle::empty()).run(alloc, work, into);
     *handle = held;
     outcome
 }

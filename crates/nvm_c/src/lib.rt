@@ -6,6 +6,7 @@
 //! standard's names, RAM blocks and callbacks are left to `c/shim`, and what C owes the calls stands in `docs/C.md`.
 #![tactic(auto)]
 
+mod filled;
 mod handle;
 mod looks;
 mod room;

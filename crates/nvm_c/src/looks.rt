@@ -3,13 +3,14 @@ ghost use Rattle.std.specs.Prelude.{◌≡◌, ◌≢◌, ◌⊎◌, ◌≤◌, 
 ghost use Rattle.nvm.specs.block_machine.Blocks.{block_at, status_of};
 ghost use Rattle.nvm.specs.nv_base.Result.{code_of};
 ghost use Rattle.nvm.specs.nv_desk.Desk.{state_of};
-ghost use Rattle.nvm_c.specs.Exports.{IsFilled, IsGiven, IsLine, IsRam, Looks};
+ghost use Rattle.nvm_c.specs.Exports.{IsGiven, IsLine, IsRam, Looks};
 ghost use Rattle.nvm_c.specs.Texts.{IsDescribed, flag};
 
-use crate::handle::{Handle, work_on};
+use crate::filled::fill;
+use crate::handle::{Handle, copy_out, work_on};
 use crate::texts::BlockFacts;
 use crate::work::{Outcome, Task, Work};
-use nvm::{Buffer, result_code};
+use nvm::result_code;
 use std::alloc::Global;
 
 /// The status of a block, by the standard's number (NvM_GetErrorStatus); of id 0 that of the last request on all blocks.
@@ -73,31 +74,8 @@ pub extern "C" fn nvm_entries(alloc: Global, handle: &mut Handle) -> u32
     }
 }
 
-// Puts a content at the front, where there is room for it. Answers its size.
-fn fill(content: &[u8], into: &mut [u8]) -> usize
-    ensures { IsFilled content.now result into.old into.new }
-{
-    let size = content.len();
-    if size <= into.len() {
-        into[..size].copy_from_slice(content);
-    }
-    size
-}
-
-// Puts the content of a unit's buffer at the front, where there is room for it, and gives the buffer back. Answers its size.
-fn hand_out(alloc: Global, handle: &mut Handle, buffer: Buffer, into: &mut [u8]) -> usize
-    requires open { IsSome handle.old.kept }
-    ensures same { handle.new.kept ≡ handle.old.kept }
-    ensures filled { IsFilled buffer.content result into.old into.new }
-{
-    let size = fill(buffer.content(), into);
-    let task = Task::Keep { buffer };
-    work_on(alloc, handle, Work::Serve { task });
-    size
-}
-
-/// Copies the content of a block's RAM to the front of `into`, where it has room for it, and tells its size. 0: so it was done. 4:
-/// there is no memory.
+/// Copies the content of a block's RAM to the front of `into`, where it has room for it, and tells its size. It answers 0, and takes no
+/// memory.
 #[unsafe(no_mangle)]
 pub extern "C" fn nvm_ram(
     alloc: Global,
@@ -111,17 +89,17 @@ pub extern "C" fn nvm_ram(
 {
     *size = 0;
     let task = Task::Ram { block };
-    match work_on(alloc, handle, Work::Serve { task }) {
-        Outcome::Content { buffer } => {
-            *size = hand_out(alloc, handle, buffer, into);
+    match copy_out(alloc, handle, task, into) {
+        Outcome::Copied { size: copied } => {
+            *size = copied;
             0
         }
-        _other => 4,
+        _other => 0,
     }
 }
 
 /// Copies what the last entry gave, where that is a Post that gave something, as behind a turn that answers 3. 0: so it was done. 1:
-/// it gave nothing. 4: there is no memory.
+/// it gave nothing. It takes no memory.
 #[unsafe(no_mangle)]
 pub extern "C" fn nvm_given(
     alloc: Global,
@@ -133,14 +111,12 @@ pub extern "C" fn nvm_given(
     ensures given { Looks handle.old.kept handle.new.kept (λ s. IsGiven result size.new into.old into.new s) }
 {
     *size = 0;
-    let task = Task::Given;
-    match work_on(alloc, handle, Work::Serve { task }) {
-        Outcome::Content { buffer } => {
-            *size = hand_out(alloc, handle, buffer, into);
+    match copy_out(alloc, handle, Task::Given, into) {
+        Outcome::Copied { size: copied } => {
+            *size = copied;
             0
         }
-        Outcome::Nothing => 1,
-        _other => 4,
+        _other => 1,
     }
 }
 

@@ -1,5 +1,5 @@
 // A unit: a stack over memory that C lends, behind its first start-up.
-ghost use Rattle.std.specs.Prelude.{◌≡◌, ◌≤◌, ◌↔◌, false, true, Some, None, IfOk, IfSome, IsErrOf, length, option_copied, option_map};
+ghost use Rattle.std.specs.Prelude.{◌≡◌, ◌≤◌, ◌↔◌, false, true, Some, None, IfOk, IfSome, IsSomeAnd, IsErrOf, length, option_copied, option_map};
 ghost use Rattle.nvm.specs.block_config.Config.{block_of};
 ghost use Rattle.nvm.specs.block_machine.Blocks.{asked_block, block_at, desc_of, status_of};
 ghost use Rattle.nvm.specs.block_machine.Legal.{HasStore};
@@ -11,15 +11,17 @@ ghost use Rattle.nvm.specs.nv_desk.Recorder.{keeps};
 ghost use Rattle.nvm.specs.nv_desk.Request.{request_lent, whole_request};
 ghost use Rattle.nvm_script.specs.Lines.{entry_line};
 ghost use Rattle.nvm.specs.Unit.{Stands, takes_of};
+ghost use Rattle.nvm_c.specs.Filled.{IsFilled};
 ghost use Rattle.nvm_c.specs.Texts.{facts_of};
 ghost use Rattle.nvm_c.specs.Unit.{CameBack, IsAskCall, IsStartCall, IsTurnCall, TakenFrom, given_last, last_line};
 ghost use Rattle.nvm_c.specs.Work.{PlansCut, PlansNone};
 
+use crate::filled::fill;
 use crate::texts::{BlockFacts, facts_of};
 use lent_flash::{Lent, LentFlash};
 use nvm::{
-    AskFault, Buffer, Bytes, Config, Entry, Event, FlashStack, FoundAnswer, FoundMarks, Last,
-    LentRequest, Origin, Reply, ReqResult, Request, RequestKind, Turned, UnitStack, bytes_of,
+    AskFault, Bytes, Config, Entry, Event, FlashStack, FoundAnswer, FoundMarks, Last, LentRequest,
+    Origin, Reply, ReqResult, Request, RequestKind, Turned, UnitStack, bytes_of,
 };
 use nvm_script::entry_text;
 use std::alloc::{AllocError, Global};
@@ -28,14 +30,12 @@ use std::marker::Model;
 /// The stack that a unit is made of.
 pub type LentStack<O> = FlashStack<LentFlash, O>;
 
-/// The stack of a unit, whether its last start-up stands, how many power cuts may be planned yet, and memory for one content, where it
-/// isn't lent. Contracts see the stack.
+/// The stack of a unit, whether its last start-up stands, and how many power cuts may be planned yet. Contracts see the stack.
 #[derive(Drop)]
 pub struct LentUnit<O: Origin> {
     unit: UnitStack<LentFlash, O>,
     up: bool,
     plans: u32,
-    buffer: Option<Buffer>,
 }
 
 impl<O: Origin> Model for LentUnit<O> {
@@ -60,7 +60,6 @@ impl<O: Origin> LentUnit<O> {
             unit,
             up: true,
             plans,
-            buffer: None,
         }
     }
 
@@ -131,14 +130,6 @@ impl<O: Origin> LentUnit<O> {
         Ok(reply)
     }
 
-    /// This is its buffer from now on.
-    #[inline(always)]
-    pub fn keep(&mut self, buffer: Buffer)
-        ensures { self.new ≡ self.old }
-    {
-        self.buffer = Some(buffer);
-    }
-
     /// One turn of the main function.
     pub fn turn(&mut self) -> Turned
         requires { self.old.ready ≡ true }
@@ -204,28 +195,22 @@ impl<O: Origin> LentUnit<O> {
         described(stack.config(), block)
     }
 
-    /// Lends its buffer with what a block's RAM holds, where it has that and room for it.
-    pub fn lend_ram(&mut self, block: u16) -> Option<Buffer>
-        ensures same { self.new ≡ self.old }
-        ensures ram { IfSome result (λ b. b.content ≡ (block_at (state_of self.old.desk) block).ram) }
+    /// Copies what a block's RAM holds to the front of `into`, where there is room for it. Answers its size.
+    pub fn copy_ram(&self, block: u16, into: &mut [u8]) -> usize
+        ensures { IsFilled (block_at (state_of self.now.desk) block).ram result into.old into.new }
     {
-        buffer_with(&mut self.buffer, self.unit.ram(block))
+        fill(self.unit.ram(block), into)
     }
 
-    /// Whether the last entry gave something: whether it is a Post that did.
-    pub fn gave(&self) -> bool
-        ensures { result ≡ false ↔ given_last self.now ≡ None }
+    /// Copies what the last entry gave likewise. None, and nothing is copied, where it isn't a Post that gave something.
+    pub fn copy_given(&self, into: &mut [u8]) -> Option<usize>
+        ensures some { IfSome result (λ size. IsSomeAnd (given_last self.now) (λ content. IsFilled content size into.old into.new)) }
+        ensures none { result ≡ None → (given_last self.now ≡ None) × (into.new ≡ into.old) }
     {
-        self.unit.stack().last_given().is_some()
-    }
-
-    /// Lends its buffer with what the last entry gave, where it has that and room for it.
-    pub fn lend_given(&mut self) -> Option<Buffer>
-        ensures same { self.new ≡ self.old }
-        ensures given { IfSome result (λ b. given_last self.old ≡ Some b.content) }
-    {
-        let given = self.unit.stack().last_given()?;
-        buffer_with(&mut self.buffer, given)
+        match self.unit.stack().last_given() {
+            Some(given) => Some(fill(given, into)),
+            None => None,
+        }
     }
 
     /// The line of the last entry, with its newline, where there is an entry.
@@ -280,35 +265,6 @@ fn described(config: &Config, block: u16) -> Option<BlockFacts>
         Some(found) => Some(facts_of(found)),
         None => None,
     }
-}
-
-// A buffer, where it is there and has room for so many bytes.
-fn take_buffer(buffer: &mut Option<Buffer>, bytes: usize) -> Option<Buffer>
-    ensures { IfSome result (λ b. bytes ≤ b.room) }
-{
-    if !has_room(buffer, bytes) {
-        return None;
-    }
-    buffer.take()
-}
-
-// Whether a buffer is there that has room for so many bytes.
-fn has_room(buffer: &Option<Buffer>, bytes: usize) -> bool
-    ensures { result ≡ true → IfSome buffer.now (λ b. bytes ≤ b.room) }
-{
-    match buffer {
-        Some(buffer) => bytes <= buffer.room(),
-        None => false,
-    }
-}
-
-// A buffer with this content, where it is there and has room for it.
-fn buffer_with(buffer: &mut Option<Buffer>, content: &[u8]) -> Option<Buffer>
-    ensures { IfSome result (λ b. b.content ≡ content.now) }
-{
-    let mut buffer = take_buffer(buffer, content.len())?;
-    buffer.put(content);
-    Some(buffer)
 }
 
 // The line of an entry of a job, whose content stands beside it.

@@ -2,7 +2,7 @@
 ghost use Rattle.std.specs.Prelude.{◌≡◌, None, IfErr, IfOk};
 ghost use Rattle.nvm_c.specs.declared.work.Task.TheVariants as Task;
 ghost use Rattle.nvm_c.specs.declared.work.Work.TheVariants as Work;
-ghost use Rattle.nvm_c.specs.Work.{CanDo, CanServe, Does, Serves};
+ghost use Rattle.nvm_c.specs.Work.{CanDo, CanServe, Copies, Does, Hands, Serves};
 
 use crate::room::Room;
 use crate::texts::BlockFacts;
@@ -10,8 +10,7 @@ use crate::unit::LentUnit;
 use crate::unit_opening::open;
 use lent_flash::{Lent, LentFlash};
 use nvm::{
-    AskFault, Buffer, Bytes, Config, FoundAnswer, MakeFault, Origin, Reply, ReqResult, RequestKind,
-    Turned, longest_content,
+    AskFault, Bytes, Config, FoundAnswer, MakeFault, Origin, Reply, ReqResult, RequestKind, Turned,
 };
 use std::alloc::Global;
 
@@ -37,10 +36,6 @@ pub enum Task<'a> {
         kind: RequestKind,
         content: &'a [u8],
     },
-    /// The buffer comes back.
-    Keep {
-        buffer: Buffer,
-    },
     Turn,
     Cut {
         nth: u32,
@@ -57,11 +52,11 @@ pub enum Task<'a> {
     Facts {
         block: u16,
     },
-    /// The buffer, with what a block's RAM holds.
+    /// What a block's RAM holds is copied to the caller.
     Ram {
         block: u16,
     },
-    /// The buffer, with what the last entry gave.
+    /// What the last entry gave is.
     Given,
     Line,
     Entries,
@@ -75,7 +70,6 @@ pub enum Outcome {
     Down,
     NoMemory,
     Asked { answer: Result<Reply, AskFault> },
-    Kept,
     Turned { turned: Turned },
     Planned,
     NotPlanned,
@@ -83,7 +77,7 @@ pub enum Outcome {
     StatusIs { result: ReqResult },
     Is { valid: bool },
     FactsAre { facts: Option<BlockFacts> },
-    Content { buffer: Buffer },
+    Copied { size: usize },
     Nothing,
     Line { text: Option<Bytes> },
     Count { entries: u32 },
@@ -93,11 +87,16 @@ pub enum Outcome {
 /// The room of a unit, or none.
 pub type UnitRoom<O> = Room<LentUnit<O>>;
 
-/// Serves it.
+/// Serves it. What is copied to the caller goes to the front of `into`.
 #[inline(always)]
-pub fn serve<O: Origin>(alloc: Global, room: UnitRoom<O>, work: Work<'_>) -> (UnitRoom<O>, Outcome)
+pub fn serve<O: Origin>(
+    alloc: Global,
+    room: UnitRoom<O>,
+    work: Work<'_>,
+    into: &mut [u8],
+) -> (UnitRoom<O>, Outcome)
     requires { CanServe O.making O.entry work room.value }
-    ensures { Serves O.making O.entry work.entry result.1 room.value result.0.value }
+    ensures { Serves O.making O.entry work.entry result.1 room.value result.0.value × Hands work.entry result.1 room.value into.old into.new }
 {
     match work {
         Work::Open {
@@ -108,7 +107,7 @@ pub fn serve<O: Origin>(alloc: Global, room: UnitRoom<O>, work: Work<'_>) -> (Un
         Work::Close => close_room(alloc, room),
         Work::Serve { task } => {
             let mut unit = room.into_box(alloc);
-            let outcome = do_task(alloc, &mut unit, task);
+            let outcome = do_task(alloc, &mut unit, task, into);
             (Room::of(unit), outcome)
         }
     }
@@ -135,9 +134,8 @@ fn open_room<O: Origin>(
     requires { CanServe O.making O.entry (Work.Open config flash cuts) None }
     ensures { Serves O.making O.entry (Work.Open config flash cuts) result.1 None result.0.value }
 {
-    let longest = longest_content(&config);
     match open::<O>(alloc, config, flash, cuts) {
-        Ok(unit) => match boxed(alloc, unit, longest) {
+        Ok(unit) => match boxed(alloc, unit) {
             Ok(unit) => (Room::of(unit), Outcome::Opened),
             Err(unit) => (
                 Room::empty(),
@@ -157,20 +155,11 @@ fn open_room<O: Origin>(
     }
 }
 
-// A unit on the heap, with a buffer of the longest content. At Err the unit is handed back.
-fn boxed<O: Origin>(
-    alloc: Global,
-    unit: LentUnit<O>,
-    longest: usize,
-) -> Result<Box<LentUnit<O>>, LentUnit<O>>
+// A unit on the heap. At Err it is handed back.
+fn boxed<O: Origin>(alloc: Global, unit: LentUnit<O>) -> Result<Box<LentUnit<O>>, LentUnit<O>>
     ensures ok { IfOk result (λ boxed. boxed.value ≡ unit) }
     ensures err { IfErr result (λ same. same ≡ unit) }
 {
-    let mut unit = unit;
-    let Ok(buffer) = Buffer::make(alloc, longest) else {
-        return Err(unit);
-    };
-    unit.keep(buffer);
     match Box::new(alloc, unit) {
         Ok(boxed) => Ok(boxed),
         Err(failed) => Err(failed.value),
@@ -179,9 +168,15 @@ fn boxed<O: Origin>(
 
 // Does a task of a unit. While its last start-up stands it takes requests, makes turns, and plans cuts.
 #[inline(always)]
-fn do_task<O: Origin>(alloc: Global, unit: &mut LentUnit<O>, task: Task<'_>) -> Outcome
+fn do_task<O: Origin>(
+    alloc: Global,
+    unit: &mut LentUnit<O>,
+    task: Task<'_>,
+    into: &mut [u8],
+) -> Outcome
     requires { CanDo task unit.old }
-    ensures { Does task.entry result unit.old unit.new }
+    ensures does { Does task.entry result unit.old unit.new }
+    ensures copies { Copies task.entry result unit.old into.old into.new }
 {
     match task {
         Task::Restart => restart(alloc, unit),
@@ -194,15 +189,10 @@ fn do_task<O: Origin>(alloc: Global, unit: &mut LentUnit<O>, task: Task<'_>) -> 
         Task::Facts { block } => Outcome::FactsAre {
             facts: unit.block_facts(block),
         },
-        Task::Ram { block } => match unit.lend_ram(block) {
-            Some(buffer) => Outcome::Content { buffer },
-            None => Outcome::NoMemory,
+        Task::Ram { block } => Outcome::Copied {
+            size: unit.copy_ram(block, into),
         },
-        Task::Given => given(unit),
-        Task::Keep { buffer } => {
-            unit.keep(buffer);
-            Outcome::Kept
-        }
+        Task::Given => given(unit, into),
         Task::Line => line(alloc, unit),
         Task::Entries => Outcome::Count {
             entries: unit.entries(),
@@ -251,15 +241,13 @@ fn ask<O: Origin>(
     }
 }
 
-fn given<O: Origin>(unit: &mut LentUnit<O>) -> Outcome
-    ensures { Does Task.Given result unit.old unit.new }
+fn given<O: Origin>(unit: &LentUnit<O>, into: &mut [u8]) -> Outcome
+    ensures does { Does Task.Given result unit.now unit.now }
+    ensures copies { Copies Task.Given result unit.now into.old into.new }
 {
-    if !unit.gave() {
-        return Outcome::Nothing;
-    }
-    match unit.lend_given() {
-        Some(buffer) => Outcome::Content { buffer },
-        None => Outcome::NoMemory,
+    match unit.copy_given(into) {
+        Some(size) => Outcome::Copied { size },
+        None => Outcome::Nothing,
     }
 }
 
