@@ -1,15 +1,19 @@
 /* What a unit takes of memory beside its flash, which is used where it lies: each byte is counted that the C library's heap is asked for. A unit
    may take what docs/COST.md has: room for one read, its blocks' contents, once more those of permanent RAM, two of the longest content, a page, so
-   much for each block and each stored instance with its content twice, and what grows with nothing; an opening no less than its text asks for. A
-   reset takes nothing, and leaves as many bytes as it found. */
+   much for each block, for each job that may wait at once and for each stored instance with its content twice, and what grows with nothing; an opening
+   no less than its text asks for. A reset takes nothing, and leaves as many bytes as it found. */
 #include "heap.h"
 #include "nvm_c.h"
 #include <stdio.h>
 #include <stdlib.h>
 #include <string.h>
 
-/* What a block and a stored instance may take, and all that grows with nothing. */
-enum { TEXT = 65536, MOST_LENGTH = 4096, MOST_READ = 4096, A_BLOCK = 364, A_BLOCK_OF_TEXT = 1220, AN_INSTANCE = 102, BANKS = 2, FIXED = 7020, RESETS = 3 };
+/* What a block, a job that waits and a stored instance may take, and all that grows with nothing. */
+enum { TEXT = 65536, MOST_LENGTH = 4096, MOST_READ = 4096, A_BLOCK = 166, A_JOB = 174, A_BLOCK_OF_TEXT = 1220, AN_INSTANCE = 102, BANKS = 2, FIXED = 6700,
+       RESETS = 3 };
+
+/* How many jobs each queue takes, and of how many priorities the blocks are, block 1 among them. */
+enum { STANDARD = 8, IMMEDIATE = 4, PRIORITIES = 2 };
 
 /* A unit of so many blocks of one length, the last one of another. */
 typedef struct {
@@ -32,8 +36,8 @@ static const unit UNITS[] = {
 };
 
 static size_t write_text(const unit *it, char *into) {
-    size_t at = (size_t)sprintf(into, "{\"id\":1,\"page\":%u,\"sector\":%u,\"sectors\":%u,\"standard\":8,\"immediate\":4,\"blocks\":[",
-                                it->page, it->sector, it->sectors);
+    size_t at = (size_t)sprintf(into, "{\"id\":1,\"page\":%u,\"sector\":%u,\"sectors\":%u,\"standard\":%d,\"immediate\":%d,\"blocks\":[",
+                                it->page, it->sector, it->sectors, STANDARD, IMMEDIATE);
     for (unsigned i = 0; i < it->count; i++)
         at += (size_t)sprintf(into + at, "%s{\"length\":%u%s}", i ? "," : "", i + 1 == it->count ? it->longest : it->length, it->more);
     return at + (size_t)sprintf(into + at, "]}");
@@ -45,11 +49,17 @@ static size_t found(const unit *it) {
     return (2u * contents + (size_t)it->count * AN_INSTANCE) * it->instances;
 }
 
+/* How many jobs may wait at once: one on each block, or as many as the queues take, and of each priority one that was interrupted. */
+static size_t jobs(const unit *it) {
+    size_t ids = (size_t)it->count + 2, queued = STANDARD + IMMEDIATE + PRIORITIES;
+    return ids < queued ? ids : queued;
+}
+
 static size_t allowed(const unit *it) {
     size_t contents = (size_t)(it->count - 1) * it->length + it->longest, flash = (size_t)it->sector * it->sectors;
     size_t bank = flash / BANKS;
-    return (bank < MOST_READ ? bank : MOST_READ) + contents * (it->is_permanent ? 2u : 1u) + 2u * it->longest + it->page + (size_t)A_BLOCK * it->count + found(it)
-           + FIXED;
+    return (bank < MOST_READ ? bank : MOST_READ) + contents * (it->is_permanent ? 2u : 1u) + 2u * it->longest + it->page + (size_t)A_BLOCK * it->count
+           + A_JOB * jobs(it) + found(it) + FIXED;
 }
 
 /* What stands at most while a unit opens: what it takes, or before that what the reading of its text takes. */
