@@ -1,6 +1,6 @@
 -- The names of other rooms, and of this one's definitions, that its proofs cite, passed on from one place. Declares nothing.
 pub use Rattle.std.specs.Prelude.{◌||◌, IfSome, option_to_list, slice_get, slice_index_or, All, Contains, unwrap_or, map, is_some, IsTrue, IsSome, vec_len, vec_capacity, AllPairs, nat_lt, ◌&&◌, nat_le, replicate, cond}
-pub use Rattle.std.proofs.Common.{◌≡◌, ◌⊎◌, inl, inr, ℕ, zero, suc, ◌≤◌, ◌∙◌, not, Bool, true, false, List, [], ◌∷◌, Option, Some, None, refl, sym, ap, subst, arith, length, take, ◌==◌, ◌++◌, ◌<◌, drop, ◌≢◌, ◌+◌, length-append, append_assoc, length-take, ◌^◌, get_or, ◌-◌, add-one, ltb-true, max, option_map, set, lt_of_not-le, Err}
+pub use Rattle.std.proofs.Common.{◌≡◌, ◌⊎◌, inl, inr, ℕ, zero, suc, ◌≤◌, ◌∙◌, not, Bool, true, false, List, [], ◌∷◌, Option, Some, None, refl, sym, ap, subst, arith, length, take, ◌==◌, ◌++◌, ◌<◌, drop, ◌≢◌, ◌+◌, length-append, append_assoc, length-take, ◌^◌, get_or, ◌-◌, add-one, ltb-true, max, option_map, set, lt_of_not-le, Err, ⊎_elim}
 pub use mathlib.Core.Option.{some-ne-none, some-injective, some}
 pub use Rattle.driver_moves.specs.nv_base.Result.{code_of}
 pub use Rattle.driver_moves.specs.block_machine.Words.{ReqResult, Fine, Pending, Entry, Found, Request, Reply, Accepted, JobKind, WriteJob, Taken, TookNothing, TookContent, TookRefused, TookStale, Instance, Mark, Ask, Pick, Wrote, Post, Off, BlockDesc, Configuration, Read, Write, Restore, Erase, Invalidate}

@@ -1,9 +1,21 @@
 -- What rounds leave of the workers.
-use Rattle.nvm_callers.proofs.Common.{slice_get, slice_index_or, All, IsSome, ◌≡◌, ◌<◌, ℕ, List, length, Option, Some, None, true, false, refl, arith, ◌∙◌, knows, PassValue, SharedState, Pairs, Program, Stored, AllChanged, AllPlaced, GoesOn, HasMade, HasWorked, IsFresh, MayGoOn, share_of, Worker, Ending, get_or_default}
+use Rattle.nvm_callers.proofs.Common.{slice_get, slice_index_or, set, All, IsSome, ◌≡◌, ◌<◌, ◌≤◌, ◌+◌, ℕ, List, [], ◌∷◌, length, Option, Some, None, true, false, refl, sym, subst, arith, ◌∙◌, ⊎_elim, cases_lt, length-set, get_or-set_same, get_or-set_other, knows, PassValue, SharedState, Pairs, Program, Stored, AllChanged, AllPlaced, GoesOn, HasMade, HasWorked, IsFresh, MayGoOn, share_of, Worker, Ending, get_or_default}
 use Rattle.nvm_callers.proofs.Passing.{program_before}
 use Rattle.nvm_callers.proofs.Working.{begun_ended, none_begun}
 
 -- BY PLACE
+-- what holds at a place of two elements holds of what these are
+pub moved : {P : Type 0} (changes : ℕ → P → P → Type 0) {i j : ℕ} {x y z w : P} → i ≡ j → x ≡ y → z ≡ w → changes i x z → changes j y w
+moved changes {i} {j} {x} {y} {z} {w} place one two is = subst (λ n. changes n y w) place (subst (λ a. changes i a w) one (subst (changes i x) two is))
+
+none_is_below : (n : ℕ) → n < 0 → ⊥
+none_is_below n low = omega (arith, low)
+
+-- what holds of each by its place holds of a first one
+pub first_placed : {P : Type 0} (holds : ℕ → P → Type 0) (xs : List P) → 0 < length xs → AllPlaced holds xs → (x : P) × holds 0 x
+first_placed holds [] low each = absurd (none_is_below 0 low)
+first_placed holds (x ∷ xs) low each = (x, each 0 x low)
+
 -- nothing changed
 pub none_changed : {P : Type 0} (changes : ℕ → P → P → Type 0) (xs : List P) → ((place : ℕ) (x : P) → changes place x x) → AllChanged changes xs xs
 none_changed changes xs stays = λ place d low. stays place (slice_index_or xs place d)
@@ -13,6 +25,31 @@ pub changed_more : {P : Type 0} (changes : ℕ → P → P → Type 0) (xs ys zs
     → AllChanged changes xs ys → AllChanged changes ys zs → AllChanged changes xs zs
 changed_more changes xs ys zs follow same one two = λ place d low.
     follow place (slice_index_or xs place d) (slice_index_or ys place d) (slice_index_or zs place d) (one place d low) (two place d (omega (arith, low, same)))
+
+-- those below a place changed, and the others are as they were
+abbrev pub ChangedBelow : {P : Type 0} → (ℕ → P → P → Type 0) → List P → List P → ℕ → Type 0
+ChangedBelow {P} changes xs ys k =
+    (length ys ≡ length xs) × ((place : ℕ) (d : P) → k ≤ place → slice_index_or ys place d ≡ slice_index_or xs place d)
+    × ((place : ℕ) (d : P) → place < k → changes place (slice_index_or xs place d) (slice_index_or ys place d))
+
+pub none_below : {P : Type 0} (changes : ℕ → P → P → Type 0) (xs : List P) → ChangedBelow changes xs xs 0
+none_below changes xs = (refl, λ place d high. refl, λ place d low. absurd (none_is_below place low))
+
+-- the one at the place too
+pub one_below : {P : Type 0} (changes : ℕ → P → P → Type 0) (xs ys : List P) (k : ℕ) (old new : P) → k < length ys → ChangedBelow changes xs ys k → changes k (slice_index_or ys k old) new
+    → ChangedBelow changes xs (set ys k new) (k + 1)
+one_below changes xs ys k old new low (same, rest, below) one = (
+  length-set ys k new ∙ same,
+  λ place d high. get_or-set_other ys k place new d (λ e. omega (arith, e, high)) ∙ rest place d (omega (arith, high)),
+  λ place d within.
+      ⊎_elim (λ l. subst (changes place (slice_index_or xs place d)) (sym (get_or-set_other ys k place new d (λ e. omega (arith, e, l)))) (below place d l))
+      (λ r.
+      let at : place ≡ k = omega (arith, r, within) in
+      let before : slice_index_or xs k d ≡ slice_index_or ys k old = sym (rest k d (omega arith)) ∙ get_or_default ys k d old low in
+      let there = subst (λ y. changes k (slice_index_or xs k d) y) (sym (get_or-set_same ys k new d low)) (subst (λ x. changes k x new) (sym before) one) in
+      subst (λ p. changes p (slice_index_or xs p d) (slice_index_or (set ys k new) p d)) (sym at) there)
+      (cases_lt place k),
+)
 
 -- ENDINGS
 never : false ≡ true → ⊥

@@ -1,5 +1,5 @@
 -- What a worker made of its program.
-use Rattle.nvm_callers.proofs.Common.{◌≡◌, ℕ, List, [], length, take, Option, Some, None, refl, sym, subst, ◌∙◌, IfSome, View, Note, AllAgree, Entry, Terms, gives, LearnsMore, Pairs, Program, HasDone, Stored, Did, StopsBy, EndsAt, HasMade, share_of, Ending, EndsAll, NoRoom, Memory, EndsBy, HasBegun}
+use Rattle.nvm_callers.proofs.Common.{◌≡◌, ℕ, List, [], length, take, Option, Some, None, is_some, true, false, refl, sym, subst, ◌∙◌, IfSome, View, Note, AllAgree, Entry, Terms, gives, LearnsMore, Pairs, Program, HasDone, Stored, Did, StopsBy, EndsAt, HasMade, share_of, Ending, EndsAll, NoRoom, Memory, EndsBy, HasBegun}
 use Rattle.nvm_callers.proofs.Making.{did_none, did_see}
 
 module _ (t : Terms) (p : Program) (made : ℕ) (v w : View Entry Terms) (bytes : ℕ → Option ℕ) (began stored : ℕ → List Stored) (did : Did t p.caller (take made p.deeds) v bytes began stored) (more : LearnsMore v w) where
@@ -25,6 +25,13 @@ module _ (t : Terms) (p : Program) (made : ℕ) (v w : View Entry Terms) (bytes 
       → IfSome ending (λ e. EndsAt t p.deeds made (share_of p made w) e × (seen ≡ length w.seen))
   stops_then (Some e) seen saw is = (ends_then e is, saw)
   stops_then None seen saw is = tt
+
+never : false ≡ true → ⊥
+never is = cc
+
+ends_not : (holds : Ending → Type 0) (o : Option Ending) → is_some o ≡ false → IfSome o holds
+ends_not holds (Some e) none = absurd (never (sym none))
+ends_not holds None none = tt
 
 module _ {S : Type 0} (bytes : S → ℕ → Option ℕ) (stored : S → ℕ → List Stored) (mirrors : S → Pairs) (t : Terms) (p : Program) where
   -- at first it made nothing
@@ -53,6 +60,18 @@ module _ {S : Type 0} (bytes : S → ℕ → Option ℕ) (stored : S → ℕ →
         same_mirrors = same_mirrors ∙ begun.same_mirrors;
         ended = stops_then t p made_new u w (bytes first) (stored first) (stored now) did more ending_new seen_new saw stops;
       }
+
+  -- so it is where its caller isn't at its end
+  pub more_begun_on : (v u : View Entry Terms) (made made_new seen seen_new : ℕ) (ending ending_new : Option Ending) (first old now : S)
+      → HasBegun bytes stored mirrors t p v made ending seen first old
+      → (Did t p.caller (take made p.deeds) v (bytes first) (stored first) (stored old) → Did t p.caller (take made_new p.deeds) u (bytes first) (stored first) (stored now))
+      → ((block : ℕ) → bytes now block ≡ bytes old block) → mirrors now ≡ mirrors old → is_some ending_new ≡ false → HasBegun bytes stored mirrors t p u made_new ending_new seen_new first now
+  more_begun_on v u made made_new seen seen_new ending ending_new first old now begun goes_on same_bytes same_mirrors none = record {
+    did = goes_on begun.did;
+    same_bytes = λ block. same_bytes block ∙ begun.same_bytes block;
+    same_mirrors = same_mirrors ∙ begun.same_mirrors;
+    ended = ends_not (λ e. EndsAt t p.deeds made_new (share_of p made_new u) e × (seen_new ≡ length u.seen)) ending_new none;
+  }
 
   -- where its caller ended, that is its share
   pub begun_ended : (v : View Entry Terms) (made : ℕ) (ending : Option Ending) (seen : ℕ) (first now : S) (e : Ending) → HasBegun bytes stored mirrors t p v made ending seen first now → ending ≡ Some e

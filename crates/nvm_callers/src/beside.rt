@@ -1,13 +1,13 @@
-// Workers in threads of their own, and a driver beside them in this one, all over one shared thing.
-ghost use Rattle.std.specs.Prelude.{◌≡◌, ◌<◌, ℕ, length};
+// Workers in threads, and a driver beside them in this one, all over one shared thing.
+ghost use Rattle.std.specs.Prelude.{◌≡◌, ◌<◌, ◌≤◌, ◌+◌, ℕ, length};
 ghost use Rattle.nvm_callers.specs.Placed.{AllChanged, AllPlaced};
 
 use std::sync::Wait;
 use std::thread;
 use std::thread::{Threads, join_mut};
 
-/// What each worker does in its thread, by its place. `ready` holds of each before, and `done` of it before and behind. A worker is a
-/// bare type parameter: a closure that is lent to a thread holds no `&mut` to a type that names a parameter inside.
+/// What the workers of a thread do in it, each by its place, from `start` on. `ready` holds of each before, and `done` of it before and
+/// behind. A worker is a bare type parameter: a closure that is lent to a thread holds no `&mut` to a type that names a parameter inside.
 pub trait Work<G, P> {
     ghost ready: { Self → G → ℕ → P → Type 0 };
 
@@ -15,10 +15,16 @@ pub trait Work<G, P> {
 
     ghost count: { Self → ℕ };
 
-    fn work<W: Wait>(&self, rt: &W, shared: &G, place: usize, worker: &mut P)
-        requires place { place < count self.now }
-        requires ready { ready self.now shared.now place worker.old }
-        ensures { done self.now shared.now place worker.old worker.new };
+    /// How many of so many workers a thread has.
+    fn share(&self, workers: usize) -> usize
+        requires { 0 < workers }
+        ensures { 0 < result };
+
+    fn work<W: Wait>(&self, rt: &W, shared: &G, start: usize, workers: &mut [P])
+        requires some { 0 < length workers.old }
+        requires places { start + length workers.old ≤ count self.now }
+        requires ready { AllPlaced (λ place. ready self.now shared.now (start + place)) workers.old }
+        ensures { AllChanged (λ place. done self.now shared.now (start + place)) workers.old workers.new };
 }
 
 /// What the driver does beside them. `ready` holds of it before, and `done` of it before and behind.
@@ -32,12 +38,19 @@ pub trait Drive<G> {
         ensures { done self.old self.new shared.now };
 }
 
-fn work_at<W: Wait, G, P, J: Work<G, P>>(rt: &W, shared: &G, job: &J, place: usize, worker: &mut P)
-    requires place { place < J.count job.now }
-    requires ready { J.ready job.now shared.now place worker.old }
-    ensures { J.done job.now shared.now place worker.old worker.new }
+fn work_from<W: Wait, G, P, J: Work<G, P>>(
+    rt: &W,
+    shared: &G,
+    job: &J,
+    start: usize,
+    workers: &mut [P],
+)
+    requires some { 0 < length workers.old }
+    requires places { start + length workers.old ≤ J.count job.now }
+    requires ready { AllPlaced (λ place. J.ready job.now shared.now (start + place)) workers.old }
+    ensures { AllChanged (λ place. J.done job.now shared.now (start + place)) workers.old workers.new }
 {
-    job.work(rt, shared, place, worker);
+    job.work(rt, shared, start, workers);
 }
 
 fn drive_on<W: Wait, G, K: Drive<G>>(rt: &W, shared: &G, driver: &mut K)
@@ -47,7 +60,7 @@ fn drive_on<W: Wait, G, K: Drive<G>>(rt: &W, shared: &G, driver: &mut K)
     driver.drive(rt, shared);
 }
 
-/// Each worker in a thread of its own, where one can be made.
+/// The workers, so many in each thread as the job says, where one can be made.
 fn run_each<R: Threads + Wait + Sync, G: Sync, P: Send, J: Work<G, P> + Sync>(
     rt: &R,
     shared: &G,
@@ -60,17 +73,16 @@ fn run_each<R: Threads + Wait + Sync, G: Sync, P: Send, J: Work<G, P> + Sync>(
     ensures count { length workers.new ≡ length workers.old }
     ensures each { AllChanged (J.done job.now shared.now) workers.old workers.new }
 {
-    let count = workers.len();
-    thread::for_each_mut(
-        rt,
-        workers,
-        count,
-        &|place, worker| work_at(rt, shared, job, place, worker),
-    );
+    let size = job.share(workers.len());
+    let part = |start: usize, some: &mut [P]|
+        requires { (0 < length some.now) × (start + length some.now ≤ J.count job.now) × AllPlaced (λ place. J.ready job.now shared.now (start + place)) some.now }
+        ensures { AllChanged (λ place. J.done job.entry.now shared.entry.now (start + place)) some.entry.now some.exit.now }
+    { work_from(rt, shared, job, start, some) };
+    thread::for_each_chunk_mut(rt, workers, size, &part);
 }
 
-/// Each worker in a thread of its own, and beside them the driver, in this one. Where no thread can be made the driver comes first, and
-/// the workers behind it.
+/// The workers in threads, and beside them the driver, in this one. Where no thread can be made the driver comes first, and the workers
+/// behind it.
 pub fn run_beside<R: Threads + Wait + Sync, G: Sync, P: Send, J: Work<G, P> + Sync, K: Drive<G>>(
     rt: &R,
     shared: &G,

@@ -15,7 +15,7 @@ use crate::ending::Ending;
 use crate::hold::Hold;
 use crate::round::Round;
 use crate::stores::Stores;
-use crate::wait::await_end;
+use crate::wait::is_over;
 use driver_moves::nvm_shared::{Shared, StackPass};
 use driver_moves::{AskFault, Request};
 use script_callers::Deed;
@@ -78,14 +78,7 @@ impl<'a, H: Hold> Caller<'a, H> {
     }
 
     // One wait: whether it is over.
-    fn wait<W: Wait>(
-        &self,
-        rt: &W,
-        shared: &Shared,
-        pass: &mut StackPass,
-        line: u32,
-        block: u16,
-    ) -> bool
+    fn wait(&self, shared: &Shared, pass: &mut StackPass, line: u32, block: u16) -> bool
         requires own { IsUserOf shared.now pass.old }
         requires block { block ≤ 512 }
         requires configured { block ≤ length shared.now.terms.config.blocks }
@@ -94,7 +87,7 @@ impl<'a, H: Hold> Caller<'a, H> {
         ensures done { (ds : List Deeds) (bytes : ℕ → Option ℕ) (began made : ℕ → List Stored) → Did shared.now.terms self.now.number ds (knows pass.old) bytes began made → result ≡ true → Did shared.now.terms self.now.number (ds ++ deed_of.Await line block ∷ []) (knows pass.new) bytes began made }
         ensures left { (ds : List Deeds) (bytes : ℕ → Option ℕ) (began made : ℕ → List Stored) → Did shared.now.terms self.now.number ds (knows pass.old) bytes began made → result ≡ false → Did shared.now.terms self.now.number ds (knows pass.new) bytes began made }
     {
-        await_end(rt, shared, pass, block, self.round)
+        is_over(shared, pass, block)
     }
 
     // One store.
@@ -147,7 +140,7 @@ impl<'a, H: Hold> Caller<'a, H> {
                 Err(AskFault::Memory) => Err(Stop::Memory),
             },
             Deed::Await { line, block } => {
-                if self.wait(rt, shared, pass, *line, *block) {
+                if self.wait(shared, pass, *line, *block) {
                     Ok(())
                 } else {
                     Err(Stop::Wait)

@@ -28,11 +28,11 @@ use std::snapshot::Snapshot;
 use std::sync::Wait;
 use std::thread::Threads;
 
-/// Makes these programs, each in a thread of its own where one can be made, with the driver beside them, and then the driver's
-/// turns until none need follow. The stores of each go where its place says. Where a wait goes on for long its caller comes back, and
-/// once all have, the driver makes its turns alone, and those that aren't at their ends go on: so no caller needs a thread. Behind it
-/// the pass has all parts again. It answers the pass, the driver, and how the callers ended: where memory is wanting before the
-/// threads, no deed is made.
+/// Makes these programs in threads, where these can be made, with the driver beside them, and then the driver's turns until none need
+/// follow. A thread has one program or, where the hold lets callers share it, some, with each of which it goes on in turn. The stores of
+/// each go where its place says. Where waits go on for long their callers come back, and once all have, the driver makes its turns alone,
+/// and those that aren't at their ends go on: so no caller needs a thread. Behind it the pass has all parts again. It answers the pass, the
+/// driver, and how the callers ended: where memory is wanting before the threads, no deed is made.
 pub fn run_callers<
     R: Threads + Wait + Sync,
     D: MemDevice,
@@ -164,8 +164,8 @@ fn make_rounds<
     unreachable!()
 }
 
-// A round: each caller goes on in a thread of its own where one can be made, with the driver beside them. Where none can be made the
-// driver gives up, and they go on one behind another, each up to a wait.
+// A round: the callers go on in threads where these can be made, with the driver beside them. Where none can be made the driver gives up,
+// and they go on one behind another, each up to a wait.
 fn make_round<
     R: Threads + Wait + Sync,
     D: MemDevice,
@@ -198,7 +198,7 @@ fn make_round<
 }
 
 // Whether all callers are at their ends.
-fn have_ended<S>(workers: &[Worker<S>]) -> bool
+pub(crate) fn have_ended<S>(workers: &[Worker<S>]) -> bool
     ensures { result ≡ true → All (λ w. IsSome w.ending) workers.now }
 {
     for worker in workers {

@@ -3,9 +3,6 @@ use std::sync::Wait;
 use std::sync::atomic::{AtomicU64, Ordering};
 use std::time::Duration;
 
-// No sleep is longer, so that an event which didn't end it is seen behind it.
-const LONGEST_SLEEP: u64 = 10;
-
 /// How many events there were, and how many threads sleep. Who sleeps is counted first, and sleeps only where no event came since it
 /// read the count; who adds one looks behind that whether somebody sleeps, and wakes. So the event is seen by the one, or the sleeper by
 /// the other.
@@ -35,12 +32,12 @@ impl EventCount {
         }
     }
 
-    /// Sleeps while there were so many events, for some milliseconds at most. It may also return for no reason.
-    pub(crate) fn sleep<W: Wait>(&self, rt: &W, seen: u64) {
+    /// Sleeps while there were so many events, for so many milliseconds at most. It may also return for no reason.
+    pub(crate) fn sleep<W: Wait>(&self, rt: &W, seen: u64, longest: u64) {
         let low = (seen & 0xffff_ffff) as u32;
         self.sleepers.fetch_add(1, Ordering::SeqCst);
         self.count
-            .park_timeout(rt, low, Duration::from_millis(LONGEST_SLEEP));
+            .park_timeout(rt, low, Duration::from_millis(longest));
         self.sleepers.fetch_sub(1, Ordering::SeqCst);
     }
 }

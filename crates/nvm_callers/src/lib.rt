@@ -1,5 +1,5 @@
-//! Callers of a shared stack: what each does in order, all of them in threads of their own with the driver beside them, and a
-//! run of a script's callers from a start-up to its end.
+//! Callers of a shared stack: what each does in order, all of them in threads with the driver beside them, and a run of a
+//! script's callers from a start-up to its end.
 //!
 //! It promises that each caller makes its requests, its stores and its waits in order, each request once; that the history goes
 //! on from the start-up, with no copy refused and each power cut counted; and what of the promise stays kept, as far as the
@@ -37,4 +37,4 @@ pub use round::Round;
 pub use steering::{Steering, SteeringOf};
 pub use stores::{NoStores, SidesIn, Stores};
 pub use threads::{Worker, WorkerOf, run_shared};
-pub use wait::await_end;
+pub use wait::is_over;

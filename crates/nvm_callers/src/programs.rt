@@ -1,13 +1,15 @@
 // The callers' programs, as the work of their threads.
-ghost use Rattle.std.specs.Prelude.{◌≡◌, ◌≤◌, ◌<◌, length};
+ghost use Rattle.std.specs.Prelude.{◌≡◌, ◌≤◌, ◌<◌, ◌+◌, length, All};
 ghost use Rattle.turn_gate.specs.Pass.{knows};
 ghost use Rattle.driver_moves.specs.nvm_shared.Passes.{IsUserOf};
-ghost use Rattle.nvm_callers.specs.Callers.{HasBegun, MayRun};
+ghost use Rattle.nvm_callers.specs.Callers.{GoesOn, HasBegun, MayGoOn, MayRun};
+ghost use Rattle.nvm_callers.specs.Placed.{AllChanged, AllPlaced};
 
 use crate::beside::Work;
 use crate::caller::Caller;
+use crate::callers::have_ended;
 use crate::hold::Hold;
-use crate::round::Round;
+use crate::round::{Round, Waiting};
 use crate::stores::Stores;
 use crate::threads::Worker;
 use driver_moves::nvm_shared::Shared;
@@ -15,7 +17,11 @@ use script_callers::Program;
 use std::alloc::Global;
 use std::sync::Wait;
 
-/// Each worker goes on with the program at its place, and tells the round when it begins and when it is back.
+// How many threads callers have that may share them. With one a caller that is about to wait has no other beside it; with each more there is
+// one to wake whenever the driver had nothing left to do, which costs more than a request.
+const SHARED_THREADS: usize = 2;
+
+/// Each worker goes on with the program at its place, and tells the round when it is back.
 #[derive(Drop)]
 pub struct Programs<'a, H> {
     pub alloc: Global,
@@ -24,7 +30,7 @@ pub struct Programs<'a, H> {
     pub round: &'a Round,
 }
 
-// Goes on with a program, if its caller isn't at its end, and sees the list then.
+// Goes on with a program, if its caller isn't at its end, up to a wait that goes on. Where it is at its end then, it sees the list.
 fn make_program<W: Wait, H: Hold, S: Stores>(
     rt: &W,
     shared: &Shared,
@@ -63,7 +69,116 @@ fn make_program<W: Wait, H: Hold, S: Stores>(
     );
     worker.made = made;
     worker.ending = ending;
+    if ending.is_none() {
+        return;
+    }
     worker.seen = shared.count(rt, &mut worker.pass);
+    round.caller_is_back();
+}
+
+// So one worker of a thread.
+fn make_one<W: Wait, H: Hold, S: Stores>(
+    rt: &W,
+    shared: &Shared,
+    job: &Programs<'_, H>,
+    place: usize,
+    worker: &mut Worker<S>,
+)
+    requires lock { S.is_of shared.now.gate }
+    requires place { place < length job.now.programs.now }
+    requires may { All (MayRun shared.now.terms.config) job.now.programs.now }
+    requires ready { MayGoOn shared.now job.now.programs.now place worker.old.pass worker.old.made }
+    ensures ready { MayGoOn shared.now job.now.programs.now place worker.new.pass worker.new.made }
+    ensures on { GoesOn S.bytes S.made S.mirrors shared.now job.now.programs.now place worker.old worker.new }
+{
+    make_program(
+        rt,
+        shared,
+        job.alloc,
+        job.hold,
+        job.round,
+        &job.programs[place],
+        worker,
+    );
+}
+
+// So each worker of a thread, whose first is that of a place.
+fn go_over<W: Wait, H: Hold, S: Stores>(
+    rt: &W,
+    shared: &Shared,
+    job: &Programs<'_, H>,
+    start: usize,
+    workers: &mut [Worker<S>],
+)
+    requires lock { S.is_of shared.now.gate }
+    requires places { start + length workers.old ≤ length job.now.programs.now }
+    requires may { All (MayRun shared.now.terms.config) job.now.programs.now }
+    requires ready { AllPlaced (λ k w. MayGoOn shared.now job.now.programs.now (start + k) w.pass w.made) workers.old }
+    ensures count { length workers.new ≡ length workers.old }
+    ensures ready { AllPlaced (λ k w. MayGoOn shared.now job.now.programs.now (start + k) w.pass w.made) workers.new }
+    ensures on { AllChanged (λ k. GoesOn S.bytes S.made S.mirrors shared.now job.now.programs.now (start + k)) workers.old workers.new }
+{
+    for k in 0..workers.len() {
+        make_one(rt, shared, job, start + k, &mut workers[k]);
+    }
+}
+
+// Goes over them until all are at their ends. Where none goes on it takes some looks, and then sleeps until the driver has nothing left
+// to do, for some milliseconds at most, before it looks again. While nobody makes turns it gives up after so many looks.
+fn go_on<W: Wait, H: Hold, S: Stores>(
+    rt: &W,
+    shared: &Shared,
+    job: &Programs<'_, H>,
+    start: usize,
+    workers: &mut [Worker<S>],
+)
+    requires lock { S.is_of shared.now.gate }
+    requires places { start + length workers.old ≤ length job.now.programs.now }
+    requires may { All (MayRun shared.now.terms.config) job.now.programs.now }
+    requires ready { AllPlaced (λ k w. MayGoOn shared.now job.now.programs.now (start + k) w.pass w.made) workers.old }
+    ensures ready { AllPlaced (λ k w. MayGoOn shared.now job.now.programs.now (start + k) w.pass w.made) workers.new }
+    ensures on { AllChanged (λ k. GoesOn S.bytes S.made S.mirrors shared.now job.now.programs.now (start + k)) workers.old workers.new }
+{
+    let mut waiting = Waiting::begin(job.round);
+    for _ in rt.forever() {
+        waiting.look(job.round);
+        go_over(rt, shared, job, start, workers);
+        if have_ended(workers) {
+            return;
+        }
+        if waiting.gives_up(rt, job.round) {
+            return;
+        }
+    }
+    unreachable!()
+}
+
+// The work of a thread, which tells the round of each of its callers that it began and is back.
+fn make_programs<W: Wait, H: Hold, S: Stores>(
+    rt: &W,
+    shared: &Shared,
+    job: &Programs<'_, H>,
+    start: usize,
+    workers: &mut [Worker<S>],
+)
+    requires some { 0 < length workers.old }
+    requires places { start + length workers.old ≤ length job.now.programs.now }
+    requires ready { AllPlaced (λ k w. MayGoOn shared.now job.now.programs.now (start + k) w.pass w.made × S.is_of shared.now.gate × All (MayRun shared.now.terms.config) job.now.programs.now) workers.old }
+    ensures { AllChanged (λ k old new. MayGoOn shared.now job.now.programs.now (start + k) new.pass new.made × GoesOn S.bytes S.made S.mirrors shared.now job.now.programs.now (start + k) old new) workers.old workers.new }
+{
+    job.round.callers_begin(workers.len() as u64);
+    tell_back(job.round, workers, true);
+    go_on(rt, shared, job, start, workers);
+    tell_back(job.round, workers, false);
+}
+
+// Tells that those are back which are at their ends, or that the others are.
+fn tell_back<S>(round: &Round, workers: &[Worker<S>], ended: bool) {
+    for worker in workers {
+        if worker.ending.is_some() == ended {
+            round.caller_is_back();
+        }
+    }
 }
 
 impl<'a, H: Hold, S: Stores> Work<Shared, Worker<S>> for Programs<'a, H> {
@@ -76,17 +191,15 @@ impl<'a, H: Hold, S: Stores> Work<Shared, Worker<S>> for Programs<'a, H> {
 
     ghost count = { λ j. length j.programs.now };
 
-    fn work<W: Wait>(&self, rt: &W, shared: &Shared, place: usize, worker: &mut Worker<S>) {
-        self.round.caller_begins();
-        make_program(
-            rt,
-            shared,
-            self.alloc,
-            self.hold,
-            self.round,
-            &self.programs[place],
-            worker,
-        );
-        self.round.caller_is_back();
+    fn share(&self, workers: usize) -> usize {
+        if self.hold.may_share() {
+            (workers - 1) / SHARED_THREADS + 1
+        } else {
+            1
+        }
+    }
+
+    fn work<W: Wait>(&self, rt: &W, shared: &Shared, start: usize, workers: &mut [Worker<S>]) {
+        make_programs(rt, shared, self, start, workers);
     }
 }

@@ -4,26 +4,33 @@ use std::sync::Wait;
 use std::sync::atomic::{AtomicBool, AtomicU64, Ordering};
 use std::thread;
 
-/// How many looks are taken before one gives up: a caller at a block while nobody makes turns, and the driver at the callers while none
+/// How many looks are taken before one gives up: callers at their blocks while nobody makes turns, and the driver at the callers while none
 /// has begun. Each yields the processor, so that threads which were made begin behind far fewer.
 pub(crate) const MOST_LOOKS: u32 = 1 << 12;
 
-// How many looks are taken before one sleeps: by the driver, by a caller alone, whose job is the next, and by one of several, whose job
-// has others before it.
-const LOOKS_OF_THE_DRIVER: u32 = 8;
+// How many looks the driver takes before it sleeps: while callers make their requests, of which each takes less than a thread to wake.
+const LOOKS_OF_THE_DRIVER: u32 = 64;
 
-const LOOKS_ALONE: u32 = 32;
+// How many looks a thread of callers takes before it sleeps, where one caller is out. Where there are more, a job has others before it.
+const LOOKS_BESIDE_ONE: u64 = 32;
 
-const LOOKS_OF_ONE: u32 = 1;
+// The most milliseconds of a sleep, so that what didn't end it is seen behind it: of callers, and of the driver, which goes on then with
+// what was asked for while other callers ask for nothing.
+const LONGEST_SLEEP: u64 = 10;
 
-/// What the threads of a round tell each other: whether the driver makes turns, how many callers began, and how many are back; what may
-/// give the driver something to do, until which it sleeps; and how often it had nothing left to do, until which callers sleep.
+const LONGEST_REST: u64 = 1;
+
+/// What the threads of a round tell each other: whether the driver makes turns, how many callers began, and how many are back; how many
+/// requests were made, and how many had been when the driver rested last; what calls the driver, until which it sleeps; and how often it
+/// had nothing left to do, until which callers sleep.
 #[derive(Drop)]
 pub struct Round {
     driven: AtomicBool,
     begun: AtomicU64,
     back: AtomicU64,
-    news: EventCount,
+    news: AtomicU64,
+    heard: AtomicU64,
+    calls: EventCount,
     rests: EventCount,
 }
 
@@ -33,7 +40,9 @@ impl Round {
             driven: AtomicBool::new(false),
             begun: AtomicU64::new(0),
             back: AtomicU64::new(0),
-            news: EventCount::new(),
+            news: AtomicU64::new(0),
+            heard: AtomicU64::new(0),
+            calls: EventCount::new(),
             rests: EventCount::new(),
         }
     }
@@ -43,6 +52,7 @@ impl Round {
         self.driven.store(false, Ordering::SeqCst);
         self.begun.store(0, Ordering::SeqCst);
         self.back.store(0, Ordering::SeqCst);
+        self.heard.store(self.news(), Ordering::SeqCst);
     }
 
     pub(crate) fn is_driven(&self) -> bool {
@@ -59,8 +69,8 @@ impl Round {
         self.begun.load(Ordering::SeqCst) > 0
     }
 
-    pub(crate) fn caller_begins(&self) {
-        self.begun.fetch_add(1, Ordering::SeqCst);
+    pub(crate) fn callers_begin(&self, callers: u64) {
+        self.begun.fetch_add(callers, Ordering::SeqCst);
     }
 
     pub(crate) fn are_back(&self, callers: u64) -> bool {
@@ -69,50 +79,109 @@ impl Round {
 
     pub(crate) fn caller_is_back(&self) {
         self.back.fetch_add(1, Ordering::SeqCst);
-        self.tell();
+        self.call();
     }
 
-    // Tells the driver that a request was made, or that a caller is back.
+    // Tells the driver that a request was made.
     pub(crate) fn tell(&self) {
-        self.news.add();
+        self.news.fetch_add(1, Ordering::SeqCst);
+        self.call();
     }
 
-    // How much callers told.
+    // Calls the driver, where since it rested as many requests were made as callers are out. So it finds what all of them asked for, and
+    // isn't woken for each.
+    fn call(&self) {
+        let heard = self.heard.load(Ordering::SeqCst);
+        if self.out() <= self.news().saturating_sub(heard) {
+            self.calls.add();
+        }
+    }
+
+    // How many callers began and aren't back.
+    fn out(&self) -> u64 {
+        let back = self.back.load(Ordering::SeqCst);
+        self.begun.load(Ordering::SeqCst).saturating_sub(back)
+    }
+
+    // How many requests were told.
     pub(crate) fn news(&self) -> u64 {
-        self.news.count()
+        self.news.load(Ordering::SeqCst)
     }
 
-    // The driver had nothing left to do when callers had told so much: it tells them, and behind some looks sleeps until they tell more.
-    // While none has begun it only lets others have the processor.
+    // The driver had nothing left to do when so many requests were told: it tells the callers, and behind some looks sleeps until they call
+    // it. Where one was told since, or no caller is out, it only lets others have the processor.
     pub(crate) fn rest<W: Wait>(&self, rt: &W, news: u64) {
+        self.heard.store(news, Ordering::SeqCst);
+        let calls = self.calls.count();
+        let told = self.news();
         self.rests.add();
+        if told != news || self.out() == 0 {
+            thread::yield_now();
+            return;
+        }
         for _ in 0..LOOKS_OF_THE_DRIVER {
             thread::yield_now();
-            if self.news() != news || !self.has_begun() {
+            if self.calls.count() != calls {
                 return;
             }
         }
-        self.news.sleep(rt, news);
+        self.calls.sleep(rt, calls, LONGEST_REST);
     }
 
     // How often the driver had nothing left to do.
-    pub(crate) fn rests(&self) -> u64 {
+    fn rests(&self) -> u64 {
         self.rests.count()
     }
 
-    // A caller sleeps until the driver has nothing left to do, or makes no more turns.
-    pub(crate) fn sleep<W: Wait>(&self, rt: &W, rests: u64) {
-        self.rests.sleep(rt, rests);
+    // How many looks a thread of callers takes before it sleeps.
+    fn looks(&self) -> u64 {
+        LOOKS_BESIDE_ONE / self.out().max(1)
+    }
+}
+
+/// How a thread waits none of whose callers goes on: how often the driver had nothing left to do when it looked last, how many looks more it
+/// takes before it sleeps, and how many while nobody makes turns before it gives up.
+#[derive(Drop)]
+pub(crate) struct Waiting {
+    rests: u64,
+    awake: u64,
+    left: u32,
+}
+
+impl Waiting {
+    pub(crate) fn begin(round: &Round) -> Waiting {
+        Waiting {
+            rests: round.rests(),
+            awake: round.looks(),
+            left: MOST_LOOKS,
+        }
     }
 
-    // How many looks a caller takes before it sleeps.
-    pub(crate) fn looks_awake(&self) -> u32 {
-        let back = self.back.load(Ordering::SeqCst);
-        if self.begun.load(Ordering::SeqCst) <= back.saturating_add(1) {
-            LOOKS_ALONE
-        } else {
-            LOOKS_OF_ONE
+    // It is about to look. Where the driver had nothing left to do since, its looks begin anew.
+    pub(crate) fn look(&mut self, round: &Round) {
+        let rests = round.rests();
+        if rests != self.rests {
+            self.rests = rests;
+            self.awake = round.looks();
         }
+    }
+
+    // Behind a look it lets others have the processor, and behind some of them sleeps until the driver has nothing left to do or makes no
+    // more turns. Where nobody made turns at so many looks it gives up.
+    pub(crate) fn gives_up<W: Wait>(&mut self, rt: &W, round: &Round) -> bool {
+        if !round.is_driven() {
+            if self.left == 0 {
+                return true;
+            }
+            self.left -= 1;
+            thread::yield_now();
+        } else if self.awake > 0 {
+            self.awake -= 1;
+            thread::yield_now();
+        } else {
+            round.rests.sleep(rt, self.rests, LONGEST_SLEEP);
+        }
+        false
     }
 }
 

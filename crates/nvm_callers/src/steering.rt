@@ -25,7 +25,7 @@ pub struct SteeringOf<'a, P, T> {
 /// Of a shared stack. It is an alias, as `Worker`.
 pub type Steering<'a, D, C> = SteeringOf<'a, StackPass, Driver<D, C>>;
 
-// A turn. Where it found nothing to do the driver rests until callers tell it of something.
+// A turn. Where it found nothing to do the driver rests until callers call it.
 fn make_turn<W: Wait, D: MemDevice, C: NotedCopies + Drop>(
     rt: &W,
     shared: &Shared,
@@ -44,7 +44,8 @@ fn make_turn<W: Wait, D: MemDevice, C: NotedCopies + Drop>(
     give_way(rt, round, news, turned);
 }
 
-// Rests behind a turn that found nothing to do, when callers had told so much.
+// Rests behind a turn that found nothing to do, when so many requests were told. Most turns do something: it is a part of its caller.
+#[inline(always)]
 fn give_way<W: Wait>(rt: &W, round: &Round, news: u64, turned: Turned) {
     match turned {
         Turned::Idle | Turned::Off => round.rest(rt, news),

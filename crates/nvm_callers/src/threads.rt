@@ -69,7 +69,7 @@ fn run_at<
     run_of::<R, Gate<V>, T, WorkerOf<Pass<V>, S>, J, K>(rt, shared, job, workers, driver);
 }
 
-/// The workers in threads of their own, and the driver beside them.
+/// The workers in threads, and the driver beside them.
 pub fn run_shared<
     R: Threads + Wait + Sync,
     S: Send,

@@ -252,6 +252,10 @@ impl Hold for HoldCallOne {
             self.flags.set_second();
         }
     }
+
+    fn may_share(&self) -> bool {
+        false
+    }
 }
 
 #[test]
@@ -276,6 +280,10 @@ impl<'a> Hold for AskBesideFlash<'a> {
         if caller == 1 && line == 2 {
             self.flags.set_second();
         }
+    }
+
+    fn may_share(&self) -> bool {
+        false
     }
 }
 

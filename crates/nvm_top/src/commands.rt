@@ -61,8 +61,7 @@ pub fn play_command<S: Source, K: Sink, F: Flash>(
     }
 }
 
-/// Runs the callers of the input beside each other on the flash, each in a thread of its own, and writes their one history. It
-/// waits for them.
+/// Runs the callers of the input beside each other on the flash, in threads, and writes their one history. It waits for them.
 pub fn run_command<R: Threads + Wait + Sync, S: Source, K: Sink, F: Flash>(
     rt: &R,
     alloc: Global,

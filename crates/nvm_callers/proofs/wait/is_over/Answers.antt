@@ -1,6 +1,6 @@
 use Rattle.nvm_callers.proofs.Common.{◌∙◌, sym, arith, eqb-true, knows}
 use Rattle.nvm_callers.proofs.Making.{off_ends, poll_ends}
-use Rattle.nvm_callers.proofs.wait.look.Goals as goal
+use Rattle.nvm_callers.proofs.wait.is_over.Goals as goal
 
 pub returns-then-polled-result_code-clause-over : goal.returns-then-polled-result_code-clause-over
 returns-then-polled-result_code-clause-over c ended =
