@@ -138,12 +138,12 @@ fn runs_calls_but_no_cancel_of_an_urgent_job(rt: HostRuntime) {
 
 // Whether a device is started, erases a number in so many turns, and comes to rest then.
 #[derive(Clone, Copy)]
-struct Work {
+struct ErasesInTurns {
     number: DeviceNumber,
     turns: u64,
 }
 
-impl Trial for Work {
+impl Trial for ErasesInTurns {
     fn try_with<D: MemDevice + Drop>(&self, _alloc: Global, device: D) -> Option<D> {
         let mut device = device;
         start_up(&mut device).ok()?;
@@ -155,15 +155,15 @@ impl Trial for Work {
 
 #[test]
 fn work_over_any_device(rt: HostRuntime) {
-    let over_slots = Work {
+    let over_slots = ErasesInTurns {
         number: NUMBER,
         turns: 4,
     };
-    let in_memory = Work {
+    let in_memory = ErasesInTurns {
         number: NUMBER,
         turns: 1,
     };
-    let on_flash = Work {
+    let on_flash = ErasesInTurns {
         number: FLASH_A,
         turns: 10,
     };

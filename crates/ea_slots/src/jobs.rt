@@ -109,7 +109,8 @@ impl<F: Flash, O: Origin> EaParts<F, O> {
         requires sound { IsSound O.making O.entry self.old }
         requires content { AsksFor op wanted content.now }
         ensures sound { IsSound O.making O.entry self.new }
-        ensures accepts { Accepts (record { job = record { number = number.0; mark = mark_of op content.now; urgent = urgent }; length = wanted }) result (told_of O.making O.entry self.old) (clock_of O.making O.entry self.old) (told_of O.making O.entry self.new) (clock_of O.making O.entry self.new) }
+        ensures accepts { Accepts (record { job = record { number = number.0; mark = mark_of op content.now; urgent = urgent }; length = wanted }) result
+            (told_of O.making O.entry self.old) (clock_of O.making O.entry self.old) (told_of O.making O.entry self.new) (clock_of O.making O.entry self.new) }
     {
         match self.job_for(number, op, wanted, urgent) {
             Ok(job) => {

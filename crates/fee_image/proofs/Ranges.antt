@@ -1,10 +1,8 @@
 -- What programs and erases leave of pages.
-use Rattle.std.specs.Prelude.{bit_and}
-use Rattle.std.proofs.Common.{◌≡◌, inl, inr, ◌<◌, ◌≤◌, ℕ, zero, suc, ◌+◌, ◌*◌, ◌-◌, List, [], ◌∷◌, ◌++◌, length, take, drop, get_or, replicate, refl, sym, ap, ◌∙◌, subst, arith, length-append, length-drop}
+use Rattle.std.proofs.Common.{◌≡◌, inl, inr, ◌<◌, ◌≤◌, ℕ, zero, suc, ◌+◌, ◌*◌, ◌-◌, List, [], ◌∷◌, ◌++◌, length, take, drop, get_or, replicate, sym, ap, ◌∙◌, subst, arith, length-append, length-drop}
 use Rattle.std.proofs.lemmas.Bool.{cases_order, cases_eq}
-use Rattle.std.proofs.lemmas.List.{take_at, drop_at, drop-drop, drop-take, take-take, length-take-le, append_assoc, take-append-le, length-replicate, take-replicate, drop-replicate}
-use Rattle.std.proofs.lemmas.Nat.{and_le_r, and_mask, and_comm}
-use Rattle.std.proofs.Math.Nat.{mul-le-mul_right, mod-eq_of_lt}
+use Rattle.std.proofs.lemmas.List.{take_at, drop_at, drop-drop, length-take-le, append_assoc, take-append-le, length-replicate, take-replicate, drop-replicate}
+use Rattle.std.proofs.Math.Nat.{mul-le-mul_right}
 use Rattle.std.specs.List.{All}
 use Rattle.fls_model.specs.Bytes.{AreBytes, SameOutside, and_bytes, spliced}
 use Rattle.fls_model.specs.Op.{MayLeave, Program, after_op}
@@ -16,24 +14,14 @@ use Rattle.fee_image.specs.Image.{Layout, bank_in, image_page}
 use Rattle.fee_image.specs.Sound.{IsSoundImage}
 use Rattle.fee_image.specs.Laws.{PagesOutsideStay, OtherBanksStay, ErasedIsBlank, KeepsSound, ProgramsTouchOnePage, ProgramsTouchTheirBank, ProgramsStand, GatesStand, ProgramsKeepSound}
 use Rattle.fls_model.proofs.Kept.{ranges_keep_bytes}
+use Rattle.fls_model.proofs.Pieces.{piece_front, piece_back, spliced_piece, and_blank, and_zeros}
 
--- a page inside a front that is kept
-page_front : (n m p : ℕ) (old new : List ℕ) → take n new ≡ take n old → m + p ≤ n → take p (drop m new) ≡ take p (drop m old)
-page_front n m p old new same le =
-    sym (drop-take m p new) ∙ ap (drop m) (sym (take-take (m + p) n new le)) ∙ ap (λ (l : List ℕ). drop m (take (m + p) l)) same
-    ∙ ap (drop m) (take-take (m + p) n old le) ∙ drop-take m p old
-
-page_back : (n m p : ℕ) (old new : List ℕ) → drop n new ≡ drop n old → n ≤ m → take p (drop m new) ≡ take p (drop m old)
-page_back n m p old new same le =
-    let at : n + (m - n) ≡ m = omega arith in
-    ap (λ (k : ℕ). take p (drop k new)) (sym at) ∙ ap (take p) (sym (drop-drop (m - n) n new)) ∙ ap (λ (l : List ℕ). take p (drop (m - n) l)) same
-    ∙ ap (take p) (drop-drop (m - n) n old) ∙ ap (λ (k : ℕ). take p (drop k old)) at
-
+-- a page beside the one that changes stays
 page_same : (p q j : ℕ) (old new : List ℕ) → SameOutside (q * p) p old new → (j ≡ q → ⊥) → page_at p new j ≡ page_at p old j
 page_same p q j old new out other = elim (cases_order j q) [
   | inl same ↦ absurd (other same)
-  | inr (inl below) ↦ page_front (q * p) (j * p) p old new out.front (let le = mul-le-mul_right p (let s : suc j ≤ q = omega arith in s) in let one : suc j * p ≡ j * p + p = omega arith in omega (arith, le, one))
-  | inr (inr above) ↦ page_back (q * p + p) (j * p) p old new out.back (let le = mul-le-mul_right p (let s : suc q ≤ j = omega arith in s) in let one : suc q * p ≡ q * p + p = omega arith in omega (arith, le, one))
+  | inr (inl below) ↦ piece_front (q * p) (j * p) p old new out.front (let le = mul-le-mul_right p (let s : suc j ≤ q = omega arith in s) in let one : suc j * p ≡ j * p + p = omega arith in omega (arith, le, one))
+  | inr (inr above) ↦ piece_back (q * p + p) (j * p) p old new out.back (let le = mul-le-mul_right p (let s : suc q ≤ j = omega arith in s) in let one : suc q * p ≡ q * p + p = omega arith in omega (arith, le, one))
 ]
 
 -- PROGRAMS
@@ -91,36 +79,10 @@ spliced_outside bytes piece a n is le =
       back = drop_at (take a bytes ++ piece) (drop (a + length piece) bytes) (a + n) (omega (arith, length-append (take a bytes) piece, front)) ∙ ap (λ (k : ℕ). drop (a + k) bytes) is;
     }
 
-spliced_piece : (bytes piece : List ℕ) (a n : ℕ) → length piece ≡ n → a ≤ length bytes → take n (drop a (spliced bytes a piece)) ≡ piece
-spliced_piece bytes piece a n is le =
-    let front : length (take a bytes) ≡ a = length-take-le a bytes le in
-    ap (λ (l : List ℕ). take n (drop a l)) (append_assoc (take a bytes) piece (drop (a + length piece) bytes))
-    ∙ ap (take n) (drop_at (take a bytes) (piece ++ drop (a + length piece) bytes) a front)
-    ∙ take_at piece (drop (a + length piece) bytes) n is
-
-and_ff : (x : ℕ) → x < 256 → bit_and 255 x ≡ x
-and_ff x small = and_comm 255 x ∙ and_mask x 8 ∙ mod-eq_of_lt small
-
-and_blank : (page : List ℕ) → All (λ x. x < 256) page → and_bytes (replicate (length page) 255) page ≡ page
-and_blank [] all = refl
-and_blank (x ∷ xs) all =
-    let here : x < 256 = all 0 0 (omega arith) in
-    let rest : All (λ (y : ℕ). y < 256) xs = λ k d lt. all (suc k) d (omega arith) in
-    λ i. and_ff x here i ∷ and_blank xs rest i
-
 are_bytes : (page : List ℕ) → All (λ x. x < 256) page → AreBytes page
 are_bytes [] all k = omega arith
 are_bytes (x ∷ xs) all zero = all 0 0 (omega arith)
 are_bytes (x ∷ xs) all (suc k) = are_bytes xs (λ i d lt. all (suc i) d (omega arith)) k
-
-and_zeros : (n : ℕ) (xs : List ℕ) → length xs ≡ n → and_bytes xs (replicate n 0) ≡ replicate n 0
-and_zeros zero [] is = refl
-and_zeros zero (x ∷ xs) is = absurd (omega (arith, is))
-and_zeros (suc n) [] is = absurd (omega (arith, is))
-and_zeros (suc n) (x ∷ xs) is =
-    let here : bit_and x 0 ≡ 0 = omega (arith, and_le_r x 0) in
-    let rest = and_zeros n xs (omega (arith, is)) in
-    λ i. here i ∷ rest i
 
 zeros_are_bytes : (n k : ℕ) → get_or (replicate n 0) k 0 < 256
 zeros_are_bytes zero k = omega arith
@@ -160,8 +122,8 @@ gates_stand b bytes q fits =
 
 -- RANGES
 pub pages_outside_stay : PagesOutsideStay
-pages_outside_stay b old new address n q out (inl before) = page_front address (place_of_page b q) b.page old new out.front before
-pages_outside_stay b old new address n q out (inr behind) = page_back (address + n) (place_of_page b q) b.page old new out.back behind
+pages_outside_stay b old new address n q out (inl before) = piece_front address (place_of_page b q) b.page old new out.front before
+pages_outside_stay b old new address n q out (inr behind) = piece_back (address + n) (place_of_page b q) b.page old new out.back behind
 
 -- ERASES
 pub other_banks_stay : OtherBanksStay
@@ -189,7 +151,7 @@ blank_inside bytes a z d p fits le =
     let X = spliced bytes a (replicate z 255) in
     let Y = drop a X in
     let all : take z Y ≡ take z (replicate z 255) = spliced_piece bytes (replicate z 255) a z (length-replicate z 255) (omega arith) ∙ sym (take-replicate z z 255 (omega arith)) in
-    ap (take p) (sym (drop-drop d a X)) ∙ page_front z d p (replicate z 255) Y all le ∙ ap (take p) (drop-replicate d z 255) ∙ take-replicate p (z - d) 255 (omega arith)
+    ap (take p) (sym (drop-drop d a X)) ∙ piece_front z d p (replicate z 255) Y all le ∙ ap (take p) (drop-replicate d z 255) ∙ take-replicate p (z - d) 255 (omega arith)
 
 pub erased_is_blank : ErasedIsBlank
 erased_is_blank b bytes address n q fits low high =

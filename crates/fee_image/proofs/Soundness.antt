@@ -5,6 +5,7 @@ use Rattle.std.proofs.Common.{◌≡◌, inl, inr, ◌↔◌, ◌<◌, ◌≤◌
 use Rattle.std.proofs.lemmas.Bool.{and_from, and_parts, cases_eq, false≢true}
 use Rattle.std.proofs.lemmas.List.{take-append-drop, drop-drop, length-replicate}
 use Rattle.fls_model.specs.Bytes.{piece, Grown}
+use Rattle.fls_model.proofs.Pieces.{grown_take, grown_drop}
 use Rattle.fee_format.specs.declared.bank_head.BankHead.{BankHead}
 use Rattle.fee_format.specs.BankHead.{IsBankHead}
 use Rattle.fee_format.specs.Gate.{IsGate, is_gate}
@@ -60,20 +61,6 @@ grown_append [] [] us vs one two = two
 grown_append [] (y ∷ ys) us vs one two = absurd one
 grown_append (x ∷ xs) [] us vs one two = absurd one
 grown_append (x ∷ xs) (y ∷ ys) us vs one two = (one.0, one.1, grown_append xs ys us vs one.2 two)
-
-grown_take : (n : ℕ) (xs ys : List ℕ) → Grown xs ys → Grown (take n xs) (take n ys)
-grown_take zero xs ys grown = tt
-grown_take (suc n) [] [] grown = tt
-grown_take (suc n) [] (y ∷ ys) grown = absurd grown
-grown_take (suc n) (x ∷ xs) [] grown = absurd grown
-grown_take (suc n) (x ∷ xs) (y ∷ ys) grown = (grown.0, grown.1, grown_take n xs ys grown.2)
-
-grown_drop : (n : ℕ) (xs ys : List ℕ) → Grown xs ys → Grown (drop n xs) (drop n ys)
-grown_drop zero xs ys grown = grown
-grown_drop (suc n) [] [] grown = tt
-grown_drop (suc n) [] (y ∷ ys) grown = absurd grown
-grown_drop (suc n) (x ∷ xs) [] grown = absurd grown
-grown_drop (suc n) (x ∷ xs) (y ∷ ys) grown = grown_drop n xs ys grown.2
 
 -- outside of the sector all bytes are the same
 pub torn_erases_set_bits : TornErasesSetBits

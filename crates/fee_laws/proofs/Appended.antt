@@ -20,7 +20,7 @@ use Rattle.fee_course.proofs.Turns.{turns_are_few}
 use Rattle.fee_switch_laws.specs.fee_switch.Banks.{BanksState, index_of, left_of, left_with}
 use Rattle.fee_switch_laws.specs.KeepsRoom.{IsRoomy}
 use Rattle.promise_device.specs.Making.{Making}
-use Rattle.fee_told.specs.Figures.{Work, FitsMark}
+use Rattle.fee_told.specs.Figures.{OpenWork, FitsMark}
 use Rattle.fee_told.specs.FigureLaws.{IsWork, IsOfJob}
 use Rattle.fee_laws.specs.declared.job.FeeJob.{FeeJob}
 use Rattle.fee_laws.specs.Inside.{Parts, mark_of, stand_of, IsActiveOf, IsAtWork, HasSwitch}
@@ -72,18 +72,18 @@ pages_few p wanted (Writes r done) fits = let few = fits r refl in omega arith
 pages_few p wanted (Owes r next) fits = omega arith
 pages_few p wanted Closed fits = omega arith
 
-mark_fits : (p number length of : ℕ) (op : DeviceOp) (content : List ℕ) (w : Work) → IsLengthOf op length of → w.pages ≤ pages_of_op p op length → FitsMark p of (mark_of op (take length content)) w
+mark_fits : (p number length of : ℕ) (op : DeviceOp) (content : List ℕ) (w : OpenWork) → IsLengthOf op length of → w.pages ≤ pages_of_op p op length → FitsMark p of (mark_of op (take length content)) w
 mark_fits p number length of Read content w fits few = tt
 mark_fits p number length of Write content w fits few = subst (λ (n : ℕ). w.pages ≤ record_pages_of n p) fits few
 mark_fits p number length of Invalidate content w fits few = few
 mark_fits p number length of Erase content w fits few = few
 
-pub of_job : (p : ℕ) (numbers : List (DeviceNumber × ℕ)) (content : List ℕ) (j : FeeJob) (last : JobResult) (given : ℕ) (w : Work) → IsJobOf numbers j → w.pages ≤ pages_of_op p j.op j.length
+pub of_job : (p : ℕ) (numbers : List (DeviceNumber × ℕ)) (content : List ℕ) (j : FeeJob) (last : JobResult) (given : ℕ) (w : OpenWork) → IsJobOf numbers j → w.pages ≤ pages_of_op p j.op j.length
     → IsOfJob p numbers (stand_of content (Some j) last given) w
 of_job p numbers content j last given w is few = (is.length, is.configured, mark_fits p j.number.0 j.length is.length j.op content w is.fits few)
 
 -- its work, where no more pages than its record has are left, and the turns of the switch
-pub open_work : (m : Making) (s : Parts) (j : FeeJob) (b : BanksState) (w : Work) → s.job ≡ Some j → IsJobOf m.numbers j → IsShaped m b → HasSwitch b b.course → w.pages ≤ pages_of_op b.geometry.page j.op j.length → w.switch ≡ left_of b
+pub open_work : (m : Making) (s : Parts) (j : FeeJob) (b : BanksState) (w : OpenWork) → s.job ≡ Some j → IsJobOf m.numbers j → IsShaped m b → HasSwitch b b.course → w.pages ≤ pages_of_op b.geometry.page j.op j.length → w.switch ≡ left_of b
     → IsWork m.geometry.page (sectors_of_bank m.geometry m.banks) m.numbers m.reserve (stand_of s.content s.job s.last s.given) w
 open_work m s j b w job is shape has pages switch = record {
   job = subst (λ (o : Option FeeJob). IsOfJob m.geometry.page m.numbers (stand_of s.content o s.last s.given) w) (sym job)

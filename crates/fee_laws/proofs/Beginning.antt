@@ -46,7 +46,7 @@ use Rattle.fee_laws.specs.declared.job.FeeJob.{FeeJob}
 use Rattle.fee_laws.specs.Inside.{Parts, body_of, device_of, memory_of, stand_of, IsActiveOf, IsAtWork, HasSwitch, HoldsBehind, LeavesKept}
 use Rattle.fee_laws.specs.Record.{head_of, IsJobOf}
 use Rattle.fee_laws.specs.Work.{pages_of_op, pages_of_job, pages_free, work_of, is_waiting, begins_next, fits_in, claimed, needs_switch, seal_turns, switch_turns, turns_before, turns_beside, takes_append, is_urgent_job, is_promised}
-use Rattle.fee_told.specs.Figures.{Work, turns_owed, left_of as turns_told, ready_of, wait_of}
+use Rattle.fee_told.specs.Figures.{OpenWork, turns_owed, left_of as turns_told, ready_of, wait_of}
 use Rattle.fee_told.specs.FigureLaws.{IsWork}
 use Rattle.fee_laws.proofs.Figures.{and_false, switch_is, free_is}
 use Rattle.fee_laws.proofs.Appended.{has_switch, flags_clear, open_work}
@@ -73,7 +73,7 @@ free_of None n some = cc
 free_of (Some a) n some = refl
 
 -- as many turns are left of the same work
-pub left_alike : (st : Stand) (v w : Work) → v.pages ≡ w.pages → v.owed ≡ w.owed → v.switch ≡ w.switch → turns_told st v ≡ turns_told st w
+pub left_alike : (st : Stand) (v w : OpenWork) → v.pages ≡ w.pages → v.owed ≡ w.owed → v.switch ≡ w.switch → turns_told st v ≡ turns_told st w
 left_alike st v w pages owed switch = λ i. turns_told st (record { pages = pages i; owed = owed i; switch = switch i })
 
 -- a switch that takes appends isn't at its seal
@@ -247,10 +247,10 @@ module _ (m : Making) (entry : Told) (s : Parts) (listed : List (DeviceNumber ×
   switch_on = has_switch m.reserve t.banks t.banks.course flags room_on.switch
 
   -- THE FIGURES
-  abbrev pub v : Work
+  abbrev pub v : OpenWork
   v = work_of m.reserve t.banks s.job
 
-  abbrev w : Work
+  abbrev w : OpenWork
   w = work_of m.reserve s.banks s.job
 
   some_work : IsSome (work_in t.banks.log.tail)

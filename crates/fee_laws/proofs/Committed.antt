@@ -55,7 +55,7 @@ use Rattle.fee_told.specs.Slots.{Memory, settled_in, job_leaves, writes_of}
 use Rattle.fee_told.specs.SlotLaws.{IsHeld}
 use Rattle.fee_told.specs.Device.{Device, told_of, clock_of}
 use Rattle.fee_told.specs.Appends.{IsCommitted}
-use Rattle.fee_told.specs.Figures.{Work, Waits, turns_owed, left_of as turns_left, ready_of, wait_of}
+use Rattle.fee_told.specs.Figures.{OpenWork, Waits, turns_owed, left_of as turns_left, ready_of, wait_of}
 use Rattle.fee_told.proofs.Appends.{appends_commit as told_appends_commit}
 use Rattle.fee_told.proofs.Kept.{copies_widen}
 use Rattle.fee_told.proofs.Whole.{commits_are_told, told_behind}
@@ -364,7 +364,7 @@ module _ (m : Making) (entry : Told) (s : Parts) (listed : List (DeviceNumber ×
   ends = subst (λ (o : Option Mark). EndsAs o asks.number JobOk [] (told_of d) (told_of e)) (sym mark_at)
       (subst (λ (n : ℕ). Settles n (held_written r content).mark (told_of d) (told_of e)) (ap (λ (x : RecHead). x.number.0) (head_is m entry s listed kept count is.on is.work)) settles, refl)
 
-  abbrev w : Work
+  abbrev w : OpenWork
   w = work_of m.reserve s.banks s.job
 
   -- its last page was left

@@ -23,7 +23,7 @@ use Rattle.fee_told.specs.SlotLaws.{IsHeld, SamePlaces}
 use Rattle.fee_told.specs.fls_told.Runs.{HasRun}
 use Rattle.fee_told.specs.Device.{Device, told_of, flash_device}
 use Rattle.fee_told.specs.Kept.{IsKept, with_log}
-use Rattle.fee_told.specs.Figures.{Work}
+use Rattle.fee_told.specs.Figures.{OpenWork}
 use Rattle.fee_told.specs.FigureLaws.{IsWork}
 use Rattle.fee_told.proofs.Appends.{appends_fail as told_appends_fail, failed_places}
 use Rattle.fee_told.proofs.Kept.{none_closed, none_open}
@@ -105,7 +105,7 @@ module _ (m : Making) (entry : Told) (s : Parts) (listed : List (DeviceNumber ×
   abbrev p : ℕ
   p = s.banks.geometry.page
 
-  abbrev w : Work
+  abbrev w : OpenWork
   w = work_of m.reserve s.banks s.job
 
   wanted : pages_of_job p s.job ≡ pages_of_op p jb.op jb.length

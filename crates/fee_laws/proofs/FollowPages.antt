@@ -22,7 +22,7 @@ use Rattle.fee_switch_laws.specs.fee_log.Log.{work_in, is_closed, free_behind, t
 use Rattle.fee_switch_laws.specs.Space.{has_room}
 use Rattle.promise_device.specs.Making.{Making}
 use Rattle.promise_device.specs.Room.{mark_pages}
-use Rattle.fee_told.specs.Figures.{Work, turns_of, turns_owed}
+use Rattle.fee_told.specs.Figures.{OpenWork, turns_of, turns_owed}
 use Rattle.fee_laws.specs.Inside.{mark_of}
 use Rattle.fee_laws.specs.Record.{IsLengthOf}
 use Rattle.fee_laws.specs.Work.{pages_of_op, is_owed}
@@ -107,7 +107,7 @@ pub none_is : (o : Option Mark) → is_none o ≡ true → o ≡ None
 none_is None is = refl
 none_is (Some mark) is = cc is
 
-pub turns_written : (o : Option Mark) (w : Work) → (o ≡ None → ⊥) → turns_of o w ≡ w.pages + turns_owed w.owed
+pub turns_written : (o : Option Mark) (w : OpenWork) → (o ≡ None → ⊥) → turns_of o w ≡ w.pages + turns_owed w.owed
 turns_written None w some = absurd (some refl)
 turns_written (Some mark) w some = refl
 

@@ -12,7 +12,7 @@ use Rattle.fee_switch_laws.specs.fee_log.Log.{work_in}
 use Rattle.fee_switch_laws.specs.fee_log.Step.{after_step, commits}
 use Rattle.fee_image.specs.RecordList.{pages_of_head}
 use Rattle.fee_switch_laws.proofs.RoomAppends.{pages_keep_room}
-use Rattle.fee_told.specs.Figures.{Work, turns_owed}
+use Rattle.fee_told.specs.Figures.{OpenWork, turns_owed}
 use Rattle.fee_told.specs.FigureLaws.{IsWork}
 use Rattle.fee_switch_laws.specs.fee_switch.Banks.{BanksState, left_of}
 use Rattle.fee_switch_laws.specs.KeepsRoom.{KeepsRoom}
@@ -77,10 +77,10 @@ module _ (m : Making) (entry : Told) (s : Parts) (listed : List (DeviceNumber ×
   }
 
   -- THE FIGURES
-  abbrev pub w : Work
+  abbrev pub w : OpenWork
   w = work_of m.reserve s.banks s.job
 
-  abbrev pub v : Work
+  abbrev pub v : OpenWork
   v = work_of m.reserve b s.job
 
   switch_was : w.switch ≡ left_of s.banks

@@ -24,7 +24,7 @@ use Rattle.fee_told.specs.SlotLaws.{SamePlaces, IsHeld, Opened}
 use Rattle.fee_told.specs.fls_told.Device.{slot_with}
 use Rattle.fee_told.proofs.Clocks.{clocks_stay, tells_first}
 use Rattle.fee_told.specs.Device.{Device, tells_now, told_of, clock_of, flash_device, is_switching}
-use Rattle.fee_told.specs.Figures.{Work, fixed_for, left_of, turns_of, Waits, ready_of, wait_of}
+use Rattle.fee_told.specs.Figures.{OpenWork, fixed_for, left_of, turns_of, Waits, ready_of, wait_of}
 use Rattle.fee_told.proofs.Jobs.{jobs_change}
 use Rattle.fee_told.proofs.Figures.{owed_few, urgent_starts}
 use Rattle.fee_told.proofs.ToldBytes.{told_at}
@@ -80,7 +80,7 @@ pages_small p Write length low few = (let a = div-le_self (length + (p - 1)) p i
 pages_small p Invalidate length low few = (let a = div-le_self (0 + (p - 1)) p in omega arith)
 pages_small p Erase length low few = (let a = div-le_self (0 + (p - 1)) p in omega arith)
 
-turns_small : (mark : Option Mark) (w : Work) → turns_of mark w ≤ w.pages + 1
+turns_small : (mark : Option Mark) (w : OpenWork) → turns_of mark w ≤ w.pages + 1
 turns_small None w = omega arith
 turns_small (Some mark) w = (let a = owed_few w.owed in omega arith)
 

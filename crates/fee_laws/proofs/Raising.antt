@@ -19,7 +19,7 @@ use Rattle.fee_course.proofs.Turns.{turns_are_few}
 use Rattle.fee_switch_laws.specs.fee_switch.Banks.{BanksState, begun_again, left_of as switch_left, left_with, left_beside, index_of}
 use Rattle.fee_switch_laws.specs.Space.{free_pages}
 use Rattle.fee_switch_laws.proofs.Turns.{left_rises, left_rises_few}
-use Rattle.fee_told.specs.Figures.{Work, fixed_for, ready_of, left_of, turns_of, FitsMark}
+use Rattle.fee_told.specs.Figures.{OpenWork, fixed_for, ready_of, left_of, turns_of, FitsMark}
 use Rattle.fee_told.proofs.Figures.{starts_raise, starts_beside}
 use Rattle.fee_laws.specs.declared.job.FeeJob.{FeeJob}
 use Rattle.fee_laws.specs.Inside.{HasSwitch, mark_of}
@@ -36,13 +36,13 @@ left_wanted p wanted (tail.Writes head done) idle = cc idle
 left_wanted p wanted (tail.Owes head next) idle = refl
 left_wanted p wanted tail.Closed idle = refl
 
-pub fits_mark : (p : ℕ) (op : DeviceOp) (length of : ℕ) (bytes : List ℕ) (w : Work) → IsLengthOf op length of → w.pages ≡ pages_of_op p op length → FitsMark p of (mark_of op bytes) w
+pub fits_mark : (p : ℕ) (op : DeviceOp) (length of : ℕ) (bytes : List ℕ) (w : OpenWork) → IsLengthOf op length of → w.pages ≡ pages_of_op p op length → FitsMark p of (mark_of op bytes) w
 fits_mark p Read length of bytes w fits is = tt
 fits_mark p Write length of bytes w fits is = let same = ap (λ (k : ℕ). record_pages_of k p) fits in omega arith
 fits_mark p Invalidate length of bytes w fits is = omega arith
 fits_mark p Erase length of bytes w fits is = omega arith
 
-pub turns_same : (mark : Option Mark) (w : Work) (x : ℕ) → turns_of mark (record w { switch = x }) ≡ turns_of mark w
+pub turns_same : (mark : Option Mark) (w : OpenWork) (x : ℕ) → turns_of mark (record w { switch = x }) ≡ turns_of mark w
 turns_same None w x = refl
 turns_same (Some mark) w x = refl
 
@@ -143,8 +143,8 @@ module _ (reserve : ℕ) (b : BanksState) (j : FeeJob) (of : IsJobOf b.log.numbe
         let jb : Job = record { number = j.number.0; mark = mark_of j.op bytes; urgent = j.urgent } in
         let w = work_of reserve b (Some j) in
         let a = adds b.course in
-        let next : Work = record w { switch = a.more } in
-        let none : Work = record { pages = 0; owed = false; switch = 0 } in
+        let next : OpenWork = record w { switch = a.more } in
+        let none : OpenWork = record { pages = 0; owed = false; switch = 0 } in
         let wanted = left_wanted p (pages_of_op p j.op j.length) b.log.tail idle in
         let fit = fits_mark p j.op j.length of.length bytes next of.fits wanted in
         let h = starts_raise p sectors reserve b.log.numbers jb none next (record { job = (of.length, of.configured, fit); few = a.most_own }) (omega arith) (λ e. (let zero = a.read (no_mark j.op bytes e) in omega arith)) in
@@ -177,7 +177,7 @@ module _ (reserve : ℕ) (b : BanksState) (j : FeeJob) (of : IsJobOf b.log.numbe
       pub raises_beside : (c : Course) → b.course ≡ Some c → left_of (Open asked) (work_of reserve b (Some j)) ≤ switch_turns reserve b None b.course + (if j.urgent then 2 else 1) * (pages + 1)
       raises_beside c is =
           let w = work_of reserve b (Some j) in
-          let before : Work = record { pages = 0; owed = false; switch = switch_turns reserve b None b.course } in
+          let before : OpenWork = record { pages = 0; owed = false; switch = switch_turns reserve b None b.course } in
           let wanted = left_wanted p (pages_of_op p j.op j.length) b.log.tail idle in
           let fit = fits_mark p j.op j.length of.length bytes w of.fits wanted in
           let then_is : w.switch ≡ turns_beside b (Some j) = ap (switch_turns reserve b (Some j)) is in

@@ -27,7 +27,7 @@ use Rattle.fee_told.specs.SlotLaws.{IsHeld, SamePlaces}
 use Rattle.fee_told.proofs.Clocks.{clocks_stay}
 use Rattle.fee_told.specs.Device.{Device, tells_now, told_of, slots_in, clock_of, flash_device}
 use Rattle.fee_told.specs.Turns.{is_sealing}
-use Rattle.fee_told.specs.Figures.{Work, ready_of, wait_of}
+use Rattle.fee_told.specs.Figures.{OpenWork, ready_of, wait_of}
 use Rattle.fee_told.proofs.Kept.{same_places}
 use Rattle.fee_told.proofs.Steps.{places_tell}
 use Rattle.fee_told.proofs.Switches.{switches_begin as told_switches_begin}
@@ -162,10 +162,10 @@ module _ (m : Making) (entry : Told) (s : Parts) (listed : List (DeviceNumber ×
   at_work_on = idle_at_work m t may.idle (active_on s.banks.active s.banks at_work.active) at_work.job (subst (λ (o : Option FeeJob). IfSome o (IsReady t.banks)) (sym may.job) ready_so) switch_on
 
   -- THE FIGURES
-  abbrev v : Work
+  abbrev v : OpenWork
   v = work_of m.reserve t.banks s.job
 
-  abbrev w : Work
+  abbrev w : OpenWork
   w = work_of m.reserve s.banks s.job
 
   beside : turns_beside t.banks s.job ≡ left_of t.banks

@@ -35,7 +35,7 @@ use Rattle.promise_device.specs.Making.{Making, banks_of}
 use Rattle.fee_told.specs.Slots.{Memory}
 use Rattle.fee_told.specs.fls_told.Runs.{HasRun}
 use Rattle.fee_told.specs.Device.{Device, told_of, clock_of, tells, flash_device}
-use Rattle.fee_told.specs.Figures.{Work, turns_owed, turns_of, wait_of}
+use Rattle.fee_told.specs.Figures.{OpenWork, turns_owed, turns_of, wait_of}
 use Rattle.fee_told.specs.Turns.{owes, owes_gate, is_sealing, TakesTurn}
 use Rattle.fee_told.specs.FigureLaws.{IsWork}
 use Rattle.fee_told.proofs.Figures.{ready_stays, turns_lower, urgent_nears}
@@ -151,7 +151,7 @@ no_need reserve b j fits = ap (λ (x : Bool). is_waiting b j && not x) fits ∙ 
     and_false false = refl
 
 -- the turn of the gate, and what is left of a job's own
-ends_by : (mark : Option Mark) (w v : Work) → (mark ≡ None → ⊥) → w.pages + turns_owed w.owed + w.switch ≡ v.pages + turns_owed v.owed + v.switch + 1 + turns_owed w.owed
+ends_by : (mark : Option Mark) (w v : OpenWork) → (mark ≡ None → ⊥) → w.pages + turns_owed w.owed + w.switch ≡ v.pages + turns_owed v.owed + v.switch + 1 + turns_owed w.owed
     → turns_of mark w + w.switch ≡ turns_of mark v + v.switch + 1 + turns_owed w.owed
 ends_by None w v other one = absurd (other refl)
 ends_by (Some mark) w v other one = one
@@ -341,10 +341,10 @@ module _ (m : Making) (entry : Told) (s : Parts) (listed : List (DeviceNumber ×
   abbrev at : Option FeeJob → Stand
   at o' = stand_of s.content o' s.last s.given
 
-  abbrev w : Option FeeJob → Work
+  abbrev w : Option FeeJob → OpenWork
   w o' = work_of m.reserve s.banks o'
 
-  abbrev v : Option FeeJob → Work
+  abbrev v : Option FeeJob → OpenWork
   v o' = work_of m.reserve b o'
 
   idle_pages : (p wanted : ℕ) (x : Tail) → work_in x ≡ None → pages_left p wanted x ≡ wanted

@@ -14,7 +14,7 @@ use Rattle.fee_course.specs.Course.{most_turns}
 use Rattle.fee_switch_laws.specs.fee_switch.Banks.{BanksState, left_of, left_beside}
 use Rattle.fee_switch_laws.specs.Space.{free_pages}
 use Rattle.promise_device.specs.Making.{Making}
-use Rattle.fee_told.specs.Figures.{Work, turns_owed, turns_of, left_of as left_in}
+use Rattle.fee_told.specs.Figures.{OpenWork, turns_owed, turns_of, left_of as left_in}
 use Rattle.fee_told.specs.FigureLaws.{IsWork, IsOfJob}
 use Rattle.fee_laws.specs.declared.job.FeeJob.{FeeJob}
 use Rattle.fee_laws.specs.Inside.{mark_of, stand_of, HasSwitch}
@@ -52,7 +52,7 @@ pub switch_none : (reserve : ℕ) (b : BanksState) (job : Option FeeJob) (c : Co
 switch_none reserve b job c none = no_beside b job none
 
 -- THE WORK
-pub job_part : (p : ℕ) (numbers : List (DeviceNumber × ℕ)) (content : List ℕ) (job : Option FeeJob) (last : JobResult) (given : ℕ) (w : Work) → IfSome job (IsJobOf numbers) → w.pages ≤ pages_of_job p job
+pub job_part : (p : ℕ) (numbers : List (DeviceNumber × ℕ)) (content : List ℕ) (job : Option FeeJob) (last : JobResult) (given : ℕ) (w : OpenWork) → IfSome job (IsJobOf numbers) → w.pages ≤ pages_of_job p job
     → IsOfJob p numbers (stand_of content job last given) w
 job_part p numbers content None last given w is few = tt
 job_part p numbers content (Some j) last given w is few = of_job p numbers content j last given w is few
@@ -84,11 +84,11 @@ has_mark Invalidate content writes = refl
 has_mark Erase content writes = refl
 
 -- one turn less of the switch is left, and as many pages
-turns_alike : (mark : Option Mark) (w v : Work) → v.pages ≡ w.pages → v.owed ≡ w.owed → turns_of mark v ≡ turns_of mark w
+turns_alike : (mark : Option Mark) (w v : OpenWork) → v.pages ≡ w.pages → v.owed ≡ w.owed → turns_of mark v ≡ turns_of mark w
 turns_alike None w v pages owed = refl
 turns_alike (Some mark) w v pages owed = λ i. pages i + turns_owed (owed i)
 
-pub left_falls : (content : List ℕ) (job : Option FeeJob) (last : JobResult) (given : ℕ) (w v : Work) → v.pages ≡ w.pages → v.owed ≡ w.owed → v.switch + 1 ≡ w.switch
+pub left_falls : (content : List ℕ) (job : Option FeeJob) (last : JobResult) (given : ℕ) (w v : OpenWork) → v.pages ≡ w.pages → v.owed ≡ w.owed → v.switch + 1 ≡ w.switch
     → left_in (stand_of content job last given) v + 1 ≡ left_in (stand_of content job last given) w
 left_falls content None last given w v pages owed less = less
 left_falls content (Some j) last given w v pages owed less = let same = turns_alike (mark_of j.op (take j.length content)) w v pages owed in omega (arith, same, less)

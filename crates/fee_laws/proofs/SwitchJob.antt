@@ -17,7 +17,7 @@ use Rattle.fee_course.specs.declared.course.Course.{Course}
 use Rattle.fee_switch_laws.specs.fee_switch.Banks.{index_of, left_as, left_beside, left_of as switch_left}
 use Rattle.promise_device.specs.Making.{Making}
 use Rattle.promise_device.specs.Room.{job_pages}
-use Rattle.fee_told.specs.Figures.{Work, left_of, turns_of, turns_owed}
+use Rattle.fee_told.specs.Figures.{OpenWork, left_of, turns_of, turns_owed}
 use Rattle.fee_laws.specs.declared.job.FeeJob.{FeeJob}
 use Rattle.fee_laws.specs.Inside.{Parts, mark_of, stand_of}
 use Rattle.fee_laws.specs.Record.{IsInWork}
@@ -61,13 +61,13 @@ once_owed true = omega arith
 once_owed false = omega arith
 
 -- its turns, and those of the switch
-op_turns : (op : DeviceOp) (bytes : List ℕ) (w : Work) → turns_of (mark_of op bytes) w ≡ (if is_none (mark_of op bytes) then 1 else w.pages + turns_owed w.owed)
+op_turns : (op : DeviceOp) (bytes : List ℕ) (w : OpenWork) → turns_of (mark_of op bytes) w ≡ (if is_none (mark_of op bytes) then 1 else w.pages + turns_owed w.owed)
 op_turns Read bytes w = refl
 op_turns Write bytes w = refl
 op_turns Invalidate bytes w = refl
 op_turns Erase bytes w = refl
 
-pub sum_of : (s : Parts) (o : Option FeeJob) (w : Work) → left_of (stand_of s.content o s.last s.given) w ≡ job_turns (stand_of s.content o s.last s.given) w.pages (turns_owed w.owed) + w.switch
+pub sum_of : (s : Parts) (o : Option FeeJob) (w : OpenWork) → left_of (stand_of s.content o s.last s.given) w ≡ job_turns (stand_of s.content o s.last s.given) w.pages (turns_owed w.owed) + w.switch
 sum_of s None w = omega arith
 sum_of s (Some j) w = ap (λ (n : ℕ). n + w.switch) (op_turns j.op (take j.length s.content) w)
 

@@ -21,7 +21,7 @@ use Rattle.fee_switch_laws.specs.fee_switch.Banks.{BanksState, left_of}
 use Rattle.fee_switch_laws.specs.Shown.{phase_shown}
 use Rattle.promise_device.specs.Making.{Making}
 use Rattle.fee_told.specs.Device.{told_of, is_switching}
-use Rattle.fee_told.specs.Figures.{Work, Waits, turns_owed, wait_of, ready_of, left_of as left_in}
+use Rattle.fee_told.specs.Figures.{OpenWork, Waits, turns_owed, wait_of, ready_of, left_of as left_in}
 use Rattle.fee_told.specs.Turns.{TakesTurn}
 use Rattle.fee_told.proofs.Figures.{ready_stays, urgent_nears}
 use Rattle.fee_laws.specs.declared.job.FeeJob.{FeeJob}
@@ -98,10 +98,10 @@ module _ (m : Making) (s : Parts) (c c' : Course) (flags : List Bool) (log : Log
   abbrev at : Option FeeJob → Stand
   at o = stand_of s.content o s.last s.given
 
-  abbrev w : Work
+  abbrev w : OpenWork
   w = work_of m.reserve s.banks s.job
 
-  abbrev v : Work
+  abbrev v : OpenWork
   v = work_of m.reserve b s.job
 
   abbrev n : ℕ

@@ -40,7 +40,7 @@ use Rattle.promise_device.specs.Making.{Making, banks_of}
 use Rattle.promise_device.specs.Bridge.{failed_in, reading_of}
 use Rattle.fee_told.specs.fls_told.Device.{is_told_sound}
 use Rattle.fee_told.specs.Device.{told_of}
-use Rattle.fee_told.specs.Figures.{Work, left_of, turns_owed}
+use Rattle.fee_told.specs.Figures.{OpenWork, left_of, turns_owed}
 use Rattle.fee_told.specs.Slots.{Memory, banks_with, held_all, may_told, settled_in}
 use Rattle.fee_told.proofs.ToldBytes.{now_at}
 use Rattle.fee_laws.specs.declared.job.FeeJob.{FeeJob}
@@ -237,7 +237,7 @@ module _ (m : Making) (entry : Told) (s : Parts) (listed : List (DeviceNumber ×
   turns_by (course.Gate again) appended sealing = inr refl
 
   -- THE JOB
-  abbrev work : Work
+  abbrev work : OpenWork
   work = work_of m.reserve s.banks s.job
 
   switch_is : work.switch ≡ turns s.banks.log.places (appended_in s s.job) c

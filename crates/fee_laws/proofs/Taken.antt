@@ -14,7 +14,7 @@ use Rattle.fee_switch_laws.specs.fee_switch.Banks.{BanksState}
 use Rattle.fee_switch_laws.specs.Shown.{phase_shown}
 use Rattle.promise_device.specs.Making.{Making}
 use Rattle.fee_told.specs.Device.{Device, is_switching}
-use Rattle.fee_told.specs.Figures.{Work, turns_owed, turns_of, left_of}
+use Rattle.fee_told.specs.Figures.{OpenWork, turns_owed, turns_of, left_of}
 use Rattle.fee_told.specs.Turns.{owes_gate, is_sealing, gates_left, has_failed, TakesTurn}
 use Rattle.fee_laws.specs.Inside.{Parts, body_of, device_of}
 
@@ -58,11 +58,11 @@ module _ (m : Making) (entry : Told) (s t : Parts) where
       inr (inr (less_one d.left e.left (gates_left d e) one none))
 
 -- of a job that isn't a read
-taken_by : (mark : Option Mark) (w next : Work) → (mark ≡ None → ⊥) → next.pages + turns_owed next.owed + next.switch + 1 ≡ w.pages + turns_owed w.owed + w.switch → turns_of mark next + next.switch + 1 ≡ turns_of mark w + w.switch
+taken_by : (mark : Option Mark) (w next : OpenWork) → (mark ≡ None → ⊥) → next.pages + turns_owed next.owed + next.switch + 1 ≡ w.pages + turns_owed w.owed + w.switch → turns_of mark next + next.switch + 1 ≡ turns_of mark w + w.switch
 taken_by None w next other one = absurd (other refl)
 taken_by (Some mark) w next other one = one
 
-pub job_takes : (j : Job) (w next : Work) → (j.mark ≡ None → ⊥) → next.pages + turns_owed next.owed + next.switch + 1 ≡ w.pages + turns_owed w.owed + w.switch → left_of (Open j) next + 1 ≡ left_of (Open j) w
+pub job_takes : (j : Job) (w next : OpenWork) → (j.mark ≡ None → ⊥) → next.pages + turns_owed next.owed + next.switch + 1 ≡ w.pages + turns_owed w.owed + w.switch → left_of (Open j) next + 1 ≡ left_of (Open j) w
 job_takes j w next other one = taken_by j.mark w next other one
 
 -- WHAT WAS BEGUN

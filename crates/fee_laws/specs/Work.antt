@@ -11,7 +11,7 @@ use Rattle.fee_course.specs.declared.course.Course.{Course}
 use Rattle.fee_course.specs.declared.course.Course.TheVariants as course
 use Rattle.fee_switch_laws.specs.Space.{free_pages, has_room}
 use Rattle.fee_switch_laws.specs.fee_switch.Banks.{BanksState, begun_again, left_of as switch_left, left_beside}
-use Rattle.fee_told.specs.Figures.{Work, Waits, turns_owed}
+use Rattle.fee_told.specs.Figures.{OpenWork, Waits, turns_owed}
 use Rattle.fee_laws.specs.declared.job.FeeJob.{FeeJob}
 
 -- THE PAGES OF A JOB
@@ -78,7 +78,7 @@ abbrev pub switch_turns : ℕ → BanksState → Option FeeJob → Option Course
 switch_turns reserve s job (Some c) = turns_beside s job
 switch_turns reserve s job None = if needs_switch reserve s job then switch_left (begun_again s (course.Erase 0)) else 0
 
-abbrev pub work_of : ℕ → BanksState → Option FeeJob → Work
+abbrev pub work_of : ℕ → BanksState → Option FeeJob → OpenWork
 work_of reserve s job = record {
   pages = pages_left s.geometry.page (pages_of_job s.geometry.page job) s.log.tail;
   owed = is_owed s.log.tail;

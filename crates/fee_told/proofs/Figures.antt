@@ -11,7 +11,7 @@ use Rattle.nv_base.specs.Pages.{record_pages_of}
 use Rattle.memif.specs.Told.{Stand, Open, Ended, Figures, at_number, no_figures, length_of, most_of, most_open, op_of}
 use Rattle.fee_course.specs.Copies.{copies_most, greatest}
 use Rattle.fee_course.specs.Course.{most_turns}
-use Rattle.fee_told.specs.Figures.{figures_for, fixed_for, Work, turns_owed, turns_of, left_of, FitsMark, ready_of, Waits, wait_of}
+use Rattle.fee_told.specs.Figures.{figures_for, fixed_for, OpenWork, turns_owed, turns_of, left_of, FitsMark, ready_of, Waits, wait_of}
 use Rattle.fee_told.specs.FigureLaws.{IsWork, IsNearer, LeftIsBounded, LeftFits, StartsRaise, StartsBeside, TurnsLower, ReadyIsKept, ReadyStays, UrgentStarts, UrgentNears}
 
 -- FIGURES
@@ -27,20 +27,20 @@ owed_few true = omega arith
 owed_few false = omega arith
 
 -- a job's turns, and a switch, are within its figure
-job_few : (p own length : ℕ) (o : Option Mark) (w : Work) → FitsMark p length o w → w.switch ≤ own → turns_of o w + w.switch ≤ own + most_of (figures_for p own length) (op_of o)
+job_few : (p own length : ℕ) (o : Option Mark) (w : OpenWork) → FitsMark p length o w → w.switch ≤ own → turns_of o w + w.switch ≤ own + most_of (figures_for p own length) (op_of o)
 job_few p own length None w fits few = omega arith
 job_few p own length (Some (Content bytes)) w fits few = omega (arith, owed_few w.owed)
 job_few p own length (Some Invalid) w fits few = omega (arith, owed_few w.owed)
 job_few p own length (Some Erased) w fits few = omega (arith, owed_few w.owed)
 
 -- also without more of its own
-job_alone : (p own length : ℕ) (o : Option Mark) (w : Work) (before : ℕ) → FitsMark p length o w → w.switch ≤ own → (o ≡ None → w.switch ≤ before) → turns_of o w + w.switch ≤ before + most_of (figures_for p own length) (op_of o)
+job_alone : (p own length : ℕ) (o : Option Mark) (w : OpenWork) (before : ℕ) → FitsMark p length o w → w.switch ≤ own → (o ≡ None → w.switch ≤ before) → turns_of o w + w.switch ≤ before + most_of (figures_for p own length) (op_of o)
 job_alone p own length None w before fits few read = omega (arith, read refl)
 job_alone p own length (Some (Content bytes)) w before fits few read = omega (arith, owed_few w.owed)
 job_alone p own length (Some Invalid) w before fits few read = omega (arith, owed_few w.owed)
 job_alone p own length (Some Erased) w before fits few read = omega (arith, owed_few w.owed)
 
-bounded_by : (p sectors reserve : ℕ) (numbers : List (DeviceNumber × ℕ)) (stand : Stand) (w : Work) → IsWork p sectors numbers reserve stand w → left_of stand w ≤ (fixed_for p sectors numbers reserve).own + most_open (fixed_for p sectors numbers reserve) stand
+bounded_by : (p sectors reserve : ℕ) (numbers : List (DeviceNumber × ℕ)) (stand : Stand) (w : OpenWork) → IsWork p sectors numbers reserve stand w → left_of stand w ≤ (fixed_for p sectors numbers reserve).own + most_open (fixed_for p sectors numbers reserve) stand
 bounded_by p sectors reserve numbers (Ended result given) w is = omega (arith, is.few)
 bounded_by p sectors reserve numbers (Open j) w is =
     let own = most_turns p sectors numbers in
@@ -100,7 +100,7 @@ marks_few p length some =
     omega (arith, none)
 
 -- so a job's turns are those of its number's record, and of an owed gate
-turns_few : (p own length : ℕ) (o : Option Mark) (w : Work) → 1 ≤ p → FitsMark p length o w → turns_of o w ≤ (if is_some o then (figures_for p own length).pages else 0) + 1
+turns_few : (p own length : ℕ) (o : Option Mark) (w : OpenWork) → 1 ≤ p → FitsMark p length o w → turns_of o w ≤ (if is_some o then (figures_for p own length).pages else 0) + 1
 turns_few p own length None w some fits = omega arith
 turns_few p own length (Some (Content bytes)) w some fits = omega (arith, owed_few w.owed)
 turns_few p own length (Some Invalid) w some fits = omega (arith, owed_few w.owed, marks_few p length some)
@@ -117,7 +117,7 @@ starts_beside p sectors reserve numbers j w next some is more =
     beside_by j.urgent (turns_of j.mark next) w.switch next.switch _ few more
 
 -- TURNS
-lower_by : (o : Option Mark) (w next : Work) → (o ≡ None → ⊥) → IsNearer w next → turns_of o next + next.switch < turns_of o w + w.switch
+lower_by : (o : Option Mark) (w next : OpenWork) → (o ≡ None → ⊥) → IsNearer w next → turns_of o next + next.switch < turns_of o w + w.switch
 lower_by None w next other nearer = absurd (other refl)
 lower_by (Some mark) w next other (a, b, inl less) = omega arith
 lower_by (Some mark) w next other (a, b, inr less) = omega arith

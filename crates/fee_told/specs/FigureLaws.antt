@@ -4,34 +4,34 @@ use Rattle.nv_base.specs.declared.instance.DeviceNumber.{DeviceNumber}
 use Rattle.nv_base.specs.Lengths.{AreLengths}
 use Rattle.memif.specs.Told.{Job, Stand, Open, Ended, length_of, figures_at, most_of, most_open, op_of}
 use Rattle.memif.specs.Calls.{record_pages}
-use Rattle.fee_told.specs.Figures.{fixed_for, Work, turns_owed, left_of, FitsMark, ready_of, Waits, wait_of}
+use Rattle.fee_told.specs.Figures.{fixed_for, OpenWork, turns_owed, left_of, FitsMark, ready_of, Waits, wait_of}
 
 -- LEFT
 -- an open job is of a configured number, and has no more pages left than its record
-abbrev pub IsOfJob : ℕ → List (DeviceNumber × ℕ) → Stand → Work → Type 0
+abbrev pub IsOfJob : ℕ → List (DeviceNumber × ℕ) → Stand → OpenWork → Type 0
 IsOfJob p numbers (Open j) w = (length : ℕ) × (length_of numbers j.number ≡ Some length) × FitsMark p length j.mark w
 IsOfJob p numbers (Ended result given) w = Unit {0}
 
-pub record IsWork (p sectors : ℕ) (numbers : List (DeviceNumber × ℕ)) (reserve : ℕ) (stand : Stand) (w : Work) : Type 0 where
+pub record IsWork (p sectors : ℕ) (numbers : List (DeviceNumber × ℕ)) (reserve : ℕ) (stand : Stand) (w : OpenWork) : Type 0 where
   pub job : IsOfJob p numbers stand w
   pub few : w.switch ≤ (fixed_for p sectors numbers reserve).own
 
 -- what is open ends within the most turns of the job and of a switch
 abbrev pub LeftIsBounded : Type 0
 LeftIsBounded =
-    (p sectors reserve : ℕ) (numbers : List (DeviceNumber × ℕ)) (stand : Stand) (w : Work) → IsWork p sectors numbers reserve stand w
+    (p sectors reserve : ℕ) (numbers : List (DeviceNumber × ℕ)) (stand : Stand) (w : OpenWork) → IsWork p sectors numbers reserve stand w
     → let fixed = fixed_for p sectors numbers reserve in left_of stand w ≤ fixed.own + most_open fixed stand
 
 -- which are few
 abbrev pub LeftFits : Type 0
 LeftFits =
-    (p sectors reserve : ℕ) (numbers : List (DeviceNumber × ℕ)) (stand : Stand) (w : Work)
+    (p sectors reserve : ℕ) (numbers : List (DeviceNumber × ℕ)) (stand : Stand) (w : OpenWork)
     → p ≤ 256 → sectors ≤ 64 → AreLengths 0 numbers → IsWork p sectors numbers reserve stand w → left_of stand w < 2 ^ 63
 
 -- a start of a job raises `left` by at most the most turns of its operation, and never lowers it
 abbrev pub StartsRaise : Type 0
 StartsRaise =
-    (p sectors reserve : ℕ) (numbers : List (DeviceNumber × ℕ)) (j : Job) (w next : Work)
+    (p sectors reserve : ℕ) (numbers : List (DeviceNumber × ℕ)) (j : Job) (w next : OpenWork)
     → IsWork p sectors numbers reserve (Open j) next → w.switch ≤ next.switch → (j.mark ≡ None → next.switch ≤ w.switch)
     → let fixed = fixed_for p sectors numbers reserve in
     (w.switch ≤ left_of (Open j) next) × (left_of (Open j) next ≤ w.switch + most_of (figures_at fixed j.number) (op_of j.mark))
@@ -39,18 +39,18 @@ StartsRaise =
 -- and beside an open switch by the pages of its record and an owed gate, and once more where it is urgent
 abbrev pub StartsBeside : Type 0
 StartsBeside =
-    (p sectors reserve : ℕ) (numbers : List (DeviceNumber × ℕ)) (j : Job) (w next : Work) → 1 ≤ p → IsOfJob p numbers (Open j) next
+    (p sectors reserve : ℕ) (numbers : List (DeviceNumber × ℕ)) (j : Job) (w next : OpenWork) → 1 ≤ p → IsOfJob p numbers (Open j) next
     → let pages = record_pages (fixed_for p sectors numbers reserve) j in
     next.switch ≤ w.switch + (if j.urgent then pages + 1 else 0) → left_of (Open j) next ≤ w.switch + (if j.urgent then 2 else 1) * (pages + 1)
 
 -- a turn of a job other than a read lowers it where a page, an owed gate or a step of the switch is done
-abbrev pub IsNearer : Work → Work → Type 0
+abbrev pub IsNearer : OpenWork → OpenWork → Type 0
 IsNearer w next =
     (next.switch ≤ w.switch) × (next.pages + turns_owed next.owed ≤ w.pages + turns_owed w.owed)
     × ((next.switch < w.switch) ⊎ (next.pages + turns_owed next.owed < w.pages + turns_owed w.owed))
 
 abbrev pub TurnsLower : Type 0
-TurnsLower = (j : Job) (w next : Work) → (j.mark ≡ None → ⊥) → IsNearer w next → left_of (Open j) next < left_of (Open j) w
+TurnsLower = (j : Job) (w next : OpenWork) → (j.mark ≡ None → ⊥) → IsNearer w next → left_of (Open j) next < left_of (Open j) w
 
 -- URGENT WRITES
 -- no more is ready than is kept, and no less where as much is free, or as is kept

@@ -31,7 +31,7 @@ fixed_for p sectors numbers reserve = record {
 }
 
 -- THE WORK THAT IS OPEN
-pub record Work : Type 0 where
+pub record OpenWork : Type 0 where
   -- the pages of the open job's record that are still to be programmed, and whether a gate is owed before it
   pub pages : ℕ
   pub owed : Bool
@@ -42,11 +42,11 @@ abbrev pub turns_owed : Bool → ℕ
 turns_owed owed = if owed then 1 else 0
 
 -- of the job: a read takes one turn
-abbrev pub turns_of : Option Mark → Work → ℕ
+abbrev pub turns_of : Option Mark → OpenWork → ℕ
 turns_of None w = 1
 turns_of (Some mark) w = w.pages + turns_owed w.owed
 
-abbrev pub left_of : Stand → Work → ℕ
+abbrev pub left_of : Stand → OpenWork → ℕ
 left_of (Open j) w = turns_of j.mark w + w.switch
 left_of (Ended result given) w = w.switch
 
@@ -57,7 +57,7 @@ pages_of_mark p length Invalid = record_pages_of 0 p
 pages_of_mark p length Erased = record_pages_of 0 p
 
 -- a read has no record
-abbrev pub FitsMark : ℕ → ℕ → Option Mark → Work → Type 0
+abbrev pub FitsMark : ℕ → ℕ → Option Mark → OpenWork → Type 0
 FitsMark p length None w = Unit {0}
 FitsMark p length (Some mark) w = w.pages ≤ pages_of_mark p length mark
 

@@ -45,7 +45,8 @@ pub record Finds (lost lost_new : Bool) (old new : FileBytes) : Type 0 where
 -- disk any part
 pub record IsWritten (address : ℕ) (bytes : List ℕ) (ok : Bool) (old new : FileBytes) : Type 0 where
   pub done : ok ≡ true → old.lost ≡ false → address + length bytes ≤ length old.now → (new.now ≡ spliced old.now address bytes) × (new.disk ≡ new.now) × (new.lost ≡ false)
-  pub some : old.lost ≡ false → old.disk ≡ old.now → address + length bytes ≤ length old.now → Mixed old.now (spliced old.now address bytes) new.now × Mixed old.now (spliced old.now address bytes) new.disk
+  pub some : old.lost ≡ false → old.disk ≡ old.now → address + length bytes ≤ length old.now
+      → Mixed old.now (spliced old.now address bytes) new.now × Mixed old.now (spliced old.now address bytes) new.disk
 
 -- bytes within the file are on the disk, where that was done; else any part of them is, and reads give what is there
 pub record HasStored (address : ℕ) (bytes : List ℕ) (ok lost_new : Bool) (old new : FileBytes) : Type 0 where

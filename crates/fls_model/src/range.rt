@@ -20,7 +20,7 @@ fn fill_blank(target: &mut [u8])
 }
 
 // Tells proofs that bytes are below 256.
-pub fn below_256(bytes: &Vec<u8>)
+pub(crate) fn below_256(bytes: &Vec<u8>)
     ensures { AreBytes bytes.now.items }
 {}
 

@@ -157,7 +157,8 @@ impl PendingJobs {
     pub fn pick(&mut self, config: &Config, take: Take, copy: Option<Bytes>)
         requires reserved { IfSome self.old.hand (λ h. self.old.reserved + h.reserved + 2 < 2 ^ 32) }
         ensures places { self.new.slots.places ≡ self.old.slots.places }
-        ensures agrees { (waiting : List MachineJob) (held : Option MachineJob) (j : MachineJob) → Agree config.now self.old waiting held → next_in config.now waiting ≡ Some j → HandIsFree config.now held j → Agree config.now self.new (interrupted held (without_job j.number waiting)) (Some (picked_job (taken_with j.content (take, copy)) (if is_some held then 2 else 0) j)) }
+        ensures agrees { (waiting : List MachineJob) (held : Option MachineJob) (j : MachineJob) → Agree config.now self.old waiting held → next_in config.now waiting ≡ Some j → HandIsFree config.now held j
+            → Agree config.now self.new (interrupted held (without_job j.number waiting)) (Some (picked_job (taken_with j.content (take, copy)) (if is_some held then 2 else 0) j)) }
     {
         let Some(mut job) = self.take_out() else {
             return;

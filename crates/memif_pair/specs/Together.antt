@@ -32,7 +32,9 @@ pub record AreTogether (a b : DeviceTold) (last : Bool) (course : List Bool) : T
 
 -- A call of the pair that makes no operation, by what it did to its devices: as the floor says it of one device, and behind it they
 -- are together again.
-abbrev pub OfPair : (DeviceTold → Clock → DeviceTold → Clock → Type 0) → (last last_new : Bool) → (a : DeviceTold) (ca : Clock) (b : DeviceTold) (cb : Clock) (a_new : DeviceTold) (ca_new : Clock) (b_new : DeviceTold) (cb_new : Clock) → Type 0
+abbrev pub OfPair : (DeviceTold → Clock → DeviceTold → Clock → Type 0)
+    → (last last_new : Bool) → (a : DeviceTold) (ca : Clock) (b : DeviceTold) (cb : Clock)
+    (a_new : DeviceTold) (ca_new : Clock) (b_new : DeviceTold) (cb_new : Clock) → Type 0
 OfPair Call last last_new a ca b cb a_new ca_new b_new cb_new =
     (course : List Bool) → AreTogether a b last course
     → Call (told_both a b last course) (pair_clock ca b cb course) (told_both a_new b_new last_new course) (pair_clock ca_new b_new cb_new course)

@@ -94,7 +94,8 @@ pub fn start_read<A: MemDevice, B: MemDevice>(
     number: DeviceNumber,
     length: u16,
 ) -> Result<(), DeviceRefusal>
-    ensures { OfPair (Accepts (record { job = record { number = number.0; mark = None; urgent = false }; length = Some length }) result) last.old last.new (A.told first.old) (A.clock first.old) (B.told second.old) (B.clock second.old) (A.told first.new) (A.clock first.new) (B.told second.new) (B.clock second.new) }
+    ensures { OfPair (Accepts (record { job = record { number = number.0; mark = None; urgent = false }; length = Some length }) result)
+        last.old last.new (A.told first.old) (A.clock first.old) (B.told second.old) (B.clock second.old) (A.told first.new) (A.clock first.new) (B.told second.new) (B.clock second.new) }
 {
     match look(first, second, number) {
         Ok(true) => note(second.start_read(number, length), last, true),
@@ -112,7 +113,8 @@ pub fn start_write<A: MemDevice, B: MemDevice>(
     content: &[u8],
     urgent: bool,
 ) -> Result<(), DeviceRefusal>
-    ensures { OfPair (Accepts (record { job = record { number = number.0; mark = Some (mark.Content content.now); urgent = urgent }; length = Some (length content.now) }) result) last.old last.new (A.told first.old) (A.clock first.old) (B.told second.old) (B.clock second.old) (A.told first.new) (A.clock first.new) (B.told second.new) (B.clock second.new) }
+    ensures { OfPair (Accepts (record { job = record { number = number.0; mark = Some (mark.Content content.now); urgent = urgent }; length = Some (length content.now) }) result)
+        last.old last.new (A.told first.old) (A.clock first.old) (B.told second.old) (B.clock second.old) (A.told first.new) (A.clock first.new) (B.told second.new) (B.clock second.new) }
 {
     match look(first, second, number) {
         Ok(true) => note(second.start_write(number, content, urgent), last, true),
@@ -128,7 +130,8 @@ pub fn start_invalidate<A: MemDevice, B: MemDevice>(
     last: &mut bool,
     number: DeviceNumber,
 ) -> Result<(), DeviceRefusal>
-    ensures { OfPair (Accepts (record { job = record { number = number.0; mark = Some mark.Invalid; urgent = false }; length = None }) result) last.old last.new (A.told first.old) (A.clock first.old) (B.told second.old) (B.clock second.old) (A.told first.new) (A.clock first.new) (B.told second.new) (B.clock second.new) }
+    ensures { OfPair (Accepts (record { job = record { number = number.0; mark = Some mark.Invalid; urgent = false }; length = None }) result)
+        last.old last.new (A.told first.old) (A.clock first.old) (B.told second.old) (B.clock second.old) (A.told first.new) (A.clock first.new) (B.told second.new) (B.clock second.new) }
 {
     match look(first, second, number) {
         Ok(true) => note(second.start_invalidate(number), last, true),
@@ -144,7 +147,8 @@ pub fn start_erase<A: MemDevice, B: MemDevice>(
     last: &mut bool,
     number: DeviceNumber,
 ) -> Result<(), DeviceRefusal>
-    ensures { OfPair (Accepts (record { job = record { number = number.0; mark = Some mark.Erased; urgent = false }; length = None }) result) last.old last.new (A.told first.old) (A.clock first.old) (B.told second.old) (B.clock second.old) (A.told first.new) (A.clock first.new) (B.told second.new) (B.clock second.new) }
+    ensures { OfPair (Accepts (record { job = record { number = number.0; mark = Some mark.Erased; urgent = false }; length = None }) result)
+        last.old last.new (A.told first.old) (A.clock first.old) (B.told second.old) (B.clock second.old) (A.told first.new) (A.clock first.new) (B.told second.new) (B.clock second.new) }
 {
     match look(first, second, number) {
         Ok(true) => note(second.start_erase(number), last, true),

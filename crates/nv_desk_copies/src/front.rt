@@ -56,7 +56,9 @@ impl Front {
         requires next { IsNextEntry next (next_of self.old.desk.config (state_of self.old.desk)) }
         requires staging { StagesAll self.old.desk.config self.old.staging }
         requires synchronized { AreSynchronized self.old.desk.config (C.told copies.old) }
-        ensures picks { PicksNext (λ block t. IsCopied (λ n x. C.is_store copies.new block n x × C.looked copies.old copies.new block n) self.old.desk.config block (C.told copies.old) (C.told copies.new) (copies_out_next self.old.desk.config (next_of self.old.desk.config (state_of self.old.desk))) t) ops self.old.desk self.new.desk (C.told copies.old) (C.told copies.new) }
+        ensures picks { PicksNext (λ block t. IsCopied (λ n x. C.is_store copies.new block n x × C.looked copies.old copies.new block n)
+            self.old.desk.config block (C.told copies.old) (C.told copies.new) (copies_out_next self.old.desk.config (next_of self.old.desk.config (state_of self.old.desk))) t)
+            ops self.old.desk self.new.desk (C.told copies.old) (C.told copies.new) }
         ensures room { self.new.staging.room ≡ self.old.staging.room }
         ensures unread { self.new.unread ≡ self.old.unread }
         ensures stays { CopiesStay C.told C.is_store C.over copies.old copies.new }

@@ -33,7 +33,9 @@ pub fn pick<C: SyncCalls>(
     requires next { IsNextEntry next (next_of desk.old.config (state_of desk.old)) }
     requires staging { StagesAll desk.old.config staging.old }
     requires synchronized { AreSynchronized desk.old.config (C.told copies.old) }
-    ensures picks { PicksNext (λ block t. IsCopied (λ n x. C.is_store copies.new block n x × C.looked copies.old copies.new block n) desk.old.config block (C.told copies.old) (C.told copies.new) (copies_out_next desk.old.config (next_of desk.old.config (state_of desk.old))) t) ops desk.old desk.new (C.told copies.old) (C.told copies.new) }
+    ensures picks { PicksNext (λ block t. IsCopied (λ n x. C.is_store copies.new block n x × C.looked copies.old copies.new block n)
+        desk.old.config block (C.told copies.old) (C.told copies.new) (copies_out_next desk.old.config (next_of desk.old.config (state_of desk.old))) t)
+        ops desk.old desk.new (C.told copies.old) (C.told copies.new) }
     ensures room { staging.new.room ≡ staging.old.room }
     ensures stays { CopiesStay C.told C.is_store C.over copies.old copies.new }
 {
@@ -92,7 +94,8 @@ fn take_for<C: SyncCalls>(desk: &Desk, staging: &mut Staging, job: &Job, copies:
     requires staging { StagesAll desk.now.config staging.old }
     requires synchronized { AreSynchronized desk.now.config (C.told copies.old) }
     ensures taken { TakesBy (desc_of desk.now.config (job_block job.now)) (block_at (state_of desk.now) (job_block job.now)) job.now (kind_of job.now) (taken_with job.now.content (took_of result staging.new.bytes)) }
-    ensures copied { IsCopied (λ n x. C.is_store copies.new (job_block job.now) n x × C.looked copies.old copies.new (job_block job.now) n) desk.now.config (job_block job.now) (C.told copies.old) (C.told copies.new) (copies_out_for desk.now.config job.now) (taken_with job.now.content (took_of result staging.new.bytes)) }
+    ensures copied { IsCopied (λ n x. C.is_store copies.new (job_block job.now) n x × C.looked copies.old copies.new (job_block job.now) n)
+        desk.now.config (job_block job.now) (C.told copies.old) (C.told copies.new) (copies_out_for desk.now.config job.now) (taken_with job.now.content (took_of result staging.new.bytes)) }
     ensures room { staging.new.room ≡ staging.old.room }
     ensures counts { OnlyRefusals (job_block job.now) (C.told copies.old) (C.told copies.new) }
     ensures stays { CopiesStay C.told C.is_store C.over copies.old copies.new }
@@ -120,7 +123,9 @@ fn take_for_member<C: SyncCalls>(
     requires staging { StagesAll desk.now.config staging.old }
     requires synchronized { AreSynchronized desk.now.config (C.told copies.old) }
     ensures taken { (sw : MachineSweep) → (state_of desk.now).sweep ≡ Some sw → TakesBy (desc_of desk.now.config block) (block_at (state_of desk.now) block) (member_job desk.now.config sw block) (member_kind sw.writes) (taken_with None (took_of result staging.new.bytes)) }
-    ensures copied { (sw : MachineSweep) → (state_of desk.now).sweep ≡ Some sw → IsCopied (λ n x. C.is_store copies.new block n x × C.looked copies.old copies.new block n) desk.now.config block (C.told copies.old) (C.told copies.new) (copies_out_by (member_kind sw.writes) None (is_synchronized (desc_of desk.now.config block).ram)) (taken_with None (took_of result staging.new.bytes)) }
+    ensures copied { (sw : MachineSweep) → (state_of desk.now).sweep ≡ Some sw
+        → IsCopied (λ n x. C.is_store copies.new block n x × C.looked copies.old copies.new block n) desk.now.config block
+        (C.told copies.old) (C.told copies.new) (copies_out_by (member_kind sw.writes) None (is_synchronized (desc_of desk.now.config block).ram)) (taken_with None (took_of result staging.new.bytes)) }
     ensures room { staging.new.room ≡ staging.old.room }
     ensures counts { OnlyRefusals block (C.told copies.old) (C.told copies.new) }
     ensures stays { CopiesStay C.told C.is_store C.over copies.old copies.new }

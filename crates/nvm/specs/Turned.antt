@@ -42,7 +42,8 @@ pub record HasFallen (last s : UnitState) : Type 0 where
   pub lasts : Lasts (told_of last.device) (told_clock last.device) (told_of s.device) (told_clock s.device)
   pub risen : Rose (faults_of (told_of last.device)) (faults_of (told_of s.device))
   pub told : TellsSlots (told_of s.device) → TellsSlots (told_of last.device)
-  pub kept : (before : Part → PartTold) → StackKeepsAsTold before last.desk last.hand (told_of last.device) (told_clock last.device) → DownKeepsAsTold before s.desk (told_of s.device) (told_clock s.device)
+  pub kept : (before : Part → PartTold) → StackKeepsAsTold before last.desk last.hand (told_of last.device) (told_clock last.device)
+      → DownKeepsAsTold before s.desk (told_of s.device) (told_clock s.device)
 
 -- by these moves the unit came to where it stood last
 pub record HasStood (moves : List Move) (began s : UnitState) : Type 0 where

@@ -43,11 +43,11 @@ pub fn run_unit<F: Flash, U: Unit>(
     ensures stopped { IfErr result (λ e. ComesBack config e.0 (F.told flash) (F.told e.1)) }
     ensures untouched { OnErr result (unit.new ≡ unit.old) }
 {
-    run_over::<F, U, Brand>(alloc, config, flash, cuts, unit)
+    run_unit_with_origin::<F, U, Brand>(alloc, config, flash, cuts, unit)
 }
 
 // So over a device of this origin.
-fn run_over<F: Flash, U: Unit, O: Origin>(
+fn run_unit_with_origin<F: Flash, U: Unit, O: Origin>(
     alloc: Global,
     config: Config,
     flash: F,

@@ -20,8 +20,8 @@ use Rattle.nvm_c.specs.Room.{room_owns}
 use Rattle.nvm_c.specs.Unit.{UnitState}
 use Rattle.nvm_c.specs.Work.{CanServe}
 use Rattle.nvm_c.specs.contracts.room.Room as Room
-use Rattle.nvm_c.specs.declared.work.Work.{Work}
-use Rattle.nvm_c.specs.declared.work.Work.TheVariants.{Open, Close, Serve}
+use Rattle.nvm_c.specs.declared.work.UnitWork.{UnitWork}
+use Rattle.nvm_c.specs.declared.work.UnitWork.TheVariants.{Open, Close, Serve}
 
 -- what a call passes for `Brand`
 abbrev pub marker : RattleType
@@ -49,12 +49,12 @@ module _ {M : Type 1} {𝓤 : Ura M} (𝓛 : Logic 𝓤) (o : Ghosts Marker) (at
   as_held (Some k) made = subst (λ (p : Ghosts Marker). ent 𝓤 (sem 𝓛 (room_owns (row_at p) at (Some k.state))) (sem 𝓛 (held at (Some k)))) made (id⊢ 𝓤 _)
 
 -- WORK
-pub made_of : (kept : Option Kept) (work : Work) → IsMadeOf (origin_for kept work) kept
+pub made_of : (kept : Option Kept) (work : UnitWork) → IsMadeOf (origin_for kept work) kept
 made_of None work = tt
 made_of (Some k) work = refl
 
 -- what is kept behind it was made of the same
-pub made_behind : (kept : Option Kept) (work : Work) (s : Option UnitState) → IsMadeOf (origin_for kept work) (kept_as kept work s)
+pub made_behind : (kept : Option Kept) (work : UnitWork) (s : Option UnitState) → IsMadeOf (origin_for kept work) (kept_as kept work s)
 made_behind kept work None = tt
 made_behind (Some k) work (Some s) = refl
 made_behind None (Open config flash cuts) (Some s) = refl
@@ -62,14 +62,14 @@ made_behind None Close (Some s) = tt
 made_behind None (Serve task) (Some s) = tt
 
 -- no work but an opening begins with a closed handle
-pub state_behind : (kept : Option Kept) (work : Work) (s : Option UnitState) → CanRun kept work → state_in (kept_as kept work s) ≡ s
+pub state_behind : (kept : Option Kept) (work : UnitWork) (s : Option UnitState) → CanRun kept work → state_in (kept_as kept work s) ≡ s
 state_behind kept work None can = refl
 state_behind (Some k) work (Some s) can = refl
 state_behind None (Open config flash cuts) (Some s) can = refl
 state_behind None Close (Some s) can = cc can
 state_behind None (Serve task) (Some s) can = absurd can
 
-pub can_serve : (kept : Option Kept) (work : Work) → CanRun kept work → CanServe (origin_for kept work).making (origin_for kept work).entry work (state_in kept)
+pub can_serve : (kept : Option Kept) (work : UnitWork) → CanRun kept work → CanServe (origin_for kept work).making (origin_for kept work).entry work (state_in kept)
 can_serve None (Open config flash cuts) can = (refl, record { made_for = refl; over = refl })
 can_serve (Some k) (Open config flash cuts) can = cc can
 can_serve None Close can = can

@@ -22,7 +22,7 @@ use Rattle.nvm_c.specs.declared.work.Task.{Task}
 use Rattle.nvm_c.specs.declared.work.Outcome.{Outcome}
 use Rattle.nvm_c.specs.declared.work.Outcome.TheVariants.{Asked, Closed, Down, NotOpened}
 use Rattle.nvm_c.specs.declared.work.Task.TheVariants.{Ask}
-use Rattle.nvm_c.specs.declared.work.Work.TheVariants.{Open, Serve, Close}
+use Rattle.nvm_c.specs.declared.work.UnitWork.TheVariants.{Open, Serve, Close}
 
 -- nothing changed, and this is so of a state that stays
 pub goes_same : (kept : Option Kept) (P : UnitState → UnitState → Type 0) → IsSome kept → ((s : UnitState) → P s s) → Goes kept kept P

@@ -29,7 +29,6 @@ use Rattle.nvm.specs.Unit.{Stays, UnitTurns, takes_of}
 use Rattle.nvm.specs.nvm_moves.Seen.{frame_in, frame_of}
 use Rattle.script_player.specs.uds_gateway.block_laws.Laws.{HistoriesStep, SumsGrow}
 use Rattle.script_player.specs.Calls as calls
-use Rattle.script_player.specs.PlainTold.{told_by}
 use Rattle.script_player.proofs.uds_gateway.HistoryLaws.{histories_step, sums_grow}
 use Rattle.script_player.proofs.PlainHalves.{IsBehind, ended}
 use Rattle.script_player.proofs.PlainStarts.{restarts_told}

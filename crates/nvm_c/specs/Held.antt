@@ -22,8 +22,8 @@ use Rattle.nvm_c.specs.Work.{CanDo, IsTaskOf, Serves}
 use Rattle.lent_flash.specs.contracts.flash.LentFlash as FlashRow
 use Rattle.nvm_c.specs.contracts.unit.LentUnit as UnitRow
 use Rattle.nvm_c.specs.declared.work.Task.{Task}
-use Rattle.nvm_c.specs.declared.work.Work.{Work}
-use Rattle.nvm_c.specs.declared.work.Work.TheVariants as work
+use Rattle.nvm_c.specs.declared.work.UnitWork.{UnitWork}
+use Rattle.nvm_c.specs.declared.work.UnitWork.TheVariants as work
 use Rattle.nvm_c.specs.declared.work.Outcome.{Outcome}
 
 -- what it was opened with, its configuration, what its flash told and the planned cuts that there may be, and what it is now
@@ -59,25 +59,25 @@ state_in None = None
 state_in (Some k) = Some k.state
 
 -- what its device was made of, or is now
-abbrev pub origin_for : Option Kept → Work → Ghosts Marker
+abbrev pub origin_for : Option Kept → UnitWork → Ghosts Marker
 origin_for (Some k) w = origin_of k
 origin_for None (work.Open config flash cuts) = origin_by config flash cuts
 origin_for None w = record { making = no_making; entry = no_flash }
 
 -- what a handle keeps of a state
-abbrev pub kept_as : Option Kept → Work → Option UnitState → Option Kept
+abbrev pub kept_as : Option Kept → UnitWork → Option UnitState → Option Kept
 kept_as before w None = None
 kept_as (Some k) w (Some s) = Some (record k { state = s })
 kept_as None (work.Open config flash cuts) (Some s) = Some (record { config = config; flash = flash; cuts = cuts; state = s })
 kept_as None w (Some s) = None
 
 -- a closed handle is opened, an open one does all else
-abbrev pub CanRun : Option Kept → Work → Type 0
+abbrev pub CanRun : Option Kept → UnitWork → Type 0
 CanRun before (work.Open config flash cuts) = before ≡ None
 CanRun before work.Close = IsSome before
 CanRun before (work.Serve x) = IsSomeAnd before (λ k. CanDo x k.state)
 
-abbrev pub Ran : Option Kept → Work → Outcome → Option Kept → Type 0
+abbrev pub Ran : Option Kept → UnitWork → Outcome → Option Kept → Type 0
 Ran before w y behind =
     (s : Option UnitState) × (behind ≡ kept_as before w s) × Serves (origin_for before w).making (origin_for before w).entry w y (state_in before) s
 

@@ -1,5 +1,5 @@
 -- A unit: a stack over memory that is lent, behind its first start-up.
-use Rattle.std.specs.Prelude.{◌≡◌, ◌≤◌, ◌-◌, ℕ, Bool, false, List, length, Option, Some, IsSomeAnd, OnErr, Result, option_map, slice_get}
+use Rattle.std.specs.Prelude.{◌≡◌, ◌-◌, ℕ, Bool, false, List, length, Option, Some, IsSomeAnd, OnErr, Result, option_map, slice_get}
 use Rattle.nvm.specs.block_config.Config.{Configuration}
 use Rattle.nvm.specs.block_machine.Words.{Reply, Request}
 use Rattle.nvm.specs.fls_devices.Cutter.{cutting, told_cutting}

@@ -1,5 +1,5 @@
 -- What is asked of the unit of a handle, and what comes of it.
-use Rattle.std.specs.Prelude.{◌≡◌, ◌⊎◌, ◌≤◌, ℕ, List, false, true, Bool, Option, None, Some, IsSome, IsSomeAnd, IfOk, Result, length, option_map}
+use Rattle.std.specs.Prelude.{◌≡◌, ◌⊎◌, ◌≤◌, ℕ, List, false, true, Option, None, Some, IsSome, IsSomeAnd, IfOk, Result, length, option_map}
 use Rattle.nvm.specs.block_config.Config.{block_of}
 use Rattle.nvm.specs.block_machine.Blocks.{block_at, status_of}
 use Rattle.nvm.specs.block_machine.Legal.{HasStore}
@@ -16,8 +16,8 @@ use Rattle.nvm_c.specs.Texts.{facts_of}
 use Rattle.nvm_c.specs.Unit.{UnitState, unit_told, IsAskCall, IsPlanCall, IsStartCall, IsTurnCall, given_last, last_line, Opens, CameBack}
 use Rattle.nvm_c.specs.declared.work.Task.{Task}
 use Rattle.nvm_c.specs.declared.work.Task.TheVariants as task
-use Rattle.nvm_c.specs.declared.work.Work.{Work}
-use Rattle.nvm_c.specs.declared.work.Work.TheVariants as work
+use Rattle.nvm_c.specs.declared.work.UnitWork.{UnitWork}
+use Rattle.nvm_c.specs.declared.work.UnitWork.TheVariants as work
 use Rattle.nvm_c.specs.declared.work.Outcome.{Outcome}
 use Rattle.nvm_c.specs.declared.work.Outcome.TheVariants as outcome
 
@@ -77,12 +77,12 @@ Copies task.Given outcome.Nothing s old new = new ≡ old
 Copies x y s old new = Unit {0}
 
 -- WORK
-abbrev pub CanServe : Making → Told → Work → Option UnitState → Type 0
+abbrev pub CanServe : Making → Told → UnitWork → Option UnitState → Type 0
 CanServe making entry (work.Open config flash cuts) before = (before ≡ None) × IsOrigin config flash cuts making entry
 CanServe making entry work.Close before = IsSome before
 CanServe making entry (work.Serve x) before = IsSomeAnd before (CanDo x)
 
-abbrev pub Serves : Making → Told → Work → Outcome → Option UnitState → Option UnitState → Type 0
+abbrev pub Serves : Making → Told → UnitWork → Outcome → Option UnitState → Option UnitState → Type 0
 Serves making entry (work.Open config flash cuts) outcome.Opened before behind = IsSomeAnd behind (Opens config making entry)
 Serves making entry (work.Open config flash cuts) (outcome.NotOpened fault lent) before behind =
     (behind ≡ None) × IsSome lent.bytes × ((exit : Told) × ComesBack config fault flash exit × (lent.bytes ≡ bytes_now exit))
@@ -90,6 +90,6 @@ Serves making entry work.Close (outcome.Closed lent) (Some s) behind = (behind �
 Serves making entry (work.Serve x) y (Some s) (Some t) = Does x y s t
 Serves making entry w y before behind = ⊥
 
-abbrev pub Hands : Work → Outcome → Option UnitState → (old new : List ℕ) → Type 0
+abbrev pub Hands : UnitWork → Outcome → Option UnitState → (old new : List ℕ) → Type 0
 Hands (work.Serve x) y (Some s) old new = Copies x y s old new
 Hands w y before old new = Unit {0}

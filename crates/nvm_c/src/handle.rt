@@ -2,11 +2,11 @@
 ghost use Rattle.std.specs.Prelude.{◌≡◌, Option, None};
 ghost use Rattle.nvm_c.specs.Held.{Kept, held, kept_coded, state_in, CanRun, Ran};
 ghost use Rattle.nvm_c.specs.Work.{Hands};
-ghost use Rattle.nvm_c.specs.declared.work.Work.TheVariants as Work;
+ghost use Rattle.nvm_c.specs.declared.work.UnitWork.TheVariants as UnitWork;
 
 use crate::room::Room;
 use crate::unit::LentUnit;
-use crate::work::{Outcome, Task, Work, serve};
+use crate::work::{Outcome, Task, UnitWork, serve};
 use std::alloc::Global;
 use std::marker::{Brand, Model};
 use std::mem::replace;
@@ -34,7 +34,7 @@ impl Handle {
 
     // The unit is of a type that its own flash picks, so what is done with it is done at that type.
     #[inline(always)]
-    fn run(self, alloc: Global, work: Work<'_>, into: &mut [u8]) -> (Handle, Outcome)
+    fn run(self, alloc: Global, work: UnitWork<'_>, into: &mut [u8]) -> (Handle, Outcome)
         requires { CanRun self.kept work }
         ensures { Ran self.kept work.entry result.1 result.0.kept × Hands work.entry result.1 (state_in self.kept) into.old into.new }
     {
@@ -51,7 +51,7 @@ impl Handle {
 /// Does work with the unit of a handle. Who calls it knows which work, and it is a part of its caller: so no work is handed on but what that
 /// one needs.
 #[inline(always)]
-pub(crate) fn work_on(alloc: Global, handle: &mut Handle, work: Work<'_>) -> Outcome
+pub(crate) fn work_on(alloc: Global, handle: &mut Handle, work: UnitWork<'_>) -> Outcome
     requires { CanRun handle.old.kept work }
     ensures { Ran handle.old.kept work.entry result handle.new.kept }
 {
@@ -68,11 +68,11 @@ pub(crate) fn copy_out(
     task: Task<'_>,
     into: &mut [u8],
 ) -> Outcome
-    requires { CanRun handle.old.kept (Work.Serve task) }
-    ensures ran { Ran handle.old.kept (Work.Serve task.entry) result handle.new.kept }
-    ensures copied { Hands (Work.Serve task.entry) result (state_in handle.old.kept) into.old into.new }
+    requires { CanRun handle.old.kept (UnitWork.Serve task) }
+    ensures ran { Ran handle.old.kept (UnitWork.Serve task.entry) result handle.new.kept }
+    ensures copied { Hands (UnitWork.Serve task.entry) result (state_in handle.old.kept) into.old into.new }
 {
-    let work = Work::Serve { task };
+    let work = UnitWork::Serve { task };
     let (held, outcome) = replace(handle, Handle::empty()).run(alloc, work, into);
     *handle = held;
     outcome

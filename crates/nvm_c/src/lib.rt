@@ -26,4 +26,4 @@ pub use services::nvm_ask;
 pub use texts::{BlockFacts, nvm_check};
 pub use turns::{nvm_close, nvm_cut, nvm_open, nvm_restart, nvm_turn};
 pub use unit::LentUnit;
-pub use work::{Outcome, Work, serve};
+pub use work::{Outcome, UnitWork, serve};

@@ -9,7 +9,7 @@ ghost use Rattle.nvm_c.specs.Texts.{IsDescribed, flag};
 use crate::filled::fill;
 use crate::handle::{Handle, copy_out, work_on};
 use crate::texts::BlockFacts;
-use crate::work::{Outcome, Task, Work};
+use crate::work::{Outcome, Task, UnitWork};
 use nvm::result_code;
 use std::alloc::Global;
 
@@ -20,7 +20,7 @@ pub extern "C" fn nvm_status(alloc: Global, handle: &mut Handle, block: u16) -> 
     ensures status { Looks handle.old.kept handle.new.kept (λ s. result ≡ code_of (status_of (state_of s.desk) block)) }
 {
     let task = Task::Status { block };
-    match work_on(alloc, handle, Work::Serve { task }) {
+    match work_on(alloc, handle, UnitWork::Serve { task }) {
         Outcome::StatusIs { result } => result_code(result),
         _other => 0,
     }
@@ -33,7 +33,7 @@ pub extern "C" fn nvm_ram_is_valid(alloc: Global, handle: &mut Handle, block: u1
     ensures valid { Looks handle.old.kept handle.new.kept (λ s. result ≡ flag (block_at (state_of s.desk) block).valid) }
 {
     let task = Task::Valid { block };
-    match work_on(alloc, handle, Work::Serve { task }) {
+    match work_on(alloc, handle, UnitWork::Serve { task }) {
         Outcome::Is { valid: true } => 1,
         _other => 0,
     }
@@ -52,7 +52,7 @@ pub extern "C" fn nvm_block(
     ensures described { Looks handle.old.kept handle.new.kept (λ s. IsDescribed s.desk.config block result facts.old facts.new) }
 {
     let task = Task::Facts { block };
-    match work_on(alloc, handle, Work::Serve { task }) {
+    match work_on(alloc, handle, UnitWork::Serve { task }) {
         Outcome::FactsAre { facts: Some(found) } => {
             *facts = found;
             0
@@ -68,7 +68,7 @@ pub extern "C" fn nvm_entries(alloc: Global, handle: &mut Handle) -> u32
     ensures entries { Looks handle.old.kept handle.new.kept (λ s. result ≡ length s.desk.entries) }
 {
     let task = Task::Entries;
-    match work_on(alloc, handle, Work::Serve { task }) {
+    match work_on(alloc, handle, UnitWork::Serve { task }) {
         Outcome::Count { entries } => entries,
         _other => 0,
     }
@@ -135,7 +135,7 @@ pub extern "C" fn nvm_line(
 {
     *size = 0;
     let task = Task::Line;
-    match work_on(alloc, handle, Work::Serve { task }) {
+    match work_on(alloc, handle, UnitWork::Serve { task }) {
         Outcome::Line { text } => match text {
             Some(text) => {
                 *size = fill(text.as_slice(), into);

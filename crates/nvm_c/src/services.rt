@@ -6,7 +6,7 @@ ghost use Rattle.nvm_c.specs.Exports.{Goes, IsAsked};
 ghost use Rattle.nvm_c.specs.Held.{IsHandedOn};
 
 use crate::handle::{Handle, work_on};
-use crate::work::{Outcome, Task, Work};
+use crate::work::{Outcome, Task, UnitWork};
 use nvm::{AskFault, Reply, RequestKind, refusal_number, result_code};
 use std::alloc::Global;
 
@@ -115,7 +115,7 @@ fn ask_unit(
         &[]
     };
     let task = Task::Ask { kind, content };
-    work_on(alloc, handle, Work::Serve { task })
+    work_on(alloc, handle, UnitWork::Serve { task })
 }
 
 // An answer as C gets it.

@@ -4,7 +4,7 @@ ghost use Rattle.nvm_c.specs.Unit.{ClosesWith};
 ghost use Rattle.nvm_c.specs.Exports.{Goes, IsNotOpened, IsOpened, IsOpenedOver, IsPlanned, IsRestarted, IsStopped, IsTurned, fault_code, found_code, turned_code};
 
 use crate::handle::{Handle, work_on};
-use crate::work::{Outcome, Task, Work};
+use crate::work::{Outcome, Task, UnitWork};
 use lent_flash::{Lent, LentFlash};
 use nvm::{Config, ConfigFault, FoundAnswer, MakeFault, Turned, read};
 use std::alloc::Global;
@@ -68,7 +68,7 @@ fn open_over(
     ensures back { result ≢ 0 → IsSome back.new.bytes }
     ensures stopped { result ≢ 0 → IsNotOpened config flash result back.new.bytes }
 {
-    let work = Work::Open {
+    let work = UnitWork::Open {
         config,
         flash,
         cuts,
@@ -103,7 +103,7 @@ pub extern "C" fn nvm_turn(alloc: Global, handle: &mut Handle) -> u8
     ensures turned { Goes handle.old.kept handle.new.kept (IsTurned result) }
 {
     let task = Task::Turn;
-    match work_on(alloc, handle, Work::Serve { task }) {
+    match work_on(alloc, handle, UnitWork::Serve { task }) {
         Outcome::Turned { turned } => turned_code(turned),
         _other => 5,
     }
@@ -117,7 +117,7 @@ pub extern "C" fn nvm_cut(alloc: Global, handle: &mut Handle, nth: u32, keep: u3
     ensures planned { Goes handle.old.kept handle.new.kept (IsPlanned nth keep result) }
 {
     let task = Task::Cut { nth, keep };
-    match work_on(alloc, handle, Work::Serve { task }) {
+    match work_on(alloc, handle, UnitWork::Serve { task }) {
         Outcome::Planned => 0,
         Outcome::NotPlanned => 6,
         _other => 5,
@@ -143,7 +143,7 @@ pub extern "C" fn nvm_restart(alloc: Global, handle: &mut Handle) -> u8
     ensures restarted { Goes handle.old.kept handle.new.kept (IsRestarted result) }
 {
     let task = Task::Restart;
-    match work_on(alloc, handle, Work::Serve { task }) {
+    match work_on(alloc, handle, UnitWork::Serve { task }) {
         Outcome::Found { found } => found_code(found),
         _other => 4,
     }
@@ -156,7 +156,7 @@ pub extern "C" fn nvm_close(alloc: Global, handle: &mut Handle, back: &mut Lent)
     ensures closed { handle.new.kept ≡ None }
     ensures given_back { IfSome handle.old.kept (λ k. IsSomeAnd back.new.bytes (ClosesWith k.flash k.state)) }
 {
-    match work_on(alloc, handle, Work::Close) {
+    match work_on(alloc, handle, UnitWork::Close) {
         Outcome::Closed { lent } => *back = lent,
         _other => {}
     }

@@ -1,7 +1,7 @@
 // What is done with the unit of a handle, whatever it was made of.
 ghost use Rattle.std.specs.Prelude.{◌≡◌, None, IfErr, IfOk};
 ghost use Rattle.nvm_c.specs.declared.work.Task.TheVariants as Task;
-ghost use Rattle.nvm_c.specs.declared.work.Work.TheVariants as Work;
+ghost use Rattle.nvm_c.specs.declared.work.UnitWork.TheVariants as UnitWork;
 ghost use Rattle.nvm_c.specs.Work.{CanDo, CanServe, Copies, Does, Hands, Serves};
 
 use crate::room::Room;
@@ -16,7 +16,7 @@ use std::alloc::Global;
 
 /// What is asked of a unit.
 #[derive(Drop)]
-pub enum Work<'a> {
+pub enum UnitWork<'a> {
     Open {
         config: Config,
         flash: LentFlash,
@@ -92,20 +92,20 @@ pub type UnitRoom<O> = Room<LentUnit<O>>;
 pub fn serve<O: Origin>(
     alloc: Global,
     room: UnitRoom<O>,
-    work: Work<'_>,
+    work: UnitWork<'_>,
     into: &mut [u8],
 ) -> (UnitRoom<O>, Outcome)
     requires { CanServe O.making O.entry work room.value }
     ensures { Serves O.making O.entry work.entry result.1 room.value result.0.value × Hands work.entry result.1 room.value into.old into.new }
 {
     match work {
-        Work::Open {
+        UnitWork::Open {
             config,
             flash,
             cuts,
         } => open_room(alloc, config, flash, cuts),
-        Work::Close => close_room(alloc, room),
-        Work::Serve { task } => {
+        UnitWork::Close => close_room(alloc, room),
+        UnitWork::Serve { task } => {
             let mut unit = room.into_box(alloc);
             let outcome = do_task(alloc, &mut unit, task, into);
             (Room::of(unit), outcome)
@@ -116,8 +116,8 @@ pub fn serve<O: Origin>(
 // Closes the unit of a room. It stands apart, as the opening does: a call pays at entry for all that its function may hold.
 #[inline(never)]
 fn close_room<O: Origin>(alloc: Global, room: UnitRoom<O>) -> (UnitRoom<O>, Outcome)
-    requires { CanServe O.making O.entry Work.Close room.value }
-    ensures { Serves O.making O.entry Work.Close result.1 room.value result.0.value }
+    requires { CanServe O.making O.entry UnitWork.Close room.value }
+    ensures { Serves O.making O.entry UnitWork.Close result.1 room.value result.0.value }
 {
     let unit = Box::into_inner(room.into_box(alloc));
     (Room::empty(), Outcome::Closed { lent: unit.close() })
@@ -131,8 +131,8 @@ fn open_room<O: Origin>(
     flash: LentFlash,
     cuts: u32,
 ) -> (UnitRoom<O>, Outcome)
-    requires { CanServe O.making O.entry (Work.Open config flash cuts) None }
-    ensures { Serves O.making O.entry (Work.Open config flash cuts) result.1 None result.0.value }
+    requires { CanServe O.making O.entry (UnitWork.Open config flash cuts) None }
+    ensures { Serves O.making O.entry (UnitWork.Open config flash cuts) result.1 None result.0.value }
 {
     match open::<O>(alloc, config, flash, cuts) {
         Ok(unit) => match boxed(alloc, unit) {

@@ -19,7 +19,7 @@ pub use Rattle.nvm_callers.specs.Deeds.{HasDone, Shows, EachWait, WereOver, HasW
 pub use Rattle.nvm_callers.specs.Stored.{Stored, TellsDone, IsStoreOf, AreAsMany, StoredOne, stores_in, NoneIsStored, AsksStayStored, StoresLast, StoresAreStored, HasStored}
 pub use Rattle.nvm_callers.specs.Calls.{Did, MayStore, HasPolled, KeepsPass, MayMake, IsAsk, IsAwait}
 pub use Rattle.nvm_callers.specs.Endings.{StopsBy, EndsBy, FindsNoRoom, WaitsNext}
-pub use Rattle.nvm_callers.specs.Callers.{EndsAt, HasMade, share_of, AllMade, HaveRun, worse, MayRun, GoesOn, HasWorked, IsFresh, MayGoOn, HasBegun, worst, with_parts}
+pub use Rattle.nvm_callers.specs.Callers.{EndsAt, HasMade, share_of, AllMade, HaveRun, worse, MayRun, GoesOn, HasWorked, IsFresh, WorkerMayGoOn, HasBegun, worst, with_parts}
 pub use Rattle.nvm_callers.specs.declared.ending.Ending.{Ending}
 pub use Rattle.nvm_callers.specs.declared.ending.Ending.TheVariants.{All as EndsAll, NoRoom, Memory}
 pub use Rattle.std.proofs.lemmas.Bool.{cases_Bool, cases_lt, ne_eqb, eqb-true, eqb-false, eq-eqb, lt-ltb, le-ltb}
@@ -134,6 +134,6 @@ pub use Rattle.script_callers.proofs.Owning.{stores_are_of_one, by_owner, one_mo
 pub use Rattle.script_walks.proofs.Newest.{stores_are_few}
 pub use Rattle.look_laws.specs.Shown.{HasOneOwner}
 pub use Rattle.look_laws.proofs.Shown.{shown_can_be_stored}
-pub use Rattle.nvm_callers.specs.declared.caller.Stop.{Stop}
+pub use Rattle.nvm_callers.specs.declared.caller.NotMade.{NotMade}
 pub use Rattle.std.proofs.lemmas.Result.{IfOk-weaker}
 pub use Rattle.driver_moves.specs.promise_run.Turns.{is_picked as picks}

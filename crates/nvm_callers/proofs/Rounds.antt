@@ -1,5 +1,5 @@
 -- What rounds leave of the workers.
-use Rattle.nvm_callers.proofs.Common.{slice_get, slice_index_or, set, All, IsSome, ◌≡◌, ◌<◌, ◌≤◌, ◌+◌, ℕ, List, [], ◌∷◌, length, Option, Some, None, true, false, refl, sym, subst, arith, ◌∙◌, ⊎_elim, cases_lt, length-set, get_or-set_same, get_or-set_other, knows, PassValue, SharedState, Pairs, Program, Stored, AllChanged, AllPlaced, GoesOn, HasMade, HasWorked, IsFresh, MayGoOn, share_of, Worker, Ending, get_or_default}
+use Rattle.nvm_callers.proofs.Common.{slice_get, slice_index_or, set, All, IsSome, ◌≡◌, ◌<◌, ◌≤◌, ◌+◌, ℕ, List, [], ◌∷◌, length, Option, Some, None, true, false, refl, sym, subst, arith, ◌∙◌, ⊎_elim, cases_lt, length-set, get_or-set_same, get_or-set_other, knows, PassValue, SharedState, Pairs, Program, Stored, AllChanged, AllPlaced, GoesOn, HasMade, HasWorked, IsFresh, WorkerMayGoOn, share_of, Worker, Ending, get_or_default}
 use Rattle.nvm_callers.proofs.Passing.{program_before}
 use Rattle.nvm_callers.proofs.Working.{begun_ended, none_begun}
 
@@ -65,7 +65,7 @@ module _ {S : Type 0} (bytes : S → ℕ → Option ℕ) (stored : S → ℕ →
 
   -- a worker that went on from nothing, and ended
   worked_at : (place : ℕ) (old new : W) (first : S) → place < length programs → IsFresh g old.pass old.made old.ending → old.stores ≡ first → GoesOn bytes stored mirrors g programs place old new
-      → MayGoOn g programs place new.pass new.made → IsSome new.ending → HasWorked bytes stored mirrors g programs place new.pass new.made new.ending new.seen first new.stores
+      → WorkerMayGoOn g programs place new.pass new.made → IsSome new.ending → HasWorked bytes stored mirrors g programs place new.pass new.made new.ending new.seen first new.stores
   worked_at place old new first low fresh same goes_on may some =
       let (ended, is) = ended_of new.ending some in
       let worked : (p : Program) → slice_get programs place ≡ Some p → HasMade bytes stored mirrors g.terms p (share_of p new.made (knows new.pass)) ended first new.stores × (new.seen ≡ length (knows new.pass).seen) =
@@ -85,7 +85,7 @@ module _ {S : Type 0} (bytes : S → ℕ → Option ℕ) (stored : S → ℕ →
   -- so did all
   pub all_worked : (firsts : List S) (olds news : List W) → length firsts ≡ length programs → length olds ≡ length programs → length news ≡ length olds
       → AllPlaced (λ place w. IsFresh g w.pass w.made w.ending × (w.stores ≡ slice_index_or firsts place w.stores)) olds → AllChanged (GoesOn bytes stored mirrors g programs) olds news
-      → AllPlaced (λ place w. MayGoOn g programs place w.pass w.made) news → All (λ w. IsSome w.ending) news
+      → AllPlaced (λ place w. WorkerMayGoOn g programs place w.pass w.made) news → All (λ w. IsSome w.ending) news
       → AllPlaced (λ place w. HasWorked bytes stored mirrors g programs place w.pass w.made w.ending w.seen (slice_index_or firsts place w.stores) w.stores) news
   all_worked firsts olds news one two three fresh goes_on may ended = λ place d low.
       let old = slice_index_or olds place d in

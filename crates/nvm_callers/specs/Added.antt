@@ -19,7 +19,9 @@ use Rattle.nvm_callers.specs.Driven.{HasDriven}
 abbrev pub RefusesNone : List Told → Type 0
 RefusesNone copies = (block : ℕ) → IfSome (told_at copies block) (λ s. s.to_refuse ≡ Some 0)
 
-module _ {D C : Type 0} (told : D → DeviceTold) (clock : D → Clock) (copies : C → List Told) (is_store : C → ℕ → ℕ → List ℕ → Type 0) (looked : C → C → ℕ → ℕ → Type 0) (over : C → C → Type 0) (stands : C → ℕ → ℕ → List Entry → Type 0) (t : Terms) where
+module _ {D C : Type 0} (told : D → DeviceTold) (clock : D → Clock) (copies : C → List Told)
+    (is_store : C → ℕ → ℕ → List ℕ → Type 0) (looked : C → C → ℕ → ℕ → Type 0) (over : C → C → Type 0)
+    (stands : C → ℕ → ℕ → List Entry → Type 0) (t : Terms) where
   -- The history went on, without a start-up, of which the device counted none. Where no copy is to be refused none was. Where no cut is
   -- planned each Off is a cut that was counted.
   pub record HasAdded (seen seen_new : List Entry) (old new : DriverState D C) : Type 0 where

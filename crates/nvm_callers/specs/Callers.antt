@@ -61,7 +61,7 @@ pub record IsFresh (g : SharedState) (p : PassValue) (made : ℕ) (ending : Opti
   pub goes_on : ending ≡ None
 
 -- the worker at this place may go on with its program, of which it made so many deeds
-pub record MayGoOn (g : SharedState) (programs : List Program) (place : ℕ) (p : PassValue) (made : ℕ) : Type 0 where
+pub record WorkerMayGoOn (g : SharedState) (programs : List Program) (place : ℕ) (p : PassValue) (made : ℕ) : Type 0 where
   pub own : IsUserOf g p
   pub part : (knows p).parts ≡ 1
   pub few : (one : Program) → slice_get programs place ≡ Some one → made ≤ length one.deeds

@@ -15,7 +15,9 @@ use Rattle.driver_moves.specs.nvm_laws.Ties.{IsTied}
 use Rattle.driver_moves.specs.nvm_core.Work.{TakesTurns}
 use Rattle.driver_moves.specs.nvm_shared.Driving.{DriverState, Drives, SeesRequests, TurnsBehind, stack_of}
 
-module _ {D C : Type 0} (told : D → DeviceTold) (clock : D → Clock) (copies : C → List Told) (is_store : C → ℕ → ℕ → List ℕ → Type 0) (looked : C → C → ℕ → ℕ → Type 0) (over : C → C → Type 0) (stands : C → ℕ → ℕ → List Entry → Type 0) (t : Terms) where
+module _ {D C : Type 0} (told : D → DeviceTold) (clock : D → Clock) (copies : C → List Told)
+    (is_store : C → ℕ → ℕ → List ℕ → Type 0) (looked : C → C → ℕ → ℕ → Type 0) (over : C → C → Type 0)
+    (stands : C → ℕ → ℕ → List Entry → Type 0) (t : Terms) where
   -- from a list that was seen, with the driver's parts, the promise stays kept to a later one
   abbrev pub StaysKeptOver : (seen seen_new : List Entry) → (old new : DriverState D C) → Type 0
   StaysKeptOver seen seen_new old new =

@@ -10,7 +10,9 @@ use Rattle.driver_moves.specs.nvm_shared.declared.terms.Terms.{Terms}
 use Rattle.driver_moves.specs.nvm_shared.Driving.{DriverState}
 use Rattle.nvm_callers.specs.Driven.{HasDriven, StaysKeptOver}
 
-module _ {D C : Type 0} (told : D → DeviceTold) (clock : D → Clock) (copies : C → List Told) (is_store : C → ℕ → ℕ → List ℕ → Type 0) (looked : C → C → ℕ → ℕ → Type 0) (over : C → C → Type 0) (stands : C → ℕ → ℕ → List Entry → Type 0) (t : Terms) where
+module _ {D C : Type 0} (told : D → DeviceTold) (clock : D → Clock) (copies : C → List Told)
+    (is_store : C → ℕ → ℕ → List ℕ → Type 0) (looked : C → C → ℕ → ℕ → Type 0) (over : C → C → Type 0)
+    (stands : C → ℕ → ℕ → List Entry → Type 0) (t : Terms) where
   -- The promise stays kept, as far as the device tells what it holds; no count of the device falls; and of the application's copies
   -- stay which blocks they are of, each store that was, and what they are over.
   pub record HasKept (seen seen_new : List Entry) (old new : DriverState D C) : Type 0 where

@@ -36,7 +36,9 @@ module _ (looks : List Look) (IsStore : (block number : ℕ) → List ℕ → Ty
   AllTookShown c before [] = Unit {0}
   AllTookShown c before (e ∷ es) = TookShown before e (copies_next c (next_of c (after c before))) × AllTookShown c (before ++ e ∷ []) es
 
-module _ {D C : Type 0} (told : D → DeviceTold) (clock : D → Clock) (copies : C → List Told) (is_store : C → ℕ → ℕ → List ℕ → Type 0) (looked : C → C → ℕ → ℕ → Type 0) (over : C → C → Type 0) (stands : C → ℕ → ℕ → List Entry → Type 0) (t : Terms) where
+module _ {D C : Type 0} (told : D → DeviceTold) (clock : D → Clock) (copies : C → List Told)
+    (is_store : C → ℕ → ℕ → List ℕ → Type 0) (looked : C → C → ℕ → ℕ → Type 0) (over : C → C → Type 0)
+    (stands : C → ℕ → ℕ → List Entry → Type 0) (t : Terms) where
   -- A look in the Pick behind a beginning of the list: between these two, and what came along with what it showed stands in that
   -- beginning.
   pub record IsLookOf (seen : List Entry) (old new : C) (l : Look) : Type 0 where

@@ -21,7 +21,10 @@ abbrev pub KeepsShares : View Entry Terms → View Entry Terms → Type 0
 KeepsShares v w = (shares : List Share) → Collects shares v → Collects shares w
 
 -- the driver made turns, and its pass keeps what it took in, and its parts
-pub record HasSteered {D C : Type 0} (told : D → DeviceTold) (clock : D → Clock) (copies : C → List Told) (is_store : C → ℕ → ℕ → List ℕ → Type 0) (looked : C → C → ℕ → ℕ → Type 0) (over : C → C → Type 0) (stands : C → ℕ → ℕ → List Entry → Type 0) (t : Terms) (v w : View Entry Terms) (old new : DriverState D C) : Type 0 where
+pub record HasSteered {D C : Type 0}
+    (told : D → DeviceTold) (clock : D → Clock) (copies : C → List Told) (is_store : C → ℕ → ℕ → List ℕ → Type 0)
+    (looked : C → C → ℕ → ℕ → Type 0) (over : C → C → Type 0) (stands : C → ℕ → ℕ → List Entry → Type 0)
+    (t : Terms) (v w : View Entry Terms) (old new : DriverState D C) : Type 0 where
   pub driven : HasDriven told clock copies is_store looked over stands t v.seen w.seen old new
   pub shares : KeepsShares v w
   pub parts : w.parts ≡ v.parts

@@ -8,7 +8,7 @@ use std::thread::{Threads, join_mut};
 
 /// What the workers of a thread do in it, each by its place, from `start` on. `ready` holds of each before, and `done` of it before and
 /// behind. A worker is a bare type parameter: a closure that is lent to a thread holds no `&mut` to a type that names a parameter inside.
-pub trait Work<G, P> {
+pub trait ThreadWork<G, P> {
     ghost ready: { Self → G → ℕ → P → Type 0 };
 
     ghost done: { Self → G → ℕ → P → P → Type 0 };
@@ -38,7 +38,7 @@ pub trait Drive<G> {
         ensures { done self.old self.new shared.now };
 }
 
-fn work_from<W: Wait, G, P, J: Work<G, P>>(
+fn work_from<W: Wait, G, P, J: ThreadWork<G, P>>(
     rt: &W,
     shared: &G,
     job: &J,
@@ -61,7 +61,7 @@ fn drive_on<W: Wait, G, K: Drive<G>>(rt: &W, shared: &G, driver: &mut K)
 }
 
 /// The workers, so many in each thread as the job says, where one can be made.
-fn run_each<R: Threads + Wait + Sync, G: Sync, P: Send, J: Work<G, P> + Sync>(
+fn run_each<R: Threads + Wait + Sync, G: Sync, P: Send, J: ThreadWork<G, P> + Sync>(
     rt: &R,
     shared: &G,
     job: &J,
@@ -83,13 +83,13 @@ fn run_each<R: Threads + Wait + Sync, G: Sync, P: Send, J: Work<G, P> + Sync>(
 
 /// The workers in threads, and beside them the driver, in this one. Where no thread can be made the driver comes first, and the workers
 /// behind it.
-pub fn run_beside<R: Threads + Wait + Sync, G: Sync, P: Send, J: Work<G, P> + Sync, K: Drive<G>>(
-    rt: &R,
-    shared: &G,
-    job: &J,
-    workers: &mut [P],
-    driver: &mut K,
-)
+pub fn run_beside<
+    R: Threads + Wait + Sync,
+    G: Sync,
+    P: Send,
+    J: ThreadWork<G, P> + Sync,
+    K: Drive<G>,
+>(rt: &R, shared: &G, job: &J, workers: &mut [P], driver: &mut K)
     requires some { 0 < length workers.old }
     requires count { length workers.old ≡ J.count job.now }
     requires each { AllPlaced (J.ready job.now shared.now) workers.old }

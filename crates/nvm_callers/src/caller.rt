@@ -9,7 +9,7 @@ ghost use Rattle.driver_moves.specs.nvm_shared.Passes.{IsUserOf};
 ghost use Rattle.nvm_callers.specs.Stored.{Stored};
 ghost use Rattle.nvm_callers.specs.Calls.{Did, IsAsk, IsAwait, KeepsPass, MayMake};
 ghost use Rattle.nvm_callers.specs.Endings.{FindsNoRoom, StopsBy};
-ghost use Rattle.nvm_callers.specs.declared.caller.Stop.TheVariants as stop;
+ghost use Rattle.nvm_callers.specs.declared.caller.NotMade.TheVariants as stop;
 
 use crate::ending::Ending;
 use crate::hold::Hold;
@@ -33,7 +33,7 @@ pub struct Caller<'a, H> {
 
 // What keeps a caller from its next deed: a request has no room, there is no memory, or a wait goes on.
 #[derive(Clone, Copy)]
-enum Stop {
+enum NotMade {
     NoRoom,
     Memory,
     Wait,
@@ -60,7 +60,9 @@ impl<'a, H: Hold> Caller<'a, H> {
         requires store { HasStore shared.now.terms.config request.now }
         ensures own { IsUserOf shared.now pass.new }
         ensures keeps { KeepsPass (knows pass.old) (knows pass.new) }
-        ensures done { (ds : List Deeds) (bytes : ℕ → Option ℕ) (began made : ℕ → List Stored) → Did shared.now.terms self.now.number ds (knows pass.old) bytes began made → OnOk result (Did shared.now.terms self.now.number (ds ++ deed_of.Ask line request.now ∷ []) (knows pass.new) bytes began made) }
+        ensures done { (ds : List Deeds) (bytes : ℕ → Option ℕ) (began made : ℕ → List Stored)
+            → Did shared.now.terms self.now.number ds (knows pass.old) bytes began made
+            → OnOk result (Did shared.now.terms self.now.number (ds ++ deed_of.Ask line request.now ∷ []) (knows pass.new) bytes began made) }
         ensures left { (ds : List Deeds) (bytes : ℕ → Option ℕ) (began made : ℕ → List Stored) → Did shared.now.terms self.now.number ds (knows pass.old) bytes began made → OnErr result (Did shared.now.terms self.now.number ds (knows pass.new) bytes began made) }
         ensures full { IsErrOf result fault.NoRoom → FindsNoRoom shared.now.terms (knows pass.new) }
     {
@@ -105,7 +107,9 @@ impl<'a, H: Hold> Caller<'a, H> {
         ensures keeps { KeepsPass (knows pass.old) (knows pass.new) }
         ensures bytes { (block : ℕ) → S.bytes stores.new block ≡ S.bytes stores.old block }
         ensures mirrors { S.mirrors stores.new ≡ S.mirrors stores.old }
-        ensures done { (ds : List Deeds) (bytes : ℕ → Option ℕ) (began : ℕ → List Stored) → ((block : ℕ) → S.bytes stores.old block ≡ bytes block) → Did shared.now.terms self.now.number ds (knows pass.old) bytes began (S.made stores.old) → Did shared.now.terms self.now.number (ds ++ deed_of.Store deed.0 deed.1 deed.2 content.now ∷ []) (knows pass.new) bytes began (S.made stores.new) }
+        ensures done { (ds : List Deeds) (bytes : ℕ → Option ℕ) (began : ℕ → List Stored) → ((block : ℕ) → S.bytes stores.old block ≡ bytes block)
+            → Did shared.now.terms self.now.number ds (knows pass.old) bytes began (S.made stores.old)
+            → Did shared.now.terms self.now.number (ds ++ deed_of.Store deed.0 deed.1 deed.2 content.now ∷ []) (knows pass.new) bytes began (S.made stores.new) }
     {
         let (_line, block, _number) = deed;
         stores.store(shared, pass, block, content);
@@ -119,7 +123,7 @@ impl<'a, H: Hold> Caller<'a, H> {
         pass: &mut StackPass,
         stores: &mut S,
         deed: &Deed,
-    ) -> Result<(), Stop>
+    ) -> Result<(), NotMade>
         requires lock { S.is_of shared.now.gate }
         requires own { IsUserOf shared.now pass.old }
         requires caller { self.now.number ≤ 15 }
@@ -128,22 +132,26 @@ impl<'a, H: Hold> Caller<'a, H> {
         ensures keeps { KeepsPass (knows pass.old) (knows pass.new) }
         ensures bytes { (block : ℕ) → S.bytes stores.new block ≡ S.bytes stores.old block }
         ensures mirrors { S.mirrors stores.new ≡ S.mirrors stores.old }
-        ensures done { (ds : List Deeds) (bytes : ℕ → Option ℕ) (began : ℕ → List Stored) → ((block : ℕ) → S.bytes stores.old block ≡ bytes block) → Did shared.now.terms self.now.number ds (knows pass.old) bytes began (S.made stores.old) → OnOk result (Did shared.now.terms self.now.number (ds ++ deed.now ∷ []) (knows pass.new) bytes began (S.made stores.new)) }
-        ensures left { (ds : List Deeds) (bytes : ℕ → Option ℕ) (began : ℕ → List Stored) → ((block : ℕ) → S.bytes stores.old block ≡ bytes block) → Did shared.now.terms self.now.number ds (knows pass.old) bytes began (S.made stores.old) → OnErr result (Did shared.now.terms self.now.number ds (knows pass.new) bytes began (S.made stores.new)) }
+        ensures done { (ds : List Deeds) (bytes : ℕ → Option ℕ) (began : ℕ → List Stored) → ((block : ℕ) → S.bytes stores.old block ≡ bytes block)
+            → Did shared.now.terms self.now.number ds (knows pass.old) bytes began (S.made stores.old)
+            → OnOk result (Did shared.now.terms self.now.number (ds ++ deed.now ∷ []) (knows pass.new) bytes began (S.made stores.new)) }
+        ensures left { (ds : List Deeds) (bytes : ℕ → Option ℕ) (began : ℕ → List Stored) → ((block : ℕ) → S.bytes stores.old block ≡ bytes block)
+            → Did shared.now.terms self.now.number ds (knows pass.old) bytes began (S.made stores.old)
+            → OnErr result (Did shared.now.terms self.now.number ds (knows pass.new) bytes began (S.made stores.new)) }
         ensures full { IsErrOf result stop.NoRoom → FindsNoRoom shared.now.terms (knows pass.new) × IsAsk deed.now }
         ensures waits { IsErrOf result stop.Wait → IsAwait deed.now }
     {
         match deed {
             Deed::Ask { line, request } => match self.ask(rt, shared, pass, *line, request) {
                 Ok(()) => Ok(()),
-                Err(AskFault::NoRoom) => Err(Stop::NoRoom),
-                Err(AskFault::Memory) => Err(Stop::Memory),
+                Err(AskFault::NoRoom) => Err(NotMade::NoRoom),
+                Err(AskFault::Memory) => Err(NotMade::Memory),
             },
             Deed::Await { line, block } => {
                 if self.wait(shared, pass, *line, *block) {
                     Ok(())
                 } else {
-                    Err(Stop::Wait)
+                    Err(NotMade::Wait)
                 }
             }
             Deed::Store {
@@ -185,15 +193,17 @@ impl<'a, H: Hold> Caller<'a, H> {
         ensures count { (begin ≤ result.0) × (result.0 ≤ length deeds.now) }
         ensures bytes { (block : ℕ) → S.bytes stores.new block ≡ S.bytes stores.old block }
         ensures mirrors { S.mirrors stores.new ≡ S.mirrors stores.old }
-        ensures done { (bytes : ℕ → Option ℕ) (began : ℕ → List Stored) → ((block : ℕ) → S.bytes stores.old block ≡ bytes block) → Did shared.now.terms self.now.number (take begin deeds.now) (knows pass.old) bytes began (S.made stores.old) → Did shared.now.terms self.now.number (take result.0 deeds.now) (knows pass.new) bytes began (S.made stores.new) }
+        ensures done { (bytes : ℕ → Option ℕ) (began : ℕ → List Stored) → ((block : ℕ) → S.bytes stores.old block ≡ bytes block)
+            → Did shared.now.terms self.now.number (take begin deeds.now) (knows pass.old) bytes began (S.made stores.old)
+            → Did shared.now.terms self.now.number (take result.0 deeds.now) (knows pass.new) bytes began (S.made stores.new) }
         ensures stops { StopsBy shared.now.terms deeds.now result.0 (knows pass.new) result.1 }
     {
         for place in begin..deeds.len() {
             match self.make(rt, shared, pass, stores, &deeds[place]) {
                 Ok(()) => {}
-                Err(Stop::NoRoom) => return (place, Some(Ending::NoRoom)),
-                Err(Stop::Memory) => return (place, Some(Ending::Memory)),
-                Err(Stop::Wait) => return (place, None),
+                Err(NotMade::NoRoom) => return (place, Some(Ending::NoRoom)),
+                Err(NotMade::Memory) => return (place, Some(Ending::Memory)),
+                Err(NotMade::Wait) => return (place, None),
             }
         }
         (deeds.len(), Some(Ending::All))

@@ -7,7 +7,7 @@ ghost use Rattle.driver_moves.specs.nvm_shared.Driving.{IsDriverOf};
 ghost use Rattle.driver_moves.specs.nvm_shared.Passes.{IsDriven};
 ghost use Rattle.nvm_callers.specs.Driven.{HasDriven};
 ghost use Rattle.nvm_callers.specs.Joins.{Collects};
-ghost use Rattle.nvm_callers.specs.Callers.{GoesOn, HasWorked, HaveRun, MayGoOn, MayRun};
+ghost use Rattle.nvm_callers.specs.Callers.{GoesOn, HasWorked, HaveRun, WorkerMayGoOn, MayRun};
 ghost use Rattle.nvm_callers.specs.Placed.{AllChanged, AllPlaced};
 ghost use Rattle.nvm_callers.specs.Steering.{HasSteered, TellsAlways};
 
@@ -146,11 +146,11 @@ fn make_rounds<
     requires lock { C.is_of shared.now.gate × S.is_of shared.now.gate }
     requires count { length workers.old ≡ length job.now.programs.now }
     requires may { All (MayRun shared.now.terms.config) job.now.programs.now }
-    requires each { AllPlaced (λ place w. MayGoOn shared.now job.now.programs.now place w.pass w.made) workers.old }
+    requires each { AllPlaced (λ place w. WorkerMayGoOn shared.now job.now.programs.now place w.pass w.made) workers.old }
     ensures driver { IsDriverOf D.told D.clock C.told shared.now steering.new.pass steering.new.driver }
     ensures steers { HasSteered D.told D.clock C.told C.is_store C.looked C.over C.stands shared.now.terms (knows steering.old.pass) (knows steering.new.pass) steering.old.driver steering.new.driver }
     ensures count { length workers.new ≡ length workers.old }
-    ensures each { AllPlaced (λ place w. MayGoOn shared.now job.now.programs.now place w.pass w.made) workers.new }
+    ensures each { AllPlaced (λ place w. WorkerMayGoOn shared.now job.now.programs.now place w.pass w.made) workers.new }
     ensures on { AllChanged (GoesOn S.bytes S.made S.mirrors shared.now job.now.programs.now) workers.old workers.new }
     ensures ended { All (λ w. IsSome w.ending) workers.new }
 {
@@ -184,11 +184,11 @@ fn make_round<
     requires lock { C.is_of shared.now.gate × S.is_of shared.now.gate }
     requires count { length workers.old ≡ length job.now.programs.now }
     requires may { All (MayRun shared.now.terms.config) job.now.programs.now }
-    requires each { AllPlaced (λ place w. MayGoOn shared.now job.now.programs.now place w.pass w.made) workers.old }
+    requires each { AllPlaced (λ place w. WorkerMayGoOn shared.now job.now.programs.now place w.pass w.made) workers.old }
     ensures driver { IsDriverOf D.told D.clock C.told shared.now steering.new.pass steering.new.driver }
     ensures steers { HasSteered D.told D.clock C.told C.is_store C.looked C.over C.stands shared.now.terms (knows steering.old.pass) (knows steering.new.pass) steering.old.driver steering.new.driver }
     ensures count { length workers.new ≡ length workers.old }
-    ensures each { AllPlaced (λ place w. MayGoOn shared.now job.now.programs.now place w.pass w.made) workers.new }
+    ensures each { AllPlaced (λ place w. WorkerMayGoOn shared.now job.now.programs.now place w.pass w.made) workers.new }
     ensures on { AllChanged (GoesOn S.bytes S.made S.mirrors shared.now job.now.programs.now) workers.old workers.new }
 {
     if !workers.is_empty() {

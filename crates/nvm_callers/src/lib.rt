@@ -26,7 +26,7 @@ mod stores;
 mod threads;
 mod wait;
 
-pub use beside::{Drive, Work};
+pub use beside::{Drive, ThreadWork};
 pub use caller::Caller;
 pub use callers::run_callers;
 pub use driver_moves::nvm_moves;

@@ -22,7 +22,7 @@ use std::sync::Wait;
 use std::thread::Threads;
 
 /// Runs these programs on a stack that is shared. The lock is the one that `J` names: its passes' knowledge goes along with stores.
-pub fn run_over<R: Threads + Wait + Sync, D: MemDevice, J: Naming + Send>(
+pub fn run_programs<R: Threads + Wait + Sync, D: MemDevice, J: Naming + Send>(
     rt: &R,
     alloc: Global,
     config: &Config,

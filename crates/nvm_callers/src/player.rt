@@ -5,7 +5,7 @@ ghost use Rattle.script_callers.specs.RunScripts.{AreRun};
 ghost use Rattle.nvm_callers.specs.Ran.{KeepsOrder, WasRun};
 
 use crate::Ending;
-use crate::mirrored::run_over;
+use crate::mirrored::run_programs;
 use driver_moves::nvm_shared::share;
 use driver_moves::{Config, Desk, MemDevice, PlainSync, Stack};
 use nvm_script::StepList;
@@ -47,7 +47,15 @@ pub fn play_callers<R: Threads + Wait + Sync, D: MemDevice>(
     let _few = steps.len();
     match share(alloc, stack) {
         Ok((shared, pass, driver)) => {
-            run_over::<R, D, Brand>(rt, alloc, config, shared, pass, driver, programs.as_slice())
+            run_programs::<R, D, Brand>(
+                rt,
+                alloc,
+                config,
+                shared,
+                pass,
+                driver,
+                programs.as_slice(),
+            )
         }
         Err(failed) => Err(failed.device),
     }

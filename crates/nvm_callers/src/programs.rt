@@ -2,10 +2,10 @@
 ghost use Rattle.std.specs.Prelude.{◌≡◌, ◌≤◌, ◌<◌, ◌+◌, length, All};
 ghost use Rattle.turn_gate.specs.Pass.{knows};
 ghost use Rattle.driver_moves.specs.nvm_shared.Passes.{IsUserOf};
-ghost use Rattle.nvm_callers.specs.Callers.{GoesOn, HasBegun, MayGoOn, MayRun};
+ghost use Rattle.nvm_callers.specs.Callers.{GoesOn, HasBegun, WorkerMayGoOn, MayRun};
 ghost use Rattle.nvm_callers.specs.Placed.{AllChanged, AllPlaced};
 
-use crate::beside::Work;
+use crate::beside::ThreadWork;
 use crate::caller::Caller;
 use crate::callers::have_ended;
 use crate::hold::Hold;
@@ -87,8 +87,8 @@ fn make_one<W: Wait, H: Hold, S: Stores>(
     requires lock { S.is_of shared.now.gate }
     requires place { place < length job.now.programs.now }
     requires may { All (MayRun shared.now.terms.config) job.now.programs.now }
-    requires ready { MayGoOn shared.now job.now.programs.now place worker.old.pass worker.old.made }
-    ensures ready { MayGoOn shared.now job.now.programs.now place worker.new.pass worker.new.made }
+    requires ready { WorkerMayGoOn shared.now job.now.programs.now place worker.old.pass worker.old.made }
+    ensures ready { WorkerMayGoOn shared.now job.now.programs.now place worker.new.pass worker.new.made }
     ensures on { GoesOn S.bytes S.made S.mirrors shared.now job.now.programs.now place worker.old worker.new }
 {
     make_program(
@@ -113,9 +113,9 @@ fn go_over<W: Wait, H: Hold, S: Stores>(
     requires lock { S.is_of shared.now.gate }
     requires places { start + length workers.old ≤ length job.now.programs.now }
     requires may { All (MayRun shared.now.terms.config) job.now.programs.now }
-    requires ready { AllPlaced (λ k w. MayGoOn shared.now job.now.programs.now (start + k) w.pass w.made) workers.old }
+    requires ready { AllPlaced (λ k w. WorkerMayGoOn shared.now job.now.programs.now (start + k) w.pass w.made) workers.old }
     ensures count { length workers.new ≡ length workers.old }
-    ensures ready { AllPlaced (λ k w. MayGoOn shared.now job.now.programs.now (start + k) w.pass w.made) workers.new }
+    ensures ready { AllPlaced (λ k w. WorkerMayGoOn shared.now job.now.programs.now (start + k) w.pass w.made) workers.new }
     ensures on { AllChanged (λ k. GoesOn S.bytes S.made S.mirrors shared.now job.now.programs.now (start + k)) workers.old workers.new }
 {
     for k in 0..workers.len() {
@@ -135,8 +135,8 @@ fn go_on<W: Wait, H: Hold, S: Stores>(
     requires lock { S.is_of shared.now.gate }
     requires places { start + length workers.old ≤ length job.now.programs.now }
     requires may { All (MayRun shared.now.terms.config) job.now.programs.now }
-    requires ready { AllPlaced (λ k w. MayGoOn shared.now job.now.programs.now (start + k) w.pass w.made) workers.old }
-    ensures ready { AllPlaced (λ k w. MayGoOn shared.now job.now.programs.now (start + k) w.pass w.made) workers.new }
+    requires ready { AllPlaced (λ k w. WorkerMayGoOn shared.now job.now.programs.now (start + k) w.pass w.made) workers.old }
+    ensures ready { AllPlaced (λ k w. WorkerMayGoOn shared.now job.now.programs.now (start + k) w.pass w.made) workers.new }
     ensures on { AllChanged (λ k. GoesOn S.bytes S.made S.mirrors shared.now job.now.programs.now (start + k)) workers.old workers.new }
 {
     let mut waiting = Waiting::begin(job.round);
@@ -163,8 +163,8 @@ fn make_programs<W: Wait, H: Hold, S: Stores>(
 )
     requires some { 0 < length workers.old }
     requires places { start + length workers.old ≤ length job.now.programs.now }
-    requires ready { AllPlaced (λ k w. MayGoOn shared.now job.now.programs.now (start + k) w.pass w.made × S.is_of shared.now.gate × All (MayRun shared.now.terms.config) job.now.programs.now) workers.old }
-    ensures { AllChanged (λ k old new. MayGoOn shared.now job.now.programs.now (start + k) new.pass new.made × GoesOn S.bytes S.made S.mirrors shared.now job.now.programs.now (start + k) old new) workers.old workers.new }
+    requires ready { AllPlaced (λ k w. WorkerMayGoOn shared.now job.now.programs.now (start + k) w.pass w.made × S.is_of shared.now.gate × All (MayRun shared.now.terms.config) job.now.programs.now) workers.old }
+    ensures { AllChanged (λ k old new. WorkerMayGoOn shared.now job.now.programs.now (start + k) new.pass new.made × GoesOn S.bytes S.made S.mirrors shared.now job.now.programs.now (start + k) old new) workers.old workers.new }
 {
     job.round.callers_begin(workers.len() as u64);
     tell_back(job.round, workers, true);
@@ -181,13 +181,13 @@ fn tell_back<S>(round: &Round, workers: &[Worker<S>], ended: bool) {
     }
 }
 
-impl<'a, H: Hold, S: Stores> Work<Shared, Worker<S>> for Programs<'a, H> {
+impl<'a, H: Hold, S: Stores> ThreadWork<Shared, Worker<S>> for Programs<'a, H> {
     ghost use Rattle.std.specs.Prelude.{length, All};
-    ghost use Rattle.nvm_callers.specs.Callers.{GoesOn, MayGoOn, MayRun};
+    ghost use Rattle.nvm_callers.specs.Callers.{GoesOn, WorkerMayGoOn, MayRun};
 
-    ghost ready = { λ j g place w. MayGoOn g j.programs.now place w.pass w.made × S.is_of g.gate × All (MayRun g.terms.config) j.programs.now };
+    ghost ready = { λ j g place w. WorkerMayGoOn g j.programs.now place w.pass w.made × S.is_of g.gate × All (MayRun g.terms.config) j.programs.now };
 
-    ghost done = { λ j g place old new. MayGoOn g j.programs.now place new.pass new.made × GoesOn S.bytes S.made S.mirrors g j.programs.now place old new };
+    ghost done = { λ j g place old new. WorkerMayGoOn g j.programs.now place new.pass new.made × GoesOn S.bytes S.made S.mirrors g j.programs.now place old new };
 
     ghost count = { λ j. length j.programs.now };
 

@@ -2,7 +2,7 @@
 ghost use Rattle.std.specs.Prelude.{◌≡◌, ◌<◌, length};
 ghost use Rattle.nvm_callers.specs.Placed.{AllChanged, AllPlaced};
 
-use crate::beside::{Drive, Work, run_beside};
+use crate::beside::{Drive, ThreadWork, run_beside};
 use crate::ending::Ending;
 use driver_moves::nvm_shared::{Locked, Shared, SharedOf, StackPass, TellsGate, TellsTerms};
 use std::snapshot::Snapshot;
@@ -30,7 +30,7 @@ fn run_of<
     G: TellsGate + Drop + Sync,
     T: TellsTerms + Drop + Sync,
     P: Send,
-    J: Work<SharedOf<G, T>, P> + Sync,
+    J: ThreadWork<SharedOf<G, T>, P> + Sync,
     K: Drive<SharedOf<G, T>>,
 >(rt: &R, shared: &SharedOf<G, T>, job: &J, workers: &mut [P], driver: &mut K)
     requires some { 0 < length workers.old }
@@ -49,7 +49,7 @@ fn run_at<
     V: Kept + Send + Drop,
     T: TellsTerms + Drop + Sync,
     S: Send,
-    J: Work<SharedOf<Gate<V>, T>, WorkerOf<Pass<V>, S>> + Sync,
+    J: ThreadWork<SharedOf<Gate<V>, T>, WorkerOf<Pass<V>, S>> + Sync,
     K: Drive<SharedOf<Gate<V>, T>>,
 >(
     rt: &R,
@@ -73,7 +73,7 @@ fn run_at<
 pub fn run_shared<
     R: Threads + Wait + Sync,
     S: Send,
-    J: Work<Shared, Worker<S>> + Sync,
+    J: ThreadWork<Shared, Worker<S>> + Sync,
     K: Drive<Shared>,
 >(rt: &R, shared: &Shared, job: &J, workers: &mut [Worker<S>], driver: &mut K)
     requires some { 0 < length workers.old }

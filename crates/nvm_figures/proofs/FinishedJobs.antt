@@ -15,7 +15,7 @@ use Rattle.job_programs.specs.Program.{Program, next_in}
 use Rattle.nvm_figures.specs.Left.{stack_left}
 use Rattle.nvm_figures.specs.Job.{IsSameJob, job_at}
 use Rattle.nvm_figures.specs.Urgent.{IsOnTime, pages_of}
-use Rattle.nvm_figures.specs.Run.{IsUrgentWrite, IsInWork, Comes, IsJobTurned, Moment, AreTurned, RunsAreWithin, RunsAreSoon}
+use Rattle.nvm_figures.specs.Run.{IsUrgentWrite, IsInWork, Comes, IsJobTurned, JobTurn, AreTurned, RunsAreWithin, RunsAreSoon}
 use Rattle.nvm_figures.specs.Finish.{ProgramsArePlaced, IsBegun, IsPlaced, NoCountFalls, IsInTime}
 use Rattle.memif.specs.Told as device
 use Rattle.nvm_figures.proofs.Programs.{same_job}
@@ -86,7 +86,7 @@ same_more a b c one two = record {
 writes_still : (f g : Fixed) (urgent : Bool) (a b : Program) → g ≡ f → IsSameJob a b → IsUrgentWrite f urgent a.block a.kind → IsUrgentWrite g urgent b.block b.kind
 writes_still f g urgent a b fixed same write = rw (fixed, same.block, same.kind) write
 
-faults_stay : (content : List ℕ) (urgent : Bool) (p : Program) (old : DeviceTold) (run : List Moment) (q : Program) (new : DeviceTold) → AreTurned content urgent p old run q new → NoCountFalls old new
+faults_stay : (content : List ℕ) (urgent : Bool) (p : Program) (old : DeviceTold) (run : List JobTurn) (q : Program) (new : DeviceTold) → AreTurned content urgent p old run q new → NoCountFalls old new
 faults_stay content urgent p old [] q new turned part = rw turned.1 (omega arith)
 faults_stay content urgent p old (m ∷ ms) q new turned part = omega (arith, turned.0.faults part, faults_stay content urgent m.program m.device ms q new turned.1 part)
 
@@ -111,14 +111,14 @@ runs_are_soon content urgent p old (m ∷ ms) q new pages turns turned calm writ
     let rest = runs_are_soon content urgent m.program m.device ms q new pages (turns + 1) turned.1 (calm_since old m.device new turned.0.faults calm) more next in
     on_time_at pages (turns + 1 + length ms) (turns + length (m ∷ ms)) q new (omega arith) rest
 
-turn_pushed : (content : List ℕ) (urgent : Bool) (p : Program) (old : DeviceTold) (run : List Moment) (m : Moment) (q : Program) (new : DeviceTold) → AreTurned content urgent p old run q new
+turn_pushed : (content : List ℕ) (urgent : Bool) (p : Program) (old : DeviceTold) (run : List JobTurn) (m : JobTurn) (q : Program) (new : DeviceTold) → AreTurned content urgent p old run q new
     → IsJobTurned content urgent q new m.program m.device → AreTurned content urgent p old (run ++ m ∷ []) m.program m.device
 turn_pushed content urgent p old [] m q new turned one = (rw (← turned.0, ← turned.1) one, (refl, refl))
 turn_pushed content urgent p old (x ∷ run) m q new turned one = (turned.0, turn_pushed content urgent x.program x.device run m q new turned.1 one)
 
 -- A JOB ON ITS WAY
 pub record IsOnWay (content : List ℕ) (urgent : Bool) (first : Program) (begun : DeviceTold) (turns : ℕ) (p : Program) (d : DeviceTold) : Type 0 where
-  pub run : (run : List Moment) × (turns ≡ min (length run) last_count) × AreTurned content urgent first begun run p d
+  pub run : (run : List JobTurn) × (turns ≡ min (length run) last_count) × AreTurned content urgent first begun run p d
   pub same : IsSameJob first p
   pub tries : p.failures ≤ p.retries
   pub work : IsInWork content urgent p d.stand
@@ -145,7 +145,7 @@ begins content urgent p d off begun = record {
 pub goes_on : (content : List ℕ) (urgent : Bool) (first : Program) (begun : DeviceTold) (turns after : ℕ) (p q : Program) (old new : DeviceTold)
     → IsOnWay content urgent first begun turns p old → IsJobTurned content urgent p old q new → after ≡ min (turns + 1) last_count → IsOnWay content urgent first begun after q new
 goes_on content urgent first begun turns after p q old new way turned more =
-    let m : Moment = record { program = q; device = new } in
+    let m : JobTurn = record { program = q; device = new } in
     let (run, count, made) = way.run in
     record {
       run = (run ++ m ∷ [], omega (arith, more, count, length-append run (m ∷ [])), turn_pushed content urgent first begun run m p old made turned);

@@ -15,7 +15,7 @@ use Rattle.nvm_figures.specs.declared.finish.JobEnd.TheVariants.{Over, Off}
 use Rattle.nvm_figures.specs.Left.{stack_left, most_turns}
 use Rattle.nvm_figures.specs.Urgent.{pages_of, urgent_turns}
 use Rattle.nvm_figures.specs.Job.{program_next, wish_for}
-use Rattle.nvm_figures.specs.Run.{IsUrgentWrite, IsJobTurned, Moment, AreTurned}
+use Rattle.nvm_figures.specs.Run.{IsUrgentWrite, IsJobTurned, JobTurn, AreTurned}
 
 -- THE JOB
 -- nothing was done of it
@@ -45,7 +45,7 @@ Refuses r (Some w) d = refusal_of d w.job.number w.length ≡ Some r
 Refuses r None d = ⊥
 
 -- after these turns it is over with what its program says, or in a turn behind them the power is off
-abbrev pub IsRun : JobEnd → List ℕ → Bool → Program → DeviceTold → List Moment → Program → DeviceTold → Type 0
+abbrev pub IsRun : JobEnd → List ℕ → Bool → Program → DeviceTold → List JobTurn → Program → DeviceTold → Type 0
 IsRun (Over result source) content urgent p old run q new = AreTurned content urgent p old run q new × (next_in q ≡ None) × (step_of q ≡ Ended result source)
 IsRun Off content urgent p old run q new = (before : DeviceTold) × AreTurned content urgent p old run q before × (is_off new ≡ true)
 

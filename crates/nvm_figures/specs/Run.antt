@@ -69,24 +69,24 @@ JobTurnsKeep new clock =
     → IsJobTurned content urgent p old (program_next p begun.stand new.stand) new
 
 -- what stands behind a turn
-pub record Moment : Type 0 where
+pub record JobTurn : Type 0 where
   pub program : Program
   pub device : DeviceTold
 
 -- turns of a job in order, each told by what stands behind it
-abbrev pub AreTurned : List ℕ → Bool → Program → DeviceTold → List Moment → Program → DeviceTold → Type 0
+abbrev pub AreTurned : List ℕ → Bool → Program → DeviceTold → List JobTurn → Program → DeviceTold → Type 0
 AreTurned content urgent p old [] q new = (q ≡ p) × (new ≡ old)
 AreTurned content urgent p old (m ∷ ms) q new = IsJobTurned content urgent p old m.program m.device × AreTurned content urgent m.program m.device ms q new
 
 -- Where no fault was counted, each lowered what is left by one at least.
 abbrev pub RunsAreWithin : Type 0
 RunsAreWithin =
-    (content : List ℕ) (urgent : Bool) (p : Program) (old : DeviceTold) (run : List Moment) (q : Program) (new : DeviceTold) → AreTurned content urgent p old run q new
+    (content : List ℕ) (urgent : Bool) (p : Program) (old : DeviceTold) (run : List JobTurn) (q : Program) (new : DeviceTold) → AreTurned content urgent p old run q new
     → IsFaultless old new → length run + stack_left (Some q) new ≤ stack_left (Some p) old
 
 -- An urgent write that was on time stays so.
 abbrev pub RunsAreSoon : Type 0
 RunsAreSoon =
-    (content : List ℕ) (urgent : Bool) (p : Program) (old : DeviceTold) (run : List Moment) (q : Program) (new : DeviceTold) (pages turns : ℕ)
+    (content : List ℕ) (urgent : Bool) (p : Program) (old : DeviceTold) (run : List JobTurn) (q : Program) (new : DeviceTold) (pages turns : ℕ)
     → AreTurned content urgent p old run q new → IsFaultless old new → IsUrgentWrite old.fixed urgent p.block p.kind → IsOnTime pages turns p old
     → IsOnTime pages (turns + length run) q new

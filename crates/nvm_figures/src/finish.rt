@@ -8,7 +8,7 @@ ghost use Rattle.memif.specs.Calls.{Accepts};
 ghost use Rattle.memif.specs.Trials.{IsFaultless};
 ghost use Rattle.job_programs.specs.Program.{step_of};
 ghost use Rattle.nvm_figures.specs.Job.{IsSameJob, wish_for};
-ghost use Rattle.nvm_figures.specs.Run.{IsInWork, Moment};
+ghost use Rattle.nvm_figures.specs.Run.{IsInWork, JobTurn};
 ghost use Rattle.nvm_figures.specs.Finish.{IsBegun, IsPlaced, IsInTime, IsRun, Refuses, Begins, GoesOn, TurnsJob, wish_of};
 
 use crate::{JobSteps, outcome_of};
@@ -137,7 +137,7 @@ pub fn finish_job<D: MemDevice, P: JobSteps>(
     requires idle { is_open (D.told device.old).stand ≡ false }
     requires begun { IsBegun (P.shown program.old) }
     requires placed { IsPlaced (P.shown program.old) }
-    ensures run { IfOk result (λ f. (run : List Moment) × (f.turns ≡ min (length run) last_count) × IsRun f.end job.now.content.now job.now.urgent (P.shown program.old) (D.told device.old) run (P.shown program.new) (D.told device.new)) }
+    ensures run { IfOk result (λ f. (run : List JobTurn) × (f.turns ≡ min (length run) last_count) × IsRun f.end job.now.content.now job.now.urgent (P.shown program.old) (D.told device.old) run (P.shown program.new) (D.told device.new)) }
     ensures same { IfOk result (λ f. IsSameJob (P.shown program.old) (P.shown program.new)) }
     ensures in_time { IfOk result (λ f. IsFaultless (D.told device.old) (D.told device.new) → IsInTime job.now.urgent f.turns (P.shown program.old) (D.told device.old)) }
     ensures refused { IfErr result (λ r. Refuses r (wish_of (step_of (P.shown program.new)) job.now.length job.now.content.now job.now.urgent) (D.told device.new)) }

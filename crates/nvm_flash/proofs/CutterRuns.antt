@@ -17,7 +17,7 @@ use Rattle.fee_core.specs.promise_device.Bridge.{IsWornBy, cuts_of}
 use Rattle.fee_core.specs.promise_device.FlashRun.{TellsBytes, TellsOperations, StartsSound, HasRoom, AreSeen, bytes_after, is_none_done}
 use Rattle.fee_core.specs.fls_told.Device.{FlashDevice, flash_told}
 use Rattle.fee_core.specs.fls_told.Clock.{flash_clock}
-use Rattle.nvm_flash.specs.CutterLaws.{run_over, run_within, HandsBack, DevicesBridge}
+use Rattle.nvm_flash.specs.CutterLaws.{run_of_cutter, run_within, HandsBack, DevicesBridge}
 use Rattle.nvm_flash.proofs.CutterSeen.{OffsKept, offs_kept, keeps_of, seen_merged}
 
 -- WHAT IS TOLD OF THE BYTES
@@ -31,7 +31,7 @@ same_entry inner cuts = same_bytes (empty_journal cuts) inner.geometry inner.byt
 pub same_exit : (c : Cutting) → bytes_now (told_cutting c) ≡ bytes_now c.flash.inner
 same_exit c = same_bytes c.flash.journal c.flash.inner.geometry c.flash.inner.bytes
 
-same_after : (inner : Told) (cuts : ℕ) (c : Cutting) (operations : List Change) (k : ℕ) → bytes_after (run_over inner cuts c operations) k ≡ bytes_after (run_within inner c operations) k
+same_after : (inner : Told) (cuts : ℕ) (c : Cutting) (operations : List Change) (k : ℕ) → bytes_after (run_of_cutter inner cuts c operations) k ≡ bytes_after (run_within inner c operations) k
 same_after inner cuts c operations k = ap (λ (o : Option (List ℕ)). option_map_or (λ (x : Change). Some x.before) (slice_get operations k) o) (same_exit c)
 
 alike : (j i : Journaled) (g h : Geometry) (a b : Option ToldBytes) → IfBothTold (bytes_over j g a) (bytes_over i h b) (λ first last. Unit {0}) → IfBothTold a b (λ first last. Unit {0})
@@ -43,14 +43,14 @@ alike j i g h (Some a) (Some b) both = tt
 as_same : (P : List ℕ → Type 0) (o q : Option (List ℕ)) → o ≡ q → IfSome o P → IfSome q P
 as_same P o q same has = subst (λ (x : Option (List ℕ)). IfSome x P) same has
 
-abbrev pub tells_over : (inner : Told) (cuts : ℕ) (c : Cutting) (operations : List Change) → TellsBytes (run_within inner c operations) → TellsBytes (run_over inner cuts c operations)
+abbrev pub tells_over : (inner : Told) (cuts : ℕ) (c : Cutting) (operations : List Change) → TellsBytes (run_within inner c operations) → TellsBytes (run_of_cutter inner cuts c operations)
 tells_over inner cuts c operations t = record { first = t.first; entry = same_entry inner cuts ∙ t.entry; last = t.last; exit = same_exit c ∙ t.exit }
 
 -- the image at the entry is the inner flash's
-pub starts_over : (m : Making) (inner : Told) (cuts : ℕ) (c : Cutting) (operations : List Change) → StartsSound m (run_within inner c operations) → StartsSound m (run_over inner cuts c operations)
+pub starts_over : (m : Making) (inner : Told) (cuts : ℕ) (c : Cutting) (operations : List Change) → StartsSound m (run_within inner c operations) → StartsSound m (run_of_cutter inner cuts c operations)
 starts_over m inner cuts c operations sound = subst (λ (o : Option (List ℕ)). IfSome o (IsSoundFlash m)) (sym (same_entry inner cuts)) sound
 
-sound_over : (r : Reading) (inner : Told) (cuts : ℕ) (c : Cutting) (operations : List Change) → BeginsSound r (run_within inner c operations) → BeginsSound r (run_over inner cuts c operations)
+sound_over : (r : Reading) (inner : Told) (cuts : ℕ) (c : Cutting) (operations : List Change) → BeginsSound r (run_within inner c operations) → BeginsSound r (run_of_cutter inner cuts c operations)
 sound_over r inner cuts c operations sound = subst (λ (o : Option (List ℕ)). IfSome o (λ image. IsTrue (r.is_sound image))) (sym (same_entry inner cuts)) sound
 
 -- WHAT IS TOLD OF THE CHANGES
@@ -61,7 +61,7 @@ all_told j g (Some b) last changes is told =
     let now : b.now ≡ last = cc is in
     rw told (ap (λ (bytes : List ℕ). Some (merged g j.events changes bytes)) now)
 
-operations_over : (inner : Told) (cuts : ℕ) (c : Cutting) (operations : List Change) → TellsOperations (run_within inner c operations) → TellsOperations (run_over inner cuts c operations)
+operations_over : (inner : Told) (cuts : ℕ) (c : Cutting) (operations : List Change) → TellsOperations (run_within inner c operations) → TellsOperations (run_of_cutter inner cuts c operations)
 operations_over inner cuts c operations t = record {
   bytes = tells_over inner cuts c operations t.bytes;
   changes = merged c.flash.inner.geometry c.flash.journal.events t.changes t.bytes.last;
@@ -85,7 +85,7 @@ room_over : (j : Journaled) (g : Geometry) (b : Option ToldBytes) (n : ℕ) → 
 room_over j g None n tells = tt
 room_over j g (Some b) n tells = (list_over (λ changes. merged g j.events changes b.now) b.changes tells.0, tells.1)
 
-operations_within : (inner : Told) (cuts : ℕ) (c : Cutting) (operations : List Change) → (HasRoom (run_over inner cuts c operations) → TellsOperations (run_over inner cuts c operations))
+operations_within : (inner : Told) (cuts : ℕ) (c : Cutting) (operations : List Change) → (HasRoom (run_of_cutter inner cuts c operations) → TellsOperations (run_of_cutter inner cuts c operations))
     → HasRoom (run_within inner c operations) → TellsOperations (run_within inner c operations)
 operations_within inner cuts c operations over h =
     let t = over (record { bytes = tells_over inner cuts c operations h.bytes; room = room_over (empty_journal cuts) inner.geometry inner.bytes (length operations) h.room }) in
@@ -136,7 +136,7 @@ off_within x true on off = refl
 off_within x false on off = absurd (let never : true ≡ false = sym off ∙ on refl in cc never)
 
 worn_within : (r : Reading) (inner : Told) (cuts : ℕ) (c : Cutting) (operations : List Change) (k n : ℕ) (urgent : Bool) → OnlyCuts c
-    → IsWornBy r (run_over inner cuts c operations) k n urgent → IsWornBy r (run_within inner c operations) k n urgent
+    → IsWornBy r (run_of_cutter inner cuts c operations) k n urgent → IsWornBy r (run_within inner c operations) k n urgent
 worn_within r inner cuts c operations k n urgent only w = record {
   last = as_same (λ image. IsTrue (r.is_last n image)) _ _ (same_exit c) w.last;
   follow = w.follow;

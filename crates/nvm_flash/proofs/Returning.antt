@@ -27,7 +27,7 @@ use Rattle.promise_run.specs.Promise.{making_of}
 use Rattle.nvm_flash.specs.declared.device.MakeFault.{MakeFault}
 use Rattle.nvm_flash.specs.declared.device.MakeFault.TheVariants.{Flash, Memory}
 use Rattle.nvm_flash.specs.Turns.{fixed_by}
-use Rattle.nvm_flash.specs.CutterLaws.{run_over}
+use Rattle.nvm_flash.specs.CutterLaws.{run_of_cutter}
 use Rattle.nvm_flash.specs.Made.{IsOrigin, IsCause, MissesSecond, ComesBack, IsBack, AreOfFirst, IsMadeWith}
 use Rattle.nvm_flash.proofs.CutterRuns.{devices_bridge, tells_over, starts_over}
 use Rattle.nvm_flash.proofs.CutterUnmade.{counts_stay_within, tells_within}
@@ -49,7 +49,7 @@ back c inner cuts making entry exit k d origin only is_exit told changes none mo
           (subst (λ (m : Making). Bridges (reading_of m) false (record { entry = told_cutting (cutting inner cuts); exit = told_cutting k; operations = d.operations }) (part_at (told_cutting (cutting inner cuts))) (told_of d) (clock_of d)) origin.made_for
           (subst (λ (e : Told). Bridges (reading_of making) false (record { entry = e; exit = told_cutting k; operations = d.operations }) (part_at e) (told_of d) (clock_of d)) origin.over bridge));
       wear = λ tells starts.
-          subst (λ (m : Making). OperationsAreDue m (run_over inner cuts k d.operations)) origin.made_for
+          subst (λ (m : Making). OperationsAreDue m (run_of_cutter inner cuts k d.operations)) origin.made_for
           (subst (λ (e : Told). OperationsAreDue making (record { entry = e; exit = told_cutting k; operations = d.operations })) origin.over wear)
           (tells_over inner cuts k d.operations tells) (starts_over (making_of c) inner cuts k d.operations starts);
       restarts = subst (λ (m : Making). RestartsAreFew m d.operations (told_of d)) origin.made_for restarts;

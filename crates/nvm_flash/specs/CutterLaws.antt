@@ -10,8 +10,8 @@ use Rattle.fee_core.specs.fls_told.Device.{FlashDevice, flash_told}
 use Rattle.fee_core.specs.fls_told.Clock.{flash_clock}
 
 -- the run of a cutter, from its making on, and that of the flash within it
-abbrev pub run_over : Told → ℕ → Cutting → List Change → FlashRun
-run_over inner cuts c operations = record { entry = told_cutting (cutting inner cuts); exit = told_cutting c; operations = operations }
+abbrev pub run_of_cutter : Told → ℕ → Cutting → List Change → FlashRun
+run_of_cutter inner cuts c operations = record { entry = told_cutting (cutting inner cuts); exit = told_cutting c; operations = operations }
 
 abbrev pub run_within : Told → Cutting → List Change → FlashRun
 run_within inner c operations = record { entry = inner; exit = c.flash.inner; operations = operations }
@@ -28,5 +28,5 @@ abbrev pub DevicesBridge : Type 0
 DevicesBridge =
     (r : Reading) (inner : Told) (cuts : ℕ) (c : Cutting) (d : FlashDevice) (before : PartTold)
     → OnlyCuts c → HandsBack d c → before.planning.unplanned ≡ inner.cuts → before.planning.withheld ≡ 0
-    → Bridges r false (run_over inner cuts c d.operations) before (flash_told d) (flash_clock d)
+    → Bridges r false (run_of_cutter inner cuts c d.operations) before (flash_told d) (flash_clock d)
     → Bridges r true (run_within inner c d.operations) before (flash_told d) (flash_clock d)

@@ -1,10 +1,8 @@
 -- Which operation is of which part, and which start-up is told by which Found.
 use Rattle.std.specs.Prelude.{nat_le, IfSome, ◌↔◌}
-use Rattle.std.specs.List.{list_any}
 use Rattle.std.specs.Option.{option_map_or}
 use Rattle.std.proofs.Common.{◌≡◌, ◌⊎◌, ◌≤◌, ◌<◌, ℕ, ◌+◌, true, false, IsTrue, List, [], ◌∷◌, ◌++◌, Option, Some, None, refl, sym, ap, ◌∙◌, subst, inl, inr, arith}
-use Rattle.std.proofs.lemmas.Bool.{cases_Bool, cases_lt, lt-leb, or_parts}
-use Rattle.std.proofs.lemmas.Bool.Decides.{nat_tests}
+use Rattle.std.proofs.lemmas.Bool.{cases_lt, lt-leb}
 use Rattle.block_machine.specs.nv_base.Count.{last_count, Rose, WereCounted}
 use Rattle.block_machine.specs.nv_base.Entry as entry
 use Rattle.block_machine.specs.nv_base.Marks.{instance_of}
@@ -15,11 +13,11 @@ use Rattle.memif.specs.Calls.{IsOf, Works, IsCut, Turns}
 use Rattle.memif.specs.declared.answer.DeviceTurn.{DeviceTurn}
 use Rattle.memif.specs.declared.answer.DeviceTurn.TheVariants as turn
 use Rattle.memif.specs.declared.answer.JobResult.TheVariants.{JobOk}
-use Rattle.block_machine.specs.Words.{Instance, Mark, Entry, Ask, Pick, Wrote, Post, Off, Found, Configuration}
+use Rattle.block_machine.specs.Words.{Instance, Mark, Entry, Off, Found, Configuration}
 use Rattle.block_machine.specs.State.{State, Job}
 use Rattle.block_machine.specs.Blocks.{job_block}
 use Rattle.block_machine.specs.StartUp.{at_first}
-use Rattle.block_machine.specs.Steps.{step, after, after_from}
+use Rattle.block_machine.specs.Steps.{after}
 use Rattle.block_machine.specs.History.{is_driver_until, up_to}
 use Rattle.promise_blocks.specs.OverDevice.{TellsAtMost, is_of}
 use Rattle.promise_blocks.specs.Operations.{AreOfJobs, AreStartsTold, founds, is_on, start_ups_in}
@@ -29,6 +27,7 @@ use Rattle.job_progress.specs.Hand.{HandState}
 use Rattle.job_progress.specs.JobInHand.{IsAt, IsInHand, IsPaired, job_for}
 use Rattle.job_programs.specs.Program.{Program}
 use Rattle.block_laws.proofs.HistoryLaws.{late_entries_are_cut_off}
+use Rattle.block_laws.proofs.LateEntries.{up_to_same}
 use Rattle.nvm_device_laws.proofs.DeviceCalls.{goes_cut, goes_same, goes_worked}
 use Rattle.nvm_device_laws.proofs.Moments.{ops_within}
 use Rattle.nvm_device_laws.proofs.Pushed.{Goes}
@@ -37,42 +36,9 @@ use Rattle.nvm_laws.proofs.Ending.{listed, number_is, small_index}
 use Rattle.nvm_laws.proofs.Operations.{is_block}
 
 -- THE JOB IN HAND UP TO AN OPERATION
-late_ops : (ops k : ℕ) → nat_le ops k ≡ false → k < ops
-late_ops ops k is = grind (arith, nat_tests)
-
--- the same job is in hand, or an entry told of more operations
-abbrev IsLate : ℕ → State → State → Type 0
-IsLate k s t = ((t.hand ≡ s.hand) × (t.ops ≡ s.ops)) ⊎ (k < t.ops)
-
-late_one : (c : Configuration) (k : ℕ) (s : State) (e : Entry) → is_driver_until k e ≡ false → IsLate k s (step c s e)
-late_one c k s (Ask caller r reply) late = inl (asked_hand c s r reply, refl)
-late_one c k s (Pick block kind t ops) late = inr (late_ops ops k late)
-late_one c k s (Wrote i mark ops) late = inr (late_ops ops k late)
-late_one c k s (Post block r given refused ops) late = inr (late_ops ops k late)
-late_one c k s (Off ops) late = inr (late_ops ops k late)
-late_one c k s (Found marks ops) late = inr (late_ops ops k late)
-
-late_on : (k : ℕ) (s t u : State) → IsLate k s t → IsLate k t u → IsLate k s u
-late_on k s t u (inl (same, ops)) (inl (also, too)) = inl (also ∙ same, too ∙ ops)
-late_on k s t u (inr more) (inl (also, too)) = inr (rw too more)
-late_on k s t u first (inr more) = inr more
-
-late_by : (c : Configuration) (k : ℕ) (s : State) (es : List Entry) → list_any (is_driver_until k) es ≡ false → IsLate k s (after_from c s es)
-late_by c k s [] late = inl (refl, refl)
-late_by c k s (e ∷ es) late =
-    let (one, rest) = or_parts (is_driver_until k e) (list_any (is_driver_until k) es) late in
-    late_on k s (step c s e) (after_from c (step c s e) es) (late_one c k s e one) (late_by c k (step c s e) es rest)
-
-hand_same : (c : Configuration) (k : ℕ) (s : State) (es : List Entry) → (after_from c s es).ops ≤ k → (after_from c s (up_to k es)).hand ≡ (after_from c s es).hand
-hand_same c k s [] few = refl
-hand_same c k s (e ∷ es) few = elim (cases_Bool (list_any (is_driver_until k) (e ∷ es))) [
-  | inl on ↦ rw on (hand_same c k (step c s e) es few)
-  | inr off ↦ rw off (elim (late_by c k s (e ∷ es) off) [ inl (same, ops) ↦ sym same | inr more ↦ absurd (omega (arith, more, few)) ])
-]
-
 -- from the operations of the last driver entry on it is the job in hand now
 hand_up_to : (c : Configuration) (h : List Entry) (n k : ℕ) → TellsAtMost n h → n ≤ k → (after c (up_to k h)).hand ≡ (after c h).hand
-hand_up_to c h n k tells late = hand_same c k at_first h (let few = ops_within c n at_first h (omega arith) tells in omega (arith, few, late))
+hand_up_to c h n k tells late = up_to_same (λ (s : State). s.hand) (λ c s caller r reply. asked_hand c s r reply) c k at_first h (let few = ops_within c n at_first h (omega arith) tells in omega (arith, few, late))
 
 -- A CALL
 module _ (old : DeviceTold) (clock : Clock) (new : DeviceTold) (clock_new : Clock) (fixed : new.fixed ≡ old.fixed)

@@ -97,7 +97,8 @@ IsServed Device number turns old new = IsDueInHand number turns new
 abbrev pub FirstHalvesServe : DeviceTold → Clock → Type 0
 FirstHalvesServe new clock =
     (act : Act) (desk desk_new : DeskState) (before after : List Told) (hand hand_new : Option HandState) (old : DeviceTold) (number turns : ℕ)
-    → (act ≡ Ended turned.Picked → InOrder new clock) → IsHalf act (λ block t. Unit {0}) ⊥ desk desk_new before after new → AtDevice act hand old desk_new hand_new new → (act ≡ Device → ¬ IsInterruption desk)
+    → (act ≡ Ended turned.Picked → InOrder new clock) → IsHalf act (λ block t. Unit {0}) ⊥ desk desk_new before after new
+    → AtDevice act hand old desk_new hand_new new → (act ≡ Device → ¬ IsInterruption desk)
     → IsTied desk hand old → IsTied desk_new hand_new new → IsDue number turns (record { desk = desk; hand = hand; device = old })
     → IsServed act number turns (record { desk = desk; hand = hand; device = old }) (record { desk = desk_new; hand = hand_new; device = new })
 

@@ -53,4 +53,5 @@ IsHalf (Ended turned.Picked) Holds Fits old new before after d = AddsPick Holds 
 IsHalf (Ended turned.Posted) Holds Fits old new before after d = AddsPost Fits (ops_of d) old new before after
 IsHalf (Ended turned.Idle) Holds Fits old new before after d = AddsNothing old new before after × IsAtRest old d
 IsHalf (Ended turned.Worked) Holds Fits old new before after d = ⊥
-IsHalf Device Holds Fits old new before after d = AddsNothing old new before after × (nothing_open d ≡ false) × ((state_of old).off ≡ false) × ((state_of old).hand ≡ None → next_of old.config (state_of old) ≡ NoNext)
+IsHalf Device Holds Fits old new before after d =
+    AddsNothing old new before after × (nothing_open d ≡ false) × ((state_of old).off ≡ false) × ((state_of old).hand ≡ None → next_of old.config (state_of old) ≡ NoNext)

@@ -48,7 +48,8 @@ abbrev pub DownKeepsAsTold : (Part → PartTold) → DeskState → DeviceTold �
 DownKeepsAsTold before desk d clock = KeepsAsTold (KeepsDown before desk d clock) desk.config desk.cap desk.entries d clock
 
 -- it stays so, and what the device tells behind it was told before
-pub record StaysKept (desk : DeskState) (hand : Option HandState) (d : DeviceTold) (clock : Clock) (desk_new : DeskState) (hand_new : Option HandState) (d_new : DeviceTold) (clock_new : Clock) : Type 0 where
+pub record StaysKept (desk : DeskState) (hand : Option HandState) (d : DeviceTold) (clock : Clock)
+    (desk_new : DeskState) (hand_new : Option HandState) (d_new : DeviceTold) (clock_new : Clock) : Type 0 where
   pub told : TellsSlots d_new → TellsSlots d
   pub tells : d_new.tells ≡ d.tells
   pub kept : (before : Part → PartTold) → StackKeepsAsTold before desk hand d clock → StackKeepsAsTold before desk_new hand_new d_new clock_new

@@ -1,5 +1,5 @@
 -- The moves of a history, from its first start-up on.
-use Rattle.nvm_moves.proofs.Common.{◌≡◌, ◌⊎◌, ◌≤◌, ◌++◌, ℕ, Bool, List, [], ◌∷◌, Option, Some, None, refl, sym, ap, ◌∙◌, subst, inl, inr, arith, IfSome, DeviceTold, Fixed, Stand, Open, faults_of, is_off, is_open, most_open, InOrder, Clock, TakesKept, Instance, Mark, Entry, Found, Configuration, State, Job, after, Costs, Work, DeskState, state_of, costs_in, work_in, left_on, true_false, closed_tries, pages_in, HadPages, MayGoOn, Moment, entries_of, moment_behind, ArePaidSince, Among, BeginWhatIsDue, EachMove, EachMoveSince, PostsPicked, PostsUrgent, StaysAtRest, TakeKept, turns_beside, Along, Cursor, HasMoved, IsAt, IsLawful, Begun, Seen, frame_of, moment_by, moment_seen, DueAt, IsServable, take, is_some, AreWorked, job_turns, write_pages, HasWork, costs_of, making_of, HasMovesTo, worn_by, BeginsAt, BeginsMoves}
+use Rattle.nvm_moves.proofs.Common.{◌≡◌, ◌⊎◌, ◌≤◌, ◌++◌, ℕ, Bool, List, [], ◌∷◌, Option, Some, None, refl, sym, ap, ◌∙◌, subst, inl, inr, arith, IfSome, DeviceTold, Fixed, Stand, Open, faults_of, is_off, is_open, most_open, InOrder, Clock, TakesKept, Instance, Mark, Entry, Found, Configuration, State, Job, after, Costs, Work, DeskState, state_of, costs_in, work_in, left_on, true_false, closed_tries, pages_in, HadPages, MayGoOnAsTold, Moment, entries_of, moment_behind, ArePaidSince, Among, BeginWhatIsDue, EachMove, EachMoveSince, PostsPicked, PostsUrgent, StaysAtRest, TakeKept, turns_beside, Along, Cursor, HasMoved, IsAt, IsLawful, Begun, Seen, frame_of, moment_by, moment_seen, DueAt, IsServable, take, is_some, AreWorked, job_turns, write_pages, HasWork, costs_of, making_of, HasMovesTo, worn_by, BeginsAt, BeginsMoves}
 use Rattle.std.proofs.Common.{append-nil}
 use Rattle.std.specs.Prelude.{if◌then◌else◌, true, false}
 use Rattle.nvm_core.specs.memif.Told.{Ended}
@@ -46,11 +46,11 @@ module _ (within : Bool) (old new : Seen) (begins : BeginsMoves old) (w : HasMov
             (subst (λ (x : Work). AreWorked (costs_in old.device.fixed) (HadPages new.clock) (worn_by new.device new.clock) c first state x w.moves work.efforts) (sym begins.is) work.are);
       }
 
-  urgent : EachMoveSince c (PostsUrgent c (turns_beside within) (write_pages c) (MayGoOn new.clock (making_of c).reserve) (λ id one left. Unit {0})) old.device.ops state w.moves
+  urgent : EachMoveSince c (PostsUrgent c (turns_beside within) (write_pages c) (MayGoOnAsTold new.clock (making_of c).reserve) (λ id one left. Unit {0})) old.device.ops state w.moves
   urgent =
-      subst (λ (f : State → ℕ → ℕ). EachMoveSince c (PostsUrgent c (turns_beside within) f (MayGoOn new.clock (making_of c).reserve) (λ id one left. Unit {0})) old.device.ops state w.moves) begins.pages
-      (subst (λ (n : ℕ). EachMoveSince c (PostsUrgent c (turns_beside within) (pages_in old.device.fixed c) (MayGoOn new.clock n) (λ id one left. Unit {0})) old.device.ops state w.moves) begins.reserve
-      (served_as (turns_beside within) c (pages_in old.device.fixed c) (MayGoOn new.clock old.device.fixed.reserve) (DueAt old) (DueAt old) (DueAt new) (λ one id turns. Unit {0}) old.device.ops first state w.moves (λ one id turns due. due) (λ one id turns due. tt)
+      subst (λ (f : State → ℕ → ℕ). EachMoveSince c (PostsUrgent c (turns_beside within) f (MayGoOnAsTold new.clock (making_of c).reserve) (λ id one left. Unit {0})) old.device.ops state w.moves) begins.pages
+      (subst (λ (n : ℕ). EachMoveSince c (PostsUrgent c (turns_beside within) (pages_in old.device.fixed c) (MayGoOnAsTold new.clock n) (λ id one left. Unit {0})) old.device.ops state w.moves) begins.reserve
+      (served_as (turns_beside within) c (pages_in old.device.fixed c) (MayGoOnAsTold new.clock old.device.fixed.reserve) (DueAt old) (DueAt old) (DueAt new) (λ one id turns. Unit {0}) old.device.ops first state w.moves (λ one id turns due. due) (λ one id turns due. tt)
       (w.served old.device.ops servable)).urgent)
 
   paid : is_some new.device.slots ≡ true → ArePaidSince c (worn_by new.device new.clock) first.faults first state w.moves
@@ -77,7 +77,7 @@ module _ (within : Bool) (old new : Seen) (begins : BeginsMoves old) (w : HasMov
         rests = subst (λ (s : State). StaysAtRest c first s w.moves) (sym begun) (stays_at_rest (frame_of within old) new.clock cursor w.moves along);
         kept = subst (λ (s : State). TakeKept c (new.clock.was TakesKept) first s w.moves) (sym begun) (take_kept (frame_of within old) new.clock cursor w.moves along);
         work = subst (λ (s : State). HasWork (costs_of c) (HadPages new.clock) (worn_by new.device new.clock) c first s w.moves) (sym begun) works;
-        urgent = subst (λ (s : State). EachMoveSince c (PostsUrgent c (turns_beside within) (write_pages c) (MayGoOn new.clock (making_of c).reserve) (λ id one left. Unit {0})) old.device.ops s w.moves) (sym begun) urgent;
+        urgent = subst (λ (s : State). EachMoveSince c (PostsUrgent c (turns_beside within) (write_pages c) (MayGoOnAsTold new.clock (making_of c).reserve) (λ id one left. Unit {0})) old.device.ops s w.moves) (sym begun) urgent;
         paid = λ slots. subst (λ (s : State). ArePaidSince c (worn_by new.device new.clock) first.faults first s w.moves) (sym begun) (paid slots);
       })
 

@@ -21,7 +21,7 @@ pub use Rattle.nvm_core.specs.promise_blocks.Payment.{Worn}
 pub use Rattle.nvm_core.specs.DeviceWork.{AreWorkedTo, IsSimple, costs_in, work_in, tries_left, moment_in, moment_in as moment_of}
 pub use Rattle.nvm_core.specs.Paying.{worn_so_far, OwesSince, has_urgent, TurnPays, PaysSince}
 pub use Rattle.nvm_core.proofs.WorkLists.{none_worked, worked_more, one_worked, ask_worked}
-pub use Rattle.promise_run.specs.DeviceTurns.{HadPages, MayGoOn, HasMovesTo, worn_by}
+pub use Rattle.promise_run.specs.DeviceTurns.{HadPages, MayGoOnAsTold, HasMovesTo, worn_by}
 pub use Rattle.nvm_core.specs.block_machine.Legal.{MayPick, IsAllowed, MayPost, MayPostNext}
 pub use Rattle.script_walks.specs.Walk.{is_due, begins_with_pick_or_post, is_at_rest}
 pub use Rattle.nvm_core.specs.memif.Calls.{InOrder, RoomIsLeft, FreesReady, Nearer, Works, urgent_first, Turns, JobTurns, pages_open, pages_urgent, Arms, IsSealing}

@@ -1,5 +1,5 @@
 -- What may go on at a device is ready there.
-use Rattle.nvm_moves.proofs.Common.{◌≡◌, inl, inr, ℕ, Bool, true, false, if◌then◌else◌, Option, refl, sym, ap, ◌∙◌, arith, DeviceTold, Clock, Seals, FreesReady, InOrder, Lasts, DeskState, state_of, HandState, IsPaired, none_first, IsOn, MayGoOn, pages_open, pages_urgent, IsSealedSince}
+use Rattle.nvm_moves.proofs.Common.{◌≡◌, inl, inr, ℕ, Bool, true, false, if◌then◌else◌, Option, refl, sym, ap, ◌∙◌, arith, DeviceTold, Clock, Seals, FreesReady, InOrder, Lasts, DeskState, state_of, HandState, IsPaired, none_first, IsOn, MayGoOnAsTold, pages_open, pages_urgent, IsSealedSince}
 use Rattle.nvm_moves.proofs.DueAsked.{IsRoomy}
 use Rattle.nvm_moves.proofs.DeviceServed.{not_urgent}
 use Rattle.nvm_moves.proofs.TurnServed.{first_off}
@@ -10,7 +10,7 @@ still_on true u on goes = absurd (let P : true ≡ false = sym (goes refl) ∙ o
 still_on false u on goes = refl
 
 pub roomy : (since : ℕ) (desk : DeskState) (hand : Option HandState) (d last : DeviceTold) (clock end : Clock) → IsOn desk d → IsSealedSince since d clock → InOrder d clock → FreesReady d clock → IsPaired desk.config (state_of desk) hand d → d.started ≡ true
-    → Lasts d clock last end → IsRoomy (λ n. MayGoOn end d.fixed.reserve since d.ops n) desk.config (state_of desk) d
+    → Lasts d clock last end → IsRoomy (λ n. MayGoOnAsTold end d.fixed.reserve since d.ops n) desk.config (state_of desk) d
 roomy since desk hand d last clock end is_on sealed order frees paired up lasts on standard n room =
     let calm = none_first d.fixed d.stand (not_urgent desk.config (state_of desk) hand d paired standard) in
     let first = still_on d.first.off (state_of desk).off on is_on.power in

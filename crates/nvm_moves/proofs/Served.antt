@@ -1,5 +1,5 @@
 -- Urgent writes that are posted soon, over moves behind moves, and by a later clock.
-use Rattle.nvm_moves.proofs.Common.{◌≤◌, ℕ, Bool, if◌then◌else◌, List, [], ◌∷◌, ◌++◌, inl, inr, arith, DeviceTold, Clock, Seals, Lasts, Configuration, State, after_from, Moment, Move, entry_list, entries_of, moment_behind, is_found, found_behind, CountFailed, EachMoveSince, PostsUrgent, AreServed, MayGoOn, soon_by, soon_more, urgent_by, urgent_more}
+use Rattle.nvm_moves.proofs.Common.{◌≤◌, ℕ, Bool, if◌then◌else◌, List, [], ◌∷◌, ◌++◌, inl, inr, arith, DeviceTold, Clock, Seals, Lasts, Configuration, State, after_from, Moment, Move, entry_list, entries_of, moment_behind, is_found, found_behind, CountFailed, EachMoveSince, PostsUrgent, AreServed, MayGoOnAsTold, soon_by, soon_more, urgent_by, urgent_more}
 
 module _ (more : ℕ) (c : Configuration) (pages : State → ℕ → ℕ) where
   urgent_as : (free : ℕ → ℕ → ℕ → Type 0) (Q R : Bool → ℕ → ℕ → Type 0) → ((one : Bool) (id turns : ℕ) → Q one id turns → R one id turns) → (since : ℕ) (s : State) (ms : List Move)
@@ -27,13 +27,13 @@ module _ (more : ℕ) (c : Configuration) (pages : State → ℕ → ℕ) where
 
   -- what may go on by a later clock may by an earlier one
   pub served_on : (d d_new : DeviceTold) (clock clock_new : Clock) → Lasts d clock d_new clock_new → (reserve : ℕ) (failed : ℕ → Type 0) (P Q : Bool → ℕ → ℕ → Type 0) (since : ℕ) (before : Moment) (s : State) (ms : List Move)
-      → (moment_behind before ms).ops ≤ d.ops → CountFailed failed before ms → AreServed more c pages (MayGoOn clock reserve) P Q since before s ms → AreServed more c pages (MayGoOn clock_new reserve) P Q since before s ms
+      → (moment_behind before ms).ops ≤ d.ops → CountFailed failed before ms → AreServed more c pages (MayGoOnAsTold clock reserve) P Q since before s ms → AreServed more c pages (MayGoOnAsTold clock_new reserve) P Q since before s ms
   served_on d d_new clock clock_new lasts reserve failed P Q since before s ms within counts served = record {
     dues = served.dues;
-    urgent = urgent_by c more pages failed (MayGoOn clock reserve) (MayGoOn clock_new reserve) (λ id o n. Q o id n) (λ id o n. Q o id n) d.ops earlier (λ id o n due. due) since before s ms within counts served.urgent;
+    urgent = urgent_by c more pages failed (MayGoOnAsTold clock reserve) (MayGoOnAsTold clock_new reserve) (λ id o n. Q o id n) (λ id o n. Q o id n) d.ops earlier (λ id o n due. due) since before s ms within counts served.urgent;
   }
     where
-      earlier : (from k wanted : ℕ) → k ≤ d.ops → MayGoOn clock_new reserve from k wanted → MayGoOn clock reserve from k wanted
+      earlier : (from k wanted : ℕ) → k ≤ d.ops → MayGoOnAsTold clock_new reserve from k wanted → MayGoOnAsTold clock reserve from k wanted
       earlier from k wanted few (inl (free, spare, fits)) = inl (free, lasts.past.spare k free few spare, fits)
       earlier from k wanted few (inr (seal, fits)) = inr (
         record { counted = seal.counted; last = seal.last; is_last = seal.is_last; later = seal.later; such = lasts.past.was Seals seal.last (let last = seal.is_last in omega (arith, last, few)) seal.such },

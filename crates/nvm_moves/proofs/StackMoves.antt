@@ -1,5 +1,5 @@
 -- The calls of a stack of one's own, as moves.
-use Rattle.nvm_moves.proofs.Common.{◌||◌, ◌≡◌, inl, inr, ℕ, ◌+◌, ◌≤◌, Bool, true, false, List, [], ◌∷◌, ◌++◌, Option, Some, None, refl, sym, ap, ◌∙◌, subst, arith, last_count, DeviceTold, Fixed, Part, PartTold, faults_of, is_off, is_open, Clock, Seals, FreesReady, InOrder, Lasts, same_clock, same_told, Request, Reply, Entry, Ask, Found, State, histories_step, Told, DeskState, state_of, HandState, IsDue, TurnServesDue, StaysKept, IsTied, KeepsSeal, TakesKeptInHand, Turned, Ended, IsSimple, tries_left, work_in, TurnsDevice, now_of, free_turns, IsOfBlock, left_on, TurnPays, worn_so_far, StackState, PowersOff, IsFirstHalf, left_with, TakesTurns, closed_tries, has_risen, Move, entry_list, turns_beside, Seen, IsOn, all_with, moment_by, moment_seen, MayGoOn, MovesBy, SameClock, is_asked, is_found, plans, Arms, IsSealing, same_lasts, TellsSlots, KeepsDue, StartsUp, none_some, start_leaves, turns_start_none, seen_as, seen_in, KeepsToWork, asked_stays}
+use Rattle.nvm_moves.proofs.Common.{◌||◌, ◌≡◌, inl, inr, ℕ, ◌+◌, ◌≤◌, Bool, true, false, List, [], ◌∷◌, ◌++◌, Option, Some, None, refl, sym, ap, ◌∙◌, subst, arith, last_count, DeviceTold, Fixed, Part, PartTold, faults_of, is_off, is_open, Clock, Seals, FreesReady, InOrder, Lasts, same_clock, same_told, Request, Reply, Entry, Ask, Found, State, histories_step, Told, DeskState, state_of, HandState, IsDue, TurnServesDue, StaysKept, IsTied, KeepsSeal, TakesKeptInHand, Turned, Ended, IsSimple, tries_left, work_in, TurnsDevice, now_of, free_turns, IsOfBlock, left_on, TurnPays, worn_so_far, StackState, PowersOff, IsFirstHalf, left_with, TakesTurns, closed_tries, has_risen, Move, entry_list, turns_beside, Seen, IsOn, all_with, moment_by, moment_seen, MayGoOnAsTold, MovesBy, SameClock, is_asked, is_found, plans, Arms, IsSealing, same_lasts, TellsSlots, KeepsDue, StartsUp, none_some, start_leaves, turns_start_none, seen_as, seen_in, KeepsToWork, asked_stays}
 use Rattle.std.specs.Prelude.{min, if◌then◌else◌, ◌==◌}
 use Rattle.nvm_core.specs.nv_base.Plan.{Planning, planned}
 use Rattle.nvm_core.specs.memif.Told.{ops_of}
@@ -103,7 +103,7 @@ module _ {D C : Type 0} (told : D → DeviceTold) (clock : D → Clock) (old new
         });
         seals = subst (λ (s : StackState D C). KeepsSeal (told old.device) (clock old.device) (told s.device) (clock s.device)) (sym is) (λ since sealed. sealed);
       }) tt
-      (λ since s. one_served old.hand (told old.device) s.first (turns_beside false) (MayGoOn New.clock Old.device.fixed.reserve) since (moment_seen Old) old.desk caller r reply tied.started
+      (λ since s. one_served old.hand (told old.device) s.first (turns_beside false) (MayGoOnAsTold New.clock Old.device.fixed.reserve) since (moment_seen Old) old.desk caller r reply tied.started
       (roomy since old.desk old.hand (told old.device) (told new.device) (clock old.device) (clock new.device) s.uncut s.sealed order frees tied.paired tied.up lasts) (omega arith)
       (subst (λ (s : StackState D C). KeepsDue (now_of told old) (now_of told s)) is due))
 

@@ -11,7 +11,7 @@ use Rattle.nvm_core.specs.nvm_laws.Due.{IsDue, IsDueInHand}
 use Rattle.nvm_core.specs.nvm_laws.Traits.{IsSealedSince}
 use Rattle.nvm_core.specs.JobNumbers.{IsOfBlock}
 use Rattle.nvm_core.specs.DueWrites.{AreFirst, IsDueFor, pages_in}
-use Rattle.promise_run.specs.DeviceTurns.{MayGoOn}
+use Rattle.promise_run.specs.DeviceTurns.{MayGoOnAsTold}
 use Rattle.promise_run.specs.Turns.{Moment, Move, EachMoveSince, IsPostedSoon, PostsUrgent, turns_beside}
 use Rattle.nvm_moves.specs.Seen.{Begun, Seen, moment_seen}
 
@@ -55,4 +55,4 @@ pub record AreServed (more : ℕ) (c : Configuration) (pages : State → ℕ →
 -- by what a clock tells of the operations
 abbrev pub ServesBy : (within : Bool) → Clock → (P Q : Bool → ℕ → ℕ → Type 0) → ℕ → Seen → List Move → Type 0
 ServesBy within clock P Q since s moves =
-    AreServed (turns_beside within) s.desk.config (pages_in s.device.fixed s.desk.config) (MayGoOn clock s.device.fixed.reserve) P Q since (moment_seen s) (state_of s.desk) moves
+    AreServed (turns_beside within) s.desk.config (pages_in s.device.fixed s.desk.config) (MayGoOnAsTold clock s.device.fixed.reserve) P Q since (moment_seen s) (state_of s.desk) moves

@@ -27,7 +27,9 @@ one_flash t = record { flash = t; beside = None }
 -- STEPS ON A STACK OVER IT
 -- How steps were made on the stack of a configuration, from behind its first start-up on, and how they ended, by what its device
 -- tells; and all is kept and paid, as far as the device tells what it holds.
-pub record WereMade {D : Type 0} (device : D → DeviceTold) (clock : D → Clock) (before : Part → PartTold) (c : Configuration) (cuts : ℕ) (steps : List Step) (end : Result (Unit {0}) StepFault) (s : StackState D (List PlainBlock)) : Type 0 where
+pub record WereMade {D : Type 0} (device : D → DeviceTold) (clock : D → Clock)
+    (before : Part → PartTold) (c : Configuration) (cuts : ℕ) (steps : List Step) (end : Result (Unit {0}) StepFault)
+    (s : StackState D (List PlainBlock)) : Type 0 where
   pub first : StackState D (List PlainBlock)
   pub started : IsStarted c cuts (before First) (told_by device first)
   pub all : OnOk end (HasWalked (seen_by device clock first) (seen_by device clock s) steps (told_by device first) (told_by device s))
@@ -39,7 +41,9 @@ pub record WereMade {D : Type 0} (device : D → DeviceTold) (clock : D → Cloc
 
 -- REQUESTS ON A STACK OVER IT
 -- how they were served, so
-pub record WereServed {D : Type 0} (device : D → DeviceTold) (clock : D → Clock) (before : Part → PartTold) (c : Configuration) (requests : List (List ℕ)) (counts : List ℕ) (end : Result (Unit {0}) ServeStop) (s : StackState D (List PlainBlock)) : Type 0 where
+pub record WereServed {D : Type 0} (device : D → DeviceTold) (clock : D → Clock)
+    (before : Part → PartTold) (c : Configuration) (requests : List (List ℕ)) (counts : List ℕ) (end : Result (Unit {0}) ServeStop)
+    (s : StackState D (List PlainBlock)) : Type 0 where
   pub first : StackState D (List PlainBlock)
   pub started : IsStarted c 0 (before First) (told_by device first)
   pub served : HasServed (seen_by device clock first) (seen_by device clock s) requests counts end (told_by device first) (told_by device s)

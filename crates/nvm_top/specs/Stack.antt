@@ -100,7 +100,8 @@ pub record Vouches (Kept : Type 0) (q : Seen) (before : PartTold) (t : StackTold
       → (now : DeviceTold) × TellsRestarts (run_of t.configuration t.entries entry exit operations t.causes.came (Played made pieces left) end) before now
   pub early : Kept → TellsBytes (record { entry = entry; exit = exit; operations = operations }) → (made left : List Step) (pieces : List (List Entry)) (end : End)
       → BeginsWell (run_of t.configuration t.entries entry exit operations t.causes.came (Played made pieces left) end)
-  pub promise : Kept → TellsBytes (record { entry = entry; exit = exit; operations = operations }) → StartsSound (making_of t.configuration) (record { entry = entry; exit = exit; operations = operations })
+  pub promise : Kept → TellsBytes (record { entry = entry; exit = exit; operations = operations })
+      → StartsSound (making_of t.configuration) (record { entry = entry; exit = exit; operations = operations })
       → (made left : List Step) (pieces : List (List Entry)) (end : End)
       → HasOrder (run_of t.configuration t.entries entry exit operations t.causes.came (Played made pieces left) end) t.entries
       → ((id : ℕ) → RefusesAsAsked t.configuration (Played made pieces left) t.entries id)

@@ -59,11 +59,11 @@ fn run_flash<R: Threads + Wait + Sync, K: Sink, F: Flash>(
     ensures write_fault { result.0 ≡ Status.WriteFault → Rose (K.faults output.old) (K.faults output.new) }
 {
     let Callers { config, own, steps } = callers;
-    run_over::<R, K, F, Brand>(rt, alloc, config, &own, &steps, output, flash)
+    run_with_origin::<R, K, F, Brand>(rt, alloc, config, &own, &steps, output, flash)
 }
 
 // So over the stack of a device of this origin.
-fn run_over<R: Threads + Wait + Sync, K: Sink, F: Flash, O: Origin>(
+fn run_with_origin<R: Threads + Wait + Sync, K: Sink, F: Flash, O: Origin>(
     rt: &R,
     alloc: Global,
     config: Config,

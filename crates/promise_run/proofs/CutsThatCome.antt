@@ -9,7 +9,7 @@ use Rattle.memif.specs.Clock.{TakesKept}
 use Rattle.promise_device.specs.FlashRun.{HasFailed}
 use Rattle.promise_device.specs.Bridge.{IsSuch, IsWornOut, reading_of}
 use Rattle.promise_run.specs.Promise.{making_of}
-use Rattle.promise_run.specs.Operations.{HadRoom, HasWork, costs_of}
+use Rattle.promise_run.specs.Operations.{HadFreePages, HasWork, costs_of}
 use Rattle.promise_run.specs.Turns.{Moment, Move, Planned, entry_list, entries_of, moment_behind, moment_after, AreMoves, CountsOwn, IsInTime, AreInTime, CutsCome, KeepsTurns}
 use Rattle.promise_run.specs.Cases.{small, picks_one, written_at, always, cut_comes, cut_missed}
 use Rattle.promise_run.proofs.PlannedCuts.{from_more}
@@ -31,7 +31,7 @@ no_page k le lt kept = absurd (none_kept cut_comes.flash k kept)
 abbrev comes_moves : List Move
 comes_moves = record { entry = Some asked_one; behind = at_ops 0 } ∷ record { entry = Some picks_one; behind = at_ops 0 } ∷ record { entry = None; behind = at_ops 1 } ∷ record { entry = Some (Off 2); behind = at_ops 2 } ∷ []
 
-comes_work : HasWork (costs_of small) (HadRoom (making_of small) cut_comes.flash) (IsWornOut (making_of small) cut_comes.flash) small (at_ops 0) (after small (Found [] 0 ∷ [])) comes_moves
+comes_work : HasWork (costs_of small) (HadFreePages (making_of small) cut_comes.flash) (IsWornOut (making_of small) cut_comes.flash) small (at_ops 0) (after small (Found [] 0 ∷ [])) comes_moves
 comes_work = record {
   left = 0;
   few = omega arith;

@@ -12,7 +12,7 @@ use Rattle.promise_device.specs.Bridge.{Bridges, IsSuch, IsWornOut, free_pages, 
 use Rattle.promise_device.proofs.Readings.{sound_starts_compute, worn_banks_compute}
 use Rattle.promise_run.specs.Halves.{beyond_end}
 use Rattle.promise_run.specs.JobTurns.{job_turns, write_pages}
-use Rattle.promise_run.specs.Operations.{HadRoom, costs_of}
+use Rattle.promise_run.specs.Operations.{HadFreePages, costs_of}
 use Rattle.promise_run.specs.Promise.{making_of}
 use Rattle.promise_run.specs.Run.{Run, Course, End, Whole, FlashFault, HistoryFull, Memory}
 use Rattle.promise_run.specs.Turns.{Moment, Move, moment_behind, state_begun, AreMadeIn, EndsBy, KeepsTurns, MayGoOn, come_within, turns_beside}
@@ -51,7 +51,7 @@ module _ (r : Run) (cutter : Bool) (before : PartTold) (last now : DeviceTold) (
   counted_ops = sym same ∙ b.ops
 
   -- what may go on by the bytes may go on by the words of the device
-  goes_on : TellsBytes r.flash → StartsSound (making_of r.configuration) r.flash → (since k n : ℕ) → k ≤ last.ops → MayGoOn (making_of r.configuration) r.flash since k n → device.MayGoOn clock (making_of r.configuration).reserve since k n
+  goes_on : TellsBytes r.flash → StartsSound (making_of r.configuration) r.flash → (since k n : ℕ) → k ≤ last.ops → MayGoOn (making_of r.configuration) r.flash since k n → device.MayGoOnAsTold clock (making_of r.configuration).reserve since k n
   goes_on told sound since k n few (inl free) =
       let ops = counted_ops in
       let (left, spare, fits) = spare_of (bytes_after r.flash k) clock_now.spare k n (making_of r.configuration).reserve (free_pages (making_of r.configuration) (take k r.flash.operations)) free.image free.bytes free.free
@@ -69,7 +69,7 @@ module _ (r : Run) (cutter : Bool) (before : PartTold) (last now : DeviceTold) (
   )
 
   -- and so do the free pages
-  had_pages : (k n : ℕ) → k ≤ last.ops → HadRoom (making_of r.configuration) r.flash k n → HadPages clock k n
+  had_pages : (k n : ℕ) → k ≤ last.ops → HadFreePages (making_of r.configuration) r.flash k n → HadPages clock k n
   had_pages k n few had =
       let all = counted_ops in
       let (counted, fits) = and_parts (nat_lt k last_count) (option_map_or (λ image. nat_le n (free_pages (making_of r.configuration) (take k r.flash.operations) image)) (bytes_after r.flash k) false) had.free in
@@ -118,12 +118,12 @@ module _ (r : Run) (cutter : Bool) (before : PartTold) (last now : DeviceTold) (
           few = m.work.few;
           efforts = m.work.efforts;
           are =
-              worked_by (costs_of c) (HadPages clock) (HadRoom (making_of c) r.flash) (worn_by last clock) (IsWornOut (making_of c) r.flash) clock.failed last.ops had_pages worn_out c first s (record { left = m.work.left; trying = None; tries = 0 }) moves m.work.efforts
+              worked_by (costs_of c) (HadPages clock) (HadFreePages (making_of c) r.flash) (worn_by last clock) (IsWornOut (making_of c) r.flash) clock.failed last.ops had_pages worn_out c first s (record { left = m.work.left; trying = None; tries = 0 }) moves m.work.efforts
               (omega (arith, ops)) m.failed m.work.are;
         };
         kept = taken_by c clock.failed (clock.was TakesKept) (IsSuch (reading_of (making_of c)) r.flash TakesKept) last.ops had_taken first s moves (omega (arith, ops)) m.failed m.kept;
         urgent = λ told sound.
-            urgent_by c (turns_beside (come_within course)) (write_pages c) clock.failed (device.MayGoOn clock (making_of c).reserve) (MayGoOn (making_of c) r.flash) (λ id one left. Unit {0}) (λ id one left. Unit {0}) last.ops (goes_on told sound) (λ id one left due. tt) first.ops
+            urgent_by c (turns_beside (come_within course)) (write_pages c) clock.failed (device.MayGoOnAsTold clock (making_of c).reserve) (MayGoOn (making_of c) r.flash) (λ id one left. Unit {0}) (λ id one left. Unit {0}) last.ops (goes_on told sound) (λ id one left due. tt) first.ops
             first s moves (omega (arith, ops)) m.failed m.urgent;
         paid = λ told sound.
             since_too c (worn_by last clock) (IsWornOut (making_of c) r.flash) worn_out first.faults first s moves (m.paid (tells (b.slots told (sound_starts_compute (making_of c) r.flash sound))));

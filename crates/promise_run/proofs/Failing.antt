@@ -16,7 +16,7 @@ use Rattle.promise_device.specs.Making.{banks_of}
 use Rattle.promise_device.specs.FlashRun.{HasFailed, StartsSound}
 use Rattle.promise_device.specs.Bridge.{IsWornOut, IsSuch, reading_of}
 use Rattle.promise_run.specs.Promise.{making_of}
-use Rattle.promise_run.specs.Operations.{HadRoom, HasWork, costs_of}
+use Rattle.promise_run.specs.Operations.{HadFreePages, HasWork, costs_of}
 use Rattle.promise_run.specs.Turns.{Moment, Move, entry_list, entries_of, moment_behind, moment_after, AreTurnsMade, AreMovesOf, AreMoves, CountsOwn, CountFailed, IsPaidSince, ArePaidSince, IsPostedWithin, KeepsTurns, is_picked, all_moves}
 use Rattle.promise_run.specs.Cases.{small, one, blank, picks_one, always, CountsFailed, mended, posts_on_credit, starts_on_credit, untold}
 use Rattle.promise_run.proofs.Counted.{behind_more, all_behind}
@@ -193,7 +193,7 @@ fault_adds : (room : Bool) → 5 ≤ 0 + ((if room then 4 else 27) + 23)
 fault_adds true = omega arith
 fault_adds false = omega arith
 
-mended_work : HasWork (costs_of small) (HadRoom (making_of small) mended.flash) (IsWornOut (making_of small) mended.flash) small (at_ops 0) (after small (Found [] 0 ∷ [])) (asks_move ∷ picks_move ∷ behind_pick)
+mended_work : HasWork (costs_of small) (HadFreePages (making_of small) mended.flash) (IsWornOut (making_of small) mended.flash) small (at_ops 0) (after small (Found [] 0 ∷ [])) (asks_move ∷ picks_move ∷ behind_pick)
 mended_work = record {
   left = 0;
   few = omega arith;

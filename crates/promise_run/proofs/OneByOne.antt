@@ -20,7 +20,7 @@ use Rattle.promise_device.specs.Traits.{page_in_bank, is_kept_page, is_such_op}
 use Rattle.promise_device.specs.Bridge.{IsSuch, IsWornOut, reading_of}
 use Rattle.promise_run.specs.Promise.{making_of}
 use Rattle.promise_blocks.specs.Work.{MayBegin}
-use Rattle.promise_run.specs.Operations.{HadRoom, HasWork, costs_of}
+use Rattle.promise_run.specs.Operations.{HadFreePages, HasWork, costs_of}
 use Rattle.promise_run.proofs.Efforts.{may_begin, none_began, began, waits, rests, goes, ends, begins}
 use Rattle.promise_run.specs.Cases.{small, one, picks_one, always, six_turns, lazy, leaps}
 use Rattle.promise_run.specs.UrgentCases.{at, fault_at, idle, writes}
@@ -221,7 +221,7 @@ one_adds false = omega arith
 abbrev pub six_moves : List Move
 six_moves = record { entry = Some asked_one; behind = at_ops 0 } ∷ record { entry = Some picks_one; behind = at_ops 0 } ∷ behind_pick
 
-pub six_work : HasWork (costs_of small) (HadRoom (making_of small) six_turns.flash) (IsWornOut (making_of small) six_turns.flash) small (at_ops 0) (after small (Found [] 0 ∷ [])) six_moves
+pub six_work : HasWork (costs_of small) (HadFreePages (making_of small) six_turns.flash) (IsWornOut (making_of small) six_turns.flash) small (at_ops 0) (after small (Found [] 0 ∷ [])) six_moves
 six_work = record {
   left = 0;
   few = omega arith;

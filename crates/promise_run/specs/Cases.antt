@@ -47,7 +47,9 @@ image_of generation pages = bank_head_page 16 (record { format = 2; generation =
 
 -- the committed record of a content with this number
 abbrev pub record_of : ℕ → List ℕ → List ℕ
-record_of number content = rec_head_page 2 16 (record { number = record { 0 = number }; kind = record_kind.Content; length = 4; count = 1 }) ++ gate_page 16 ++ content ++ replicate 12 255 ++ gate_page 16
+record_of number content =
+    rec_head_page 2 16 (record { number = record { 0 = number }; kind = record_kind.Content; length = 4; count = 1 })
+    ++ gate_page 16 ++ content ++ replicate 12 255 ++ gate_page 16
 
 abbrev pub one : List ℕ
 one = 0x11 ∷ 0x22 ∷ 0x33 ∷ 0x44 ∷ []
@@ -317,7 +319,9 @@ unseen_stale =
 -- a caller writes, waits for that write, and stores `one`; the write takes it
 abbrev pub later_store : Run
 later_store =
-    record (runs ((1, AskStep (Write 2 None 0)) ∷ (1, Await 2) ∷ (1, Store 2 one) ∷ []) (record { entry = 2; block = 2; shown = 1 } ∷ []) (Ask 1 (Write 2 None 0) Accepted ∷ Pick 2 WriteJob (TookContent one 1) 0 ∷ written_at 4))
+    record (runs ((1, AskStep (Write 2 None 0)) ∷ (1, Await 2) ∷ (1, Store 2 one) ∷ [])
+    (record { entry = 2; block = 2; shown = 1 } ∷ [])
+    (Ask 1 (Write 2 None 0) Accepted ∷ Pick 2 WriteJob (TookContent one 1) 0 ∷ written_at 4))
     { configuration = with_block_2 (record (plain_block 4) { ram = Sync }) }
 
 -- it ends at a full history, and has room

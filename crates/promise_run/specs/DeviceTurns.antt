@@ -29,8 +29,8 @@ pub record WasAtSeal (clock : Clock) (since operations : ℕ) : Type 0 where
   pub such : clock.was Seals last
 
 -- an urgent write may go on
-abbrev pub MayGoOn : Clock → (reserve since operations pages : ℕ) → Type 0
-MayGoOn clock reserve since operations pages = HadSpare clock reserve operations pages ⊎ (WasAtSeal clock since operations × (pages ≤ reserve))
+abbrev pub MayGoOnAsTold : Clock → (reserve since operations pages : ℕ) → Type 0
+MayGoOnAsTold clock reserve since operations pages = HadSpare clock reserve operations pages ⊎ (WasAtSeal clock since operations × (pages ≤ reserve))
 
 -- where a device was worn out, by the operations that were made so far
 abbrev pub worn_by : DeviceTold → Clock → Worn
@@ -49,5 +49,5 @@ pub record HasMovesTo (within : Bool) (c : Configuration) (h : List Entry) (firs
   pub rests : StaysAtRest c first (after c (take 1 h)) moves
   pub work : HasWork (costs_of c) (HadPages clock) (worn_by now clock) c first (after c (take 1 h)) moves
   pub kept : TakeKept c (clock.was TakesKept) first (after c (take 1 h)) moves
-  pub urgent : EachMoveSince c (PostsUrgent c (turns_beside within) (write_pages c) (MayGoOn clock (making_of c).reserve) (λ id one left. Unit {0})) first.ops (after c (take 1 h)) moves
+  pub urgent : EachMoveSince c (PostsUrgent c (turns_beside within) (write_pages c) (MayGoOnAsTold clock (making_of c).reserve) (λ id one left. Unit {0})) first.ops (after c (take 1 h)) moves
   pub paid : is_some now.slots ≡ true → ArePaidSince c (worn_by now clock) first.faults first (after c (take 1 h)) moves

@@ -38,5 +38,7 @@ EarlyMakesIt clock =
 
 -- both halves make the promise, where the device's erases are due
 abbrev pub HalvesMakeIt : Clock → Type 0
-HalvesMakeIt clock = (r : Run) (before : Part → PartTold) (now : DeviceTold) → BlockHalf r before now clock → DeviceHalf r (before First) now (beyond_end clock) → OperationsAreDue (making_of r.configuration) r.flash
+HalvesMakeIt clock =
+    (r : Run) (before : Part → PartTold) (now : DeviceTold)
+    → BlockHalf r before now clock → DeviceHalf r (before First) now (beyond_end clock) → OperationsAreDue (making_of r.configuration) r.flash
     → Promise r

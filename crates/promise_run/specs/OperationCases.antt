@@ -21,7 +21,8 @@ never_worn operations number urgent = ⊥
 
 -- over this flash, and from so much that is left on
 abbrev pub AreWorkedFrom : (left : ℕ) → FlashRun → List Move → List Effort → Type 0
-AreWorkedFrom left f ms es = AreWorked (costs_of urgent) (λ k n. has_free (making_of urgent) f k n ≡ true) never_worn urgent (at 0 0) first_state (record { left = left; trying = None; tries = 0 }) ms es
+AreWorkedFrom left f ms es =
+    AreWorked (costs_of urgent) (λ k n. has_free (making_of urgent) f k n ≡ true) never_worn urgent (at 0 0) first_state (record { left = left; trying = None; tries = 0 }) ms es
 
 -- behind a start-up that counted so many faults
 abbrev pub HasWorkBehind : (faults : ℕ) → FlashRun → List Move → Type 0
@@ -37,7 +38,9 @@ operation n = record { entry = None; behind = at 0 n }
 -- it is accepted and picked; three operations, so many more, and a last one write its record of four pages
 abbrev pub written_with : List Move → ℕ → List Move
 written_with more n =
-    accepts ∷ picks ∷ operation 1 ∷ operation 2 ∷ operation 3 ∷ (more ++ record { entry = Some (Wrote (record { block = 2; index = 0 }) (Content one) n); behind = at 0 n } ∷ record { entry = Some (Post 2 Fine None 0 n); behind = at 0 n } ∷ [])
+    accepts ∷ picks ∷ operation 1 ∷ operation 2 ∷ operation 3
+    ∷ (more ++ record { entry = Some (Wrote (record { block = 2; index = 0 }) (Content one) n); behind = at 0 n }
+    ∷ record { entry = Some (Post 2 Fine None 0 n); behind = at 0 n } ∷ [])
 
 -- a further start-up alone, which tells so many operations, with so many behind it
 abbrev pub starts_at : (told ops : ℕ) → List Move

@@ -34,7 +34,7 @@ has_free making f operations pages =
     nat_lt operations last_count && option_map_or (λ image. nat_le pages (free_pages making (take operations f.operations) image)) (bytes_after f operations) false
 
 -- so it is over a flash that tells its bytes, from a sound image on
-pub record HadRoom (making : Making) (f : FlashRun) (operations pages : ℕ) : Type 0 where
+pub record HadFreePages (making : Making) (f : FlashRun) (operations pages : ℕ) : Type 0 where
   pub tells : TellsBytes f
   pub sound : StartsSound making f
   pub free : has_free making f operations pages ≡ true
@@ -55,7 +55,8 @@ pub record HasWork (f : Costs) (room : (operations pages : ℕ) → Type 0) (wor
 -- what follows: they make so many operations at most
 abbrev pub WorkIsBounded : Type 1
 WorkIsBounded =
-    (f : Costs) (room : (operations pages : ℕ) → Type 0) (worn : Worn) (c : Configuration) (first : Moment) (s : State) (moves : List Move) (has : HasWork f room worn c first s moves) (test : (operations pages : ℕ) → Bool)
+    (f : Costs) (room : (operations pages : ℕ) → Type 0) (worn : Worn) (c : Configuration) (first : Moment) (s : State)
+    (moves : List Move) (has : HasWork f room worn c first s moves) (test : (operations pages : ℕ) → Bool)
     → ((k n : ℕ) → test k n ≡ true → room k n) → (moment_behind first moves).ops ≤ first.ops + left_behind f first + operations_at_most f test c first s moves has.efforts
 
 -- where the device is never worn out no more tries begin than end, but one

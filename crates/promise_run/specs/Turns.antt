@@ -16,7 +16,7 @@ use Rattle.promise_run.specs.Completeness.{is_calm_entry, IsCalm, ends_job}
 use Rattle.promise_run.specs.Promise.{making_of}
 pub use Rattle.promise_blocks.specs.Moves.{Moment, Move, entry_list, entries_of, moment_behind, is_asked, is_found, is_picked, is_off}
 use Rattle.promise_run.specs.JobTurns.{write_pages}
-use Rattle.promise_run.specs.Operations.{HadRoom, HasWork, costs_of}
+use Rattle.promise_run.specs.Operations.{HadFreePages, HasWork, costs_of}
 use Rattle.memif.specs.Clock.{Trait, Seals, TakesKept}
 use Rattle.fls_model.specs.Told.{Change}
 use Rattle.promise_device.specs.Making.{Making}
@@ -370,10 +370,11 @@ pub record KeepsTurns (most : State → Job → ℕ) (r : Run) (course : Course)
   pub serves : BeginWhatIsDue (come_within course) r.configuration (state_begun r ∷ []) (state_begun r) moves
   pub posts : EachMove r.configuration (PostsPicked r.configuration most) (state_begun r) moves
   pub rests : StaysAtRest r.configuration first (state_begun r) moves
-  pub work : HasWork (costs_of r.configuration) (HadRoom (making_of r.configuration) r.flash) (IsWornOut (making_of r.configuration) r.flash) r.configuration first (state_begun r) moves
+  pub work : HasWork (costs_of r.configuration) (HadFreePages (making_of r.configuration) r.flash) (IsWornOut (making_of r.configuration) r.flash) r.configuration first (state_begun r) moves
   pub kept : TakeKept r.configuration (HasTrait (making_of r.configuration) r.flash TakesKept) first (state_begun r) moves
   pub urgent : TellsBytes r.flash → StartsSound (making_of r.configuration) r.flash
-      → EachMoveSince r.configuration (PostsUrgent r.configuration (turns_beside (come_within course)) (write_pages r.configuration) (MayGoOn (making_of r.configuration) r.flash) (λ id one left. Unit {0}))
+      → EachMoveSince r.configuration (PostsUrgent r.configuration (turns_beside (come_within course)) (write_pages r.configuration)
+      (MayGoOn (making_of r.configuration) r.flash) (λ id one left. Unit {0}))
       first.ops (state_begun r) moves
   pub paid : TellsBytes r.flash → StartsSound (making_of r.configuration) r.flash
       → ArePaidSince r.configuration (IsWornOut (making_of r.configuration) r.flash) first.faults first (state_begun r) moves

@@ -89,7 +89,7 @@ pub use Rattle.std.proofs.Math.Nat.{min-eq_left}
 pub use Rattle.uds_gateway.proofs.NewestStores.{others_keep_newest, stores_are_newest, stores_are_few, last_stores_grow}
 pub use Rattle.uds_gateway.proofs.Counted.{behind_more, counted_by}
 pub use Rattle.uds_gateway.proofs.DeviceWork.{entry_is, entry_none}
-pub use Rattle.uds_gateway.specs.promise_run.DeviceTurns.{HadPages, HasMovesTo, MayGoOn, worn_by}
+pub use Rattle.uds_gateway.specs.promise_run.DeviceTurns.{HadPages, HasMovesTo, MayGoOnAsTold, worn_by}
 pub use Rattle.uds_gateway.specs.promise_run.JobTurns.{write_pages}
 pub use Rattle.uds_gateway.specs.promise_run.Operations.{costs_of}
 pub use Rattle.uds_gateway.specs.promise_run.Promise.{making_of}

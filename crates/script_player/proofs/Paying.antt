@@ -1,5 +1,5 @@
 -- What moves by the one law came to, and what calls that make none keep.
-use Rattle.script_player.proofs.Common.{None, ◌≤◌, ◌++◌, ℕ, Bool, List, take, refl, ap, subst, inl, inr, arith, DeviceTold, Clock, Entry, Configuration, after, DeskState, Moment, Move, entries_of, Seen, MovesBy, LastsOn, Past, Seals, TakesKept, same_clock, same_told, HadPages, HasMovesTo, MayGoOn, worn_by, write_pages, costs_of, making_of, turns_beside, counted_by, since_too, taken_by, urgent_by, worked_by, BeginsMoves, moment_seen, moves_came, CameBy}
+use Rattle.script_player.proofs.Common.{None, ◌≤◌, ◌++◌, ℕ, Bool, List, take, refl, ap, subst, inl, inr, arith, DeviceTold, Clock, Entry, Configuration, after, DeskState, Moment, Move, entries_of, Seen, MovesBy, LastsOn, Past, Seals, TakesKept, same_clock, same_told, HadPages, HasMovesTo, MayGoOnAsTold, worn_by, write_pages, costs_of, making_of, turns_beside, counted_by, since_too, taken_by, urgent_by, worked_by, BeginsMoves, moment_seen, moves_came, CameBy}
 use Rattle.std.specs.Prelude.{false}
 
 -- nothing more is told
@@ -30,7 +30,7 @@ on_clock c h first ms d clock clock_new past m =
       };
       kept = taken_by c clock.failed (clock.was TakesKept) (clock_new.was TakesKept) d.ops (λ k few is. past.was TakesKept k few is) first s ms (omega (arith, ops)) m.failed m.kept;
       urgent =
-          urgent_by c (turns_beside false) (write_pages c) clock.failed (MayGoOn clock (making_of c).reserve) (MayGoOn clock_new (making_of c).reserve) (λ id one left. Unit {0}) (λ id one left. Unit {0}) d.ops earlier (λ id one left due. tt) first.ops first s ms
+          urgent_by c (turns_beside false) (write_pages c) clock.failed (MayGoOnAsTold clock (making_of c).reserve) (MayGoOnAsTold clock_new (making_of c).reserve) (λ id one left. Unit {0}) (λ id one left. Unit {0}) d.ops earlier (λ id one left due. tt) first.ops first s ms
           (omega (arith, ops)) m.failed m.urgent;
       paid = λ slots. since_too c (worn_by d clock) (worn_by d clock_new) worn_on first.faults first s ms (m.paid slots);
     }
@@ -38,7 +38,7 @@ on_clock c h first ms d clock clock_new past m =
     worn_on : (k n : ℕ) (urgent : Bool) → worn_by d clock k n urgent → worn_by d clock_new k n urgent
     worn_on k n urgent (few, is) = (few, past.worn k n urgent few is)
 
-    earlier : (since k wanted : ℕ) → k ≤ d.ops → MayGoOn clock_new (making_of c).reserve since k wanted → MayGoOn clock (making_of c).reserve since k wanted
+    earlier : (since k wanted : ℕ) → k ≤ d.ops → MayGoOnAsTold clock_new (making_of c).reserve since k wanted → MayGoOnAsTold clock (making_of c).reserve since k wanted
     earlier since k wanted few (inl (free, spare, fits)) = inl (free, past.spare k free few spare, fits)
     earlier since k wanted few (inr (seal, fits)) = inr (
       record { counted = seal.counted; last = seal.last; is_last = seal.is_last; later = seal.later; such = past.was Seals seal.last (let last = seal.is_last in omega (arith, last, few)) seal.such },

@@ -58,7 +58,9 @@ module _ {V E R : Type 0} (entries : V → List E) (gives : E → ℕ → Option
   -- the pass took the value. Its list was seen, begins with all that was seen before, and agrees with all notes. A pass that is
   -- alone finds what it had seen.
   abbrev pub HasEntered : View E R → Me (Place V) (View E R) → Type 0
-  HasEntered v m' = (x : V) × (m'.1 ≡ (0, Here x) ∷ []) × (m'.0.inside ≡ true) × (m'.0.seen ≡ entries x) × IsKin v m'.0 × StartsWith (entries x) v.seen × AllAgree gives (entries x) v.notes × (v.root ≡ Some (root x))
+  HasEntered v m' =
+      (x : V) × (m'.1 ≡ (0, Here x) ∷ []) × (m'.0.inside ≡ true) × (m'.0.seen ≡ entries x)
+      × IsKin v m'.0 × StartsWith (entries x) v.seen × AllAgree gives (entries x) v.notes × (v.root ≡ Some (root x))
       × (v.mark ≡ true → OpenFrom is_open (entries x) (length v.seen)) × (0 < v.parts) × (v.parts ≡ all_parts → entries x ≡ v.seen) × AllHeard (entries x) v.heard
 
   -- nothing, or the value is taken

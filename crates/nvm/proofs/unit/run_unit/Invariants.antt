@@ -2,5 +2,5 @@ use Rattle.nvm_flash.specs.fls_devices.Cutter.{cutting, told_cutting}
 use Rattle.nvm_flash.specs.promise_run.Promise.{making_of}
 use Rattle.nvm.proofs.unit.run_unit.Given as goal
 
-abbrev pub ghosts-run_over : goal.ghosts-run_over
-ghosts-run_over g a = record { making = making_of a.config; entry = told_cutting (cutting (g.F.Flash.told a.flash) a.cuts) }
+abbrev pub ghosts-run_unit_with_origin : goal.ghosts-run_unit_with_origin
+ghosts-run_unit_with_origin g a = record { making = making_of a.config; entry = told_cutting (cutting (g.F.Flash.told a.flash) a.cuts) }

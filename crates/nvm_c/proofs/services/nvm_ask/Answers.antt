@@ -2,7 +2,7 @@ use Rattle.std.proofs.Common.{refl, subst, inr}
 use Rattle.nvm_c.specs.Exports.{IsAsked}
 use Rattle.nvm_c.specs.Held.{Ran}
 use Rattle.nvm_c.specs.declared.work.Outcome.{Outcome}
-use Rattle.nvm_c.specs.declared.work.Work.TheVariants.{Serve}
+use Rattle.nvm_c.specs.declared.work.UnitWork.TheVariants.{Serve}
 use Rattle.nvm_c.proofs.CallLaws.{asked, goes_same, stayed_down}
 use Rattle.nvm_c.proofs.services.nvm_ask.Goals as goal
 

@@ -1,7 +1,7 @@
 use Rattle.std.proofs.Common.{subst}
 use Rattle.nvm_c.specs.Held.{Ran}
 use Rattle.nvm_c.specs.declared.work.Outcome.{Outcome}
-use Rattle.nvm_c.specs.declared.work.Work.TheVariants.{Close}
+use Rattle.nvm_c.specs.declared.work.UnitWork.TheVariants.{Close}
 use Rattle.nvm_c.proofs.CallLaws.{closed}
 use Rattle.nvm_c.proofs.turns.nvm_close.Goals as goal
 

@@ -1,4 +1,4 @@
-use Rattle.std.proofs.Common.{ap, sym, ◌∙◌, subst, arith}
+use Rattle.std.proofs.Common.{ap, ◌∙◌, subst}
 use Rattle.nvm.proofs.Called.{begins_kept}
 use Rattle.nvm.specs.memif.Calls.{InOrder}
 use Rattle.nvm.specs.nvm_flash.fee_core.Tells.{told_clock}

@@ -3,7 +3,7 @@ use Rattle.nv_base.specs.Geometry.{IsLegal, sectors_of_bank}
 use Rattle.nv_base.specs.declared.geometry.Geometry.{Geometry}
 use Rattle.memif.specs.declared.answer.JobResult.TheVariants.{JobOk}
 use Rattle.memif.specs.Told.{Ended}
-use Rattle.fee_laws.specs.fee_told.Figures.{Work}
+use Rattle.fee_laws.specs.fee_told.Figures.{OpenWork}
 use Rattle.fee_laws.proofs.ToldFigures.{left_fits}
 use Rattle.fee_laws.specs.Work.{pages_of_op}
 use Rattle.fee_core.specs.Whole.{Sound}
@@ -22,7 +22,7 @@ overflow_add-result-in_default g c =
     let was = (subst (Sound m g.O.Origin.entry) (sym c.self.view_is) c.requires.sound).parts in
     let switch = switch_is c.self.view_is c.requires.sound c.geometry-geometry.result c.geometry-geometry.ensures.geometry _ c.most_turns-switch.result c.bank_sectors.ensures c.most_turns-switch.ensures in
     let legal = subst IsLegal was.made_for.banks_geometry c.geometry-geometry.ensures.state.legal in
-    let w : Work = record { pages = 0; owed = false; switch = own_turns m } in
+    let w : OpenWork = record { pages = 0; owed = false; switch = own_turns m } in
     let few = left_fits m.geometry.page (sectors_of_bank m.geometry m.banks) m.reserve m.numbers (Ended JobOk []) w legal.page_high (let high = legal.sectors_high in omega arith) was.made_for.space.lengths (record { job = tt; few = omega arith }) in
     omega (arith, switch, few)
 

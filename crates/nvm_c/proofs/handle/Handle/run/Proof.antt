@@ -44,7 +44,7 @@ use Rattle.nvm_c.proofs.handle.Handle.TheLaws as handle
 use Rattle.nvm_c.proofs.handle.Handle.run.Code as code
 use Rattle.nvm_c.proofs.handle.Handle.run.Statement.{statement}
 use Rattle.nvm_c.proofs.work.Outcome.TheLaws as outcome
-use Rattle.nvm_c.proofs.work.Work.TheLaws as work
+use Rattle.nvm_c.proofs.work.UnitWork.TheLaws as work
 use Rattle.nvm_c.proofs.work.serve.Met.{met}
 use Rattle.nvm_c.specs.Held.{Kept, CanRun, held, kept_as, origin_for, row_at, state_in}
 use Rattle.nvm_c.specs.Room.{room_owns}
@@ -54,7 +54,7 @@ use Rattle.nvm_c.specs.contracts.handle.Handle as Handle
 use Rattle.nvm_c.specs.contracts.handle.Handle.run as f
 use Rattle.nvm_c.specs.contracts.handle.Handle.run.Key.{name as symbol}
 use Rattle.nvm_c.specs.contracts.work.Outcome as Outcome
-use Rattle.nvm_c.specs.contracts.work.Work as Work
+use Rattle.nvm_c.specs.contracts.work.UnitWork as UnitWork
 use Rattle.nvm_c.specs.contracts.work.serve as callee
 
 abbrev outcome_al : Al
@@ -73,7 +73,7 @@ run_spec 𝓤 𝓛 𝓜 𝓡 wired =
       (
         stay_dropped (plain (λ _. A)) f.ended.kept.1.0,
         (
-          record { fit = λ κs x w. Unit {0}; has = λ κs x w vs. left ((Work.the_row (named_lft 2 0 tt κs)).exit f.ended.kept.1.1.0) x w },
+          record { fit = λ κs x w. Unit {0}; has = λ κs x w vs. left ((UnitWork.the_row (named_lft 2 0 tt κs)).exit f.ended.kept.1.1.0) x w },
           (record { fit = λ κs x w. Unit {0}; has = λ κs x w vs. left ((into_slot.row κs).exit f.ended.kept.1.1.1.0) x w }, tt),
         ),
       ),
@@ -83,7 +83,7 @@ run_spec 𝓤 𝓛 𝓜 𝓡 wired =
     (Goes-dropped 𝓛 2 (plain (λ _. H)) f.ended.kept.0 (λ κs x w. refl), (Goes-dropped 𝓛 2 (plain (λ _. A)) f.ended.kept.1.0 (λ κs x w. refl), (λ κs x w vs ok. 𝓛.laws.⇛_intro _, (λ κs x w vs ok. 𝓛.laws.⇛_intro _, tt))))
     symbol fn (code.unfolded 𝓤 𝓛.H 𝓜 𝓡 wired) (λ z are.
     let lent : Lft = z.0.0.0 in let lent_to : Lft = z.0.0.1.0 in let share = z.0.1.0 in let share_to = z.0.1.1.0 in let at = named_lft 2 0 tt z.0.0 in
-    let K : RattleType = Work.the_row at in let S : RattleType = MutSlice (named 1) lent_to u8 in let into = z.0.3.1.1.1.0 in let sw = mut_slice_vals into in
+    let K : RattleType = UnitWork.the_row at in let S : RattleType = MutSlice (named 1) lent_to u8 in let into = z.0.3.1.1.1.0 in let sw = mut_slice_vals into in
     let h = z.0.3.0 in let a = z.0.3.1.0 in let x = z.0.3.1.1.0 in let p = h.at in let aw = global.lowers.lowered a in
     let Y : List Val → List Val → List Val → List Val → W.Ghost = λ us vs ws ts. ((z.0.0, z.0.1, z.0.2, z.0.3, (us, (vs, (ws, (ts, tt))))), z.1) in
     let Goes : List Val → List Val → List Val → List Val → Type 1 = λ us vs ws ts. ent 𝓤 (W.pre (Y us vs ws ts)) (WpFn 𝓤 𝓛.H 𝓣.C 𝓣.Λ fn (us ++ (vs ++ (ws ++ (ts ++ [])))) (W.post (Y us vs ws ts))) in

@@ -1,4 +1,4 @@
-use Rattle.std.proofs.Common.{◌≡◌, Ok, Result, ap, ◌∙◌, subst}
+use Rattle.std.proofs.Common.{Ok, Result, ap, ◌∙◌, subst}
 use Rattle.nvm.specs.block_machine.Words.{Reply}
 use Rattle.nvm.specs.nv_desk.declared.ask.AskFault.{AskFault}
 use Rattle.nvm.specs.Turned.{AsksMove}

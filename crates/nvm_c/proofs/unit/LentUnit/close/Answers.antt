@@ -1,7 +1,4 @@
 use Rattle.std.proofs.Common.{subst}
-use Rattle.nvm.specs.nvm_flash.Made.{IsBack}
-use Rattle.nvm.specs.nvm_flash.fee_laws.Made.{part_at}
-use Rattle.nvm.specs.nvm_flash.fee_told.Device.{told_of, clock_of}
 use Rattle.nvm_c.specs.Unit.{UnitState, CameBack, TakenFrom}
 use Rattle.nvm_c.proofs.UnitLaws.{came_back}
 use Rattle.nvm_c.proofs.unit.LentUnit.close.Goals as goal

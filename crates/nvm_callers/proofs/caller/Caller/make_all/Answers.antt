@@ -1,4 +1,4 @@
-use Rattle.nvm_callers.proofs.Common.{◌≡◌, ◌+◌, [], ◌∷◌, ◌++◌, List, ℕ, length, take, ap, subst, sym, refl, arith, ◌∙◌, knows, Deed, Did, Err, take_more, slice_get_read, Stop}
+use Rattle.nvm_callers.proofs.Common.{◌≡◌, ◌+◌, [], ◌∷◌, ◌++◌, List, ℕ, length, take, ap, subst, sym, refl, arith, ◌∙◌, knows, Deed, Did, Err, take_more, slice_get_read, NotMade}
 use Rattle.nvm_callers.proofs.Making.{found_full, found_wait, keeps_more}
 use Rattle.nvm_callers.proofs.caller.Caller.make_all.Goals as goal
 
@@ -14,7 +14,7 @@ returns-in-Err-NoRoom-clause-done g c = λ bytes began same did.
 
 pub returns-in-Err-NoRoom-clause-stops : goal.returns-in-Err-NoRoom-clause-stops
 returns-in-Err-NoRoom-clause-stops g c =
-    let full = c.in-Err-NoRoom.ensures.full (ap (λ (s : Stop). Err s) c.in-Err-NoRoom.field-0-is) in
+    let full = c.in-Err-NoRoom.ensures.full (ap (λ (s : NotMade). Err s) c.in-Err-NoRoom.field-0-is) in
     found_full c.args.shared.now.terms (knows c.make.new.pass) c.args.deeds.now c.loop-place.place c.index-deeds-place.result full.0 full.1
     (slice_get_read c.args.deeds.now _ c.loop-place.place c.index-deeds-place.result refl c.loop-place-test.true c.index-deeds-place.is)
 
@@ -30,7 +30,7 @@ returns-in-Err-Wait-clause-done g c = λ bytes began same did.
 
 pub returns-in-Err-Wait-clause-stops : goal.returns-in-Err-Wait-clause-stops
 returns-in-Err-Wait-clause-stops g c =
-    found_wait c.args.deeds.now c.loop-place.place c.index-deeds-place.result (c.in-Err-Wait.ensures.waits (ap (λ (s : Stop). Err s) c.in-Err-Wait.field-0-is))
+    found_wait c.args.deeds.now c.loop-place.place c.index-deeds-place.result (c.in-Err-Wait.ensures.waits (ap (λ (s : NotMade). Err s) c.in-Err-Wait.field-0-is))
     (slice_get_read c.args.deeds.now _ c.loop-place.place c.index-deeds-place.result refl c.loop-place-test.true c.index-deeds-place.is)
 
 pub loop-place-preserved : goal.loop-place-preserved

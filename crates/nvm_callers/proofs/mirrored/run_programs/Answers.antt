@@ -1,6 +1,6 @@
 use Rattle.nvm_callers.proofs.Common.{List, subst, Configuration, Step, AreProgramsOf, KeepsOrder}
 use Rattle.std.specs.Prelude.{IfOk}
-use Rattle.nvm_callers.proofs.mirrored.run_over.Goals as goal
+use Rattle.nvm_callers.proofs.mirrored.run_programs.Goals as goal
 
 -- src/mirrored.rt:27:1
 pub returns-in-Ok-clause-order : goal.returns-in-Ok-clause-order

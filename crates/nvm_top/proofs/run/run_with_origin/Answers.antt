@@ -10,7 +10,7 @@ use Rattle.nvm_top.proofs.Early.{early_in}
 use Rattle.nvm_top.proofs.Driven.{keeps_history}
 use Rattle.nvm_top.proofs.Running.{callers_came, callers_late, none_came, unwritten_run, written_run}
 use Rattle.nvm_top.proofs.WholeCalls.{stopped_late}
-use Rattle.nvm_top.proofs.run.run_over.Goals as goal
+use Rattle.nvm_top.proofs.run.run_with_origin.Goals as goal
 
 pub history-requires : goal.history-requires
 history-requires g c = record { kept = keeps_history _ c.in-Ok.ensures.started.most }

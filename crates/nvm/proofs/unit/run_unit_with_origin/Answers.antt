@@ -2,7 +2,7 @@ use Rattle.std.proofs.Common.{ℕ, ap, subst, ◌∙◌}
 use Rattle.nvm_flash.specs.block_config.Config.{Configuration}
 use Rattle.nvm.specs.Closing.{UnitState}
 use Rattle.nvm.specs.Unit.{HasRun}
-use Rattle.nvm.proofs.unit.run_over.Goals as goal
+use Rattle.nvm.proofs.unit.run_unit_with_origin.Goals as goal
 
 pub returns-in-Ok-switch_on-clause-ran : goal.returns-in-Ok-switch_on-clause-ran
 returns-in-Ok-switch_on-clause-ran g c =
