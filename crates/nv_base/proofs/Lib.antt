@@ -1,3 +1,4 @@
+mod Placed
 mod Runs
 mod Steps
 pub mod Lists

@@ -1,27 +1,78 @@
 // A list of entries with a cap.
-ghost use Rattle.std.specs.Prelude.{◌≡◌, ◌≤◌, ◌<◌, ◌+◌, ◌-◌, ◌++◌, ◌∷◌, [], ◌↔◌, IsTrue, length, OnOk, OnErr, slice_get, Some, MatchOption};
+ghost use Rattle.std.specs.Prelude.{◌≡◌, ◌≤◌, ◌<◌, ◌+◌, ◌-◌, ◌++◌, ◌∷◌, [], ◌↔◌, IsTrue, length, OnOk, OnErr, slice_get, Some, IfSome, MatchOption};
 
 use crate::Entry;
+use crate::repeated::{SLOTS, are_same, slot_of};
 use std::alloc::{AllocError, Global};
 use std::marker::Model;
 
 /// The entries of a run in order, and how many there may be (its cap). An entry is never changed nor taken out.
 /// Contracts see the entries, the cap, and for how many more entries memory is reserved.
+///
+/// A request with a long content that is the same as an earlier one, with the same caller and reply, mostly takes no more memory than
+/// its place.
 #[derive(Drop)]
 pub struct History {
-    entries: Vec<Entry>,
+    // the entries, of which the same request stands here once
+    stored: Vec<Entry>,
+    // of each entry, where it stands there
+    places: Vec<u32>,
+    // where the latest long request of each slot stands
+    latest: [u32; SLOTS],
     cap: u32,
+    reserved: u32,
 }
 
 impl Model for History {
-    ghost use Rattle.std.specs.Prelude.{length, ◌≤◌, ◌-◌, vec_capacity};
-    ghost use Rattle.nv_base.specs.History.{Listed};
+    ghost use Rattle.std.specs.Prelude.{vec_capacity};
+    ghost use Rattle.nv_base.specs.History.{Listed, ArePlaced, placed};
 
     ghost Value = { Listed };
 
-    ghost view = { λ h. record { entries = h.entries.items; cap = h.cap; reserved = vec_capacity h.entries - length h.entries.items } };
+    ghost view = { λ h. record { entries = placed h.stored.items h.places.items; cap = h.cap; reserved = h.reserved } };
 
-    ghost invariant = { λ h. length h.entries.items ≤ h.cap };
+    ghost invariant = { λ h. ArePlaced h.stored.items h.places.items (vec_capacity h.stored) (vec_capacity h.places) h.cap h.reserved };
+}
+
+// Where an entry stands.
+fn place_at(places: &[u32], i: u32) -> Option<u32>
+    ensures { MatchOption result (length places.now ≤ i) (λ place. slice_get places.now i ≡ Some place) }
+{
+    match places.get(i as usize) {
+        Some(place) => Some(*place),
+        None => None,
+    }
+}
+
+// The place of an entry in a list, where the latest one of its slot is the same.
+fn place_of(
+    stored: &[Entry],
+    latest: &[u32; SLOTS],
+    slot: Option<usize>,
+    entry: &Entry,
+) -> Option<u32>
+    requires { IfSome slot (λ slot. slot < 8) }
+    ensures { IfSome result (λ place. slice_get stored.now place ≡ Some entry.now) }
+{
+    let place = latest[slot?];
+    match stored.get(place as usize) {
+        Some(other) => {
+            if are_same(other, entry) {
+                return Some(place);
+            }
+            None
+        }
+        None => None,
+    }
+}
+
+// Notes the latest place of a slot.
+fn note_latest(latest: &mut [u32; SLOTS], slot: Option<usize>, place: u32)
+    requires { IfSome slot (λ slot. slot < 8) }
+{
+    if let Some(slot) = slot {
+        latest[slot] = place;
+    }
 }
 
 impl History {
@@ -31,8 +82,11 @@ impl History {
         ensures cap { result.cap ≡ cap }
     {
         History {
-            entries: Vec::new(alloc),
+            stored: Vec::new(alloc),
+            places: Vec::new(alloc),
+            latest: [0; SLOTS],
             cap,
+            reserved: 0,
         }
     }
 
@@ -42,7 +96,7 @@ impl History {
         ensures within { length self.now.entries ≤ self.now.cap }
     {
         let _cap = self.cap;
-        self.entries.len() as u32
+        self.places.len() as u32
     }
 
     /// How many entries there may be.
@@ -56,7 +110,10 @@ impl History {
     pub fn entry(&self, i: u32) -> Option<&Entry>
         ensures { MatchOption result (length self.now.entries ≤ i) (λ e. slice_get self.now.entries i ≡ Some e.now) }
     {
-        self.entries.get(i as usize)
+        match place_at(self.places.as_slice(), i) {
+            Some(place) => Some(&self.stored[place as usize]),
+            None => None,
+        }
     }
 
     /// Sees that memory stands for `count` more entries, those that are reserved already counted. At Err nothing
@@ -67,7 +124,13 @@ impl History {
         ensures grows { self.old.reserved ≤ self.new.reserved }
         ensures err { OnErr result (self.new ≡ self.old) }
     {
-        self.entries.reserve(count as usize)
+        if count <= self.reserved {
+            return Ok(());
+        }
+        self.stored.reserve(count as usize)?;
+        self.places.reserve(count as usize)?;
+        self.reserved = count;
+        Ok(())
     }
 
     /// Adds an entry behind the others, in memory that was reserved.
@@ -76,6 +139,16 @@ impl History {
         requires room { 0 < self.old.reserved }
         ensures { self.new ≡ record self.old { entries = self.old.entries ++ entry ∷ []; reserved = self.old.reserved - 1 } }
     {
-        self.entries.push_reserved(entry);
+        let slot = slot_of(&entry);
+        if let Some(place) = place_of(self.stored.as_slice(), &self.latest, slot, &entry) {
+            self.places.push_reserved(place);
+            self.reserved -= 1;
+            return;
+        }
+        let place = self.stored.len() as u32;
+        note_latest(&mut self.latest, slot, place);
+        self.places.push_reserved(place);
+        self.stored.push_reserved(entry);
+        self.reserved -= 1;
     }
 }

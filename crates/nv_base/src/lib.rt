@@ -20,6 +20,7 @@ mod marks;
 mod marks_room;
 mod pages;
 mod plan;
+mod repeated;
 mod request;
 mod result;
 mod trace;

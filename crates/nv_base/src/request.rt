@@ -7,7 +7,7 @@ use crate::{Bytes, ReqResult};
 /// What a caller asks of the NVRAM Manager: a service with its block number. `ram` names the block's RAM in place of
 /// the caller's own buffer, and so does a write without content. `store` is 0, but in a RAM write of a synchronized
 /// block the number of the caller's last store.
-#[derive(Clone, Drop)]
+#[derive(Clone, PartialEq, Eq, Drop)]
 pub enum Request {
     /// NvM_ReadBlock.
     Read {
@@ -76,7 +76,7 @@ pub enum Request {
 
 /// Why a request is refused, each with its number, in the order in which the refusals are tested. Which request tests
 /// which, and exactly when each holds, is the acceptance's to say.
-#[derive(Clone, Copy)]
+#[derive(Clone, Copy, PartialEq, Eq)]
 pub enum Refusal {
     /// 1: no block has this number.
     UnknownBlock,
@@ -115,7 +115,7 @@ pub enum Refusal {
 }
 
 /// The answer to a request: accepted, refused, or the status or data index that was asked for.
-#[derive(Clone, Copy)]
+#[derive(Clone, Copy, PartialEq, Eq)]
 pub enum Reply {
     Accepted,
     Refused(Refusal),

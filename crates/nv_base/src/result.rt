@@ -4,7 +4,7 @@ ghost use Rattle.nv_base.specs.Result.{code_of};
 
 /// The result of a request, and so the status of a block: of those of the NVRAM Manager (NvM_RequestResultType) the
 /// nine that this profile has.
-#[derive(Clone, Copy)]
+#[derive(Clone, Copy, PartialEq, Eq)]
 pub enum ReqResult {
     /// NVM_REQ_OK: the job was done.
     Fine,
