@@ -9,8 +9,8 @@ use std::marker::Model;
 /// The entries of a run in order, and how many there may be (its cap). An entry is never changed nor taken out.
 /// Contracts see the entries, the cap, and for how many more entries memory is reserved.
 ///
-/// A request with a long content that is the same as an earlier one, with the same caller and reply, mostly takes no more memory than
-/// its place.
+/// A request with one byte many times that is the same as an earlier one, with the same caller and reply, mostly takes no more memory
+/// than its place.
 #[derive(Drop)]
 pub struct History {
     // the entries, of which the same request stands here once

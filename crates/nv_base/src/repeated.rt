@@ -1,7 +1,7 @@
 // Requests that are repeated with their content.
 ghost use Rattle.std.specs.Prelude.{◌≡◌, ◌<◌, IsTrue, IfSome};
 
-use crate::{Bytes, Entry, Reply, Request};
+use crate::{Bytes, Entry, Reply, Request, all_are};
 
 /// How many slots the latest requests with a long content have.
 pub(crate) const SLOTS: usize = 8;
@@ -15,13 +15,50 @@ fn are_same_replies(one: Reply, other: Reply) -> bool
     one == other
 }
 
+// Whether both are as many bytes of one value.
+fn are_same_runs(one: &Bytes, other: &Bytes) -> bool
+    ensures { IsTrue result → one.now ≡ other.now }
+{
+    let one = one.as_slice();
+    let other = other.as_slice();
+    if one.len() != other.len() || one.len() == 0 {
+        return false;
+    }
+    all_are(one, one[0]) && all_are(other, one[0])
+}
+
 fn are_same_requests(one: &Request, other: &Request) -> bool
     ensures { IsTrue result → one.now ≡ other.now }
 {
-    *one == *other
+    match (one, other) {
+        (
+            Request::Write {
+                block,
+                content: Some(content),
+                store,
+            },
+            Request::Write {
+                block: other_block,
+                content: Some(other_content),
+                store: other_store,
+            },
+        ) => {
+            *block == *other_block
+                && *store == *other_store
+                && are_same_runs(content, other_content)
+        }
+        (
+            Request::PutRam { block, content },
+            Request::PutRam {
+                block: other_block,
+                content: other_content,
+            },
+        ) => *block == *other_block && are_same_runs(content, other_content),
+        _ => false,
+    }
 }
 
-/// Whether both are the same request of one caller, answered alike.
+/// Whether both are the same request of one caller, of one byte many times, answered alike.
 pub(crate) fn are_same(one: &Entry, other: &Entry) -> bool
     ensures { IsTrue result → one.now ≡ other.now }
 {

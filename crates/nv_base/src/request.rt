@@ -7,7 +7,7 @@ use crate::{Bytes, ReqResult};
 /// What a caller asks of the NVRAM Manager: a service with its block number. `ram` names the block's RAM in place of
 /// the caller's own buffer, and so does a write without content. `store` is 0, but in a RAM write of a synchronized
 /// block the number of the caller's last store.
-#[derive(Clone, PartialEq, Eq, Drop)]
+#[derive(Clone, Drop)]
 pub enum Request {
     /// NvM_ReadBlock.
     Read {
