@@ -44,17 +44,10 @@ fn place_at(places: &[u32], i: u32) -> Option<u32>
     }
 }
 
-// The place of an entry in a list, where the latest one of its slot is the same.
-fn place_of(
-    stored: &[Entry],
-    latest: &[u32; SLOTS],
-    slot: Option<usize>,
-    entry: &Entry,
-) -> Option<u32>
-    requires { IfSome slot (λ slot. slot < 8) }
+// This place, where the same entry stands there.
+fn place_of(stored: &[Entry], place: u32, entry: &Entry) -> Option<u32>
     ensures { IfSome result (λ place. slice_get stored.now place ≡ Some entry.now) }
 {
-    let place = latest[slot?];
     match stored.get(place as usize) {
         Some(other) => {
             if are_same(other, entry) {
@@ -63,15 +56,6 @@ fn place_of(
             None
         }
         None => None,
-    }
-}
-
-// Notes the latest place of a slot.
-fn note_latest(latest: &mut [u32; SLOTS], slot: Option<usize>, place: u32)
-    requires { IfSome slot (λ slot. slot < 8) }
-{
-    if let Some(slot) = slot {
-        latest[slot] = place;
     }
 }
 
@@ -139,14 +123,40 @@ impl History {
         requires room { 0 < self.old.reserved }
         ensures { self.new ≡ record self.old { entries = self.old.entries ++ entry ∷ []; reserved = self.old.reserved - 1 } }
     {
-        let slot = slot_of(&entry);
-        if let Some(place) = place_of(self.stored.as_slice(), &self.latest, slot, &entry) {
+        match slot_of(&entry) {
+            Some(slot) => self.add_long(slot, entry),
+            None => self.add_short(entry),
+        }
+    }
+
+    // The same of one that is no request with a long content.
+    #[inline(always)]
+    fn add_short(&mut self, entry: Entry)
+        requires below { length self.old.entries < self.old.cap }
+        requires room { 0 < self.old.reserved }
+        ensures { self.new ≡ record self.old { entries = self.old.entries ++ entry ∷ []; reserved = self.old.reserved - 1 } }
+    {
+        let place = self.stored.len() as u32;
+        self.places.push_reserved(place);
+        self.stored.push_reserved(entry);
+        self.reserved -= 1;
+    }
+
+    // The same of one whose content has this slot.
+    #[inline(never)]
+    fn add_long(&mut self, slot: usize, entry: Entry)
+        requires slot { slot < 8 }
+        requires below { length self.old.entries < self.old.cap }
+        requires room { 0 < self.old.reserved }
+        ensures { self.new ≡ record self.old { entries = self.old.entries ++ entry ∷ []; reserved = self.old.reserved - 1 } }
+    {
+        if let Some(place) = place_of(self.stored.as_slice(), self.latest[slot], &entry) {
             self.places.push_reserved(place);
             self.reserved -= 1;
             return;
         }
         let place = self.stored.len() as u32;
-        note_latest(&mut self.latest, slot, place);
+        self.latest[slot] = place;
         self.places.push_reserved(place);
         self.stored.push_reserved(entry);
         self.reserved -= 1;

@@ -1,6 +1,6 @@
 use Rattle.std.proofs.Common.{rules, ◌≡◌, Some, length, slice_get, refl}
 use Rattle.nv_base.proofs.Placed.{placed_again, placed_first, are_again, are_first}
-use Rattle.nv_base.proofs.history.History.add.Goals as goal
+use Rattle.nv_base.proofs.history.History.add_long.Goals as goal
 
 pub invariant_of-self : goal.invariant_of-self
 invariant_of-self c =
