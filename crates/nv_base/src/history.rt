@@ -118,6 +118,7 @@ impl History {
     }
 
     /// Adds an entry behind the others, in memory that was reserved.
+    #[inline(always)]
     pub fn add(&mut self, entry: Entry)
         requires below { length self.old.entries < self.old.cap }
         requires room { 0 < self.old.reserved }

@@ -84,6 +84,7 @@ pub(crate) fn are_same(one: &Entry, other: &Entry) -> bool
 }
 
 // The slot of a block with such a content.
+#[inline(always)]
 fn slot_of_content(block: u16, content: &Bytes) -> Option<usize>
     ensures { IfSome result (λ slot. slot < 8) }
 {
@@ -95,6 +96,7 @@ fn slot_of_content(block: u16, content: &Bytes) -> Option<usize>
 }
 
 /// The slot of a request with a long content, by its block and first byte.
+#[inline(always)]
 pub(crate) fn slot_of(entry: &Entry) -> Option<usize>
     ensures { IfSome result (λ slot. slot < 8) }
 {
