@@ -1,6 +1,6 @@
 /* What a unit takes of memory beside its flash, which is used where it lies: each byte is counted that the C library's heap is asked for. A unit
    may take what docs/COST.md has: room for one read, its blocks' contents, once more those of permanent RAM, two of the longest content, a page, so
-   much for each block, for each job that may wait at once and for each stored instance with its content twice, and what grows with nothing; an opening
+   much for each block, for each job that may wait at once and for each stored instance, and what grows with nothing; an opening
    no less than its text asks for. A reset takes nothing, and leaves as many bytes as it found. */
 #include "heap.h"
 #include "nvm_c.h"
@@ -9,7 +9,7 @@
 #include <string.h>
 
 /* What a block, a job that waits and a stored instance may take, and all that grows with nothing. */
-enum { TEXT = 65536, MOST_LENGTH = 4096, MOST_READ = 4096, A_BLOCK = 166, A_JOB = 174, A_BLOCK_OF_TEXT = 1220, AN_INSTANCE = 102, BANKS = 2, FIXED = 6700,
+enum { TEXT = 65536, MOST_LENGTH = 4096, MOST_READ = 4096, A_BLOCK = 166, A_JOB = 174, A_BLOCK_OF_TEXT = 1220, AN_INSTANCE = 44, BANKS = 2, FIXED = 6700,
        RESETS = 3 };
 
 /* How many jobs each queue takes, and of how many priorities the blocks are, block 1 among them. */
@@ -43,10 +43,9 @@ static size_t write_text(const unit *it, char *into) {
     return at + (size_t)sprintf(into + at, "]}");
 }
 
-/* What start-ups find: each stored instance, with its content, as the last entry has it, and once more for the next start-up. */
+/* What start-ups find: of each stored instance where it lies and what stands there, and no content. */
 static size_t found(const unit *it) {
-    size_t contents = (size_t)(it->count - 1) * it->length + it->longest;
-    return (2u * contents + (size_t)it->count * AN_INSTANCE) * it->instances;
+    return (size_t)it->count * AN_INSTANCE * it->instances;
 }
 
 /* How many jobs may wait at once: one on each block, or as many as the queues take, and of each priority one that was interrupted. */

@@ -60,7 +60,7 @@ driver_kept d h k p e is has sound added agrees places =
     let left = reserved_entries d.config (changed_by d.config (after d.config d.history.entries) e) in
     let reserved = ap (λ (x : Recorded). x.reserved) added in
     entry_kept d h k p e left is
-    (record { entries = ap (λ (x : Recorded). x.entries) added; cap = ap (λ (x : Recorded). x.cap) added; memory = omega (arith, reserved, has.fewer, is.memory); longest = ap (λ (x : Recorded). x.longest) added; numbers = ap (λ (x : Recorded). x.numbers) added })
+    (record { entries = ap (λ (x : Recorded). x.entries) added; cap = ap (λ (x : Recorded). x.cap) added; memory = omega (arith, reserved, has.fewer, is.memory); longest = ap (λ (x : Recorded). x.longest) added })
     agrees sound (omega arith) (omega (arith, has.fewer, is.fits)) places
 
 -- so it does behind one that the machine allows

@@ -1,7 +1,6 @@
 -- One entry more.
 use Rattle.std.proofs.Common.{◌≡◌, ◌≤◌, ℕ, ◌+◌, true, refl, subst, [], ◌∷◌, ◌++◌, length, length-append, is_some, option_map, ap, ◌∙◌, arith, sym}
-use Rattle.nv_recorder.specs.Recorder.{Recorded, found_numbers}
-use Rattle.block_machine.specs.block_config.Lengths.{lengths_of}
+use Rattle.nv_recorder.specs.Recorder.{Recorded}
 use Rattle.block_machine.specs.Words.{Configuration, Entry, Request, Ask, Accepted}
 use Rattle.block_machine.specs.State.{State, jobs_of}
 use Rattle.block_machine.specs.Blocks.{asked_block, asked_content, job_kind}
@@ -41,7 +40,6 @@ pub record IsPushed (old new : Recorded) (e : Entry) (most : ℕ) : Type 0 where
   pub cap : new.cap ≡ old.cap
   pub memory : most ≤ new.reserved
   pub longest : new.longest ≡ old.longest
-  pub numbers : new.numbers ≡ old.numbers
 
 pub pushed : (old mid new : Recorded) (e : Entry) (left : ℕ) → record mid { reserved = old.reserved } ≡ old → left + 1 ≤ mid.reserved
     → new ≡ with_entry mid e → IsPushed old new e left
@@ -50,7 +48,6 @@ pushed old mid new e left same room is = record {
   cap = ap (λ (h : Recorded). h.cap) is ∙ ap (λ (h : Recorded). h.cap) same;
   memory = let r = ap (λ (h : Recorded). h.reserved) is in omega (arith, r, room);
   longest = ap (λ (h : Recorded). h.longest) is ∙ ap (λ (h : Recorded). h.longest) same;
-  numbers = ap (λ (h : Recorded). h.numbers) is ∙ ap (λ (h : Recorded). h.numbers) same;
 }
 
 -- more memory changes nothing
@@ -70,7 +67,6 @@ memory_kept d h is same more =
       prepared = rw entries is.prepared;
       place = λ now. let entry = is.place (rw entries at now) in omega (arith, entry, more);
       longest = λ id. omega (arith, is.longest id, longest);
-      numbers = ap (λ (x : Recorded). x.numbers) same ∙ is.numbers ∙ ap (λ n. found_numbers n (lengths_of d.config)) (sym cap);
       within = rw cap is.within;
       read_share = is.read_share;
       write_share = is.write_share;
@@ -109,7 +105,6 @@ entry_kept d h k p e most is push agrees sound few fits places =
       prepared = omega (arith, is.prepared, count);
       place = λ same. absurd (omega (arith, is.prepared, count, same));
       longest = λ id. omega (arith, is.longest id, push.longest);
-      numbers = push.numbers ∙ is.numbers ∙ ap (λ n. found_numbers n (lengths_of d.config)) (sym push.cap);
       within = omega (arith, is.within, push.cap);
       read_share = is.read_share;
       write_share = is.write_share;

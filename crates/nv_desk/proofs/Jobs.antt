@@ -1,10 +1,10 @@
 -- A job that is accepted.
-use Rattle.std.proofs.Common.{◌≡◌, ◌≤◌, ◌<◌, ℕ, zero, suc, ◌+◌, ◌-◌, ◌^◌, nat_le, Bool, true, false, List, [], ◌∷◌, ◌++◌, length, get_or, sum_by, option_to_list, Contains, IfSome, IsTrue, is_some, is_none, unwrap_or, refl, sym, ap, ◌∙◌, subst, arith, Option, Some, None}
+use Rattle.std.proofs.Common.{◌≡◌, ◌≤◌, ◌<◌, ℕ, zero, suc, ◌+◌, ◌^◌, nat_le, Bool, true, false, List, [], ◌∷◌, ◌++◌, length, get_or, sum_by, option_to_list, Contains, IfSome, IsTrue, is_some, unwrap_or, refl, sym, ap, ◌∙◌, subst, arith, Option, Some, None}
 use Rattle.std.proofs.lemmas.Bool.Decides.{nat_tests}
 use Rattle.std.proofs.lemmas.List.Sums.{sum_by-append}
 use Rattle.block_machine.specs.Words.{Configuration, Pending, Ask, Request, Write, JobKind, ReadJob, WriteJob, Accepted}
 use Rattle.block_machine.specs.State.{State, Job, Sweep, jobs_of}
-use Rattle.block_machine.specs.Blocks.{asked_block, asked_content, job_block, job_kind, names_ram, is_pending, rank_of, status_of}
+use Rattle.block_machine.specs.Blocks.{asked_block, asked_content, job_block, job_kind, names_ram, is_pending, status_of}
 use Rattle.block_machine.specs.Reply.{is_queue_full, reserved_entries, needed}
 use Rattle.block_machine.specs.Steps.{after, step, accepted, accepted_by, job_at, with_status}
 use Rattle.block_machine.specs.Legal.{IsAsk}

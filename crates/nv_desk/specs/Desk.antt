@@ -7,8 +7,6 @@ use Rattle.block_machine.specs.Sweeps.{sweep_entries, sweep_at}
 use Rattle.block_machine.specs.Reply.{reserved_entries}
 use Rattle.block_machine.specs.Steps.{after}
 use Rattle.nv_desk_state.specs.Kept.{Agrees}
-use Rattle.block_machine.specs.block_config.Lengths.{lengths_of}
-use Rattle.nv_recorder.specs.Recorder.{found_numbers}
 use Rattle.nv_desk.specs.Places.{AreReady}
 use Rattle.nv_desk.specs.Sound.{IsSound}
 use Rattle.nv_desk.specs.declared.desk.Desk.TheInside.{Inside}
@@ -34,7 +32,7 @@ state_of d = after d.config d.entries
 
 -- What is kept stands for the state after the history. The reserved entries fit under the cap, and there is memory for
 -- them. The content of a job has the place of its block. Until the next entry there is memory for a start-up's and an Off
--- behind it, once it was taken. Where entries are counted there is memory for the mark of each instance.
+-- behind it, once it was taken.
 pub record IsKept (d : Inside) : Type 0 where
   pub agrees : Agrees d.config d.kept (after d.config d.history.entries)
   pub sound : IsSound d.config (after d.config d.history.entries)
@@ -45,7 +43,6 @@ pub record IsKept (d : Inside) : Type 0 where
   pub prepared : d.prepared ≤ length d.history.entries
   pub place : d.prepared ≡ length d.history.entries → 2 ≤ d.history.reserved
   pub longest : (id : ℕ) → (desc_of d.config id).length ≤ d.history.longest
-  pub numbers : d.history.numbers ≡ found_numbers d.history.cap (lengths_of d.config)
   pub within : d.history.cap < 2 ^ 32
   pub read_share : d.read_share ≡ sweep_entries d.config (sweep_at d.config 0 false)
   pub write_share : d.write_share ≡ sweep_entries d.config (sweep_at d.config 0 true)

@@ -39,15 +39,13 @@ impl Model for Desk {
 
 impl Desk {
     /// The desk of a configuration before the first start-up, with a history of at most `cap` entries. It takes the memory of
-    /// that start-up's entry, and of an Off behind it, and a place for the content of each block; where entries are counted, that of
-    /// what a start-up finds.
+    /// that start-up's entry, and of an Off behind it, and a place for the content of each block.
     pub fn make(alloc: Global, config: Config, cap: u32) -> Result<Desk, AllocError>
         ensures { IfOk result (λ d. d ≡ first_desk config cap) }
     {
         let kept = Kept::make(alloc, &config)?;
         let places = Places::make(alloc, &config)?;
-        let lengths = config.all_lengths(alloc)?;
-        let mut history = Recorder::make(alloc, cap, longest_content(&config), &lengths)?;
+        let mut history = Recorder::make(alloc, cap, longest_content(&config))?;
         take_memory(alloc, &mut history, 1)?;
         let read_share = sweep_share(&config, false);
         let write_share = sweep_share(&config, true);

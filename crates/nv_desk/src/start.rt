@@ -51,8 +51,7 @@ impl Desk {
     {
         let places = Places::make(alloc, &self.config)?;
         let longest = longest_content(&self.config);
-        let lengths = self.config.all_lengths(alloc)?;
-        let mut history = Recorder::make(alloc, self.history.cap(), longest, &lengths)?;
+        let mut history = Recorder::make(alloc, self.history.cap(), longest)?;
         take_memory(alloc, &mut history, 1)?;
         self.kept.forget();
         self.places = places;
@@ -61,8 +60,8 @@ impl Desk {
     }
 
     /// A start-up found these marks: what was pending is gone, and each content is back in its block's place. It takes no memory, since
-    /// that of its entry was taken with no entry since. Where entries are kept, so is the memory of the marks; else memory for those of a
-    /// further start-up is handed back.
+    /// that of its entry was taken with no entry since. Where entries are kept, so is the memory of the marks; else it is handed back, for
+    /// those of a further start-up.
     pub fn start_up(&mut self, found: FoundMarks, ops: u64) -> Option<FoundMarks>
         requires fits { length self.old.entries + 2 ≤ self.old.cap }
         requires prepared { self.old.prepared ≡ length self.old.entries }

@@ -1,6 +1,7 @@
 -- Lists of places.
-use Rattle.std.proofs.Common.{◌≡◌, ℕ, zero, suc, ◌+◌, ◌<◌, ◌≤◌, List, [], ◌∷◌, ◌++◌, map, length, get_or, set, refl, sym, ap, ◌∙◌, arith, append_assoc}
-use Rattle.std.proofs.lemmas.List.{map-append}
+use Rattle.std.proofs.Common.{◌≡◌, ℕ, zero, suc, ◌+◌, ◌<◌, ◌≤◌, List, [], ◌∷◌, ◌++◌, map, length, get_or, set, refl, sym, ap, ◌∙◌, arith, append_assoc, Option, Some, None, MatchOption}
+use Rattle.std.proofs.lemmas.List.{length-replicate, length-set, map-set}
+use Rattle.std.proofs.Math.Seq.{map-set_same}
 use Rattle.nv_base.specs.Marks.{instance_of, number_of, listed, next_or}
 use Rattle.nv_base.specs.declared.instance.Instance.{Instance}
 use Rattle.nv_base.specs.declared.instance.DeviceNumber.{DeviceNumber}
@@ -9,22 +10,32 @@ use Rattle.nv_base.specs.declared.mark.Mark.TheVariants.{Content, Invalid, Erase
 use Rattle.nv_recorder.specs.declared.found_marks.FoundPlace.{FoundPlace}
 use Rattle.nv_recorder.specs.declared.event.MarkKind.{MarkKind}
 use Rattle.nv_recorder.specs.declared.event.MarkKind.TheVariants as mark
-use Rattle.nv_recorder.specs.FoundMarks.{number_at, IsWhole, AreWhole, mark_at, listed_at, marks_at, with_mark}
+use Rattle.nv_recorder.specs.FoundMarks.{number_at, content_at, IsWhole, AreWhole, zeros_for, place_for, mark_at, listed_at, marks_at, with_mark, with_content}
 
--- ONE MORE AT THE END
-pub whole_more : (ps : List FoundPlace) (p : FoundPlace) → AreWhole ps → IsWhole p → AreWhole (ps ++ p ∷ [])
-whole_more [] p whole one = (one, tt)
-whole_more (q ∷ ps) p whole one = (whole.0, whole_more ps p whole.1 one)
+-- PLACES THAT HOLD NOTHING
+pub numbers_first : (ns : List (DeviceNumber × ℕ)) → map number_at (map place_for ns) ≡ ns
+numbers_first [] = refl
+numbers_first (n ∷ ns) = ap (λ xs. n ∷ xs) (numbers_first ns)
 
-pub numbers_more : (ps : List FoundPlace) (p : FoundPlace) (ns : List (DeviceNumber × ℕ)) (n : DeviceNumber × ℕ) → map number_at ps ≡ ns → number_at p ≡ n
-    → map number_at (ps ++ p ∷ []) ≡ ns ++ n ∷ []
-numbers_more ps p ns n same one = map-append number_at ps (p ∷ []) ∙ (λ i. same i ++ one i ∷ [])
+pub whole_first : (ns : List (DeviceNumber × ℕ)) → AreWhole (map place_for ns)
+whole_first [] = tt
+whole_first (n ∷ ns) = (length-replicate n.1 0, whole_first ns)
+
+pub contents_first : (ns : List (DeviceNumber × ℕ)) → map content_at (map place_for ns) ≡ map zeros_for ns
+contents_first [] = refl
+contents_first (n ∷ ns) = ap (λ xs. zeros_for n ∷ xs) (contents_first ns)
 
 -- ONE AT AN INDEX
 pub whole_at : (ps : List FoundPlace) (i : ℕ) (d : FoundPlace) → i < length ps → AreWhole ps → IsWhole (get_or ps i d)
 whole_at [] i d few whole = absurd (omega (arith, few))
 whole_at (p ∷ ps) zero d few whole = whole.0
 whole_at (p ∷ ps) (suc i) d few whole = whole_at ps i d (omega (arith, few)) whole.1
+
+pub content_whole : (ps : List FoundPlace) (i : ℕ) (d : List ℕ) (p : FoundPlace) → i < length ps → AreWhole ps
+    → length (get_or (map content_at ps) i d) ≡ (get_or ps i p).length
+content_whole [] i d p few whole = absurd (omega (arith, few))
+content_whole (q ∷ ps) zero d p few whole = whole.0
+content_whole (q ∷ ps) (suc i) d p few whole = content_whole ps i d p (omega (arith, few)) whole.1
 
 pub whole_set : (ps : List FoundPlace) (i : ℕ) (p : FoundPlace) → AreWhole ps → IsWhole p → AreWhole (set ps i p)
 whole_set [] i p whole one = tt
@@ -85,3 +96,24 @@ pub held_whole : (kind : MarkKind) (bytes : List ℕ) (p : FoundPlace) → (kind
 held_whole mark.Content bytes p fits whole = fits refl
 held_whole mark.Invalid bytes p fits whole = whole
 held_whole mark.Erased bytes p fits whole = whole
+
+-- the contents with what is held at an index
+pub held_contents : (kind : MarkKind) (bytes : List ℕ) (ps : List FoundPlace) (i : ℕ) (d : FoundPlace)
+    → map content_at (set ps i (with_mark kind bytes (get_or ps i d))) ≡ with_content kind bytes i (map content_at ps)
+held_contents mark.Content bytes ps i d = map-set content_at ps i (with_mark mark.Content bytes (get_or ps i d))
+held_contents mark.Invalid bytes ps i d = map-set_same content_at ps i (with_mark mark.Invalid bytes (get_or ps i d)) d refl
+held_contents mark.Erased bytes ps i d = map-set_same content_at ps i (with_mark mark.Erased bytes (get_or ps i d)) d refl
+
+pub held_length : (kind : MarkKind) (bytes : List ℕ) (i : ℕ) (contents : List (List ℕ)) → length (with_content kind bytes i contents) ≡ length contents
+held_length mark.Content bytes i contents = length-set contents i bytes
+held_length mark.Invalid bytes i contents = refl
+held_length mark.Erased bytes i contents = refl
+
+-- the next content is the place's
+pub next_content : (r : Option (List ℕ)) (n m : ℕ) (old new : List (List ℕ)) (x : List ℕ) (xs : List (List ℕ)) → old ≡ x ∷ xs → n ≡ length old
+    → MatchOption r ((n ≡ 0) × (m ≡ 0)) (λ y. (old ≡ y ∷ new) × (m + 1 ≡ n)) → (r ≡ Some x) × (new ≡ xs) × (m ≡ length new)
+next_content (Some y) n m old new x xs is count steps =
+    let same : y ∷ new ≡ x ∷ xs = sym steps.0 ∙ is in
+    let more = ap length steps.0 in
+    (ap Some (cc same), cc same, omega (arith, steps.1, count, more))
+next_content None n m old new x xs is count steps = let some = ap length is in absurd (omega (arith, steps.0, count, some))

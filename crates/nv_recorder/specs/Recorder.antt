@@ -1,8 +1,7 @@
 -- What is kept of the entries.
-use Rattle.std.specs.Prelude.{◌≡◌, ◌≤◌, ◌-◌, ◌^◌, ℕ, List, [], Bool, true, false, nat_lt, length, slice_get, if◌then◌else◌}
+use Rattle.std.specs.Prelude.{◌≡◌, ◌≤◌, ◌-◌, ◌^◌, ℕ, List, Bool, true, false, nat_lt, length, slice_get}
 use Rattle.nv_base.specs.History.{Listed}
 use Rattle.nv_base.specs.declared.entry.Entry.{Entry}
-use Rattle.nv_base.specs.declared.instance.DeviceNumber.{DeviceNumber}
 use Rattle.nv_recorder.specs.Latest.{Kept}
 use Rattle.nv_recorder.specs.Rooms.{Roomy}
 
@@ -14,18 +13,12 @@ endless = 2 ^ 32 - 1
 abbrev pub keeps : ℕ → Bool
 keeps cap = nat_lt cap endless
 
--- the entries so far, how many there may be, for how many more there is memory, of how many bytes the content of each may be, and,
--- where they are counted, the numbers of which a start-up may find marks
+-- the entries so far, how many there may be, for how many more there is memory, and of how many bytes the content of each may be
 pub record Recorded : Type 0 where
   pub entries : List Entry
   pub cap : ℕ
   pub reserved : ℕ
   pub longest : ℕ
-  pub numbers : List (DeviceNumber × ℕ)
-
--- the numbers of which a recorder of at most so many entries has memory for marks: none, where it keeps entries
-abbrev pub found_numbers : (cap : ℕ) → List (DeviceNumber × ℕ) → List (DeviceNumber × ℕ)
-found_numbers cap numbers = if keeps cap then [] else numbers
 
 -- what stands there for the entries: their number; they themselves, where they are kept, with a content for each that is
 -- reserved; else the last one

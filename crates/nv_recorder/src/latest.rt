@@ -1,19 +1,19 @@
 // The last entry, where no other one is kept.
 ghost use Rattle.std.specs.Prelude.{◌≡◌, ◌≤◌, length, Some, None, IfOk, IfSome, option_copied, option_map, if◌then◌else◌};
 ghost use Rattle.nv_recorder.specs.Event.{entry_of};
-ghost use Rattle.nv_recorder.specs.FoundMarks.{found_in, numbers_of};
+ghost use Rattle.nv_recorder.specs.FoundMarks.{found_in};
 ghost use Rattle.nv_recorder.specs.Latest.{last_of};
 ghost use Rattle.nv_recorder.specs.Request.{request_lent};
 
 use crate::buffer::Buffer;
 use crate::{Event, FoundMarks, LentRequest, RequestKind};
-use nv_base::{Entry, Lengths, Reply};
+use nv_base::{Entry, Reply};
 use std::alloc::{AllocError, Global};
 use std::marker::Model;
-use std::mem;
+use std::snapshot::Snapshot;
 
-/// An entry that is lent: one that was added, one of a job or of a request, with its content beside it, or one of a start-up, with
-/// what it found.
+/// An entry that is lent: one that was added, one of a job or of a request, with its content beside it, or one of a start-up, whose
+/// marks stand for proofs alone.
 pub enum Last<'a> {
     Added(&'a Entry),
     OfJob {
@@ -26,13 +26,13 @@ pub enum Last<'a> {
         reply: Reply,
     },
     Found {
-        marks: &'a FoundMarks,
+        marks: &'a Snapshot<FoundMarks>,
         ops: u64,
     },
 }
 
 /// What stands of the last entry beside a content: one that was added, or one of a job, which may have that content, or of a
-/// request, which has it; or one of a start-up, which has the marks.
+/// request, which has it; or one of a start-up, whose marks stand for proofs alone.
 #[derive(Drop)]
 pub enum Held {
     Nothing,
@@ -47,37 +47,34 @@ pub enum Held {
         reply: Reply,
     },
     Found {
+        marks: Snapshot<FoundMarks>,
         ops: u64,
     },
 }
 
-/// The last entry, with memory for the content of any, and for what a start-up found. Contracts see the entry, of how many bytes
-/// its content may be, and the numbers that a start-up may find.
+/// The last entry, with memory for the content of any. Contracts see the entry, and of how many bytes its content may be.
 #[derive(Drop)]
 pub struct Latest {
     held: Held,
     content: Buffer,
-    found: FoundMarks,
 }
 
 impl Model for Latest {
-    ghost use Rattle.nv_recorder.specs.FoundMarks.{numbers_of};
     ghost use Rattle.nv_recorder.specs.Latest.{Kept, latest_of};
 
     ghost Value = { Kept };
 
-    ghost view = { λ l. record { entry = latest_of l.held l.content.content l.found; room = l.content.room; numbers = numbers_of l.found } };
+    ghost view = { λ l. record { entry = latest_of l.held l.content.content; room = l.content.room } };
 }
 
 impl Latest {
-    /// No entry, and the memory of a content of `room` bytes, and of a mark of each of these numbers.
-    pub fn make(alloc: Global, room: usize, lengths: &Lengths) -> Result<Latest, AllocError>
-        ensures { IfOk result (λ l. l ≡ record { entry = None; room = room; numbers = lengths.now }) }
+    /// No entry, and the memory of a content of `room` bytes.
+    pub fn make(alloc: Global, room: usize) -> Result<Latest, AllocError>
+        ensures { IfOk result (λ l. l ≡ record { entry = None; room = room }) }
     {
         Ok(Latest {
             held: Held::Nothing,
             content: Buffer::make(alloc, room)?,
-            found: FoundMarks::make(alloc, lengths, 0)?,
         })
     }
 
@@ -116,13 +113,12 @@ impl Latest {
         self.content.put(request.content);
     }
 
-    /// The entry of a start-up was, which found these marks: their memory stands here, and that of those before is handed back.
-    pub fn add_found(&mut self, found: FoundMarks, ops: u64) -> FoundMarks
-        ensures latest { self.new ≡ record self.old { entry = Some (Entry.Found (found_in found) ops); numbers = numbers_of found } }
-        ensures back { numbers_of result ≡ self.old.numbers }
+    /// The entry of a start-up was, which found these marks. It takes no memory.
+    pub fn note_found(&mut self, found: &FoundMarks, ops: u64)
+        ensures { self.new ≡ record self.old { entry = Some (Entry.Found (found_in found.now) ops) } }
     {
-        self.held = Held::Found { ops };
-        mem::replace(&mut self.found, found)
+        let marks = Snapshot::of(found);
+        self.held = Held::Found { marks, ops };
     }
 
     /// Lends it.
@@ -148,10 +144,7 @@ impl Latest {
                 },
                 reply: *reply,
             }),
-            Held::Found { ops } => Some(Last::Found {
-                marks: &self.found,
-                ops: *ops,
-            }),
+            Held::Found { marks, ops } => Some(Last::Found { marks, ops: *ops }),
         }
     }
 }

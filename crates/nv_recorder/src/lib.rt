@@ -14,6 +14,7 @@ mod recorder;
 mod request;
 mod rooms;
 mod told;
+mod told_bytes;
 
 pub use buffer::Buffer;
 pub use event::{Event, MarkKind, TakenKind};

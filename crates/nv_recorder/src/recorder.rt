@@ -1,9 +1,9 @@
 // The entries of a history, or what is kept of them.
-ghost use Rattle.std.specs.Prelude.{◌≡◌, ◌≤◌, ◌<◌, ◌+◌, ◌-◌, ◌++◌, ◌∷◌, [], true, false, length, slice_get, option_copied, option_map, if◌then◌else◌, None, IfOk, IfSome, IsSomeAnd, IsOk, OnOk, OnErr};
+ghost use Rattle.std.specs.Prelude.{◌≡◌, ◌≤◌, ◌<◌, ◌+◌, ◌-◌, ◌++◌, ◌∷◌, [], true, false, length, slice_get, option_copied, option_map, None, Some, IfOk, IfSome, IsOk, OnOk, OnErr};
 ghost use Rattle.nv_recorder.specs.Event.{entry_of};
 ghost use Rattle.nv_recorder.specs.Latest.{last_of};
-ghost use Rattle.nv_recorder.specs.FoundMarks.{CanList, found_in, numbers_of};
-ghost use Rattle.nv_recorder.specs.Recorder.{keeps, found_numbers};
+ghost use Rattle.nv_recorder.specs.FoundMarks.{CanList, found_in};
+ghost use Rattle.nv_recorder.specs.Recorder.{keeps};
 ghost use Rattle.nv_recorder.specs.Request.{request_lent};
 
 use crate::event::Event;
@@ -12,7 +12,7 @@ use crate::latest::{Last, Latest};
 use crate::request::LentRequest;
 use crate::rooms::Rooms;
 use crate::told::Told;
-use nv_base::{Bytes, Entry, History, Lengths, Reply};
+use nv_base::{Bytes, Entry, History, Reply};
 use std::alloc::{AllocError, Global};
 use std::marker::Model;
 
@@ -21,8 +21,8 @@ pub const ENDLESS: u32 = u32::MAX;
 
 /// The entries of a history in order, how many there may be (its cap), and of how many bytes the content of each may be. A recorder
 /// of at most 2^32 - 2 entries keeps them all, in a history. One of 2^32 - 1 keeps their number and the last one: the others are
-/// there for proofs alone. Contracts see the entries, the cap, for how many more entries memory is reserved, the bytes, and of which
-/// numbers the marks of a start-up have memory here.
+/// there for proofs alone, as what a start-up found is. Contracts see the entries, the cap, for how many more entries memory is
+/// reserved, and the bytes.
 #[derive(Drop)]
 pub struct Recorder {
     history: History,
@@ -40,24 +40,19 @@ impl Model for Recorder {
 
     ghost Value = { Recorded };
 
-    ghost view = { λ r. record { entries = r.told.items; cap = r.cap; reserved = r.reserved; longest = r.rooms.longest; numbers = r.latest.numbers } };
+    ghost view = { λ r. record { entries = r.told.items; cap = r.cap; reserved = r.reserved; longest = r.rooms.longest } };
 
     ghost invariant = { λ r. IsRecorded r.history r.rooms r.latest r.told.items r.keeps r.count r.reserved r.cap };
 }
 
 impl Recorder {
-    /// No entries of at most `cap`, with contents of at most `longest` bytes, and marks of these numbers. Where none is kept, it takes
-    /// the memory of the last one's content, and of the marks that a start-up finds.
-    pub fn make(
-        alloc: Global,
-        cap: u32,
-        longest: usize,
-        lengths: &Lengths,
-    ) -> Result<Recorder, AllocError>
-        ensures { IfOk result (λ r. r ≡ record { entries = []; cap = cap; reserved = 0; longest = longest; numbers = found_numbers cap lengths.now }) }
+    /// No entries of at most `cap`, with contents of at most `longest` bytes. Where none is kept, it takes the memory of the last one's
+    /// content.
+    pub fn make(alloc: Global, cap: u32, longest: usize) -> Result<Recorder, AllocError>
+        ensures { IfOk result (λ r. r ≡ record { entries = []; cap = cap; reserved = 0; longest = longest }) }
     {
         let keeps = cap < ENDLESS;
-        let latest = latest_for(alloc, keeps, longest, lengths)?;
+        let latest = Latest::make(alloc, if keeps { 0 } else { longest })?;
         Ok(Recorder {
             history: History::make(alloc, cap),
             rooms: Rooms::new(alloc, longest),
@@ -213,18 +208,17 @@ impl Recorder {
     }
 
     /// Adds the entry of a start-up that found these marks, in memory that was reserved. Where entries are kept, so is the memory of the
-    /// marks. Else it stands here until the next start-up, and that of the start-up before is handed back.
+    /// marks. Else it is handed back as it is: the entry stands here until the next one, for proofs alone but for the number of operations.
     pub fn add_found(&mut self, found: FoundMarks, ops: u64) -> Option<FoundMarks>
         requires below { length self.old.entries < self.old.cap }
         requires room { 0 < self.old.reserved }
         requires listed { keeps self.old.cap ≡ true → CanList found }
-        requires numbers { keeps self.old.cap ≡ false → numbers_of found ≡ self.old.numbers }
         ensures entries { self.new ≡ record self.old {
           entries = self.old.entries ++ Entry.Found (found_in found) ops ∷ [];
           reserved = self.old.reserved - 1;
         } }
         ensures kept { keeps self.old.cap ≡ true → result ≡ None }
-        ensures counted { keeps self.old.cap ≡ false → IsSomeAnd result (λ back. numbers_of back ≡ self.old.numbers) }
+        ensures counted { keeps self.old.cap ≡ false → result ≡ Some found }
     {
         self.told = self.told.with_found(&found, ops);
         self.count += 1;
@@ -232,26 +226,11 @@ impl Recorder {
         if self.keeps {
             let marks = found.into_marks();
             self.history.add(Entry::Found { marks, ops });
-            None
-        } else {
-            Some(self.latest.add_found(found, ops))
+            return None;
         }
+        self.latest.note_found(&found, ops);
+        Some(found)
     }
-}
-
-// Memory for the last entry, where no other one is kept: for none where all are.
-fn latest_for(
-    alloc: Global,
-    keeps: bool,
-    longest: usize,
-    lengths: &Lengths,
-) -> Result<Latest, AllocError>
-    ensures { IfOk result (λ l. l ≡ record { entry = None; room = if keeps then 0 else longest; numbers = if keeps then [] else lengths.now }) }
-{
-    if keeps {
-        return Latest::make(alloc, 0, &Lengths::new(alloc));
-    }
-    Latest::make(alloc, longest, lengths)
 }
 
 // A content as bytes of its own.

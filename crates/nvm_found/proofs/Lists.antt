@@ -16,7 +16,7 @@ use Rattle.nvm_found.specs.Found.{relisted, HasLength, IsListOf, AreHeld}
 use Rattle.nv_recorder.specs.Event.{mark_of}
 use Rattle.nv_recorder.specs.declared.event.MarkKind.{MarkKind}
 use Rattle.nv_recorder.specs.declared.event.MarkKind.TheVariants as kind
-use Rattle.nv_recorder.specs.FoundMarks.{number_at, AreWhole, mark_at, marks_at}
+use Rattle.nv_recorder.specs.FoundMarks.{number_at, content_at, AreWhole, mark_at, marks_at}
 use Rattle.nvm_found.specs.Places.{FirstHeldIn, FirstHeld}
 
 -- ONE INSTANCE
@@ -88,7 +88,7 @@ each_length : (marks : List (Instance × Mark)) (ps : List FoundPlace) → AreWh
 each_length marks [] whole each x k few is = absurd (omega (arith, few))
 each_length marks (p ∷ ps) whole each x zero few is =
     subst (λ (y : DeviceNumber × ℕ). HasLength (listed_mark marks (instance_of y.0)) y.1) is
-    (subst (λ (m : Mark). HasLength m p.length) (sym each.0) (whole_length p.kind p.content p.length whole.0))
+    (subst (λ (m : Mark). HasLength m p.length) (sym each.0) (whole_length p.kind (content_at p) p.length whole.0))
 each_length marks (p ∷ ps) whole each x (suc k) few is = each_length marks ps whole.1 each.1 x k (omega (arith, few)) is
 
 each_held : (numbers : List (DeviceNumber × ℕ)) (slots : List Slot) (marks : List (Instance × Mark)) (ps : List FoundPlace)

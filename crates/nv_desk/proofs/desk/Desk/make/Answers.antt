@@ -1,6 +1,5 @@
-use Rattle.std.proofs.Common.{rules, ap, sym, ◌∙◌, arith}
-use Rattle.block_machine.specs.block_config.Lengths.{lengths_of}
-use Rattle.nv_recorder.specs.Recorder.{Recorded, found_numbers}
+use Rattle.std.proofs.Common.{rules, ap, arith}
+use Rattle.nv_recorder.specs.Recorder.{Recorded}
 use Rattle.nv_desk.proofs.desk.Desk.make.Goals as goal
 
 pub invariant_of-result : goal.invariant_of-result
@@ -14,8 +13,6 @@ invariant_of-result c = record {
   prepared = search rules;
   place = search rules;
   longest = λ id. (let most = c.longest_content.ensures id in let made = ap (λ (h : Recorded). h.longest) c.in_ok-history.ensures in let stays = ap (λ (h : Recorded). h.longest) c.take_memory.ensures.same in omega (arith, most, made, stays));
-  numbers = ap (λ (h : Recorded). h.numbers) c.take_memory.ensures.same ∙ ap (λ (h : Recorded). h.numbers) c.in_ok-history.ensures ∙ ap (found_numbers c.args.cap) c.in_ok-lengths.ensures
-      ∙ ap (λ n. found_numbers n (lengths_of c.args.config)) (sym (ap (λ (h : Recorded). h.cap) c.take_memory.ensures.same ∙ ap (λ (h : Recorded). h.cap) c.in_ok-history.ensures));
   within = search rules;
   read_share = search rules;
   write_share = search rules;
