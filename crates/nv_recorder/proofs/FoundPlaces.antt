@@ -1,7 +1,8 @@
 -- Lists of places.
-use Rattle.std.proofs.Common.{◌≡◌, ℕ, zero, suc, ◌+◌, ◌<◌, ◌≤◌, List, [], ◌∷◌, ◌++◌, map, length, get_or, set, refl, sym, ap, ◌∙◌, arith, append_assoc, Option, Some, None, MatchOption}
+use Rattle.std.proofs.Common.{◌≡◌, ℕ, zero, suc, ◌+◌, ◌<◌, ◌≤◌, List, [], ◌∷◌, ◌++◌, map, length, get_or, set, refl, sym, ap, subst, ◌∙◌, arith, append_assoc, Option, Some, None, MatchOption}
 use Rattle.std.proofs.lemmas.List.{length-replicate, length-set, map-set}
 use Rattle.std.proofs.Math.Seq.{map-set_same}
+use Rattle.nv_base.specs.Lengths.{AreLengths}
 use Rattle.nv_base.specs.Marks.{instance_of, number_of, listed, next_or}
 use Rattle.nv_base.specs.declared.instance.Instance.{Instance}
 use Rattle.nv_base.specs.declared.instance.DeviceNumber.{DeviceNumber}
@@ -109,7 +110,24 @@ held_length mark.Content bytes i contents = length-set contents i bytes
 held_length mark.Invalid bytes i contents = refl
 held_length mark.Erased bytes i contents = refl
 
--- the next content is the place's
+-- THE PLACES THAT ARE LEFT
+-- the first of them is above what is listed so far
+pub record IsNext (next : ℕ) (p : FoundPlace) (rest : List FoundPlace) : Type 0 where
+  pub above : next ≤ p.number.0
+  pub some : 1 ≤ p.length
+  pub whole : IsWhole p
+  pub ascend : AreLengths p.number.0 (map number_at rest)
+  pub others : AreWhole rest
+
+pub next_place : (next low : ℕ) (all : List FoundPlace) (p : FoundPlace) (rest : List FoundPlace) → all ≡ p ∷ rest → next ≤ low + 1
+    → AreLengths low (map number_at all) → AreWhole all → IsNext next p rest
+next_place next low all p rest is below ascend whole =
+    let ascends : AreLengths low (map number_at (p ∷ rest)) = subst (λ (ps : List FoundPlace). AreLengths low (map number_at ps)) is ascend in
+    let wholes : AreWhole (p ∷ rest) = subst (λ (ps : List FoundPlace). AreWhole ps) is whole in
+    let above = ascends.0 in
+    record { above = omega (arith, below, above); some = ascends.2; whole = wholes.0; ascend = ascends.4; others = wholes.1 }
+
+-- the next content is that of the first one
 pub next_content : (r : Option (List ℕ)) (n m : ℕ) (old new : List (List ℕ)) (x : List ℕ) (xs : List (List ℕ)) → old ≡ x ∷ xs → n ≡ length old
     → MatchOption r ((n ≡ 0) × (m ≡ 0)) (λ y. (old ≡ y ∷ new) × (m + 1 ≡ n)) → (r ≡ Some x) × (new ≡ xs) × (m ≡ length new)
 next_content (Some y) n m old new x xs is count steps =
