@@ -6,7 +6,6 @@ use Rattle.nv_recorder.specs.declared.latest.Held.TheVariants as held
 use Rattle.nv_recorder.specs.declared.latest.Last.{Last}
 use Rattle.nv_recorder.specs.declared.latest.Last.TheVariants as last
 use Rattle.nv_recorder.specs.Event.{entry_of}
-use Rattle.nv_recorder.specs.FoundMarks.{found_in}
 use Rattle.nv_recorder.specs.Request.{request_lent, whole_request}
 
 -- the content that stands in a buffer, and how many bytes have room
@@ -26,11 +25,11 @@ latest_of held.Nothing content = None
 latest_of (held.Added entry) content = Some entry
 latest_of (held.OfJob event has) content = Some (entry_of event (if has then Some content else None))
 latest_of (held.OfRequest caller kind reply) content = Some (Entry.Ask caller (whole_request kind content) reply)
-latest_of (held.Found marks ops) content = Some (Entry.Found (found_in marks.value) ops)
+latest_of (held.Found marks ops) content = Some (Entry.Found marks.items ops)
 
 -- the entry that is lent
 abbrev pub last_of : Last → Entry
 last_of (last.Added entry) = entry.now
 last_of (last.OfJob event content) = entry_of event (option_copied content)
 last_of (last.OfRequest caller request reply) = Entry.Ask caller (request_lent request) reply
-last_of (last.Found marks ops) = Entry.Found (found_in marks.now.value) ops
+last_of (last.Found marks ops) = Entry.Found marks.now.items ops

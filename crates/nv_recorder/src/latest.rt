@@ -6,11 +6,11 @@ ghost use Rattle.nv_recorder.specs.Latest.{last_of};
 ghost use Rattle.nv_recorder.specs.Request.{request_lent};
 
 use crate::buffer::Buffer;
+use crate::told_marks::ToldMarks;
 use crate::{Event, FoundMarks, LentRequest, RequestKind};
 use nv_base::{Entry, Reply};
 use std::alloc::{AllocError, Global};
 use std::marker::Model;
-use std::snapshot::Snapshot;
 
 /// An entry that is lent: one that was added, one of a job or of a request, with its content beside it, or one of a start-up, whose
 /// marks stand for proofs alone.
@@ -26,7 +26,7 @@ pub enum Last<'a> {
         reply: Reply,
     },
     Found {
-        marks: &'a Snapshot<FoundMarks>,
+        marks: &'a ToldMarks,
         ops: u64,
     },
 }
@@ -47,7 +47,7 @@ pub enum Held {
         reply: Reply,
     },
     Found {
-        marks: Snapshot<FoundMarks>,
+        marks: ToldMarks,
         ops: u64,
     },
 }
@@ -117,7 +117,7 @@ impl Latest {
     pub fn note_found(&mut self, found: &FoundMarks, ops: u64)
         ensures { self.new ≡ record self.old { entry = Some (Entry.Found (found_in found.now) ops) } }
     {
-        let marks = Snapshot::of(found);
+        let marks = ToldMarks::of(found);
         self.held = Held::Found { marks, ops };
     }
 

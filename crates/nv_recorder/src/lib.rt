@@ -15,6 +15,7 @@ mod request;
 mod rooms;
 mod told;
 mod told_bytes;
+mod told_marks;
 
 pub use buffer::Buffer;
 pub use event::{Event, MarkKind, TakenKind};
