@@ -4,12 +4,13 @@ use Rattle.std.specs.Option.{option_map_or}
 use Rattle.std.proofs.lemmas.List.Sums.{sum_by-cons}
 use Rattle.nv_recorder.specs.Recorder.{Recorded}
 use Rattle.block_machine.specs.Words.{Configuration, JobKind, Taken, Pick}
-use Rattle.block_machine.specs.State.{State, Job, jobs_of}
+use Rattle.block_machine.specs.State.{State, Job, BlockState, jobs_of}
 use Rattle.block_machine.specs.Blocks.{desc_of, job_block, kind_of, rank_of}
 use Rattle.block_machine.specs.Next.{PickJob, next_by, next_in, next_of}
 use Rattle.block_machine.specs.Reply.{reserved_entries}
 use Rattle.block_machine.specs.Steps.{after, step, changed_by, in_hand, content_after}
 use Rattle.block_machine.specs.Legal.{HandIsFree, IsAllowed, MayInterrupt, MayPick}
+use Rattle.block_states.specs.States.{state_at}
 use Rattle.block_laws.specs.Consistent.{Each, IsConsistent, IsWaitingJob, IsJobInHand}
 use Rattle.block_laws.proofs.NextLaws.{next_is_waiting}
 use Rattle.job_pending.specs.declared.take.Take.{Take}
@@ -21,7 +22,7 @@ use Rattle.nv_desk_state.specs.Kept.{Agrees}
 use Rattle.nv_desk.specs.Sound.{IsPendingJob, IsSound}
 use Rattle.nv_desk.specs.declared.desk.Desk.TheInside.{Inside}
 use Rattle.nv_desk.specs.Desk.{DeskState, IsKept, shown, state_of}
-use Rattle.nv_desk.specs.Picks.{CanTake, IsInterruption, MayPickNext, copied_of, own_first, took_of}
+use Rattle.nv_desk.specs.Picks.{CanTake, IsInterruption, MayPickNext, copied_of, lent_or, next_ram, own_first, ram_at, took_of}
 use Rattle.nv_desk.specs.Places.{Ready, IsReady, AreReady, taken_from}
 use Rattle.nv_desk.specs.Rooms.{with_entry}
 use Rattle.nv_desk.proofs.Contents.{FillsRooms, copied_fits, job_takes, own_same, ram_is_whole}
@@ -214,3 +215,16 @@ not_interrupting d told = (
 pub hand_free : (c : Configuration) (cap : ℕ) (s : State) (j : Job) (block : ℕ) (kind : JobKind) (t : Taken) (ops : ℕ) → next_in c s.waiting ≡ Some j
     → IsAllowed c cap s (Pick block kind t ops) → HandIsFree c s.hand j
 hand_free c cap s j block kind t ops next allowed = (subst (λ (o : Option Job). MayPick c s block kind t (next_by c s o s.hand s.sweep)) next allowed.1).free
+
+-- WHAT IS LENT
+
+-- what is lent, or the RAM that is kept of a block
+pub lent_at : (d : Inside) (block : ℕ) (ram : List ℕ) (lent : Option (List ℕ)) → IsKept d → ram ≡ (state_at d.kept.blocks.states block).ram
+    → lent_or ram lent ≡ lent_or (ram_at (shown d) block) lent
+lent_at d block ram lent is e = ap (λ (r : List ℕ). lent_or r lent) (e ∙ ap (λ (bs : List BlockState). (state_at bs block).ram) is.agrees.blocks)
+
+-- the same of the block of the next job
+pub lent_next : (d : Inside) (j : Job) (block : ℕ) (ram : List ℕ) (lent : Option (List ℕ)) → IsKept d → next_in d.config (after d.config d.history.entries).waiting ≡ Some j
+    → block ≡ job_block j → ram ≡ (state_at d.kept.blocks.states block).ram → lent_or ram lent ≡ lent_or (next_ram (shown d)) lent
+lent_next d j block ram lent is next same e =
+    lent_at d block ram lent is e ∙ ap (λ (r : List ℕ). lent_or r lent) (rw (next, same) refl)

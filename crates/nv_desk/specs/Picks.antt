@@ -1,9 +1,9 @@
 -- What a Pick may take.
-use Rattle.std.specs.Prelude.{◌≡◌, ◌≤◌, ℕ, List, length, IfSome, Option, Some, None}
-use Rattle.std.specs.Option.{option_and_then}
+use Rattle.std.specs.Prelude.{◌≡◌, ◌≤◌, ℕ, List, [], length, IfSome, Option, Some, None}
+use Rattle.std.specs.Option.{option_and_then, option_map_or}
 use Rattle.block_machine.specs.Words.{Pick}
 use Rattle.block_machine.specs.State.{Job}
-use Rattle.block_machine.specs.Blocks.{job_block, kind_of}
+use Rattle.block_machine.specs.Blocks.{block_at, job_block, kind_of}
 use Rattle.block_machine.specs.Next.{next_in}
 use Rattle.block_machine.specs.Legal.{IsAllowed, MayInterrupt}
 use Rattle.job_pending.specs.declared.take.Take.{Take}
@@ -19,6 +19,18 @@ copied_of t lent = None
 -- what a job takes of a content that is lent
 abbrev pub took_of : Take → (lent : List ℕ) → Took
 took_of t lent = (t, copied_of t lent)
+
+-- what is lent, or RAM where nothing is
+abbrev pub lent_or : (ram : List ℕ) → Option (List ℕ) → List ℕ
+lent_or ram (Some lent) = lent
+lent_or ram None = ram
+
+-- the RAM of a block, and of the block of the next job
+abbrev pub ram_at : DeskState → (block : ℕ) → List ℕ
+ram_at d block = (block_at (state_of d) block).ram
+
+abbrev pub next_ram : DeskState → List ℕ
+next_ram d = option_map_or (λ j. ram_at d (job_block j)) (next_in d.config (state_of d).waiting) []
 
 -- the bytes of a copy that is taken
 abbrev pub copied_in : Took → Option (List ℕ)

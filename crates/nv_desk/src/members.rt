@@ -8,28 +8,30 @@ ghost use Rattle.job_pending.specs.Take.{taken_with};
 ghost use Rattle.nv_desk_state.specs.Pending.{AreSweeps};
 ghost use Rattle.nv_desk.specs.Desk.{state_of};
 ghost use Rattle.nv_desk.specs.Members.{MayPickMember, MayPostMember};
-ghost use Rattle.nv_desk.specs.Picks.{took_of};
+ghost use Rattle.nv_desk.specs.Picks.{lent_or, ram_at, took_of};
 
 use crate::Desk;
 use crate::driver::add_post;
-use crate::pick::{add_pick, copy_of, taken_of};
+use crate::pick::{add_pick, copy_of, lent_or, taken_of_lent};
 use block_machine::nv_base::{Entry, JobKind, ReqResult};
 use job_pending::Take;
 use nv_desk_state::PendingSweep;
 
 impl Desk {
-    /// The next member, this block, comes in hand with what it takes of a content that is lent. It takes no memory.
-    pub fn pick_member(&mut self, block: u16, take: Take, lent: &[u8], ops: u64)
-        requires { MayPickMember self.old block (took_of take lent.now) ops }
+    /// The next member, this block, comes in hand with what it takes of a content that is lent, or, where none is, of its RAM. It
+    /// takes no memory.
+    pub fn pick_member(&mut self, block: u16, take: Take, lent: Option<&[u8]>, ops: u64)
+        requires { MayPickMember self.old block (took_of take (lent_or (ram_at self.old block) (option_copied lent))) ops }
         ensures { (sw : MachineSweep) → next_of self.old.config (state_of self.old) ≡ PickMember sw block
             → self.new ≡ record self.old {
-              entries = self.old.entries ++ Entry.Pick block (member_kind sw.writes) (taken_with None (took_of take lent.now)) ops ∷ [];
+              entries = self.old.entries ++ Entry.Pick block (member_kind sw.writes) (taken_with None (took_of take (lent_or (ram_at self.old block) (option_copied lent.entry)))) ops ∷ [];
             } }
     {
         self.kept.blocks.fills_its_rooms();
         let _sizes = self.config.queue_sizes();
         let job = member_kind(&self.kept.sweep);
-        let (taken, content) = taken_of(take, lent, None);
+        let lent = lent_or(lent, self.kept.blocks.ram(block));
+        let (taken, content) = taken_of_lent(take, lent);
         add_pick(&mut self.history, block, job, taken, content, ops);
         let copy = copy_of(take, lent, block, &mut self.places);
         self.kept.pick_member(&self.config, block, take, copy);

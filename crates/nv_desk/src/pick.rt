@@ -5,7 +5,7 @@ ghost use Rattle.block_machine.specs.Blocks.{job_block, kind_of};
 ghost use Rattle.block_machine.specs.Next.{next_in};
 ghost use Rattle.job_pending.specs.Take.{content_taken, taken_with};
 ghost use Rattle.nv_desk.specs.Desk.{state_of};
-ghost use Rattle.nv_desk.specs.Picks.{MayPickNext, CanTake, content_in, copied_of, own_first, took_of};
+ghost use Rattle.nv_desk.specs.Picks.{MayPickNext, CanTake, content_in, copied_of, lent_or, next_ram, own_first, took_of};
 ghost use Rattle.nv_desk.specs.Places.{taken_from};
 ghost use Rattle.nv_desk.specs.Rooms.{CanNote, with_entry};
 ghost use Rattle.nv_recorder.specs.Event.{taken_of};
@@ -18,14 +18,14 @@ use job_pending::{Job, Take};
 use nv_recorder::{Event, Recorder, TakenKind};
 
 impl Desk {
-    /// The next job comes in hand with what it takes of a content that is lent; one that is in hand is interrupted. It takes
-    /// no memory.
-    pub fn pick_job(&mut self, take: Take, lent: &[u8], ops: u64)
-        requires { MayPickNext self.old (took_of take lent.now) ops }
+    /// The next job comes in hand with what it takes of a content that is lent, or, where none is, of its block's RAM; one that is
+    /// in hand is interrupted. It takes no memory.
+    pub fn pick_job(&mut self, take: Take, lent: Option<&[u8]>, ops: u64)
+        requires { MayPickNext self.old (took_of take (lent_or (next_ram self.old) (option_copied lent))) ops }
         ensures { (j : MachineJob) → next_in self.old.config (state_of self.old).waiting ≡ Some j
             → self.new ≡ record self.old {
               entries = self.old.entries ++ Entry.Pick (job_block j) (kind_of j)
-                  (taken_with j.content (took_of take lent.now)) ops ∷ [];
+                  (taken_with j.content (took_of take (lent_or (next_ram self.old) (option_copied lent.entry)))) ops ∷ [];
             } }
     {
         self.kept.blocks.fills_its_rooms();
@@ -35,6 +35,7 @@ impl Desk {
         let block = next.block();
         let job = next.kind();
         let take = own_first(take, next);
+        let lent = lent_or(lent, self.kept.blocks.ram(block));
         let (taken, content) = taken_of(take, lent, Some(next));
         add_pick(&mut self.history, block, job, taken, content, ops);
         let copy = copy_of(take, lent, block, &mut self.places);
@@ -63,6 +64,16 @@ pub fn add_pick(
     note(history, event, content);
 }
 
+/// What is lent, or RAM where nothing is.
+pub fn lent_or<'a>(lent: Option<&'a [u8]>, ram: &'a [u8]) -> &'a [u8]
+    ensures { result.now ≡ lent_or ram.now (option_copied lent.entry) }
+{
+    match lent {
+        Some(lent) => lent,
+        None => ram,
+    }
+}
+
 // What a job takes that has a content of its own.
 fn own_first(take: Take, job: &Job) -> Take
     ensures { result ≡ own_first take job.now.content }
@@ -85,8 +96,16 @@ pub fn copy_of(take: Take, lent: &[u8], block: u16, places: &mut Places) -> Opti
     }
 }
 
-/// What the Pick of a job takes, or of none that has a content of its own.
-pub fn taken_of<'a>(
+/// What a Pick takes of what is lent, where its job has no content of its own.
+pub fn taken_of_lent(take: Take, lent: &[u8]) -> (TakenKind, Option<&[u8]>)
+    ensures taken { taken_of result.0 (option_copied result.1) ≡ taken_with None (took_of take lent.now) }
+    ensures fits { (longest : ℕ) → CanTake longest None (took_of take lent.now) → IfSome (option_copied result.1) (λ x. length x ≤ longest) }
+{
+    taken_of(take, lent, None)
+}
+
+// What the Pick of a job takes, or of none that has a content of its own.
+fn taken_of<'a>(
     take: Take,
     lent: &'a [u8],
     job: Option<&'a Job>,
