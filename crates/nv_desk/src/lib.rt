@@ -28,9 +28,10 @@ mod told;
 pub use ask::AskFault;
 pub use desk::Desk;
 pub use job_pending::{Job, Take, names_ram};
-pub use longest::longest_content;
+pub use longest::{greater, longest_content};
 pub use nv_desk_state::{NextEntry, length};
 pub use nv_recorder::{
     Buffer, ENDLESS, Event, FoundMarks, FoundPlace, Last, LentRequest, MarkKind, RequestKind,
     TakenKind,
 };
+pub use pick::lent_or;

@@ -16,7 +16,8 @@ pub fn longest_content(config: &Config) -> usize
     usize::from(longest)
 }
 
-fn greater(one: u16, other: u16) -> u16
+/// The greater one of two lengths.
+pub fn greater(one: u16, other: u16) -> u16
     ensures one { one ≤ result }
     ensures other { other ≤ result }
 {

@@ -105,11 +105,7 @@ pub fn taken_of_lent(take: Take, lent: &[u8]) -> (TakenKind, Option<&[u8]>)
 }
 
 // What the Pick of a job takes, or of none that has a content of its own.
-fn taken_of<'a>(
-    take: Take,
-    lent: &'a [u8],
-    job: Option<&'a Job>,
-) -> (TakenKind, Option<&'a [u8]>)
+fn taken_of<'a>(take: Take, lent: &'a [u8], job: Option<&'a Job>) -> (TakenKind, Option<&'a [u8]>)
     ensures taken { taken_of result.0 (option_copied result.1) ≡ taken_with (content_in (option_copied job.entry)) (took_of take lent.now) }
     ensures fits { (longest : ℕ) → CanTake longest (content_in (option_copied job.entry)) (took_of take lent.now) → IfSome (option_copied result.1) (λ x. length x ≤ longest) }
 {

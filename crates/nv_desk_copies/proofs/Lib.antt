@@ -1,4 +1,5 @@
 pub mod Offers
 pub mod Posting
 pub mod Sizes
+pub mod StagedLengths
 pub mod Taking

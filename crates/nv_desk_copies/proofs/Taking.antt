@@ -9,13 +9,14 @@ use Rattle.block_machine.specs.Legal.{IsDriving, HandIsFree, TakesBy, MayPick, I
 use Rattle.nv_desk.specs.job_pending.Take.{taken_with}
 use Rattle.nv_desk.specs.job_pending.declared.take.Take.{Take}
 use Rattle.nv_desk.specs.Desk.{DeskState, state_of}
-use Rattle.nv_desk.specs.Picks.{took_of}
+use Rattle.nv_desk.specs.Picks.{lent_or, next_ram, ram_at, took_of}
 use Rattle.nv_desk.specs.Members.{MayPickMember}
 use Rattle.nv_desk.specs.AllBlocks.{sweep_kind}
 use Rattle.ram_blocks.specs.Told.{Told}
 use Rattle.nv_desk.proofs.MemberEntries.{at_picked, at_posted}
+use Rattle.nv_desk.proofs.Picks.{some_is}
 use Rattle.nv_desk_copies.specs.Takes.{copies_out_by, copies_out_for, copies_out_next, IsCopied}
-use Rattle.nv_desk_copies.specs.Picks.{IsPicked, IsPickNext}
+use Rattle.nv_desk_copies.specs.Picks.{IsPicked, IsPickNext, MayPickJob}
 
 -- A JOB
 
@@ -80,6 +81,35 @@ pub member_copied : (IsStore : ℕ → List ℕ → Type 0) (before after : List
     → IsCopied IsStore c id before after (copies_out_by (member_kind sw.writes) None (is_synchronized (desc_of c id).ram)) taken
     → IsCopied IsStore c id before after (copies_out_for c (member_job c sw id)) taken
 member_copied IsStore before after c sw id taken = subst (λ (b : Bool). IsCopied IsStore c id before after b taken) (member_copies c sw id)
+
+-- THE PICK OF A JOB
+
+pub job_picks : (IsStore : ℕ → ℕ → List ℕ → Type 0) (d new : DeskState) (x j : Job) (t : Take) (lent : Option (List ℕ)) (ops : ℕ) (before after : List Told)
+    → MayPickJob d ops → next_in d.config (state_of d).waiting ≡ Some j → x ≡ j
+    → TakesBy (desc_of d.config (job_block x)) (block_at (state_of d) (job_block x)) x (kind_of x) (taken_with x.content (took_of t (lent_or (ram_at d (job_block x)) lent)))
+    → IsCopied (IsStore (job_block x)) d.config (job_block x) before after (copies_out_for d.config x) (taken_with x.content (took_of t (lent_or (ram_at d (job_block x)) lent)))
+    → new ≡ record d { entries = d.entries ++ Pick (job_block j) (kind_of j) (taken_with j.content (took_of t (lent_or (next_ram d) lent))) ops ∷ [] }
+    → IsPicked (λ u. IsCopied (IsStore (job_block j)) d.config (job_block j) before after (copies_out_for d.config j) u) (job_block j) ops d new
+job_picks IsStore d new x j t lent ops before after may next same takes copied adds =
+    let s = state_of d in
+    let ram : next_ram d ≡ ram_at d (job_block j) = rw next refl in
+    let taken = taken_with j.content (took_of t (lent_or (ram_at d (job_block j)) lent)) in
+    record {
+      kind = kind_of j;
+      taken = taken;
+      adds = rw ram at adds;
+      allowed = (
+        may.driving,
+        subst (λ (n : Next). MayPick d.config s (job_block j) (kind_of j) taken n) (sym (next_is d.config s j next))
+            (record {
+              free = subst (HandIsFree d.config s.hand) (some_is may.job j (sym may.is ∙ next)) may.free;
+              same_block = refl;
+              same_kind = refl;
+              takes = subst (λ (y : Job). TakesBy (desc_of d.config (job_block y)) (block_at s (job_block y)) y (kind_of y) (taken_with y.content (took_of t (lent_or (ram_at d (job_block y)) lent)))) same takes;
+            }),
+      );
+      copied = subst (λ (y : Job). IsCopied (IsStore (job_block y)) d.config (job_block y) before after (copies_out_for d.config y) (taken_with y.content (took_of t (lent_or (ram_at d (job_block y)) lent)))) same copied;
+    }
 
 -- WHAT COMES NEXT
 

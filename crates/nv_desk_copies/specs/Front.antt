@@ -1,23 +1,31 @@
 -- What the front keeps beside the desk.
-use Rattle.std.specs.Prelude.{◌≡◌, ◌⊎◌, ◌≤◌, ℕ, List, Bool, true, slice_get, if◌then◌else◌, Option, Some, None}
+use Rattle.std.specs.Prelude.{◌≡◌, ◌⊎◌, ◌≤◌, ◌||◌, ℕ, List, Bool, true, is_some, slice_get, if◌then◌else◌, Option, Some, None}
 use Rattle.std.specs.Option.{option_and_then}
-use Rattle.block_machine.specs.Words.{Configuration, Entry, Post}
+use Rattle.block_machine.specs.Words.{BlockDesc, Configuration, Entry, Post}
 use Rattle.block_machine.specs.Blocks.{desc_of, is_synchronized}
 use Rattle.ram_blocks.specs.Told.{Told, IsSynchronized, sizes_of}
 use Rattle.ram_blocks.specs.Tries.{OnlyCounts, OnlyRefuses}
 
--- memory for one content: its bytes at most, and the content that stands there
+-- memory for one content: its bytes at most, and the content that stands there, if one does
 pub record StagingState : Type 0 where
   pub room : ℕ
-  pub bytes : List ℕ
+  pub bytes : Option (List ℕ)
 
--- what stands there, where it is given
+-- a content, where it is given
 abbrev pub given_if : (gives : Bool) → List ℕ → Option (List ℕ)
 given_if gives bytes = if gives then Some bytes else None
 
+-- a content of a block may have to stand there: a copy of synchronized RAM, defaults, or a ROM dataset
+abbrev pub is_staged : BlockDesc → Bool
+is_staged d = is_synchronized d.ram || (is_some d.defaults || is_some (slice_get d.rom 0))
+
+-- how many bytes of it may
+abbrev pub staged_length : BlockDesc → ℕ
+staged_length d = if is_staged d then d.length else 0
+
 -- it is enough for each block
 abbrev pub StagesAll : Configuration → StagingState → Type 0
-StagesAll c s = (id : ℕ) → (desc_of c id).length ≤ s.room
+StagesAll c s = (id : ℕ) → staged_length (desc_of c id) ≤ s.room
 
 -- the synchronized blocks of a configuration are the application's, with their lengths
 abbrev pub AreSynchronized : Configuration → List Told → Type 0

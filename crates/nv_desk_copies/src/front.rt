@@ -13,14 +13,16 @@ ghost use Rattle.nv_desk_copies.specs.Posts.{MayPostNow, MayPostSkipped, IsEndOf
 use crate::pick::pick;
 use crate::post::post;
 use crate::skipped::post_skipped;
+use crate::staged::longest_staged;
 use crate::{Staging, Unread};
 use block_machine::block_config::Config;
 use block_machine::nv_base::{Entry, GivenFrom, ReqResult};
-use nv_desk::{Desk, Event, Last, NextEntry, longest_content};
+use nv_desk::{Desk, Event, Last, NextEntry};
 use ram_blocks::SyncCalls;
 use std::alloc::{AllocError, Global};
 
-/// The desk, with the memory for one content that a Pick takes or a Post gives, and the reads that were not taken.
+/// The desk, with the memory for one content that a Pick copies out of synchronized RAM or a Post gives of the configuration, and the
+/// reads that were not taken.
 #[derive(Drop)]
 pub struct Front {
     pub desk: Desk,
@@ -38,7 +40,7 @@ impl Front {
         ensures staging { IfOk result (λ f. StagesAll config f.staging) }
         ensures unread { IfOk result (λ f. (block : ℕ) → get_or f.unread block None ≡ None) }
     {
-        let staging = Staging::make(alloc, longest_content(&config))?;
+        let staging = Staging::make(alloc, longest_staged(&config))?;
         let unread = Unread::make(alloc, usize::from(config.blocks()) + 1)?;
         let desk = Desk::make(alloc, config, cap)?;
         Ok(Front {

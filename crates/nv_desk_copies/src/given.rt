@@ -1,15 +1,16 @@
 // What a job gives.
-ghost use Rattle.std.specs.Prelude.{◌≡◌, ◌-◌, length, option_copied, slice_get, IfSome};
+ghost use Rattle.std.specs.Prelude.{◌≡◌, ◌≤◌, ◌-◌, ℕ, List, length, option_copied, slice_get, IfSome};
 ghost use Rattle.block_machine.specs.Blocks.{desc_of};
 ghost use Rattle.block_machine.specs.nv_base.declared.job.GivenFrom.TheVariants as GivenFrom;
-ghost use Rattle.nv_desk_copies.specs.Front.{StagesAll, given_if};
+ghost use Rattle.nv_desk_copies.specs.Front.{StagesAll, given_if, staged_length};
+ghost use Rattle.nv_desk.specs.Picks.{lent_or};
 ghost use Rattle.nv_desk_copies.specs.Posts.{given_from};
 
 use crate::Staging;
 use block_machine::block_config::Config;
 use block_machine::nv_base::GivenFrom;
 
-/// Stages what comes from a source, and answers whether there is something.
+/// Stages what comes from a source, but for what the device gave, which stands where it is. It answers whether there is something.
 pub fn stage_given(
     config: &Config,
     staging: &mut Staging,
@@ -20,36 +21,33 @@ pub fn stage_given(
 ) -> bool
     requires whole { source ≡ GivenFrom.Device → length content.now ≡ (desc_of config.now block).length }
     requires staging { StagesAll config.now staging.old }
-    ensures given { given_if result staging.new.bytes ≡ given_from (desc_of config.now block) index content.now source }
-    ensures whole { IfSome (given_if result staging.new.bytes) (λ x. length x ≡ (desc_of config.now block).length) }
+    ensures given { given_if result (lent_or content.now staging.new.bytes) ≡ given_from (desc_of config.now block) index content.now source }
+    ensures whole { IfSome (given_if result (lent_or content.now staging.new.bytes)) (λ x. length x ≡ (desc_of config.now block).length) }
     ensures room { staging.new.room ≡ staging.old.room }
 {
-    match given_from(config, block, index, source, content) {
-        Some(bytes) => {
-            staging.put(bytes);
+    match source {
+        GivenFrom::Nothing => false,
+        GivenFrom::Device => {
+            staging.clear();
             true
         }
-        None => false,
+        GivenFrom::Defaults => put(staging, defaults_of(config, block)),
+        GivenFrom::Rom => put(staging, rom_of(config, block, index)),
     }
 }
 
-// What comes from a source.
-fn given_from<'a>(
-    config: &'a Config,
-    block: u16,
-    index: u8,
-    source: GivenFrom,
-    content: &'a [u8],
-) -> Option<&'a [u8]>
-    requires whole { source ≡ GivenFrom.Device → length content.now ≡ (desc_of config.now block).length }
-    ensures given { option_copied result ≡ given_from (desc_of config.now block) index content.now source }
-    ensures whole { IfSome (option_copied result) (λ x. length x ≡ (desc_of config.now block).length) }
+// Puts a content there, and answers whether there is one.
+fn put(staging: &mut Staging, content: Option<&[u8]>) -> bool
+    requires room { IfSome (option_copied content) (λ x. length x ≤ staging.old.room) }
+    ensures given { (other : List ℕ) → given_if result (lent_or other staging.new.bytes) ≡ option_copied content.entry }
+    ensures room { staging.new.room ≡ staging.old.room }
 {
-    match source {
-        GivenFrom::Nothing => None,
-        GivenFrom::Device => Some(content),
-        GivenFrom::Defaults => defaults_of(config, block),
-        GivenFrom::Rom => rom_of(config, block, index),
+    match content {
+        Some(content) => {
+            staging.put(content);
+            true
+        }
+        None => false,
     }
 }
 
@@ -57,6 +55,7 @@ fn given_from<'a>(
 pub fn defaults_of(config: &Config, block: u16) -> Option<&[u8]>
     ensures given { option_copied result ≡ (desc_of config.now block).defaults }
     ensures whole { IfSome (option_copied result) (λ x. length x ≡ (desc_of config.now block).length) }
+    ensures staged { IfSome (option_copied result) (λ x. length x ≤ staged_length (desc_of config.now block)) }
 {
     let desc = config.block(block)?;
     match &desc.defaults {
@@ -69,6 +68,7 @@ pub fn defaults_of(config: &Config, block: u16) -> Option<&[u8]>
 fn rom_of(config: &Config, block: u16, index: u8) -> Option<&[u8]>
     ensures given { option_copied result ≡ slice_get (desc_of config.now block).rom (index - (desc_of config.now block).nv) }
     ensures whole { IfSome (option_copied result) (λ x. length x ≡ (desc_of config.now block).length) }
+    ensures staged { IfSome (option_copied result) (λ x. length x ≤ staged_length (desc_of config.now block)) }
 {
     let desc = config.block(block)?;
     match desc.rom.get(u32::from(index.saturating_sub(desc.nv))) {

@@ -12,6 +12,7 @@ mod over;
 mod pick;
 mod post;
 mod skipped;
+mod staged;
 mod staging;
 mod synchronized;
 mod unread;

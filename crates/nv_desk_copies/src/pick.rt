@@ -1,5 +1,5 @@
 // Picks.
-ghost use Rattle.std.specs.Prelude.{◌≡◌, Some, None, true};
+ghost use Rattle.std.specs.Prelude.{◌≡◌, ℕ, List, Some, None, true};
 ghost use Rattle.block_machine.specs.State.{Job as MachineJob, Sweep as MachineSweep};
 ghost use Rattle.block_machine.specs.Blocks.{asked_store, desc_of, block_at, is_synchronized, job_block, kind_of};
 ghost use Rattle.block_machine.specs.Legal.{TakesBy, TakesForWrite, TakesCopy};
@@ -8,7 +8,7 @@ ghost use Rattle.block_machine.specs.Next.{next_in, next_of, PickMember};
 ghost use Rattle.nv_desk.specs.job_pending.Take.{taken_with};
 ghost use Rattle.nv_desk.specs.nv_desk_state.Next.{IsNextEntry};
 ghost use Rattle.nv_desk.specs.Desk.{state_of};
-ghost use Rattle.nv_desk.specs.Picks.{took_of};
+ghost use Rattle.nv_desk.specs.Picks.{lent_or, took_of};
 ghost use Rattle.nv_desk_copies.specs.Front.{StagesAll, AreSynchronized, CopiesStay, OnlyRefusals};
 ghost use Rattle.nv_desk_copies.specs.Takes.{copies_out_by, copies_out_for, copies_out_next, IsCopied};
 ghost use Rattle.nv_desk_copies.specs.Picks.{MayPickNow, MayPickJob, IsAtPick, IsPicked, PicksNext};
@@ -88,14 +88,14 @@ fn pick_member<C: SyncCalls>(
     desk.pick_member(block, take, staging.bytes(), ops);
 }
 
-// What the Pick of a job takes. A content that it takes of RAM is staged.
+// What the Pick of a job takes. A copy of synchronized RAM is staged.
 #[tactic(auto, using(crate::proofs::Sizes::nothing_copied))]
 fn take_for<C: SyncCalls>(desk: &Desk, staging: &mut Staging, job: &Job, copies: &mut C) -> Take
     requires staging { StagesAll desk.now.config staging.old }
     requires synchronized { AreSynchronized desk.now.config (C.told copies.old) }
-    ensures taken { TakesBy (desc_of desk.now.config (job_block job.now)) (block_at (state_of desk.now) (job_block job.now)) job.now (kind_of job.now) (taken_with job.now.content (took_of result staging.new.bytes)) }
+    ensures taken { TakesBy (desc_of desk.now.config (job_block job.now)) (block_at (state_of desk.now) (job_block job.now)) job.now (kind_of job.now) (taken_with job.now.content (took_of result (lent_or (block_at (state_of desk.now) (job_block job.now)).ram staging.new.bytes))) }
     ensures copied { IsCopied (λ n x. C.is_store copies.new (job_block job.now) n x × C.looked copies.old copies.new (job_block job.now) n)
-        desk.now.config (job_block job.now) (C.told copies.old) (C.told copies.new) (copies_out_for desk.now.config job.now) (taken_with job.now.content (took_of result staging.new.bytes)) }
+        desk.now.config (job_block job.now) (C.told copies.old) (C.told copies.new) (copies_out_for desk.now.config job.now) (taken_with job.now.content (took_of result (lent_or (block_at (state_of desk.now) (job_block job.now)).ram staging.new.bytes))) }
     ensures room { staging.new.room ≡ staging.old.room }
     ensures counts { OnlyRefusals (job_block job.now) (C.told copies.old) (C.told copies.new) }
     ensures stays { CopiesStay C.told C.is_store C.over copies.old copies.new }
@@ -122,10 +122,10 @@ fn take_for_member<C: SyncCalls>(
 ) -> Take
     requires staging { StagesAll desk.now.config staging.old }
     requires synchronized { AreSynchronized desk.now.config (C.told copies.old) }
-    ensures taken { (sw : MachineSweep) → (state_of desk.now).sweep ≡ Some sw → TakesBy (desc_of desk.now.config block) (block_at (state_of desk.now) block) (member_job desk.now.config sw block) (member_kind sw.writes) (taken_with None (took_of result staging.new.bytes)) }
+    ensures taken { (sw : MachineSweep) → (state_of desk.now).sweep ≡ Some sw → TakesBy (desc_of desk.now.config block) (block_at (state_of desk.now) block) (member_job desk.now.config sw block) (member_kind sw.writes) (taken_with None (took_of result (lent_or (block_at (state_of desk.now) block).ram staging.new.bytes))) }
     ensures copied { (sw : MachineSweep) → (state_of desk.now).sweep ≡ Some sw
         → IsCopied (λ n x. C.is_store copies.new block n x × C.looked copies.old copies.new block n) desk.now.config block
-        (C.told copies.old) (C.told copies.new) (copies_out_by (member_kind sw.writes) None (is_synchronized (desc_of desk.now.config block).ram)) (taken_with None (took_of result staging.new.bytes)) }
+        (C.told copies.old) (C.told copies.new) (copies_out_by (member_kind sw.writes) None (is_synchronized (desc_of desk.now.config block).ram)) (taken_with None (took_of result (lent_or (block_at (state_of desk.now) block).ram staging.new.bytes))) }
     ensures room { staging.new.room ≡ staging.old.room }
     ensures counts { OnlyRefusals block (C.told copies.old) (C.told copies.new) }
     ensures stays { CopiesStay C.told C.is_store C.over copies.old copies.new }
@@ -137,8 +137,8 @@ fn take_for_member<C: SyncCalls>(
     }
 }
 
-// What a write takes of a block's RAM: a copy of a store that isn't older than `asked` where the RAM is synchronized, else the
-// RAM that the manager keeps. It is staged.
+// What a write takes of a block's RAM: a copy of a store that isn't older than `asked` where the RAM is synchronized, which is
+// staged, else the RAM that the manager keeps, where it is.
 #[tactic(auto, using(crate::proofs::Sizes::nothing_copied))]
 fn take_ram<C: SyncCalls>(
     desk: &Desk,
@@ -149,8 +149,8 @@ fn take_ram<C: SyncCalls>(
 ) -> Take
     requires staging { StagesAll desk.now.config staging.old }
     requires synchronized { AreSynchronized desk.now.config (C.told copies.old) }
-    ensures taken { (j : MachineJob) → asked_store j.request ≡ asked → TakesForWrite (desc_of desk.now.config block) (block_at (state_of desk.now) block) j None (is_synchronized (desc_of desk.now.config block).ram) (taken_with None (took_of result staging.new.bytes)) }
-    ensures copied { IsCopied (λ n x. C.is_store copies.new block n x × C.looked copies.old copies.new block n) desk.now.config block (C.told copies.old) (C.told copies.new) (is_synchronized (desc_of desk.now.config block).ram) (taken_with None (took_of result staging.new.bytes)) }
+    ensures taken { (j : MachineJob) → asked_store j.request ≡ asked → TakesForWrite (desc_of desk.now.config block) (block_at (state_of desk.now) block) j None (is_synchronized (desc_of desk.now.config block).ram) (taken_with None (took_of result (lent_or (block_at (state_of desk.now) block).ram staging.new.bytes))) }
+    ensures copied { IsCopied (λ n x. C.is_store copies.new block n x × C.looked copies.old copies.new block n) desk.now.config block (C.told copies.old) (C.told copies.new) (is_synchronized (desc_of desk.now.config block).ram) (taken_with None (took_of result (lent_or (block_at (state_of desk.now) block).ram staging.new.bytes))) }
     ensures room { staging.new.room ≡ staging.old.room }
     ensures counts { OnlyRefusals block (C.told copies.old) (C.told copies.new) }
     ensures stays { CopiesStay C.told C.is_store C.over copies.old copies.new }
@@ -158,7 +158,7 @@ fn take_ram<C: SyncCalls>(
     if is_synchronized(desk.config(), block) {
         take_copy(desk.config(), staging, block, asked, copies)
     } else {
-        staging.put(desk.ram(block));
+        staging.clear();
         Take::Copied { store: 0 }
     }
 }
@@ -174,8 +174,8 @@ fn take_copy<C: SyncCalls>(
     requires copies { is_synchronized (desc_of config.now block).ram ≡ true }
     requires staging { StagesAll config.now staging.old }
     requires synchronized { AreSynchronized config.now (C.told copies.old) }
-    ensures taken { TakesCopy (desc_of config.now block) asked (taken_with None (took_of result staging.new.bytes)) }
-    ensures copied { IsCopied (λ n x. C.is_store copies.new block n x × C.looked copies.old copies.new block n) config.now block (C.told copies.old) (C.told copies.new) true (taken_with None (took_of result staging.new.bytes)) }
+    ensures taken { (ram : List ℕ) → TakesCopy (desc_of config.now block) asked (taken_with None (took_of result (lent_or ram staging.new.bytes))) }
+    ensures copied { (ram : List ℕ) → IsCopied (λ n x. C.is_store copies.new block n x × C.looked copies.old copies.new block n) config.now block (C.told copies.old) (C.told copies.new) true (taken_with None (took_of result (lent_or ram staging.new.bytes))) }
     ensures room { staging.new.room ≡ staging.old.room }
     ensures counts { OnlyRefusals block (C.told copies.old) (C.told copies.new) }
     ensures stays { CopiesStay C.told C.is_store C.over copies.old copies.new }

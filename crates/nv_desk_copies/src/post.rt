@@ -5,15 +5,17 @@ ghost use Rattle.block_machine.specs.Blocks.{desc_of, job_block, kind_of, names_
 ghost use Rattle.block_machine.specs.Results.{checks_id, checked_id};
 ghost use Rattle.block_machine.specs.nv_base.declared.job.GivenFrom.TheVariants as GivenFrom;
 ghost use Rattle.nv_desk.specs.Desk.{state_of};
+ghost use Rattle.nv_desk.specs.Picks.{lent_or};
 ghost use Rattle.nv_desk_copies.specs.Front.{StagesAll, AreSynchronized, CopiesStay};
 ghost use Rattle.nv_desk_copies.specs.Posts.{MayPostNow, IsEndOf, IsPosted, answer_in, answer_of, block_read, is_read};
 
 use crate::Staging;
 use crate::given::{defaults_of, stage_given};
 use crate::over::{End, hand_over};
+use crate::staging::{given_if, is_given};
 use block_machine::block_config::Config;
 use block_machine::nv_base::{GivenFrom, JobKind, ReqResult};
-use nv_desk::{Desk, Job, names_ram};
+use nv_desk::{Desk, Job, lent_or, names_ram};
 use ram_blocks::SyncCalls;
 
 /// Posts the job in hand, whose program ended with this result and source. It answers the job's block, where it is a read to the
@@ -44,9 +46,10 @@ pub fn post<C: SyncCalls>(
     let ram = names_ram(job.request());
     let read = is_read(job.kind());
     let end = ended(desk, staging, job, answer, source, content);
+    let bytes = lent_or(staging.bytes(), content);
     let reads = !ram && (read && end.gives);
-    let (end, refused) = hand_over(desk.config(), staging, block, ram, end, copies);
-    desk.post(end.answer, staging.given(end.gives), refused, ops);
+    let (end, refused) = hand_over(desk.config(), bytes, block, ram, end, copies);
+    desk.post(end.answer, given_if(end.gives, bytes), refused, ops);
     reads.then_some(block)
 }
 
@@ -56,7 +59,7 @@ fn is_read(kind: JobKind) -> bool
     matches!(kind, JobKind::Read)
 }
 
-// What the job in hand ends with; what it gives is staged.
+// What the job in hand ends with. What it gives is staged, or it is the content of the device.
 fn ended(
     desk: &Desk,
     staging: &mut Staging,
@@ -67,8 +70,8 @@ fn ended(
 ) -> End
     requires whole { source ≡ GivenFrom.Device → length content.now ≡ (desc_of desk.now.config (job_block job.now)).length }
     requires staging { StagesAll desk.now.config staging.old }
-    ensures answer { answer_in result.answer result.gives staging.new.bytes ≡ answer_of desk.now.config (state_of desk.now) job.now answer source content.now }
-    ensures whole { IfSome (answer_in result.answer result.gives staging.new.bytes).1 (λ x. length x ≡ (desc_of desk.now.config (job_block job.now)).length) }
+    ensures answer { answer_in result.answer result.gives (lent_or content.now staging.new.bytes) ≡ answer_of desk.now.config (state_of desk.now) job.now answer source content.now }
+    ensures whole { IfSome (answer_in result.answer result.gives (lent_or content.now staging.new.bytes)).1 (λ x. length x ≡ (desc_of desk.now.config (job_block job.now)).length) }
     ensures room { staging.new.room ≡ staging.old.room }
 {
     let block = job.block();
@@ -87,7 +90,7 @@ fn ended(
         content,
     );
     if checks_id(job) {
-        return checked(desk.config(), staging, answer, gives);
+        return checked(desk.config(), staging, answer, gives, content);
     }
     End { answer, gives }
 }
@@ -103,17 +106,24 @@ fn checks_id(job: &Job) -> bool
 }
 
 // What block 1 ends with: as it was read where it gives the configuration id, else it is restored to that.
-fn checked(config: &Config, staging: &mut Staging, answer: ReqResult, gives: bool) -> End
+fn checked(
+    config: &Config,
+    staging: &mut Staging,
+    answer: ReqResult,
+    gives: bool,
+    content: &[u8],
+) -> End
     requires staging { StagesAll config.now staging.old }
-    ensures answer { answer_in result.answer result.gives staging.new.bytes ≡ checked_id (desc_of config.now 1).defaults (answer_in answer gives staging.old.bytes) }
-    ensures whole { IfSome (answer_in result.answer result.gives staging.new.bytes).1 (λ x. length x ≡ (desc_of config.now 1).length) }
+    ensures answer { answer_in result.answer result.gives (lent_or content.now staging.new.bytes) ≡ checked_id (desc_of config.now 1).defaults (answer_in answer gives (lent_or content.now staging.old.bytes)) }
+    ensures whole { IfSome (answer_in result.answer result.gives (lent_or content.now staging.new.bytes)).1 (λ x. length x ≡ (desc_of config.now 1).length) }
     ensures room { staging.new.room ≡ staging.old.room }
 {
-    let same = staging.is_given(gives, defaults_of(config, 1));
+    let bytes = lent_or(staging.bytes(), content);
+    let same = is_given(gives, bytes, defaults_of(config, 1));
     if same {
         return End { answer, gives };
     }
-    let gives = stage_given(config, staging, 1, 0, GivenFrom::Defaults, &[]);
+    let gives = stage_given(config, staging, 1, 0, GivenFrom::Defaults, content);
     End {
         answer: ReqResult::Restored,
         gives,

@@ -1,5 +1,5 @@
 // Posts without a Pick.
-ghost use Rattle.std.specs.Prelude.{◌≡◌, List, Some, None, true, false, length, IfSome};
+ghost use Rattle.std.specs.Prelude.{◌≡◌, List, [], Some, None, true, false, length, IfSome};
 ghost use Rattle.block_machine.specs.State.{Sweep as MachineSweep};
 ghost use Rattle.block_machine.specs.Blocks.{desc_of};
 ghost use Rattle.block_machine.specs.Results.{own_of, unpicked_result};
@@ -8,6 +8,7 @@ ghost use Rattle.block_machine.specs.Next.{next_of, PostMember, EndSweep};
 ghost use Rattle.ram_blocks.specs.Told.{Told};
 ghost use Rattle.nv_desk.specs.nv_desk_state.Next.{IsNextEntry};
 ghost use Rattle.nv_desk.specs.Desk.{state_of};
+ghost use Rattle.nv_desk.specs.Picks.{lent_or};
 ghost use Rattle.nv_desk.specs.AllBlocks.{MayFinish};
 ghost use Rattle.nv_desk_copies.specs.Front.{StagesAll, AreSynchronized, CopiesStay};
 ghost use Rattle.nv_desk_copies.specs.Posts.{MayPostSkipped, IsAtPost, IsPosted, IsPostedNext, answer_in};
@@ -15,8 +16,9 @@ ghost use Rattle.nv_desk_copies.specs.Posts.{MayPostSkipped, IsAtPost, IsPosted,
 use crate::Staging;
 use crate::given::stage_given;
 use crate::over::{End, hand_over};
+use crate::staging::given_if;
 use block_machine::nv_base::{GivenFrom, ReqResult};
-use nv_desk::{Desk, NextEntry};
+use nv_desk::{Desk, NextEntry, lent_or};
 use ram_blocks::SyncCalls;
 
 /// The Post without a Pick that comes next, which is this: of a member of a request on all blocks, or of id 0.
@@ -69,15 +71,16 @@ fn post_member<C: SyncCalls>(
     ensures stays { CopiesStay C.told C.is_store C.over copies.old copies.new }
 {
     let end = unpicked(desk, staging, block);
-    let (end, refused) = hand_over(desk.config(), staging, block, true, end, copies);
-    desk.post_member(block, end.answer, staging.given(end.gives), refused, ops);
+    let bytes = lent_or(staging.bytes(), &[]);
+    let (end, refused) = hand_over(desk.config(), bytes, block, true, end, copies);
+    desk.post_member(block, end.answer, given_if(end.gives, bytes), refused, ops);
 }
 
 // What a member ends with that isn't picked: a WriteAll skips it, a ReadAll gives its defaults where it has some.
 fn unpicked(desk: &Desk, staging: &mut Staging, block: u16) -> End
     requires staging { StagesAll desk.now.config staging.old }
-    ensures answer { (sw : MachineSweep) → (state_of desk.now).sweep ≡ Some sw → answer_in result.answer result.gives staging.new.bytes ≡ unpicked_result (own_of desk.now.config (state_of desk.now) block) sw.writes }
-    ensures whole { IfSome (answer_in result.answer result.gives staging.new.bytes).1 (λ x. length x ≡ (desc_of desk.now.config block).length) }
+    ensures answer { (sw : MachineSweep) → (state_of desk.now).sweep ≡ Some sw → answer_in result.answer result.gives (lent_or [] staging.new.bytes) ≡ unpicked_result (own_of desk.now.config (state_of desk.now) block) sw.writes }
+    ensures whole { IfSome (answer_in result.answer result.gives (lent_or [] staging.new.bytes)).1 (λ x. length x ≡ (desc_of desk.now.config block).length) }
     ensures room { staging.new.room ≡ staging.old.room }
 {
     if desk.sweep_writes() {

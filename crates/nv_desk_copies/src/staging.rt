@@ -1,5 +1,5 @@
 // Memory for one content.
-ghost use Rattle.std.specs.Prelude.{◌≡◌, ◌≤◌, length, take, IfOk, option_copied};
+ghost use Rattle.std.specs.Prelude.{◌≡◌, ◌≤◌, length, take, Some, None, IfOk, IfSome, IsSomeAnd, option_copied};
 ghost use Rattle.std.specs.Option.{option_eq};
 ghost use Rattle.std.specs.Str.{bytes_eq};
 ghost use Rattle.ram_blocks.specs.Told.{IsSynchronized, to_refuse_of};
@@ -10,21 +10,22 @@ use ram_blocks::{SyncCalls, Tried, copy_out};
 use std::alloc::{AllocError, Global};
 use std::marker::Model;
 
-/// Memory for one content, which stands there until the next one does. Contracts see the content, and how many bytes have
-/// room.
+/// Memory for one content, which stands there until the next one does or none does. Contracts see the content, if one stands there,
+/// and how many bytes have room.
 #[derive(Drop)]
 pub struct Staging {
     buffer: Vec<u8>,
     used: usize,
+    stands: bool,
 }
 
 impl Model for Staging {
-    ghost use Rattle.std.specs.Prelude.{length, take, ◌≤◌};
+    ghost use Rattle.std.specs.Prelude.{length, take, ◌≤◌, if◌then◌else◌, Some, None};
     ghost use Rattle.nv_desk_copies.specs.Front.{StagingState};
 
     ghost Value = { StagingState };
 
-    ghost view = { λ s. record { room = length s.buffer.items; bytes = take s.used s.buffer.items } };
+    ghost view = { λ s. record { room = length s.buffer.items; bytes = if s.stands then Some (take s.used s.buffer.items) else None } };
 
     ghost invariant = { λ s. s.used ≤ length s.buffer.items };
 }
@@ -37,40 +38,35 @@ impl Staging {
         Ok(Staging {
             buffer: vec![in alloc; 0; room]?,
             used: 0,
+            stands: false,
         })
     }
 
-    /// The content.
-    pub fn bytes(&self) -> &[u8]
-        ensures { result.now ≡ self.now.bytes }
+    /// The content, if one stands there.
+    pub fn bytes(&self) -> Option<&[u8]>
+        ensures { option_copied result ≡ self.now.bytes }
     {
-        &self.buffer[..self.used]
-    }
-
-    /// The content, where it is given.
-    pub fn given(&self, gives: bool) -> Option<&[u8]>
-        ensures { option_copied result ≡ given_if gives self.now.bytes }
-    {
-        if gives { Some(self.bytes()) } else { None }
-    }
-
-    /// Whether what is given of it is this.
-    pub fn is_given(&self, gives: bool, other: Option<&[u8]>) -> bool
-        ensures { result ≡ option_eq bytes_eq (given_if gives self.now.bytes) (option_copied other.entry) }
-    {
-        match (gives, other) {
-            (true, Some(other)) => self.bytes() == other,
-            (false, None) => true,
-            _ => false,
+        if self.stands {
+            Some(&self.buffer[..self.used])
+        } else {
+            None
         }
+    }
+
+    /// No content stands there.
+    pub fn clear(&mut self)
+        ensures { self.new ≡ record self.old { bytes = None } }
+    {
+        self.stands = false;
     }
 
     /// Puts a content there.
     pub fn put(&mut self, content: &[u8])
         requires { length content.now ≤ self.old.room }
-        ensures { self.new ≡ record self.old { bytes = content.now } }
+        ensures { self.new ≡ record self.old { bytes = Some content.now } }
     {
         self.used = content.len();
+        self.stands = true;
         fill(&mut self.buffer, content);
     }
 
@@ -87,16 +83,35 @@ impl Staging {
         requires room { count ≤ self.old.room }
         requires synchronized { IsSynchronized (C.told copies.old) block count }
         ensures room { self.new.room ≡ self.old.room }
-        ensures whole { length self.new.bytes ≡ count }
+        ensures whole { IfSome self.new.bytes (λ x. length x ≡ count) }
         ensures tried { IsTried result block asked tries (C.told copies.old) (C.told copies.new) }
-        ensures store { IsOfStore result self.new.bytes (λ n x. C.is_store copies.new block n x × C.looked copies.old copies.new block n) }
+        ensures store { IsSomeAnd self.new.bytes (λ bytes. IsOfStore result bytes (λ n x. C.is_store copies.new block n x × C.looked copies.old copies.new block n)) }
         ensures spends { Spends (is_refused result) tries (to_refuse_of (C.told copies.old) block) (to_refuse_of (C.told copies.new) block) }
         ensures counts { OnlyCounts block (C.told copies.old) (C.told copies.new) }
         ensures stays { CopiesStay C.told C.is_store C.over copies.old copies.new }
     {
         self.used = count;
+        self.stands = true;
         copy_to(&mut self.buffer, copies, block, count, asked, tries)
     }
+}
+
+/// Whether what is given of a content is this.
+pub fn is_given(gives: bool, content: &[u8], other: Option<&[u8]>) -> bool
+    ensures { result ≡ option_eq bytes_eq (given_if gives content.now) (option_copied other.entry) }
+{
+    match (gives, other) {
+        (true, Some(other)) => content == other,
+        (false, None) => true,
+        _ => false,
+    }
+}
+
+/// A content, where it is given.
+pub fn given_if(gives: bool, content: &[u8]) -> Option<&[u8]>
+    ensures { option_copied result ≡ given_if gives content.now }
+{
+    if gives { Some(content) } else { None }
 }
 
 // Puts a content at the front of a buffer.
