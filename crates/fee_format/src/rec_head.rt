@@ -81,6 +81,7 @@ fn count_bytes(format: u8, count: u32) -> [u8; 4]
     bytes
 }
 
+#[inline(always)]
 fn bytes_of(head: RecHead, format: u8) -> [u8; 10]
     ensures { result ≡ rec_head_bytes format head }
 {
@@ -116,6 +117,7 @@ fn count_of(page: &[u8], format: u8) -> u32
 }
 
 // The header that a page has, if it has one.
+#[inline(always)]
 fn fields_of(page: &[u8], format: u8) -> RecHead
     requires { 10 ≤ length page.now }
     ensures { (h : RecHead) → IsRecHead format (length page.now) page.now h → result ≡ h }
@@ -129,6 +131,7 @@ fn fields_of(page: &[u8], format: u8) -> RecHead
 }
 
 // Whether a page has these bytes, and is blank behind them.
+#[inline(always)]
 fn begins_with(page: &[u8], bytes: [u8; 10]) -> bool
     requires { 10 ≤ length page.now }
     ensures { IsTrue result ↔ (page.now ≡ bytes ++ replicate (length page.now - 10) 255) }
@@ -139,6 +142,7 @@ fn begins_with(page: &[u8], bytes: [u8; 10]) -> bool
     }
 }
 
+#[inline(always)]
 fn has_head(page: &[u8], format: u8, head: RecHead) -> bool
     requires { 10 ≤ length page.now }
     ensures { IsTrue result ↔ IsRecHead format (length page.now) page.now head }
@@ -146,8 +150,23 @@ fn has_head(page: &[u8], format: u8, head: RecHead) -> bool
     is_legal(head) && is_counted(format, head.count) && begins_with(page, bytes_of(head, format))
 }
 
+// The header that a page of this format has, if it has one.
+#[inline(always)]
+fn head_in(page: &[u8], format: u8) -> Option<RecHead>
+    requires { 10 ≤ length page.now }
+    ensures { MatchOption result (IsNoRecHead format (length page.now) page.now) (λ h. IsRecHead format (length page.now) page.now h) }
+{
+    let head = fields_of(page, format);
+    if has_head(page, format, head) {
+        Some(head)
+    } else {
+        None
+    }
+}
+
 /// Reads a record header from a page of any length, in a bank of a format. None exactly where the page is no header's
 /// written form.
+#[inline(always)]
 pub fn read_rec_head(page: &[u8], format: u8) -> Option<RecHead>
     requires format { IsFormat format }
     ensures { MatchOption result (IsNoRecHead format (length page.now) page.now) (λ h. IsRecHead format (length page.now) page.now h) }
@@ -155,10 +174,9 @@ pub fn read_rec_head(page: &[u8], format: u8) -> Option<RecHead>
     if page.len() < 10 {
         return None;
     }
-    let head = fields_of(page, format);
-    if has_head(page, format, head) {
-        Some(head)
+    if format == NEW_FORMAT {
+        head_in(page, NEW_FORMAT)
     } else {
-        None
+        head_in(page, format)
     }
 }
