@@ -4,6 +4,7 @@ ghost use Rattle.std.specs.Prelude.{◌≡◌, ◌≤◌, ◌↔◌, length, rep
 use nv_base::all_are;
 
 /// Whether each of these bytes has this value. As many as the shortest page has are compared at once, without a call.
+#[inline(always)]
 pub(crate) fn is_alike<const SHORTEST: usize>(bytes: &[u8], value: u8) -> bool
     requires { SHORTEST ≤ 16 }
     ensures { IsTrue result ↔ (bytes.now ≡ replicate (length bytes.now) value) }

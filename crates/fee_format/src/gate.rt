@@ -13,6 +13,7 @@ pub fn write_gate(page: &mut [u8])
 }
 
 /// Whether the page is a gate that stands open.
+#[inline(always)]
 pub fn gate_stands(page: &[u8]) -> bool
     ensures { IsTrue result ↔ IsGate (length page.now) page.now }
 {

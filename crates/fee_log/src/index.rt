@@ -112,6 +112,7 @@ fn fits(wanted: (DeviceNumber, u16), number: DeviceNumber, kind: RecordKind, siz
 }
 
 /// Takes a committed record into the places, where it fits a number.
+#[inline(always)]
 pub(crate) fn note(
     numbers: &Lengths,
     places: &mut [Place],

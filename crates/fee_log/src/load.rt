@@ -150,6 +150,7 @@ fn tail_loaded(blank: bool, format: u8) -> Tail
 }
 
 // A record whose header stands at a page: its number has it where it is committed.
+#[inline(always)]
 fn note_record(numbers: &Lengths, places: &mut [Place], at: u32, head: RecHead, committed: bool)
     requires each { length places.old ≡ length numbers.now }
     ensures { places.new ≡ (if committed then noted numbers.now places.old at head else places.old) }
@@ -193,6 +194,7 @@ impl Log {
     }
 
     // The record with this header, where the log ends so far.
+    #[inline(always)]
     fn take_record(&mut self, head: RecHead, committed: bool)
         requires closed { self.old.tail ≡ Closed }
         requires legal { IsLegalRecHead head }

@@ -32,6 +32,7 @@ pub struct Seen {
 
 /// What is seen of the record that stands at a page, unless the list stops there. `bank` begins with so many pages, of a bank
 /// or of a piece of one.
+#[inline(always)]
 pub fn seen_at(bank: &[u8], page: u32, pages: u32, format: u8, at: u32) -> Option<Seen>
     requires low { 16 ≤ page }
     requires high { page ≤ 256 }
