@@ -130,6 +130,16 @@ fn fields_of(page: &[u8], format: u8) -> RecHead
     }
 }
 
+// Whether the same ten bytes stand in both. Each is compared by itself: most of them were read where they are looked up.
+#[inline(always)]
+fn is_same(one: [u8; 10], other: [u8; 10]) -> bool
+    ensures { IsTrue result ↔ (one ≡ other) }
+{
+    let [a, b, c, d, e, f, g, h, i, j] = one;
+    let [k, l, m, n, o, p, q, r, s, t] = other;
+    a == k && b == l && c == m && d == n && e == o && f == p && g == q && h == r && i == s && j == t
+}
+
 // Whether a page has these bytes, and is blank behind them.
 #[inline(always)]
 fn begins_with(page: &[u8], bytes: [u8; 10]) -> bool
@@ -137,7 +147,7 @@ fn begins_with(page: &[u8], bytes: [u8; 10]) -> bool
     ensures { IsTrue result ↔ (page.now ≡ bytes ++ replicate (length page.now - 10) 255) }
 {
     match page.split_first_chunk::<10>() {
-        Some((first, rest)) => *first == bytes && is_alike::<6>(rest, 255),
+        Some((first, rest)) => is_same(*first, bytes) && is_alike::<6>(rest, 255),
         None => false,
     }
 }
