@@ -60,7 +60,8 @@ fn plan_after(off: bool, plan: Option<Plan>) -> Option<Plan>
 
 impl<F: Flash> Cutter<F> {
     ghost use Rattle.std.specs.Prelude.{◌≡◌, IfOk, IfErr};
-    ghost use Rattle.fls_devices.specs.Cutter.{cutting, OnlyCuts};
+    ghost use Rattle.fls_model.specs.Told.{bytes_now};
+    ghost use Rattle.fls_devices.specs.Cutter.{cutting, told_cutting, OnlyCuts};
 
     /// A cutter of at most so many cuts, with the power on: it ends a standing cut of the inner flash. Where it finds
     /// no memory it hands the inner flash back as it was.
@@ -76,6 +77,15 @@ impl<F: Flash> Cutter<F> {
             }),
             Err(_) => Err(AllocFailed { value: inner }),
         }
+    }
+
+    /// The inner flash, to look at. Its bytes are those that are told.
+    pub fn inner(&self) -> &F
+        ensures inner { F.told result.now ≡ self.now.flash.inner }
+        ensures bytes { bytes_now (told_cutting self.now) ≡ bytes_now (F.told result.now) }
+        ensures geometry { (told_cutting self.now).geometry ≡ (F.told result.now).geometry }
+    {
+        self.flash.inner()
     }
 
     /// Gives the inner flash back. What was told of its faults and changes is so.

@@ -65,6 +65,12 @@ impl<F: Flash> Overlay<F> {
         self.inner
     }
 
+    pub fn inner(&self) -> &F
+        ensures { F.told result.now ≡ self.now.inner }
+    {
+        &self.inner
+    }
+
     pub fn is_off(&self) -> bool
         ensures off { result ≡ self.now.off }
         ensures inner { result ≡ false → self.now.inner.off ≡ false }

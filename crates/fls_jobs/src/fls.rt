@@ -99,6 +99,13 @@ impl<F: Flash> Fls<F> {
         self.flash.arm(nth, keep);
     }
 
+    /// The flash, to look at.
+    pub fn flash(&self) -> &F
+        ensures { F.told result.now ≡ self.now.flash }
+    {
+        &self.flash
+    }
+
     /// Gives the flash back as it is.
     pub fn into_flash(self) -> F
         ensures { F.told result ≡ self.flash }

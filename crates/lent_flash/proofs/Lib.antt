@@ -1,3 +1,2 @@
 pub mod Bytes
-mod Holding
 mod Pieces

@@ -1,6 +1,5 @@
 -- A flash whose bytes stand in memory that is lent.
-use Rattle.std.specs.Prelude.{◌≤◌, ℕ, List, [], ◌∷◌, length, Option, Some, None, IsSomeAnd, false, option_map, unwrap_or}
-use Rattle.lent_flash.specs.declared.lent.Lent.{Lent}
+use Rattle.std.specs.Prelude.{◌≤◌, ℕ, List, [], ◌∷◌, length, Option, Some, IsSomeAnd, false, option_map}
 use Rattle.nv_base.specs.Count.{last_count}
 use Rattle.nv_base.specs.Geometry.{size_of}
 use Rattle.nv_base.specs.Plan.{no_planning}
@@ -10,11 +9,6 @@ use Rattle.fls_model.specs.declared.flash.FlashAnswer.TheVariants.{Done}
 use Rattle.fls_model.specs.Bytes.{AreBytes}
 use Rattle.fls_model.specs.Call.{op_of}
 use Rattle.fls_model.specs.Told.{Told, Change}
-
--- the bytes that are lent
-abbrev pub lent_bytes : Option Lent → Option (List ℕ)
-lent_bytes None = None
-lent_bytes (Some l) = l.bytes
 
 -- what is told of such bytes, with these changes, and room for all that come: it never failed, was never off, and takes no plans
 abbrev pub told_of : Geometry → Option (List ℕ) → List Change → ℕ → Told
@@ -29,13 +23,13 @@ told_of geometry bytes changes ops = record {
 }
 
 -- a call that is done, with what the bytes were before it
-abbrev pub change_of : List Lent → Geometry → Call → Change
+abbrev pub change_of : List (List ℕ) → Geometry → Call → Change
 change_of [] g call = record { op = op_of g call; before = []; answer = Done }
-change_of (l ∷ ls) g call = record { op = op_of g call; before = unwrap_or l.bytes []; answer = Done }
+change_of (bytes ∷ ls) g call = record { op = op_of g call; before = bytes; answer = Done }
 
 -- the bytes are there, and fill the geometry
-pub record IsLent (g : Geometry) (lent : Option Lent) : Type 0 where
-  pub bytes : IsSomeAnd (lent_bytes lent) (λ image. (size_of g ≤ length image) × AreBytes image)
+pub record IsLent (g : Geometry) (lent : Option (List ℕ)) : Type 0 where
+  pub bytes : IsSomeAnd lent (λ image. (size_of g ≤ length image) × AreBytes image)
 
 -- the flash of these bytes, not attached yet
 abbrev pub flash_over : List ℕ → Told

@@ -1,7 +1,8 @@
 // A flash whose bytes stand in memory that C lends.
-ghost use Rattle.std.specs.Prelude.{◌≡◌, ◌+◌, ◌≤◌, Some, IsSome, IfSome, length};
+ghost use Rattle.std.specs.Prelude.{◌≡◌, ◌+◌, ◌≤◌, Some, IsSome, IfSome, IsSomeAnd, length};
 ghost use Rattle.nv_base.specs.Count.{next_count};
 ghost use Rattle.nv_base.specs.Geometry.{IsLegal};
+ghost use Rattle.fls_model.specs.Bytes.{piece};
 ghost use Rattle.fls_model.specs.Told.{bytes_now, armed, powered, HasRange, HasPage, HasSector};
 ghost use Rattle.fls_model.specs.Attach.{IsAttach};
 ghost use Rattle.fls_model.specs.Read.{IsRead};
@@ -9,8 +10,8 @@ ghost use Rattle.fls_model.specs.Step.{IsStep, programs, erases};
 ghost use Rattle.lent_flash.specs.Flash.{flash_over};
 
 use crate::lent::Lent;
+use crate::lent_bytes::LentBytes;
 use crate::noted::Noted;
-use crate::places::{below_256, copy_out, erase_in, program_in};
 use fls_model::{AttachFault, Call, Flash, FlashAnswer, program_call};
 use nv_base::{Geometry, Trace};
 use std::alloc::Global;
@@ -22,18 +23,18 @@ use std::marker::Model;
 pub struct LentFlash {
     geometry: Geometry,
     // some between two calls
-    lent: Option<Lent>,
+    lent: Option<LentBytes>,
     changes: Trace<Noted>,
     ops: u64,
 }
 
 impl Model for LentFlash {
     ghost use Rattle.fls_model.specs.Told.{Told};
-    ghost use Rattle.lent_flash.specs.Flash.{told_of, lent_bytes, IsLent};
+    ghost use Rattle.lent_flash.specs.Flash.{told_of, IsLent};
 
     ghost Value = { Told };
 
-    ghost view = { λ f. told_of f.geometry (lent_bytes f.lent) f.changes.items f.ops };
+    ghost view = { λ f. told_of f.geometry f.lent f.changes.items f.ops };
 
     ghost invariant = { λ f. IsLent f.geometry f.lent };
 }
@@ -44,15 +45,13 @@ impl LentFlash {
         requires { IsSome lent.bytes }
         ensures { IfSome lent.bytes (λ bytes. result ≡ flash_over bytes) }
     {
-        let places = lent.into_slots();
-        below_256(&places);
         LentFlash {
             geometry: Geometry {
                 page: 0,
                 sector: 0,
                 sectors: 0,
             },
-            lent: Some(Lent::of_slots(places)),
+            lent: Some(LentBytes::of(lent)),
             changes: Trace::new(),
             ops: 0,
         }
@@ -65,7 +64,28 @@ impl LentFlash {
     {
         let LentFlash { lent, .. } = self;
         let Some(lent) = lent else { unreachable!() };
-        lent
+        lent.into_lent()
+    }
+
+    /// How many bytes there are.
+    pub fn len(&self) -> usize
+        ensures { IsSomeAnd (bytes_now self.now) (λ bytes. result ≡ length bytes) }
+    {
+        let Some(lent) = &self.lent else {
+            unreachable!()
+        };
+        lent.len()
+    }
+
+    /// Copies bytes of it. It is no call of the flash, and changes nothing.
+    pub fn copy_at(&self, address: u32, into: &mut [u8])
+        requires { HasRange self.now address (length into.old) }
+        ensures { IsSomeAnd (bytes_now self.now) (λ bytes. into.new ≡ piece address (length into.old) bytes) }
+    {
+        let Some(lent) = &self.lent else {
+            unreachable!()
+        };
+        lent.copy_out(address as usize, into);
     }
 }
 
@@ -73,12 +93,10 @@ impl Flash for LentFlash {
     ghost told = { λ f. f };
 
     fn attach(&mut self, alloc: Global, geometry: Geometry) -> Result<(), AttachFault> {
-        let Some(lent) = self.lent.take() else {
+        let Some(lent) = &self.lent else {
             unreachable!()
         };
-        let places = lent.into_slots();
-        let found = places.len();
-        self.lent = Some(Lent::of_slots(places));
+        let found = lent.len();
         let size = geometry.size() as usize;
         if found == 0 {
             return Err(AttachFault::Memory);
@@ -102,12 +120,10 @@ impl Flash for LentFlash {
     }
 
     fn read(&mut self, address: u32, into: &mut [u8]) -> FlashAnswer {
-        let Some(lent) = self.lent.take() else {
+        let Some(lent) = &self.lent else {
             unreachable!()
         };
-        let places = lent.into_slots();
-        copy_out(&places, address as usize, into);
-        self.lent = Some(Lent::of_slots(places));
+        lent.copy_out(address as usize, into);
         FlashAnswer::Done
     }
 
@@ -117,8 +133,7 @@ impl Flash for LentFlash {
         };
         let before = Trace::new().with(&lent);
         let noted = Noted::make(before, self.geometry, program_call(address, page));
-        let places = program_in(lent.into_slots(), address as usize, page);
-        self.lent = Some(Lent::of_slots(places));
+        self.lent = Some(lent.programmed(address as usize, page));
         self.changes = self.changes.with(&noted);
         self.ops = self.ops.saturating_add(1);
         FlashAnswer::Done
@@ -131,8 +146,7 @@ impl Flash for LentFlash {
         let before = Trace::new().with(&lent);
         let noted = Noted::make(before, self.geometry, Call::Sector { sector });
         let length = self.geometry.sector as usize;
-        let places = erase_in(lent.into_slots(), sector as usize * length, length);
-        self.lent = Some(Lent::of_slots(places));
+        self.lent = Some(lent.erased(sector as usize * length, length));
         self.changes = self.changes.with(&noted);
         self.ops = self.ops.saturating_add(1);
         FlashAnswer::Done

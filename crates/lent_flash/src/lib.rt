@@ -7,9 +7,11 @@
 
 mod flash;
 mod lent;
+mod lent_bytes;
 mod noted;
 mod places;
 
 pub use flash::LentFlash;
 pub use lent::Lent;
+pub use lent_bytes::LentBytes;
 pub use noted::Noted;

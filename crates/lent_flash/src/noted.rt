@@ -2,7 +2,7 @@
 ghost use Rattle.std.specs.Prelude.{◌≡◌};
 ghost use Rattle.lent_flash.specs.Flash.{change_of};
 
-use crate::lent::Lent;
+use crate::lent_bytes::LentBytes;
 use fls_model::Call;
 use nv_base::{Geometry, Trace};
 use std::marker::Model;
@@ -10,7 +10,7 @@ use std::marker::Model;
 /// What was asked of a flash, with what its bytes were before. It takes the memory of a call.
 #[derive(Drop)]
 pub struct Noted {
-    before: Trace<Lent>,
+    before: Trace<LentBytes>,
     geometry: Geometry,
     call: Call,
 }
@@ -25,7 +25,7 @@ impl Model for Noted {
 }
 
 impl Noted {
-    pub fn make(before: Trace<Lent>, geometry: Geometry, call: Call) -> Noted
+    pub fn make(before: Trace<LentBytes>, geometry: Geometry, call: Call) -> Noted
         ensures { result ≡ change_of before.items geometry call }
     {
         Noted {
