@@ -4,6 +4,7 @@ mod Canceling
 mod Copying
 mod Leaving
 mod Looking
+mod MarkPlaces
 mod Opening
 mod Planning
 mod Reading

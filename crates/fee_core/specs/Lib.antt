@@ -5,6 +5,7 @@ pub mod Origin
 pub mod Turning
 pub mod Whole
 pub mod Tells
+pub mod MarkPlaces
 pub use Rattle.nv_base.specs as nv_base
 pub use Rattle.fls_model.specs as fls_model
 pub use Rattle.memif.specs as memif

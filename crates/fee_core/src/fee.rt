@@ -6,12 +6,13 @@ ghost use Rattle.fee_core.specs.Whole.{unstarted};
 
 use crate::Origin;
 use crate::content::Content;
+use crate::mark_place::MarkPlace;
 use crate::parts::FeeParts;
 use fee_laws::Banks;
 use fls_jobs::Fls;
 use fls_model::{AttachFault, Flash};
 use memif::JobResult;
-use nv_base::{Geometry, Lengths, Trace, lengths_of};
+use nv_base::{DeviceNumber, Geometry, Lengths, Trace, lengths_of};
 use std::alloc::{AllocError, Global};
 use std::marker::{Model, PhantomData};
 
@@ -83,7 +84,7 @@ fn unstarted<F: Flash, O: Origin>(
 }
 
 impl<F: Flash, O: Origin> Fee<F, O> {
-    ghost use Rattle.std.specs.Prelude.{◌≡◌, ◌≤◌, ℕ, false, [], IfOk, IfErr, IfSome, Err};
+    ghost use Rattle.std.specs.Prelude.{◌≡◌, ◌≤◌, ℕ, false, true, [], IfOk, IfErr, IfSome, Err, Some};
     ghost use Rattle.nv_base.specs.Geometry.{IsLegal, HasBanks, sectors_of_bank};
     ghost use Rattle.fls_model.specs.Told.{changes_in};
     ghost use Rattle.fls_model.specs.Attach.{IsAttach};
@@ -94,7 +95,8 @@ impl<F: Flash, O: Origin> Fee<F, O> {
     ghost use Rattle.fee_laws.specs.fee_switch_laws.Space.{HasSpace};
     ghost use Rattle.fee_laws.specs.Made.{IsMadeOf, part_at};
     ghost use Rattle.fee_laws.specs.SwitchTold.{TellsSwitchOver};
-    ghost use Rattle.memif.specs.Told.{First, figures_at};
+    ghost use Rattle.memif.specs.Told.{First, figures_at, length_of};
+    ghost use Rattle.fee_core.specs.MarkPlaces.{IsMarkPlace};
     ghost use Rattle.fee_laws.specs.fee_told.Figures.{fixed_for};
     ghost use Rattle.fee_laws.specs.fee_told.Device.{told_of, clock_of};
 
@@ -129,6 +131,23 @@ impl<F: Flash, O: Origin> Fee<F, O> {
         Ok(Fee {
             parts: unstarted(fls, banks, numbers, reserve, content),
         })
+    }
+
+    /// The flash, to look at.
+    pub fn flash(&self) -> &F
+        ensures flash { F.told result.now ≡ self.now.flash }
+        ensures made { (self.now.making ≡ O.making) × (self.now.entry ≡ O.entry) }
+    {
+        self.parts.fls.flash()
+    }
+
+    /// Where what a number of this length holds stands on the flash, while the device is started. It is no job, and no call of the flash.
+    pub fn mark_place(&self, number: DeviceNumber, length: u16) -> MarkPlace
+        requires started { self.now.started ≡ true }
+        requires configured { length_of self.now.making.numbers number.0 ≡ Some length }
+        ensures { IsMarkPlace self.now number.0 length result }
+    {
+        self.parts.mark_place(number, length)
     }
 
     /// Gives the flash back. What the device told of it is so, from its making on. With no switch open, what is ready for urgent

@@ -12,6 +12,7 @@ mod content;
 mod device;
 mod fee;
 mod jobs;
+mod mark_place;
 mod operations;
 mod origin;
 mod parts;
@@ -19,11 +20,13 @@ mod power;
 mod reads;
 mod room;
 mod shown;
+mod sound_bank;
 mod switches;
 mod turns;
 
 pub use fee::Fee;
 pub use fls_model::{AttachFault, Flash, FlashAnswer, MemFlash, mem_flash};
+pub use mark_place::MarkPlace;
 pub use memif::{
     DeviceCall, DeviceRefusal, DeviceStep, DeviceTurn, JobResult, MemDevice, MemIf, PlainMark,
     PlainStore, Rest, erase, make_turns, run_calls, start_up,
@@ -33,3 +36,4 @@ pub use nv_base::{
     bytes_of, lengths_of, refusal_number, result_code,
 };
 pub use origin::Origin;
+pub use sound_bank::is_sound_bank;
