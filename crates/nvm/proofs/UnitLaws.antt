@@ -42,8 +42,9 @@ use Rattle.nvm.proofs.Closing.{closes}
 use Rattle.nvm.proofs.Plans.{armed_takes, device_takes}
 use Rattle.nvm.proofs.UnitTurns.{begun_turned, copied_turned}
 use Rattle.nvm_flash.proofs.DownCalls.{over_with}
+use Rattle.nvm_flash.proofs.LawStanding.{found_stands}
 use Rattle.nvm.specs.Turned.{HasTurned}
-use Rattle.nvm.specs.Unit.{HasRun, IsDown, IsUnit, Stays, UnitHalf, UnitTurns, left_behind, takes_of}
+use Rattle.nvm.specs.Unit.{HasRun, IsDown, IsUnit, ListsStanding, Stays, UnitHalf, UnitTurns, left_behind, takes_of}
 
 true_false : {t : Bool} → t ≡ true → t ≡ false → ⊥
 true_false {t} on off = never (sym on ∙ off)
@@ -205,6 +206,11 @@ module _ (s t : UnitState) where
   pub turns_take : (answer : Turned) → UnitTurns answer s t → takes_of t ≡ takes_of s
   turns_take answer (inl half) = ap (λ d. d.first.planning.takes) half.device
   turns_take answer (inr (between, half, second)) = device_takes answer (told_of between.device) (told_of t.device) (told_clock between.device) (told_clock t.device) second.turns ∙ ap (λ d. d.first.planning.takes) half.device
+
+-- WHAT STANDS
+pub lists_standing : (making : Making) (entry : Told) (plans : ℕ) (s : UnitState) → IsUnit making entry plans s → (s.ready ≡ true → (told_of s.device).started ≡ true) → ListsStanding s
+lists_standing making entry plans s unit up marks ops slots ready told last =
+    found_stands (one_part (part_at entry)) s.desk s.hand (told_of s.device) (told_clock s.device) marks ops slots (unit.up ready) (up ready) told last
 
 -- THE END
 over_of : (making : Making) (entry : Told) (plans : ℕ) (s : UnitState) → IsUnit making entry plans s → TellsSlots (told_of s.device) → KeepsOver s.desk.config s.desk.cap s.desk.entries (one_part (part_at entry)) (told_of s.device) (told_clock s.device)

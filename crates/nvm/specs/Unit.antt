@@ -1,7 +1,9 @@
 -- What the stack of a unit keeps.
-use Rattle.std.specs.Prelude.{◌≡◌, ◌==◌, ◌&&◌, ◌-◌, ℕ, nat_le, if◌then◌else◌, true, false, map, get_or, List, []}
+use Rattle.std.specs.Prelude.{◌≡◌, ◌==◌, ◌&&◌, ◌-◌, ℕ, nat_le, if◌then◌else◌, true, false, map, get_or, length, slice_get, List, [], Some}
 use Rattle.nvm_flash.specs.nv_base.declared.entry.Entry.{Entry}
 use Rattle.nvm_flash.specs.block_config.Config.{Configuration}
+use Rattle.nvm_flash.specs.block_machine.Words.{Instance, Mark, Found}
+use Rattle.nvm_flash.specs.memif.Told.{Slot}
 use Rattle.nvm_flash.specs.fls_model.Told.{Told}
 use Rattle.nvm_flash.specs.promise_device.Making.{Making}
 use Rattle.nvm_flash.specs.fee_core.Tells.{told_clock}
@@ -15,6 +17,7 @@ use Rattle.nvm_flash.specs.ram_blocks.declared.plain_block.PlainBlock.{PlainBloc
 use Rattle.nvm_flash.specs.nv_desk.Recorder.{endless}
 use Rattle.nvm_flash.specs.nvm_device_laws.Turn.{TellsSlots}
 use Rattle.nvm_flash.specs.nvm_laws.Keeps.{StackKeepsAsTold}
+use Rattle.nvm_flash.specs.nvm_laws.Standing.{settled_marks}
 use Rattle.nvm_flash.specs.nvm_laws.declared.turned.Act.{Act}
 use Rattle.nvm_flash.specs.nvm_laws.declared.turned.Turned.{Turned}
 use Rattle.nvm_flash.specs.nvm_core.StartUps.{DownKeepsAsTold}
@@ -44,6 +47,12 @@ pub record IsUnit (making : Making) (entry : Told) (plans : ℕ) (s : UnitState)
   pub up : s.ready ≡ true → StackKeepsAsTold (one_part (part_at entry)) s.desk s.hand (told_of s.device) (told_clock s.device)
   pub down : s.ready ≡ false → IsDown entry s
   pub turned : HasTurned s
+
+-- Where its last start-up stands and its device tells what it holds, a Found that is the last entry lists that.
+abbrev pub ListsStanding : UnitState → Type 0
+ListsStanding s =
+    (marks : List (Instance × Mark)) (ops : ℕ) (slots : List Slot) → s.ready ≡ true → (told_of s.device).slots ≡ Some slots
+    → slice_get s.desk.entries (length s.desk.entries - 1) ≡ Some (Found marks ops) → marks ≡ settled_marks (told_of s.device).fixed.numbers slots
 
 -- what none of its calls changes
 pub record Stays (old new : UnitState) : Type 0 where

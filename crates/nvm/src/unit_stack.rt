@@ -30,7 +30,7 @@ ghost use Rattle.nvm_flash.specs.nvm_core.StartUps.{Restarts, StartsKeep};
 ghost use Rattle.nvm_flash.specs.nvm_core.Work.{Lowers, TakesTurns};
 ghost use Rattle.nvm.specs.Closing.{Closes};
 ghost use Rattle.nvm.specs.Turned.{AsksMove, PlansMove, TurnsMove};
-ghost use Rattle.nvm.specs.Unit.{IsUnit, Stands, Stays, UnitTurns, left_behind, takes_of};
+ghost use Rattle.nvm.specs.Unit.{IsUnit, ListsStanding, Stands, Stays, UnitTurns, left_behind, takes_of};
 
 use nvm_flash::{
     AskFault, Entry, Flash, FlashStack, FoundAnswer, LentRequest, MemDevice, Origin, Reply,
@@ -70,8 +70,10 @@ impl<F: Flash, O: Origin> UnitStack<F, O> {
 
     /// The stack, to look at.
     pub fn stack(&self) -> &FlashStack<F, O>
-        ensures { result.now ≡ self.now }
+        ensures stack { result.now ≡ self.now }
+        ensures standing { ListsStanding self.now }
     {
+        let _device = self.stack.device();
         &self.stack
     }
 

@@ -16,6 +16,7 @@ pub use Rattle.nvm_core.proofs.DeviceWork as DeviceWork
 pub use Rattle.nvm_core.proofs.StartWork as StartWork
 pub use Rattle.nvm_core.proofs.Trying as Trying
 pub use Rattle.nvm_core.proofs.TurnWork as TurnWork
+pub use Rattle.nvm_core.proofs.LawStanding as LawStanding
 pub use Rattle.promise_run.proofs.Callers as Callers
 pub use Rattle.fee_core.proofs.Soundness as Soundness
 pub use Rattle.promise_run.proofs.InRoom as InRoom

@@ -24,6 +24,7 @@ pub mod DueTurning
 pub mod DueHalves
 pub mod DueCalling
 pub mod Traits
+pub mod Standing
 pub use Rattle.nvm_device_laws.proofs.Called as Called
 pub use Rattle.nvm_device_laws.proofs.DownCalls as DownCalls
 pub use Rattle.job_progress.proofs.Asking as JobAsking

@@ -13,6 +13,7 @@ pub mod DueLaws
 pub mod DueCalls
 pub mod DueCases
 pub mod Traits
+pub mod Standing
 pub use Rattle.block_machine.specs.nv_base as nv_base
 pub use Rattle.memif.specs as memif
 pub use Rattle.block_machine.specs.block_config as block_config
