@@ -51,7 +51,9 @@ uint32_t nvm_entries(nvm_handle *handle);
 uint8_t nvm_ram(nvm_handle *handle, uint16_t block, uint8_t *into, size_t room, size_t *size);
 uint8_t nvm_given(nvm_handle *handle, uint8_t *into, size_t room, size_t *size);
 /* The line of the last entry, as the program prints it, with its newline. Each call adds one entry at most: who takes the line behind each
-   call by which nvm_entries grew has the history. The line of a start-up is as long as what it found. */
+   call by which nvm_entries grew has the history. The line of a start-up is as long as what it found, and is written from what stands on
+   the flash: the unit keeps no content for it. So behind a start-up alone it may be 5, a further start-up failed, and 6, the memory that
+   was lent held no sound image at nvm_open (a blank one is sound), and the flash was changed since. */
 uint8_t nvm_line(nvm_handle *handle, uint8_t *into, size_t room, size_t *size);
 
 /* Whether a block's RAM is valid, 1 or 0; 0 too of a block without RAM, and where there is no such block. */

@@ -20,6 +20,9 @@ use Rattle.lent_flash.specs.Flash.{flash_over}
 use Rattle.nvm_c.specs.Filled.{IsFilled}
 use Rattle.nvm_c.specs.Held.{Kept, origin_by}
 use Rattle.nvm_c.specs.Services.{answer_code, answer_value, number_of, request_of}
+use Rattle.nvm_c.specs.Standing.{IsNotTold}
+use Rattle.nvm_c.specs.declared.standing.LineFault.{LineFault}
+use Rattle.nvm_c.specs.declared.standing.LineFault.TheVariants as line
 use Rattle.nvm_c.specs.Unit.{UnitState, IsAskCall, IsStartCall, IsTurnCall, given_last, last_line, Opens}
 use Rattle.nvm_c.specs.Work.{PlansCut, PlansNone, StaysDown}
 use Rattle.nvm_c.specs.declared.services.Service.{Service}
@@ -120,6 +123,13 @@ IsShown shown code size old new =
 abbrev pub IsGiven : (code size : ℕ) → List ℕ → List ℕ → UnitState → Type 0
 IsGiven code size old new s = IsShown (given_last s) code size old new
 
--- of the line of the last entry, if there is one; or there was no memory
+-- why it isn't told, as a code
+abbrev pub line_code : LineFault → ℕ
+line_code line.Memory = 4
+line_code line.Down = 5
+line_code line.Unsound = 6
+
+-- of the line of the last entry, if there is one; or it isn't told
 abbrev pub IsLine : (code size : ℕ) → List ℕ → List ℕ → UnitState → Type 0
-IsLine code size old new s = IsShown (last_line s) code size old new ⊎ ((code ≡ 4) × (size ≡ 0) × (new ≡ old))
+IsLine code size old new s =
+    IsShown (last_line s) code size old new ⊎ ((why : LineFault) × (code ≡ line_code why) × IsNotTold why s × (size ≡ 0) × (new ≡ old))

@@ -1,5 +1,6 @@
 pub mod Room
 pub mod Unit
+pub mod Standing
 pub mod Work
 pub mod Held
 pub mod Services

@@ -1,5 +1,5 @@
 -- A unit: a stack over memory that is lent, behind its first start-up.
-use Rattle.std.specs.Prelude.{◌≡◌, ◌-◌, ℕ, Bool, false, List, length, Option, Some, IsSomeAnd, OnErr, Result, option_map, slice_get}
+use Rattle.std.specs.Prelude.{◌≡◌, ◌-◌, ℕ, Bool, false, List, length, Option, Some, IsSome, IsSomeAnd, OnErr, Result, option_map, slice_get}
 use Rattle.nvm.specs.block_config.Config.{Configuration}
 use Rattle.nvm.specs.block_machine.Words.{Reply, Request}
 use Rattle.nvm.specs.fls_devices.Cutter.{cutting, told_cutting}
@@ -13,10 +13,12 @@ pub use Rattle.nvm.specs.Closing.{UnitState, Closes}
 use Rattle.nvm.specs.Turned.{AsksMove, PlansMove, TurnsMove, unit_seen}
 use Rattle.nvm.specs.Unit.{takes_of}
 use Rattle.nvm.specs.nvm_flash.fee_laws.Made.{part_at}
+use Rattle.nvm.specs.nvm_flash.fls_told.Device.{is_told_sound}
 use Rattle.nvm.specs.nvm_flash.fee_told.Device.{told_of, clock_of}
 use Rattle.nvm.specs.nvm_flash.nvm_laws.declared.turned.FoundAnswer.{FoundAnswer}
 use Rattle.nvm.specs.nvm_flash.nvm_laws.declared.turned.FoundAnswer.TheVariants as found
 use Rattle.nvm.specs.nvm_flash.nvm_laws.declared.turned.Turned.{Turned}
+use Rattle.nvm.specs.nvm_flash.promise_device.Bridge.{reading_of}
 use Rattle.nvm.specs.nvm_flash.promise_device.Making.{Making}
 use Rattle.nvm.specs.nvm_moves.Seen.{frame_of}
 use Rattle.nvm_script.specs.Lines.{entry_line}
@@ -33,6 +35,11 @@ pub record IsLent (up : Bool) (plans : ℕ) (s : UnitState) : Type 0 where
   pub is_up : s.ready ≡ up
   pub takes : takes_of s ≡ plans
   pub counted : keeps s.desk.cap ≡ false
+
+-- the flash told its bytes when the device was made over it, and it is known whether these were a sound image
+pub record KnowsImage (sound : Bool) (making : Making) (entry : Told) : Type 0 where
+  pub told : IsSome (bytes_now entry)
+  pub known : sound ≡ is_told_sound (reading_of making) (bytes_now entry)
 
 -- it is opened: its stack was made for the configuration, and made its first start-up
 pub record Opens (c : Configuration) (making : Making) (entry : Told) (s : UnitState) : Type 0 where

@@ -14,6 +14,8 @@ use Rattle.nvm.specs.nvm_flash.promise_device.Making.{Making}
 use Rattle.nvm_c.specs.Filled.{IsFilled}
 use Rattle.nvm_c.specs.Texts.{facts_of}
 use Rattle.nvm_c.specs.Unit.{UnitState, unit_told, IsAskCall, IsPlanCall, IsStartCall, IsTurnCall, given_last, last_line, Opens, CameBack}
+use Rattle.nvm_c.specs.Standing.{IsFoundLast, IsNotTold}
+use Rattle.nvm_c.specs.declared.standing.LineFault.TheVariants as fault
 use Rattle.nvm_c.specs.declared.work.Task.{Task}
 use Rattle.nvm_c.specs.declared.work.Task.TheVariants as task
 use Rattle.nvm_c.specs.declared.work.UnitWork.{UnitWork}
@@ -66,6 +68,8 @@ Does task.Given (outcome.Copied size) s t = t ≡ s
 Does task.Given outcome.Nothing s t = (given_last s ≡ None) × (t ≡ s)
 Does task.Line (outcome.Line text) s t = (text ≡ last_line s) × (t ≡ s)
 Does task.Line outcome.NoMemory s t = t ≡ s
+Does task.Line outcome.Down s t = StaysDown s t × IsFoundLast s
+Does task.Line outcome.Unsound s t = IsNotTold fault.Unsound s × (t ≡ s)
 Does task.Entries (outcome.Count entries) s t = (entries ≡ length s.desk.entries) × (t ≡ s)
 Does x y s t = ⊥
 

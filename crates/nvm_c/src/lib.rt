@@ -11,6 +11,8 @@ mod handle;
 mod looks;
 mod room;
 mod services;
+mod sound_image;
+mod standing;
 mod texts;
 mod turns;
 mod unit;
@@ -23,6 +25,7 @@ pub use looks::{
 };
 pub use room::Room;
 pub use services::nvm_ask;
+pub use standing::LineFault;
 pub use texts::{BlockFacts, nvm_check};
 pub use turns::{nvm_close, nvm_cut, nvm_open, nvm_restart, nvm_turn};
 pub use unit::LentUnit;

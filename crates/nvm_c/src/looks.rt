@@ -121,8 +121,9 @@ pub extern "C" fn nvm_given(
 }
 
 /// Copies the line of the last entry to the front of `into`, where it has room for it, and tells its size: as `play` prints it, with
-/// its newline. Each call adds one entry at most, so the lines that are taken behind each call that did are the history. 0: so it was
-/// done. 1: there is no entry. 4: there is no memory.
+/// its newline. Each call adds one entry at most, so the lines that are taken behind each call that did are the history. That of a
+/// start-up is written from what stands on the flash. 0: so it was done. 1: there is no entry. 4: there is no memory. Of a start-up's
+/// entry alone, 5: a further start-up failed. 6: the memory that was lent didn't hold a sound image, and an operation was made.
 #[unsafe(no_mangle)]
 pub extern "C" fn nvm_line(
     alloc: Global,
@@ -143,6 +144,8 @@ pub extern "C" fn nvm_line(
             }
             None => 1,
         },
+        Outcome::Down => 5,
+        Outcome::Unsound => 6,
         _other => 4,
     }
 }

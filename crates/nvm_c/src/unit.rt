@@ -1,26 +1,32 @@
 // A unit: a stack over memory that C lends, behind its first start-up.
-ghost use Rattle.std.specs.Prelude.{◌≡◌, ◌≤◌, ◌↔◌, false, true, Some, None, IfOk, IfSome, IsSomeAnd, IsErrOf, length, option_copied, option_map};
+ghost use Rattle.std.specs.Prelude.{◌≡◌, ◌≤◌, ◌-◌, ◌↔◌, false, true, List, Some, None, Ok, Err, IfOk, IfErr, OnErr, IfSome, IsSomeAnd, IsErrOf, length, option_copied, option_map, slice_get};
 ghost use Rattle.nvm.specs.block_config.Config.{block_of};
+ghost use Rattle.nvm.specs.block_config.Lengths.{lengths_of};
 ghost use Rattle.nvm.specs.block_machine.Blocks.{asked_block, block_at, desc_of, status_of};
 ghost use Rattle.nvm.specs.block_machine.Legal.{HasStore};
 ghost use Rattle.nvm.specs.block_machine.Reply.{reply_of};
+ghost use Rattle.nvm.specs.block_machine.Words.{Instance, Mark, Found};
+ghost use Rattle.nvm.specs.fls_model.Told.{bytes_now};
 ghost use Rattle.nvm.specs.nv_desk.Desk.{state_of};
 ghost use Rattle.nvm.specs.nv_desk.Event.{entry_of};
-ghost use Rattle.nvm.specs.nv_desk.FoundMarks.{found_in};
 ghost use Rattle.nvm.specs.nv_desk.Recorder.{keeps};
 ghost use Rattle.nvm.specs.nv_desk.Request.{request_lent, whole_request};
+ghost use Rattle.nvm.specs.nvm_flash.fee_told.Device.{slots_in};
+ghost use Rattle.nvm.specs.nvm_flash.nvm_laws.Standing.{settled_marks};
 ghost use Rattle.nvm_script.specs.Lines.{entry_line};
 ghost use Rattle.nvm.specs.Unit.{Stands, takes_of};
 ghost use Rattle.nvm_c.specs.Filled.{IsFilled};
 ghost use Rattle.nvm_c.specs.Texts.{facts_of};
-ghost use Rattle.nvm_c.specs.Unit.{CameBack, IsAskCall, IsStartCall, IsTurnCall, TakenFrom, given_last, last_line};
+ghost use Rattle.nvm_c.specs.Standing.{IsNotTold};
+ghost use Rattle.nvm_c.specs.Unit.{CameBack, IsAskCall, IsStartCall, IsTurnCall, KnowsImage, TakenFrom, given_last, last_line};
 ghost use Rattle.nvm_c.specs.Work.{PlansCut, PlansNone};
 
 use crate::filled::fill;
+use crate::standing::{LentDevice, LineFault, marks_standing};
 use crate::texts::{BlockFacts, facts_of};
 use lent_flash::{Lent, LentFlash};
 use nvm::{
-    AskFault, Bytes, Config, Entry, Event, FlashStack, FoundAnswer, FoundMarks, Last, LentRequest,
+    AskFault, Bytes, Config, Entry, Event, FlashStack, FoundAnswer, Last, LentRequest, MemDevice,
     Origin, Reply, ReqResult, Request, RequestKind, Turned, UnitStack, bytes_of,
 };
 use nvm_script::entry_text;
@@ -30,36 +36,41 @@ use std::marker::Model;
 /// The stack that a unit is made of.
 pub type LentStack<O> = FlashStack<LentFlash, O>;
 
-/// The stack of a unit, whether its last start-up stands, and how many power cuts may be planned yet. Contracts see the stack.
+/// The stack of a unit, whether its last start-up stands, how many power cuts may be planned yet, and whether it was opened over a
+/// sound image. Contracts see the stack.
 #[derive(Drop)]
 pub struct LentUnit<O: Origin> {
     unit: UnitStack<LentFlash, O>,
     up: bool,
     plans: u32,
+    sound: bool,
 }
 
 impl<O: Origin> Model for LentUnit<O> {
-    ghost use Rattle.nvm_c.specs.Unit.{UnitState, IsLent};
+    ghost use Rattle.nvm_c.specs.Unit.{UnitState, IsLent, KnowsImage};
 
     ghost Value = { UnitState };
 
     ghost view = { λ u. u.unit };
 
-    ghost invariant = { λ u. IsLent u.up u.plans u.unit };
+    ghost invariant = { λ u. IsLent u.up u.plans u.unit × KnowsImage u.sound O.making O.entry };
 }
 
 impl<O: Origin> LentUnit<O> {
-    /// The unit of a stack that counts its entries, whose first start-up stands, and of whose flash so many power cuts can be planned.
-    pub(crate) fn over(unit: UnitStack<LentFlash, O>, plans: u32) -> LentUnit<O>
+    /// The unit of a stack that counts its entries, whose first start-up stands, and of whose flash so many power cuts can be planned,
+    /// over an image that is sound or isn't.
+    pub(crate) fn over(unit: UnitStack<LentFlash, O>, plans: u32, sound: bool) -> LentUnit<O>
         requires ready { unit.ready ≡ true }
         requires plans { takes_of unit ≡ plans }
         requires counted { keeps unit.desk.cap ≡ false }
+        requires image { KnowsImage sound O.making O.entry }
         ensures { result ≡ unit }
     {
         LentUnit {
             unit,
             up: true,
             plans,
+            sound,
         }
     }
 
@@ -213,23 +224,44 @@ impl<O: Origin> LentUnit<O> {
         }
     }
 
-    /// The line of the last entry, with its newline, where there is an entry.
-    pub fn last_line(&self, alloc: Global) -> Result<Option<Bytes>, AllocError>
-        ensures { IfOk result (λ line. line ≡ last_line self.now) }
+    /// The line of the last entry, with its newline, where there is an entry. That of a start-up is written from what stands on the
+    /// flash then: no content that it found is kept beside.
+    pub fn last_line(&self, alloc: Global) -> Result<Option<Bytes>, LineFault>
+        ensures line { IfOk result (λ line. line ≡ last_line self.now) }
+        ensures none { IfErr result (λ fault. IsNotTold fault self.now) }
     {
         match self.unit.stack().last() {
-            Some(Last::Added(entry)) => Ok(Some(entry_text(alloc, entry)?)),
-            Some(Last::OfJob { event, content }) => Ok(Some(job_line(alloc, event, content)?)),
+            Some(Last::Added(entry)) => told(entry_text(alloc, entry)),
+            Some(Last::OfJob { event, content }) => told(job_line(alloc, event, content)),
             Some(
                 Last::OfRequest {
                     caller,
                     request,
                     reply,
                 },
-            ) => Ok(Some(request_line(alloc, caller, request, reply)?)),
-            Some(Last::Found { marks, ops }) => Ok(Some(found_line(alloc, marks, ops)?)),
+            ) => told(request_line(alloc, caller, request, reply)),
+            Some(Last::Found { marks: _, ops }) => self.found_line(alloc, ops),
             None => Ok(None),
         }
+    }
+
+    // The line of a start-up, whose marks stand on the flash.
+    #[inline(never)]
+    fn found_line(&self, alloc: Global, ops: u64) -> Result<Option<Bytes>, LineFault>
+        requires last { (marks : List (Instance × Mark)) × (slice_get self.now.desk.entries (length self.now.desk.entries - 1) ≡ Some (Found marks ops)) }
+        ensures line { IfOk result (λ line. line ≡ last_line self.now) }
+        ensures none { IfErr result (λ fault. IsNotTold fault self.now) }
+    {
+        if !self.up {
+            return Err(LineFault::Down);
+        }
+        let stack = self.unit.stack();
+        let device = stack.device();
+        let _flash = device.flash();
+        if !self.sound && device.ops() > 0 {
+            return Err(LineFault::Unsound);
+        }
+        told(standing_line(alloc, stack.config(), device, ops))
     }
 
     /// How many entries the history has.
@@ -295,12 +327,31 @@ fn request_line(
     entry_text(alloc, &entry)
 }
 
-// The line of a start-up, whose marks stand beside it.
-fn found_line(alloc: Global, found: &FoundMarks, ops: u64) -> Result<Bytes, AllocError>
-    ensures { IfOk result (λ line. line ≡ entry_line (Entry.Found (found_in found.now) ops)) }
+// The line of a start-up of this configuration, whose marks are what a device holds.
+fn standing_line<O: Origin>(
+    alloc: Global,
+    config: &Config,
+    device: &LentDevice<O>,
+    ops: u64,
+) -> Result<Bytes, AllocError>
+    requires started { device.now.started ≡ true }
+    requires numbers { lengths_of config.now ≡ device.now.making.numbers }
+    ensures { IfOk result (λ line. IsSomeAnd (bytes_now device.now.flash) (λ bytes. line ≡ entry_line (Entry.Found (settled_marks device.now.making.numbers (slots_in device.now bytes)) ops))) }
 {
-    let marks = found.to_marks(alloc)?;
+    let numbers = config.all_lengths(alloc)?;
+    let marks = marks_standing(alloc, &numbers, device)?;
     entry_text(alloc, &Entry::Found { marks, ops })
+}
+
+// A line, or why it isn't told.
+fn told(line: Result<Bytes, AllocError>) -> Result<Option<Bytes>, LineFault>
+    ensures line { IfOk line (λ bytes. result ≡ Ok (Some bytes)) }
+    ensures none { OnErr line (result ≡ Err LineFault.Memory) }
+{
+    match line {
+        Ok(line) => Ok(Some(line)),
+        Err(_) => Err(LineFault::Memory),
+    }
 }
 
 // A copy of a content, if there is one.

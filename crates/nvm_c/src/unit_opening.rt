@@ -6,8 +6,10 @@ ghost use Rattle.nvm.specs.nvm_flash.Made.{ComesBack, IsMadeStack, IsOrigin};
 ghost use Rattle.nvm.specs.nvm_core.StartUps.{StartsUp};
 ghost use Rattle.nvm.specs.nvm_flash.fee_told.Device.{told_of};
 ghost use Rattle.nvm.specs.nv_desk.Recorder.{endless};
-ghost use Rattle.nvm_c.specs.Unit.{Opens};
+ghost use Rattle.nvm.specs.nvm_flash.promise_run.Promise.{making_of};
+ghost use Rattle.nvm_c.specs.Unit.{KnowsImage, Opens};
 
+use crate::sound_image::is_sound;
 use crate::unit::{LentStack, LentUnit};
 use lent_flash::LentFlash;
 use nvm::{Config, ENDLESS, MakeFault, MemDevice, Origin, UnitStack, make_stack, start_stack};
@@ -31,6 +33,18 @@ pub fn open<O: Origin>(
     }
 }
 
+// Whether the flash of a stack that was made held a sound image.
+fn holds_sound<O: Origin>(stack: &LentStack<O>) -> bool
+    requires made { IsMadeStack stack.now.desk.config stack.now.desk.cap O.making O.entry stack.now }
+    requires legal { IsLegalConfig stack.now.desk.config }
+    requires made_for { O.making ≡ making_of stack.now.desk.config }
+    ensures { KnowsImage result O.making O.entry }
+{
+    let config = stack.config();
+    let flash = stack.device().flash().inner();
+    is_sound(flash, config.geometry(), config.banks())
+}
+
 // The first start-up of a stack that was made.
 fn begin<O: Origin>(stack: LentStack<O>, cuts: u32) -> Result<LentUnit<O>, (MakeFault, LentFlash)>
     requires made { IsMadeStack stack.desk.config stack.desk.cap O.making O.entry stack }
@@ -40,13 +54,14 @@ fn begin<O: Origin>(stack: LentStack<O>, cuts: u32) -> Result<LentUnit<O>, (Make
     ensures started { IfOk result (λ s. StartsUp told_of stack s) }
     ensures stopped { IfErr result (λ e. (inner : Told) (cuts : ℕ) → IsOrigin stack.desk.config inner cuts O.making O.entry → ComesBack stack.desk.config e.0 inner e.1) }
 {
+    let sound = holds_sound(&stack);
     stack.device().status();
     match start_stack(stack) {
         Ok(stack) => {
             let behind = stack.device();
             let _status = behind.status();
             let unit = UnitStack::over(stack, cuts);
-            Ok(LentUnit::over(unit, cuts))
+            Ok(LentUnit::over(unit, cuts, sound))
         }
         Err(stopped) => Err(stopped),
     }

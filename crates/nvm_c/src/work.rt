@@ -5,6 +5,7 @@ ghost use Rattle.nvm_c.specs.declared.work.UnitWork.TheVariants as UnitWork;
 ghost use Rattle.nvm_c.specs.Work.{CanDo, CanServe, Copies, Does, Hands, Serves};
 
 use crate::room::Room;
+use crate::standing::LineFault;
 use crate::texts::BlockFacts;
 use crate::unit::LentUnit;
 use crate::unit_opening::open;
@@ -62,12 +63,14 @@ pub enum Task<'a> {
     Entries,
 }
 
-/// What came of it. `Down`: the last start-up failed, and nothing was done.
+/// What came of it. `Down`: the last start-up failed, and nothing was done. `Unsound`: from an image that wasn't sound an operation was
+/// made, so that it isn't told what the last start-up found.
 #[derive(Drop)]
 pub enum Outcome {
     Opened,
     NotOpened { fault: MakeFault, lent: Lent },
     Down,
+    Unsound,
     NoMemory,
     Asked { answer: Result<Reply, AskFault> },
     Turned { turned: Turned },
@@ -219,7 +222,9 @@ fn line<O: Origin>(alloc: Global, unit: &LentUnit<O>) -> Outcome
 {
     match unit.last_line(alloc) {
         Ok(text) => Outcome::Line { text },
-        Err(_) => Outcome::NoMemory,
+        Err(LineFault::Memory) => Outcome::NoMemory,
+        Err(LineFault::Down) => Outcome::Down,
+        Err(LineFault::Unsound) => Outcome::Unsound,
     }
 }
 

@@ -12,12 +12,14 @@ use Rattle.nvm_c.proofs.unit.LentUnit.turn.Goals as goal
 
 pub invariant_of-self : goal.invariant_of-self
 invariant_of-self g c =
-    let s = c.self.inside.unit in let t = c.turn-turned.new.self in
-    record {
-      is_up = turns_up s t c.turn-turned.result c.turn-turned.ensures.turns ∙ c.self.invariant.is_up;
-      takes = turns_take s t c.turn-turned.result c.turn-turned.ensures.turns ∙ c.self.invariant.takes;
-      counted = still_counted s t c.turn-turned.ensures.stays c.self.invariant.counted;
-    }
+    let s = c.self.inside.unit in let t = c.turn-turned.new.self in (
+      record {
+        is_up = turns_up s t c.turn-turned.result c.turn-turned.ensures.turns ∙ c.self.invariant.0.is_up;
+        takes = turns_take s t c.turn-turned.result c.turn-turned.ensures.turns ∙ c.self.invariant.0.takes;
+        counted = still_counted s t c.turn-turned.ensures.stays c.self.invariant.0.counted;
+      },
+      c.self.invariant.1,
+    )
 
 -- what its device tells of a stack
 record Tells (s : UnitState) : Type 0 where
@@ -30,8 +32,8 @@ returns g c =
     let s = c.self.inside.unit in let t = c.turn-turned.new.self in
     let is = c.turn-turned.ensures in
     let ready = ap (λ (x : UnitState). x.ready) c.self.view_is ∙ c.requires in
-    let old : Tells s = subst Tells c.stack-before.ensures (record { tied = c.device-device.ensures.tied; power = c.device-device.ensures.power; synchronized = c.device-device.ensures.synchronized }) in
-    let new : Tells t = subst Tells c.stack-after.ensures (record { tied = c.device-behind.ensures.tied; power = c.device-behind.ensures.power; synchronized = c.device-behind.ensures.synchronized }) in
+    let old : Tells s = subst Tells c.stack-before.ensures.stack (record { tied = c.device-device.ensures.tied; power = c.device-device.ensures.power; synchronized = c.device-device.ensures.synchronized }) in
+    let new : Tells t = subst Tells c.stack-after.ensures.stack (record { tied = c.device-behind.ensures.tied; power = c.device-behind.ensures.power; synchronized = c.device-behind.ensures.synchronized }) in
     subst (λ (x : UnitState). IsTurnCall c.turn-turned.result x t) c.self.view_is (record {
       moved = is.moved;
       told = turns_told s t c.turn-turned.result is.turns (λ same. record {
