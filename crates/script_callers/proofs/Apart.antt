@@ -1,16 +1,15 @@
 -- The programs are apart, and none is missing.
 use Rattle.std.specs.Prelude.{filter, map}
 use Rattle.std.specs.List.{range_with_len, All, AllPairs, Contains}
-use Rattle.std.proofs.Common.{◌≡◌, ◌==◌, ◌≤◌, ◌<◌, ◌+◌, ℕ, zero, suc, not, Bool, true, false, List, [], ◌∷◌, ◌++◌, length, get_or, refl, sym, ap, ◌∙◌, subst, inl, inr, arith, append-nil, if◌then◌else◌}
-use Rattle.std.proofs.lemmas.Bool.{cases_Bool, cases_lt, eqb-true, eq-eqb, ne_eqb}
+use Rattle.std.proofs.Common.{◌≡◌, ◌==◌, ◌≤◌, ◌<◌, ◌+◌, ℕ, zero, suc, not, Bool, true, false, List, [], ◌∷◌, length, get_or, refl, sym, ap, ◌∙◌, subst, inl, inr, arith}
+use Rattle.std.proofs.lemmas.Bool.{cases_Bool, cases_lt, eqb-true, ne_eqb}
 use Rattle.std.proofs.lemmas.List.{nil_from_length}
-use Rattle.std.proofs.lemmas.List.Elements.{filter-append, All-filter, All-map, All-head, All-tail, Contains-append_right}
-use Rattle.std.proofs.lemmas.List.FromFn.{length-range_with_len, get_or-range_with_len, length-map-range_with_len, get_or-map-range_with_len, map-range_with_len_more}
+use Rattle.std.proofs.lemmas.List.Elements.{All-filter, All-map, All-head, All-tail, Contains-append_right}
+use Rattle.std.proofs.lemmas.List.FromFn.{length-range_with_len, get_or-range_with_len, length-map-range_with_len, get_or-map-range_with_len}
 use Rattle.std.proofs.lemmas.List.Kept.{AllPairs-cons, AllPairs-filter}
 use Rattle.script_walks.specs.Words.{Step}
 use Rattle.script_walks.specs.Callers.{program_of}
 use Rattle.block_machine.specs.Words.{Configuration}
-use Rattle.script_callers.specs.declared.deed.Deed.{Deed}
 use Rattle.script_callers.specs.declared.program.Program.{Program}
 use Rattle.script_callers.specs.Deeds.{deeds_of}
 use Rattle.script_callers.specs.Programs.{program_by, does_something, programs_of}
@@ -71,34 +70,3 @@ programs_are_apart c steps run = record {
   apart = AllPairs-filter (λ (p q : Program). p.caller < q.caller) does_something (map (program_by c steps) (range_with_len 0 16)) (ascend c steps 16 0);
   others = λ caller absent. nothing c steps caller run absent;
 }
-
--- ONE CALLER MORE
-
-more_if : (ps : List Program) (p : Program) (b : Bool) → does_something p ≡ b → ps ++ filter does_something (p ∷ []) ≡ (if b then ps ++ p ∷ [] else ps)
-more_if ps p true does = rw does refl
-more_if ps p false does = rw does (append-nil ps)
-
-pub programs_more : (c : Configuration) (steps : List Step) (n : ℕ) (b : Bool) → does_something (program_by c steps n) ≡ b
-    → filter does_something (map (program_by c steps) (range_with_len 0 (n + 1)))
-    ≡ (if b then filter does_something (map (program_by c steps) (range_with_len 0 n)) ++ program_by c steps n ∷ [] else filter does_something (map (program_by c steps) (range_with_len 0 n)))
-programs_more c steps n b does =
-    ap (filter does_something) (map-range_with_len_more (program_by c steps) 0 n n (omega arith))
-    ∙ filter-append does_something (map (program_by c steps) (range_with_len 0 n)) (program_by c steps n ∷ [])
-    ∙ more_if (filter does_something (map (program_by c steps) (range_with_len 0 n))) (program_by c steps n) b does
-
-pub does : (c : Configuration) (steps : List Step) (caller : ℕ) (deeds : List Deed) → deeds ≡ deeds_of c (program_of caller steps) → 0 < length deeds → does_something (program_by c steps caller) ≡ true
-does c steps caller deeds made some =
-    let len : length deeds ≡ length (deeds_of c (program_of caller steps)) = ap length made in
-    ap not (ne_eqb (length (deeds_of c (program_of caller steps))) 0 (λ none. omega (arith, len, none, some)))
-
-pub does_not : (c : Configuration) (steps : List Step) (caller : ℕ) (deeds : List Deed) → deeds ≡ deeds_of c (program_of caller steps) → length deeds ≤ 0 → does_something (program_by c steps caller) ≡ false
-does_not c steps caller deeds made none =
-    let len : length deeds ≡ length (deeds_of c (program_of caller steps)) = ap length made in
-    let zero_is : length (deeds_of c (program_of caller steps)) ≡ 0 = omega (arith, len, none) in
-    ap not (eq-eqb (length (deeds_of c (program_of caller steps))) 0 zero_is)
-
-abbrev with_caller : ℕ → List Deed → Program
-with_caller caller deeds = record { caller = caller; deeds = deeds }
-
-pub program_made : (c : Configuration) (steps : List Step) (caller : ℕ) (deeds : List Deed) → deeds ≡ deeds_of c (program_of caller steps) → with_caller caller deeds ≡ program_by c steps caller
-program_made c steps caller deeds made = ap (λ (ds : List Deed). with_caller caller ds) made

@@ -1,25 +1,29 @@
 -- The stores of a program, counted by block.
-use Rattle.std.specs.Prelude.{slice_get, slice_set, take, replicate}
+use Rattle.std.specs.Prelude.{slice_get, slice_set, replicate, is_some}
 use Rattle.std.specs.Option.{unwrap_or, option_and_then}
 use Rattle.std.proofs.Common.{◌≡◌, ◌≢◌, ◌==◌, ◌≤◌, ◌<◌, ◌+◌, ℕ, zero, suc, Bool, true, false, List, [], ◌∷◌, ◌++◌, length, get_or, refl, sym, ap, ◌∙◌, subst, inl, inr, arith, Some, None, Option, if◌then◌else◌, get_or-set_same, get_or-set_other, length-set, length-append, append-nil}
 use Rattle.std.proofs.lemmas.Bool.{cases_Bool, cases_lt, eqb-true, eq-eqb}
-use Rattle.std.proofs.lemmas.List.{length-take-le, get_or_past, get_or-replicate, length-replicate}
-use Rattle.std.proofs.lemmas.List.Elements.{filter_more}
-use Rattle.std.proofs.lemmas.Option.{slice_get_within, get_or_from_slice_get}
+use Rattle.std.proofs.lemmas.List.{get_or_past, get_or-replicate, length-replicate}
+use Rattle.std.proofs.lemmas.List.Elements.{filter-append}
+use Rattle.std.proofs.lemmas.Option.{slice_get_within}
+use Rattle.block_config.specs.Config.{block_of}
 use Rattle.block_config.specs.declared.block.BlockDesc.{BlockDesc}
+use Rattle.block_config.specs.declared.block.RamKind.{RamKind}
+use Rattle.block_config.specs.declared.block.RamKind.TheVariants as ram
 use Rattle.block_machine.specs.block_config.Block.{plain_block}
 use Rattle.block_machine.specs.Words.{Request, Write, Configuration}
 use Rattle.block_machine.specs.Blocks.{desc_of, is_synchronized}
-use Rattle.script_walks.specs.Words.{Step, StepKind, Store}
+use Rattle.script_walks.specs.Words.{Step, StepKind, AskStep, Store}
 use Rattle.script_walks.specs.Walk.{stores_of, last_store, request_after}
 use Rattle.script_walks.specs.StoreLaws.{is_store}
 use Rattle.script_walks.specs.Callers.{program_of}
 use Rattle.script_walks.proofs.Newest.{same_stores, stores_more, stores_are_few}
+use Rattle.nvm_script.specs.Owners.{ram_block_of}
 use Rattle.nvm_script.specs.Rules.{length_where_sync, sync_length_of}
 use Rattle.script_callers.specs.declared.deed.Deed.{Deed}
-use Rattle.script_callers.specs.Deeds.{deeds_by, deeds_of}
+use Rattle.script_callers.specs.Deeds.{deeds_by}
 use Rattle.script_callers.specs.Counting.{ram_write, AreOf, AreCounted, AddsDeed}
-use Rattle.script_callers.proofs.Growing.{last_of, deeds_grow}
+use Rattle.script_callers.proofs.Growing.{last_of}
 
 -- SYNCHRONIZED BLOCKS ARE COUNTED
 
@@ -31,14 +35,25 @@ pub sync_within : (c : Configuration) (block : ℕ) → is_synchronized (desc_of
 sync_within c zero sync = absurd (cc sync)
 sync_within c (suc i) sync = let within : i < length c.blocks = sync_in c.blocks i (slice_get c.blocks i) refl sync in omega arith
 
+-- a block whose RAM is synchronized has the length of that
+length_by : (kind : RamKind) (n : ℕ) → is_synchronized kind ≡ true → is_some (length_where_sync kind n) ≡ true
+length_by ram.Sync n sync = refl
+length_by kind n sync = absurd (cc sync)
+
+length_in : (o : Option BlockDesc) → is_synchronized (unwrap_or o (plain_block 0)).ram ≡ true → is_some (option_and_then (λ b. length_where_sync b.ram b.length) o) ≡ true
+length_in None sync = absurd (cc sync)
+length_in (Some b) sync = length_by b.ram b.length sync
+
 -- the number that a RAM write gets
-pub number_is : (c : Configuration) (before : List Step) (caller block : ℕ) (counts : List ℕ) → AreOf caller before → AreCounted before counts → length counts ≡ length c.blocks + 1
-    → (if is_synchronized (desc_of c block).ram then get_or counts block 0 else 0) ≡ (if is_synchronized (desc_of c block).ram then last_store caller block before else 0)
-number_is c before caller block counts of counted size =
+pub number_is : (c : Configuration) (before own : List Step) (caller block : ℕ) (counts : List ℕ) → AreOf caller own → (is_some (sync_length_of c block) ≡ true → stores_of block own ≡ stores_of block before)
+    → AreCounted before counts → length counts ≡ length c.blocks + 1
+    → (if is_synchronized (desc_of c block).ram then get_or counts block 0 else 0) ≡ (if is_synchronized (desc_of c block).ram then last_store caller block own else 0)
+number_is c before own caller block counts of owns counted size =
     elim (cases_Bool (is_synchronized (desc_of c block).ram)) [
       | inl sync ↦
           let within : block < length counts = let w = sync_within c block sync in omega (arith, size, w) in
-          rw sync (counted block within ∙ sym (last_of caller block before of))
+          let same : stores_of block own ≡ stores_of block before = owns (length_in (block_of c block) sync) in
+          rw sync (counted block within ∙ ap length (sym same) ∙ sym (last_of caller block own of))
       | inr other ↦ rw other refl
     ]
 
@@ -54,6 +69,11 @@ as_written c before caller block (Write named None store) is =
     ap (λ (n : ℕ). Write n None (if is_synchronized (desc_of c n).ram then last_store caller n before else 0)) same
 as_written c before caller block (Write named (Some bytes) store) is = absurd (cc is)
 as_written c before caller block r is = absurd (cc is)
+
+pub names_written : (block : ℕ) (r : Request) → ram_write r ≡ Some block → ram_block_of (AskStep r) ≡ Some block
+names_written block (Write named None store) is = is
+names_written block (Write named (Some bytes) store) is = is
+names_written block r is = absurd (cc is)
 
 -- ONE STEP MORE
 
@@ -101,19 +121,19 @@ few_counted before counts most counted few block =
       | inr past ↦ let is : get_or counts block 0 ≡ 0 = get_or_past counts block 0 (omega arith) in omega (arith, is)
     ]
 
--- one step more of the script
+-- one step more of a program
 by_caller : (caller : ℕ) (p : List Step) (x : Step) (b : Bool) → p ++ (if b then x ∷ [] else []) ≡ (if b then p ++ x ∷ [] else p)
 by_caller caller p x true = refl
 by_caller caller p x false = append-nil p
 
-pub program_more : (caller : ℕ) (steps : List Step) (place : ℕ) (x : Step) → slice_get steps place ≡ Some x
-    → program_of caller (take (place + 1) steps) ≡ (if x.caller == caller then program_of caller (take place steps) ++ x ∷ [] else program_of caller (take place steps))
-program_more caller steps place x at =
-    let within : place < length steps = slice_get_within steps place x at in
-    let is : get_or steps place x ≡ x = get_or_from_slice_get steps place x x at in
-    filter_more (λ y. y.caller == caller) steps place x within
-    ∙ ap (λ (y : Step). program_of caller (take place steps) ++ (if y.caller == caller then y ∷ [] else [])) is
-    ∙ by_caller caller (program_of caller (take place steps)) x (x.caller == caller)
+program_more : (caller : ℕ) (before : List Step) (x : Step) → program_of caller (before ++ x ∷ []) ≡ (if x.caller == caller then program_of caller before ++ x ∷ [] else program_of caller before)
+program_more caller before x = filter-append (λ (y : Step). y.caller == caller) before (x ∷ []) ∙ by_caller caller (program_of caller before) x (x.caller == caller)
+
+pub program_own : (before : List Step) (x : Step) → program_of x.caller (before ++ x ∷ []) ≡ program_of x.caller before ++ x ∷ []
+program_own before x = program_more x.caller before x ∙ ap (λ (b : Bool). if b then program_of x.caller before ++ x ∷ [] else program_of x.caller before) (eq-eqb x.caller x.caller refl)
+
+pub program_other : (caller : ℕ) (before : List Step) (x : Step) → (x.caller == caller) ≡ false → program_of caller (before ++ x ∷ []) ≡ program_of caller before
+program_other caller before x apart = program_more caller before x ∙ ap (λ (b : Bool). if b then program_of caller before ++ x ∷ [] else program_of caller before) apart
 
 -- a program has no more steps than the script
 kept_few : (b : Bool) (x : Step) (ys : List Step) (n : ℕ) → length ys ≤ n → length (if b then x ∷ ys else ys) ≤ n + 1
@@ -126,9 +146,9 @@ program_few caller (x ∷ xs) = let few = kept_few (x.caller == caller) x (progr
 
 -- WHAT A STEP ADDS
 
-pub adds_one : (c : Configuration) (before : List Step) (x : Step) (counts : List ℕ) (old new : List Deed) (d : Deed) → new ≡ old ++ d ∷ [] → deeds_by c before x.line x.caller x.kind ≡ d ∷ []
-    → AreCounted (before ++ x ∷ []) counts → AddsDeed c before x counts old new
-adds_one c before x counts old new d is by counted = record { deeds = is ∙ ap (λ ds. old ++ ds) (sym by); counted = counted }
+pub adds_one : (c : Configuration) (before own : List Step) (x : Step) (counts : List ℕ) (old new : List Deed) (d : Deed) → new ≡ old ++ d ∷ [] → deeds_by c own x.line x.caller x.kind ≡ d ∷ []
+    → AreCounted (before ++ x ∷ []) counts → AddsDeed c before own x counts old new
+adds_one c before own x counts old new d is by counted = record { deeds = is ∙ ap (λ ds. old ++ ds) (sym by); counted = counted }
 
 pub counted_by : (before : List Step) (x : Step) (kind : StepKind) (counts : List ℕ) → x.kind ≡ kind → is_store kind ≡ false → AreCounted before counts → AreCounted (before ++ x ∷ []) counts
 counted_by before x kind counts is none counted = same_counted before x counts (ap is_store is ∙ none) counted
@@ -145,24 +165,3 @@ block_stored c (suc i) content sync = let within : i < length c.blocks = stored_
     stored_in : (blocks : List BlockDesc) (i : ℕ) (o : Option BlockDesc) (content : List ℕ) → slice_get blocks i ≡ o → option_and_then (λ b. length_where_sync b.ram b.length) o ≡ Some (length content) → i < length blocks
     stored_in blocks i None content at sync = absurd (cc sync)
     stored_in blocks i (Some b) content at sync = slice_get_within blocks i b at
-
--- ONE STEP OF THE SCRIPT
-
-pub at_caller : (c : Configuration) (steps : List Step) (caller place : ℕ) (x : Step) (counts : List ℕ) (old new : List Deed) → slice_get steps place ≡ Some x → x.caller ≡ caller
-    → old ≡ deeds_of c (program_of caller (take place steps)) → AddsDeed c (program_of caller (take place steps)) x counts old new
-    → (new ≡ deeds_of c (program_of caller (take (place + 1) steps))) × AreCounted (program_of caller (take (place + 1) steps)) counts
-at_caller c steps caller place x counts old new at own is adds =
-    let p : List Step = program_of caller (take place steps) in
-    let more : program_of caller (take (place + 1) steps) ≡ p ++ x ∷ [] = program_more caller steps place x at ∙ ap (λ (b : Bool). if b then p ++ x ∷ [] else p) (eq-eqb x.caller caller own) in
-    (adds.deeds ∙ ap (λ ds. ds ++ deeds_by c p x.line x.caller x.kind) is ∙ sym (deeds_grow c p x) ∙ ap (deeds_of c) (sym more), subst (λ (q : List Step). AreCounted q counts) (sym more) adds.counted)
-
-pub at_other : (steps : List Step) (caller place : ℕ) (x : Step) → slice_get steps place ≡ Some x → (x.caller == caller) ≡ false → program_of caller (take (place + 1) steps) ≡ program_of caller (take place steps)
-at_other steps caller place x at apart =
-    let p : List Step = program_of caller (take place steps) in
-    program_more caller steps place x at ∙ ap (λ (b : Bool). if b then p ++ x ∷ [] else p) apart
-
-pub taken_few : (caller : ℕ) (steps : List Step) (place : ℕ) → place ≤ length steps → length (program_of caller (take place steps)) ≤ place
-taken_few caller steps place within =
-    let few = program_few caller (take place steps) in
-    let len : length (take place steps) ≡ place = length-take-le place steps within in
-    omega (arith, few, len)

@@ -11,7 +11,8 @@ use Rattle.script_walks.specs.Words.{Step, StepKind, AskStep, Store, Turn, Drain
 use Rattle.script_walks.specs.Walk.{store_by, stores_of}
 use Rattle.script_walks.specs.Callers.{program_of}
 use Rattle.block_machine.specs.Words.{Configuration}
-use Rattle.script_callers.specs.RunScripts.{CanBeRun, AreRun}
+use Rattle.script_callers.specs.RunScripts.{CanBeRun, IsRunBy, AreRun}
+use Rattle.script_callers.specs.Counting.{OwnsStores}
 use Rattle.script_callers.specs.Laws.{StoresAreOfOne}
 
 -- each store of the block is this caller's
@@ -54,28 +55,38 @@ in_take (suc n) place [] y at = at
 in_take (suc n) zero (x ∷ xs) y at = at
 in_take (suc n) (suc place) (x ∷ xs) y at = in_take n place xs y at
 
-pub kind_at : (c : Configuration) (steps : List Step) (place : ℕ) (x : Step) → AreRun c steps → slice_get steps place ≡ Some x → CanBeRun c x.kind
-kind_at c steps place x run at =
+pub run_at : (c : Configuration) (steps : List Step) (place : ℕ) (x : Step) → AreRun c steps → slice_get steps place ≡ Some x → IsRunBy c x
+run_at c steps place x run at =
     let is : get_or steps place x ≡ x = get_or_from_slice_get steps place x x at in
-    subst (λ (y : Step). CanBeRun c y.kind) is (run.each place x (slice_get_within steps place x at)).kind
+    subst (λ (y : Step). IsRunBy c y) is (run.each place x (slice_get_within steps place x at))
 
 named : (block : ℕ) (content : List ℕ) (kind : StepKind) → kind ≡ Store block content → ram_block_of kind ≡ Some block
 named block content kind is = ap ram_block_of is
 
-synchronized : (c : Configuration) (block : ℕ) (content : List ℕ) (kind : StepKind) → kind ≡ Store block content → CanBeRun c kind → is_some (sync_length_of c block) ≡ true
+pub synchronized : (c : Configuration) (block : ℕ) (content : List ℕ) (kind : StepKind) → kind ≡ Store block content → CanBeRun c kind → is_some (sync_length_of c block) ≡ true
 synchronized c block content kind is can =
     let stored : sync_length_of c block ≡ Some (length content) = subst (λ (k : StepKind). CanBeRun c k) is can in
     ap is_some stored
 
-pub by_owner : (c : Configuration) (steps : List Step) (place block : ℕ) (x : Step) (content : List ℕ) → AreRun c steps → slice_get steps place ≡ Some x → x.kind ≡ Store block content
+-- whose step stores into a synchronized block or writes it made all stores of the block
+of_owner : (c : Configuration) (steps : List Step) (place block : ℕ) (x : Step) → AreRun c steps → slice_get steps place ≡ Some x → is_some (sync_length_of c block) ≡ true → ram_block_of x.kind ≡ Some block
     → StoresAreBy x.caller block steps
-by_owner c steps place block x content run at is other y stored there says =
-    let sync = synchronized c block content x.kind is (kind_at c steps place x run at) in
-    let ours : owner_of steps block ≡ Some x.caller = run.owners place block x at sync (named block content x.kind is) in
+of_owner c steps place block x run at sync names other y stored there says =
+    let ours : owner_of steps block ≡ Some x.caller = run.owners place block x at sync names in
     let theirs : owner_of steps block ≡ Some y.caller = run.owners other block y there sync (named block stored y.kind says) in
     cc
+
+before : (block : ℕ) (caller place : ℕ) (steps : List Step) → StoresAreBy caller block steps → stores_of block (program_of caller (take place steps)) ≡ stores_of block (take place steps)
+before block caller place steps by = stores_by caller block (take place steps) (λ other y stored there says. by other y stored (in_take place other steps y there) says)
+
+pub owns_before : (c : Configuration) (steps : List Step) (place : ℕ) (x : Step) → AreRun c steps → slice_get steps place ≡ Some x → OwnsStores c (take place steps) (program_of x.caller (take place steps)) x.kind
+owns_before c steps place x run at block sync names = before block x.caller place steps (of_owner c steps place block x run at sync names)
+
+pub by_owner : (c : Configuration) (steps : List Step) (place block : ℕ) (x : Step) (content : List ℕ) → AreRun c steps → slice_get steps place ≡ Some x → x.kind ≡ Store block content
+    → StoresAreBy x.caller block steps
+by_owner c steps place block x content run at is = of_owner c steps place block x run at (synchronized c block content x.kind is (run_at c steps place x run at).kind) (named block content x.kind is)
 
 pub stores_are_of_one : StoresAreOfOne
 stores_are_of_one c steps place x block content run at is =
     let by = by_owner c steps place block x content run at is in
-    (stores_by x.caller block steps by, stores_by x.caller block (take place steps) (λ other y stored there says. by other y stored (in_take place other steps y there) says))
+    (stores_by x.caller block steps by, before block x.caller place steps by)

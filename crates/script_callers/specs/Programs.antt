@@ -14,6 +14,10 @@ program_by c steps caller = record { caller = caller; deeds = deeds_of c (progra
 abbrev pub does_something : Program → Bool
 does_something p = not (length p.deeds == 0)
 
--- the programs of the callers 0 to 15 that do something, by number
+-- the programs of the callers 0 to 15, by number
+abbrev pub all_programs : Configuration → List Step → List Program
+all_programs c steps = map (program_by c steps) (range_with_len 0 16)
+
+-- those of the callers that do something
 abbrev pub programs_of : Configuration → List Step → List Program
-programs_of c steps = filter does_something (map (program_by c steps) (range_with_len 0 16))
+programs_of c steps = filter does_something (all_programs c steps)

@@ -1,13 +1,13 @@
 // The programs of a script's callers.
-ghost use Rattle.std.specs.Prelude.{◌≡◌, ◌<◌, ◌≤◌, ◌+◌, ◌^◌, ℕ, List, length, get_or, IfOk, OnOk, if◌then◌else◌};
+ghost use Rattle.std.specs.Prelude.{◌≡◌, ◌<◌, ◌+◌, ◌++◌, ◌∷◌, ◌^◌, [], ℕ, List, length, get_or, IfOk, OnOk, if◌then◌else◌};
 ghost use Rattle.block_machine.specs.Blocks.{desc_of, is_synchronized};
-ghost use Rattle.script_walks.specs.Words.{Step as Made};
+ghost use Rattle.block_machine.specs.Words.{Configuration};
+ghost use Rattle.script_walks.specs.Words.{Step as Made, AskStep};
 ghost use Rattle.script_walks.specs.Walk.{request_after};
 ghost use Rattle.script_walks.specs.Callers.{program_of};
-ghost use Rattle.script_callers.specs.Deeds.{deeds_of};
-ghost use Rattle.script_callers.specs.Programs.{programs_of};
-ghost use Rattle.script_callers.specs.RunScripts.{CanBeRun, AreRun};
-ghost use Rattle.script_callers.specs.Counting.{ram_write, AreOf, AreCounted, AddsDeed};
+ghost use Rattle.script_callers.specs.Programs.{all_programs, programs_of};
+ghost use Rattle.script_callers.specs.RunScripts.{CanBeRun, IsRunBy, AreRun};
+ghost use Rattle.script_callers.specs.Counting.{ram_write, AreOf, AreCounted, AreMade, AddsDeed, OwnsStores};
 
 use crate::store_counts::StoreCounts;
 use crate::{Deed, DeedList, Program};
@@ -24,40 +24,49 @@ pub fn callers(alloc: Global, config: &Config, steps: &StepList) -> Result<Vec<P
     requires { AreRun config.now steps.now }
     ensures { IfOk result (λ programs. programs.items ≡ programs_of config.now steps.now) }
 {
-    let mut programs = Vec::new(alloc);
-    for caller in 0..CALLERS {
-        let deeds = deeds_of_caller(alloc, config, steps, caller)?;
-        if deeds.len() > 0 {
-            programs.push(Program { caller, deeds })?;
-        }
-    }
-    Ok(programs)
-}
-
-// What the steps of a caller have it do.
-fn deeds_of_caller(
-    alloc: Global,
-    config: &Config,
-    steps: &StepList,
-    caller: u8,
-) -> Result<DeedList, AllocError>
-    requires { AreRun config.now steps.now }
-    ensures { IfOk result (λ deeds. deeds ≡ deeds_of config.now (program_of caller steps.now)) }
-{
     let mut counts = StoreCounts::make(alloc, config.blocks())?;
-    let mut deeds = DeedList::new(alloc);
+    let mut programs = none_yet(alloc)?;
     for place in 0..steps.len() {
         match steps.get(place) {
             Some(step) => {
-                if step.caller() == caller {
-                    let made = step.copy(alloc)?;
-                    add_deed(config, made, &mut counts, &mut deeds)?;
-                }
+                let made = step.copy(alloc)?;
+                add_step(config, made, &mut counts, programs.as_mut_slice())?;
             }
             None => {}
         }
     }
-    Ok(deeds)
+    programs.retain(|program| program.deeds.len() != 0);
+    Ok(programs)
+}
+
+// The programs of all callers before the first step.
+fn none_yet(alloc: Global) -> Result<Vec<Program>, AllocError>
+    ensures { IfOk result (λ programs. (c : Configuration) → programs.items ≡ all_programs c []) }
+{
+    let mut programs = Vec::new(alloc);
+    for caller in 0..CALLERS {
+        programs.push(Program {
+            caller,
+            deeds: DeedList::new(alloc),
+        })?;
+    }
+    Ok(programs)
+}
+
+// Adds what a step has its caller do to the caller's program.
+fn add_step(
+    config: &Config,
+    step: Step,
+    counts: &mut StoreCounts,
+    programs: &mut [Program],
+) -> Result<(), AllocError>
+    requires run { IsRunBy config.now step }
+    requires few { (before : List Made) × (length before < u32.MAX) × AreMade config.now before counts.old programs.old }
+    ensures count { length programs.new ≡ length programs.old }
+    ensures made { OnOk result ((before : List Made) → OwnsStores config.now before (program_of step.caller before) step.kind → AreMade config.now before counts.old programs.old → AreMade config.now (before ++ step ∷ []) counts.new programs.new) }
+{
+    let place = usize::from(step.caller);
+    add_deed(config, step, counts, &mut programs[place].deeds)
 }
 
 // Adds what a step has its caller do.
@@ -71,9 +80,8 @@ fn add_deed(
     requires run { CanBeRun config.now step.kind }
     requires few { (block : ℕ) → get_or counts.old block 0 < 2 ^ 32 }
     requires size { length counts.old ≡ length config.now.blocks + 1 }
-    ensures added { OnOk result ((before : List Made) → AreOf step.caller before → AreCounted before counts.old → AddsDeed config.now before step counts.new deeds.old deeds.new) }
+    ensures added { OnOk result ((before own : List Made) → AreOf step.caller own → OwnsStores config.now before own step.kind → AreCounted before counts.old → AddsDeed config.now before own step counts.new deeds.old deeds.new) }
     ensures size { length counts.new ≡ length counts.old }
-    ensures count { OnOk result (length deeds.new ≤ length deeds.old + 1) }
 {
     let Step { line, kind, .. } = step;
     match kind {
@@ -99,7 +107,7 @@ fn add_deed(
 // The request as it is asked: a write of synchronized RAM has the number of its caller's last store.
 fn numbered(config: &Config, request: Request, counts: &StoreCounts) -> Request
     requires { length counts.now ≡ length config.now.blocks + 1 }
-    ensures { (before : List Made) (caller : ℕ) → AreOf caller before → AreCounted before counts.now → result ≡ request_after config.now before caller request }
+    ensures { (before own : List Made) (caller : ℕ) → AreOf caller own → OwnsStores config.now before own (AskStep request) → AreCounted before counts.now → result ≡ request_after config.now own caller request }
 {
     match ram_write(&request) {
         Some(block) => Request::Write {

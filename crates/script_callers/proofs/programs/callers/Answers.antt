@@ -1,32 +1,63 @@
-use Rattle.std.proofs.Common.{◌≡◌, ◌<◌, ◌≤◌, ◌+◌, ℕ, true, false, List, [], ◌∷◌, ◌++◌, length, map, subst, arith}
-use Rattle.std.specs.List.{filter, range_with_len}
+use Rattle.std.proofs.Common.{◌≡◌, ◌<◌, ◌+◌, ℕ, Some, List, [], ◌∷◌, ◌++◌, length, get_or, take, drop, filter, ap, ◌∙◌, subst, sym, arith, rules, Vec, Global}
+use Rattle.std.proofs.Math.Seq.{take-append_seam}
+use Rattle.std.proofs.lemmas.Fn.{filter_same}
+use Rattle.std.proofs.lemmas.List.{length-replicate, take_all, take_more}
+use Rattle.std.proofs.lemmas.Option.{slice_get_within, get_or_from_slice_get}
+use Rattle.script_walks.specs.Words.{Step}
+use Rattle.script_callers.specs.Counting.{AreCounted, AreMade}
+use Rattle.script_callers.specs.Programs.{all_programs, does_something}
 use Rattle.script_callers.specs.declared.program.Program.{Program}
-use Rattle.script_callers.specs.Programs.{program_by, does_something}
-use Rattle.script_callers.proofs.Apart.{programs_more, does, does_not, program_made}
+use Rattle.script_callers.proofs.Counting.{none_counted}
+use Rattle.script_callers.proofs.Owning.{owns_before, run_at}
 use Rattle.script_callers.proofs.programs.callers.Goals as goal
-use Rattle.script_callers.proofs.programs.callers.Goals.{then-len-gt0+in_ok-push, else-len-gt0}
+use Rattle.script_callers.proofs.programs.callers.Goals.{in-Some+in_ok-made-in-Some+in_ok-add_step-in-Some, in-None}
 
-pub loop-caller-preserved : goal.loop-caller-preserved
-loop-caller-preserved c =
+pub loop-place-init : goal.loop-place-init
+loop-place-init c =
+    let counts = c.in_ok-counts.ensures in
+    let n : ℕ = length c.in_ok-counts.counts in
+    let many : n ≡ c.blocks-2.result + 1 = ap length counts ∙ length-replicate (c.blocks-2.result + 1) 0 in
+    record {
+      made = c.in_ok-programs.ensures c.args.config.now;
+      counted = subst (λ (cs : List ℕ). AreCounted [] cs) (sym counts) (none_counted (c.blocks-2.result + 1));
+      size = omega (arith, many, c.blocks-2.ensures.count);
+    }
+
+pub add_step-requires-clause-run : goal.add_step-requires-clause-run
+add_step-requires-clause-run c = run_at c.args.config.now c.args.steps.now c.loop-place.place c.in_ok-made-in-Some.made c.requires (c.in-Some.ensures ∙ ap Some (sym c.in_ok-made-in-Some.ensures))
+
+pub loop-place-preserved : goal.loop-place-preserved
+loop-place-preserved c =
     let config = c.args.config.now in
     let steps = c.args.steps.now in
-    let caller = c.loop-caller.caller in
-    let made = c.in_ok-deeds.ensures in
-    let len = c.len.ensures in
-    let all : List Program = filter does_something (map (program_by config steps) (range_with_len 0 caller)) in
-    elim c.if-len-gt0.branch [
-      | then-len-gt0+in_ok-push w ↦
-          let some : 0 < length c.in_ok-deeds.deeds = omega (arith, len, w.if-len-gt0.true) in
-          let more : filter does_something (map (program_by config steps) (range_with_len 0 (caller + 1))) ≡ all ++ program_by config steps caller ∷ [] = programs_more config steps caller true (does config steps caller c.in_ok-deeds.deeds made some) in
-          let item = program_made config steps caller c.in_ok-deeds.deeds made in
-          cc (w.programs-is, w.in_ok-push.ensures.items, c.loop-caller.invariant, more, item)
-      | else-len-gt0 w ↦
-          let none : length c.in_ok-deeds.deeds ≤ 0 = omega (arith, len, w.if-len-gt0.false) in
-          let more : filter does_something (map (program_by config steps) (range_with_len 0 (caller + 1))) ≡ all = programs_more config steps caller false (does_not config steps caller c.in_ok-deeds.deeds made none) in
-          cc (w.programs-is, c.loop-caller.invariant, more)
+    let place = c.loop-place.place in
+    elim c.match-get.branch [
+      | in-Some+in_ok-made-in-Some+in_ok-add_step-in-Some w ↦
+          let x = w.in_ok-made-in-Some.made in
+          let at = w.in-Some.ensures ∙ ap Some (sym w.in_ok-made-in-Some.ensures) in
+          let within : place < length steps = slice_get_within steps place x at in
+          let is : get_or steps place x ≡ x = get_or_from_slice_get steps place x x at in
+          let more : take (place + 1) steps ≡ take place steps ++ x ∷ [] = take_more steps place x within ∙ ap (λ (y : Step). take place steps ++ y ∷ []) is in
+          let made = w.in_ok-add_step-in-Some.ensures.made (take place steps) (owns_before config steps place x c.requires at) in
+          let given : AreMade config (take place steps) c.loop-place.counts w.as_mut_slice.result.now = subst (λ (programs : List Program). AreMade config (take place steps) c.loop-place.counts programs) (sym w.as_mut_slice.ensures.value) c.loop-place.invariant in
+          let len : length w.add_step.new.programs ≡ c.loop-place.programs.len = w.add_step.ensures.count ∙ w.as_mut_slice.ensures.len in
+          let whole : take c.loop-place.programs.len (w.add_step.new.programs ++ drop (length w.add_step.new.programs) c.loop-place.programs.items) ≡ w.add_step.new.programs = ap (λ (n : ℕ). take n (w.add_step.new.programs ++ drop (length w.add_step.new.programs) c.loop-place.programs.items)) (sym len) ∙ take-append_seam w.add_step.new.programs (drop (length w.add_step.new.programs) c.loop-place.programs.items) in
+          subst (λ (before : List Step). AreMade config before c.match-get.counts c.match-get.programs.items) (sym more)
+          (subst (λ (counts : List ℕ). AreMade config (take place steps ++ x ∷ []) counts c.match-get.programs.items) (sym w.counts-is)
+          (subst (λ (programs : List Program). AreMade config (take place steps ++ x ∷ []) w.add_step.new.counts programs) (sym (ap (λ (v : Vec Program Global). v.items) w.programs-is ∙ whole)) (made given)))
+      | in-None w ↦
+          let len = c.len-place-end.ensures in
+          let end = c.loop-place.auto.place-end in
+          let test = c.loop-place-test.true in
+          let within : place < length steps = omega (arith, len, end, test) in
+          absurd (omega (arith, within, w.in-None.ensures))
     ]
 
 pub returns : goal.returns
 returns c =
-    let is : c.loop-caller.caller ≡ 16 = omega (arith, c.loop-caller-test.false, c.loop-caller.auto.caller-end) in
-    subst (λ (n : ℕ). c.loop-caller.programs.items ≡ filter does_something (map (program_by c.args.config.now c.args.steps.now) (range_with_len 0 n))) is c.loop-caller.invariant
+    let len = c.len-place-end.ensures in
+    let end = c.loop-place.auto.place-end in
+    let test = c.loop-place-test.false in
+    let all : take c.loop-place.place c.args.steps.now ≡ c.args.steps.now = take_all c.loop-place.place c.args.steps.now (omega (arith, len, end, test)) in
+    filter_same _ does_something _ (λ x b f' k. search rules) _ _ c.retain.ensures.filtered
+    ∙ ap (filter does_something) (c.loop-place.invariant.made ∙ ap (all_programs c.args.config.now) all)
