@@ -16,6 +16,10 @@ pub first_placed : {P : Type 0} (holds : ℕ → P → Type 0) (xs : List P) →
 first_placed holds [] low each = absurd (none_is_below 0 low)
 first_placed holds (x ∷ xs) low each = (x, each 0 x low)
 
+-- what holds of each and beside them holds of as many others, where there is one
+pub placed_on : {P : Type 0} (holds : ℕ → P → Type 0) (A B : Type 0) (xs ys : List P) → 0 < length xs → AllPlaced (λ k x. holds k x × A × B) xs → AllPlaced holds ys → AllPlaced (λ k x. holds k x × A × B) ys
+placed_on holds A B xs ys some each others = let one = first_placed (λ k x. holds k x × A × B) xs some each in λ place d low. (others place d low, one.1.1, one.1.2)
+
 -- nothing changed
 pub none_changed : {P : Type 0} (changes : ℕ → P → P → Type 0) (xs : List P) → ((place : ℕ) (x : P) → changes place x x) → AllChanged changes xs xs
 none_changed changes xs stays = λ place d low. stays place (slice_index_or xs place d)

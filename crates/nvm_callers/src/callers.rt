@@ -120,7 +120,6 @@ fn run_all<
         pass,
         driver,
         round: &round,
-        callers: programs.len() as u64,
     };
     make_rounds(rt, shared, &job, workers.as_mut_slice(), &mut steering);
     let SteeringOf { pass, driver, .. } = steering;

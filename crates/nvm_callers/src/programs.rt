@@ -17,9 +17,9 @@ use script_callers::Program;
 use std::alloc::Global;
 use std::sync::Wait;
 
-// How many threads callers have that may share them. With one a caller that is about to wait has no other beside it; with each more there is
-// one to wake whenever the driver had nothing left to do, which costs more than a request.
-const SHARED_THREADS: usize = 2;
+// Of so many callers that may share threads one works in a thread beside the driver's. Whoever isn't in that has to be woken whenever the
+// driver had nothing left to do, and what it asks for goes from one processor to another, both of which cost more than a request.
+const ONE_OF: usize = 2;
 
 /// Each worker goes on with the program at its place, and tells the round when it is back.
 #[derive(Drop)]
@@ -153,6 +153,26 @@ fn go_on<W: Wait, H: Hold, S: Stores>(
     unreachable!()
 }
 
+// So where it is time for it, in the driver's thread.
+pub(crate) fn go_over_where<W: Wait, H: Hold, S: Stores>(
+    rt: &W,
+    shared: &Shared,
+    job: &Programs<'_, H>,
+    start: usize,
+    workers: &mut [Worker<S>],
+    is_time: bool,
+)
+    requires places { start + length workers.old ≤ length job.now.programs.now }
+    requires ready { AllPlaced (λ k w. WorkerMayGoOn shared.now job.now.programs.now (start + k) w.pass w.made × S.is_of shared.now.gate × All (MayRun shared.now.terms.config) job.now.programs.now) workers.old }
+    ensures count { length workers.new ≡ length workers.old }
+    ensures ready { AllPlaced (λ k w. WorkerMayGoOn shared.now job.now.programs.now (start + k) w.pass w.made × S.is_of shared.now.gate × All (MayRun shared.now.terms.config) job.now.programs.now) workers.new }
+    ensures on { AllChanged (λ k. GoesOn S.bytes S.made S.mirrors shared.now job.now.programs.now (start + k)) workers.old workers.new }
+{
+    if is_time && !workers.is_empty() {
+        go_over(rt, shared, job, start, workers);
+    }
+}
+
 // The work of a thread, which tells the round of each of its callers that it began and is back.
 fn make_programs<W: Wait, H: Hold, S: Stores>(
     rt: &W,
@@ -191,12 +211,16 @@ impl<'a, H: Hold, S: Stores> ThreadWork<Shared, Worker<S>> for Programs<'a, H> {
 
     ghost count = { λ j. length j.programs.now };
 
-    fn share(&self, workers: usize) -> usize {
+    fn beside(&self, workers: usize) -> usize {
         if self.hold.may_share() {
-            (workers - 1) / SHARED_THREADS + 1
+            (workers - 1) / ONE_OF + 1
         } else {
-            1
+            workers
         }
+    }
+
+    fn share(&self, workers: usize) -> usize {
+        if self.hold.may_share() { workers } else { 1 }
     }
 
     fn work<W: Wait>(&self, rt: &W, shared: &Shared, start: usize, workers: &mut [Worker<S>]) {

@@ -108,8 +108,14 @@ impl Round {
         self.news.load(Ordering::SeqCst)
     }
 
-    // The driver had nothing left to do when so many requests were told: it tells the callers, and behind some looks sleeps until they call
-    // it. Where one was told since, or no caller is out, it only lets others have the processor.
+    // The driver had nothing left to do when so many requests were told: it tells the callers, and goes on with those of its thread.
+    pub(crate) fn tell_rest(&self, news: u64) {
+        self.heard.store(news, Ordering::SeqCst);
+        self.rests.add();
+    }
+
+    // It tells the callers, and behind some looks sleeps until they call it. Where one was told since, or no caller is out, it only lets
+    // others have the processor.
     pub(crate) fn rest<W: Wait>(&self, rt: &W, news: u64) {
         self.heard.store(news, Ordering::SeqCst);
         let calls = self.calls.count();

@@ -31,7 +31,7 @@ fn run_of<
     T: TellsTerms + Drop + Sync,
     P: Send,
     J: ThreadWork<SharedOf<G, T>, P> + Sync,
-    K: Drive<SharedOf<G, T>>,
+    K: Drive<SharedOf<G, T>, P, J>,
 >(rt: &R, shared: &SharedOf<G, T>, job: &J, workers: &mut [P], driver: &mut K)
     requires some { 0 < length workers.old }
     requires count { length workers.old ≡ J.count job.now }
@@ -50,7 +50,7 @@ fn run_at<
     T: TellsTerms + Drop + Sync,
     S: Send,
     J: ThreadWork<SharedOf<Gate<V>, T>, WorkerOf<Pass<V>, S>> + Sync,
-    K: Drive<SharedOf<Gate<V>, T>>,
+    K: Drive<SharedOf<Gate<V>, T>, WorkerOf<Pass<V>, S>, J>,
 >(
     rt: &R,
     shared: &SharedOf<Gate<V>, T>,
@@ -69,12 +69,12 @@ fn run_at<
     run_of::<R, Gate<V>, T, WorkerOf<Pass<V>, S>, J, K>(rt, shared, job, workers, driver);
 }
 
-/// The workers in threads, and the driver beside them.
+/// The first workers in threads, and beside them the driver with the others.
 pub fn run_shared<
     R: Threads + Wait + Sync,
     S: Send,
     J: ThreadWork<Shared, Worker<S>> + Sync,
-    K: Drive<Shared>,
+    K: Drive<Shared, Worker<S>, J>,
 >(rt: &R, shared: &Shared, job: &J, workers: &mut [Worker<S>], driver: &mut K)
     requires some { 0 < length workers.old }
     requires count { length workers.old ≡ J.count job.now }
