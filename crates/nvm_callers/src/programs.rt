@@ -19,7 +19,7 @@ use std::sync::Wait;
 
 // Of so many callers that may share threads one works in a thread beside the driver's. Whoever isn't in that has to be woken whenever the
 // driver had nothing left to do, and what it asks for goes from one processor to another, both of which cost more than a request.
-const ONE_OF: usize = 2;
+const ONE_OF: usize = 4;
 
 /// Each worker goes on with the program at its place, and tells the round when it is back.
 #[derive(Drop)]
@@ -123,37 +123,7 @@ fn go_over<W: Wait, H: Hold, S: Stores>(
     }
 }
 
-// Goes over them until all are at their ends. Where none goes on it takes some looks, and then sleeps until the driver has nothing left
-// to do, for some milliseconds at most, before it looks again. While nobody makes turns it gives up after so many looks.
-fn go_on<W: Wait, H: Hold, S: Stores>(
-    rt: &W,
-    shared: &Shared,
-    job: &Programs<'_, H>,
-    start: usize,
-    workers: &mut [Worker<S>],
-)
-    requires lock { S.is_of shared.now.gate }
-    requires places { start + length workers.old ≤ length job.now.programs.now }
-    requires may { All (MayRun shared.now.terms.config) job.now.programs.now }
-    requires ready { AllPlaced (λ k w. WorkerMayGoOn shared.now job.now.programs.now (start + k) w.pass w.made) workers.old }
-    ensures ready { AllPlaced (λ k w. WorkerMayGoOn shared.now job.now.programs.now (start + k) w.pass w.made) workers.new }
-    ensures on { AllChanged (λ k. GoesOn S.bytes S.made S.mirrors shared.now job.now.programs.now (start + k)) workers.old workers.new }
-{
-    let mut waiting = Waiting::begin(job.round);
-    for _ in rt.forever() {
-        waiting.look(job.round);
-        go_over(rt, shared, job, start, workers);
-        if have_ended(workers) {
-            return;
-        }
-        if waiting.gives_up(rt, job.round) {
-            return;
-        }
-    }
-    unreachable!()
-}
-
-// So where it is time for it, in the driver's thread.
+// So where it is time for it.
 pub(crate) fn go_over_where<W: Wait, H: Hold, S: Stores>(
     rt: &W,
     shared: &Shared,
@@ -171,6 +141,36 @@ pub(crate) fn go_over_where<W: Wait, H: Hold, S: Stores>(
     if is_time && !workers.is_empty() {
         go_over(rt, shared, job, start, workers);
     }
+}
+
+// Goes over them, whenever the driver had nothing left to do, until all are at their ends. It takes some looks for that, and then sleeps, for
+// some milliseconds at most, before it goes over them again. While nobody makes turns it gives up after so many looks.
+fn go_on<W: Wait, H: Hold, S: Stores>(
+    rt: &W,
+    shared: &Shared,
+    job: &Programs<'_, H>,
+    start: usize,
+    workers: &mut [Worker<S>],
+)
+    requires lock { S.is_of shared.now.gate }
+    requires places { start + length workers.old ≤ length job.now.programs.now }
+    requires may { All (MayRun shared.now.terms.config) job.now.programs.now }
+    requires ready { AllPlaced (λ k w. WorkerMayGoOn shared.now job.now.programs.now (start + k) w.pass w.made) workers.old }
+    ensures ready { AllPlaced (λ k w. WorkerMayGoOn shared.now job.now.programs.now (start + k) w.pass w.made) workers.new }
+    ensures on { AllChanged (λ k. GoesOn S.bytes S.made S.mirrors shared.now job.now.programs.now (start + k)) workers.old workers.new }
+{
+    let mut waiting = Waiting::begin(job.round);
+    for _ in rt.forever() {
+        let is_time = waiting.is_time(job.round);
+        go_over_where(rt, shared, job, start, workers, is_time);
+        if have_ended(workers) {
+            return;
+        }
+        if waiting.gives_up(rt, job.round) {
+            return;
+        }
+    }
+    unreachable!()
 }
 
 // The work of a thread, which tells the round of each of its callers that it began and is back.

@@ -8,11 +8,16 @@ use std::thread;
 /// has begun. Each yields the processor, so that threads which were made begin behind far fewer.
 pub(crate) const MOST_LOOKS: u32 = 1 << 12;
 
-// How many looks the driver takes before it sleeps: while callers make their requests, of which each takes less than a thread to wake.
-const LOOKS_OF_THE_DRIVER: u32 = 64;
+// How many looks a thread takes before it sleeps: the driver while callers make their requests, and callers while their jobs are made. In memory
+// both take less than a thread to wake.
+const LOOKS: u32 = 64;
 
-// How many looks a thread of callers takes before it sleeps, where one caller is out. Where there are more, a job has others before it.
-const LOOKS_BESIDE_ONE: u64 = 32;
+// How many looks the driver takes, with callers of its own at hand, while the others make their requests: so these don't meet at the lock.
+const LOOKS_AT_OTHERS: u32 = 16;
+
+// With callers of its own at hand the driver tells the others once in so many times that it had nothing left to do: to wake them costs more
+// than what they ask for.
+const TIMES_UNTOLD: u64 = 8;
 
 // The most milliseconds of a sleep, so that what didn't end it is seen behind it: of callers, and of the driver, which goes on then with
 // what was asked for while other callers ask for nothing.
@@ -21,8 +26,8 @@ const LONGEST_SLEEP: u64 = 10;
 const LONGEST_REST: u64 = 1;
 
 /// What the threads of a round tell each other: whether the driver makes turns, how many callers began, and how many are back; how many
-/// requests were made, and how many had been when the driver rested last; what calls the driver, until which it sleeps; and how often it
-/// had nothing left to do, until which callers sleep.
+/// requests were made, and how many had been when the driver rested last; what calls the driver, until which it sleeps; how often it told
+/// them that it had nothing left to do, until which callers sleep; and how often that was so with callers of its own at hand.
 #[derive(Drop)]
 pub struct Round {
     driven: AtomicBool,
@@ -32,6 +37,7 @@ pub struct Round {
     heard: AtomicU64,
     calls: EventCount,
     rests: EventCount,
+    pauses: AtomicU64,
 }
 
 impl Round {
@@ -44,6 +50,7 @@ impl Round {
             heard: AtomicU64::new(0),
             calls: EventCount::new(),
             rests: EventCount::new(),
+            pauses: AtomicU64::new(0),
         }
     }
 
@@ -108,40 +115,55 @@ impl Round {
         self.news.load(Ordering::SeqCst)
     }
 
-    // The driver had nothing left to do when so many requests were told: it tells the callers, and goes on with those of its thread.
-    pub(crate) fn tell_rest(&self, news: u64) {
-        self.heard.store(news, Ordering::SeqCst);
-        self.rests.add();
-    }
-
-    // It tells the callers, and behind some looks sleeps until they call it. Where one was told since, or no caller is out, it only lets
-    // others have the processor.
-    pub(crate) fn rest<W: Wait>(&self, rt: &W, news: u64) {
+    // The driver had nothing left to do when so many requests were told: it tells the callers. How often it was called then, and whether a
+    // request was told since.
+    fn tell_rest(&self, news: u64) -> (u64, bool) {
         self.heard.store(news, Ordering::SeqCst);
         let calls = self.calls.count();
-        let told = self.news();
+        let is_news = self.news() != news;
         self.rests.add();
-        if told != news || self.out() == 0 {
+        (calls, is_news)
+    }
+
+    // Takes so many looks, up to one that finds the driver called since. Each lets others have the processor.
+    fn is_called(&self, calls: u64, looks: u32) -> bool {
+        for _ in 0..looks {
+            thread::yield_now();
+            if self.calls.count() != calls {
+                return true;
+            }
+        }
+        false
+    }
+
+    // It has callers of its own thread at hand. Once in so many times it tells the others, and while these are out it looks some times
+    // whether they called it.
+    pub(crate) fn pause(&self, news: u64) {
+        if self.pauses.fetch_add(1, Ordering::SeqCst) % TIMES_UNTOLD != 0 {
+            return;
+        }
+        let (calls, _is_news) = self.tell_rest(news);
+        if self.out() > 0 {
+            self.is_called(calls, LOOKS_AT_OTHERS);
+        }
+    }
+
+    // It tells the callers, and behind some looks sleeps until they call it. Where a request was told since, or no caller is out, it only
+    // lets others have the processor.
+    pub(crate) fn rest<W: Wait>(&self, rt: &W, news: u64) {
+        let (calls, is_news) = self.tell_rest(news);
+        if is_news || self.out() == 0 {
             thread::yield_now();
             return;
         }
-        for _ in 0..LOOKS_OF_THE_DRIVER {
-            thread::yield_now();
-            if self.calls.count() != calls {
-                return;
-            }
+        if !self.is_called(calls, LOOKS) {
+            self.calls.sleep(rt, calls, LONGEST_REST);
         }
-        self.calls.sleep(rt, calls, LONGEST_REST);
     }
 
-    // How often the driver had nothing left to do.
+    // How often the driver told that it had nothing left to do.
     fn rests(&self) -> u64 {
         self.rests.count()
-    }
-
-    // How many looks a thread of callers takes before it sleeps.
-    fn looks(&self) -> u64 {
-        LOOKS_BESIDE_ONE / self.out().max(1)
     }
 }
 
@@ -150,7 +172,7 @@ impl Round {
 #[derive(Drop)]
 pub(crate) struct Waiting {
     rests: u64,
-    awake: u64,
+    awake: u32,
     left: u32,
 }
 
@@ -158,18 +180,21 @@ impl Waiting {
     pub(crate) fn begin(round: &Round) -> Waiting {
         Waiting {
             rests: round.rests(),
-            awake: round.looks(),
+            awake: 0,
             left: MOST_LOOKS,
         }
     }
 
-    // It is about to look. Where the driver had nothing left to do since, its looks begin anew.
-    pub(crate) fn look(&mut self, round: &Round) {
+    // Whether its callers may go on: the driver told that it had nothing left to do since it looked last, or it slept, or nobody makes turns.
+    // Before that who is served asks for nothing more, so that requests come together and not one by one between the halves of turns.
+    pub(crate) fn is_time(&mut self, round: &Round) -> bool {
         let rests = round.rests();
-        if rests != self.rests {
+        let is_time = rests != self.rests || self.awake == 0 || !round.is_driven();
+        if is_time {
             self.rests = rests;
-            self.awake = round.looks();
+            self.awake = LOOKS;
         }
+        is_time
     }
 
     // Behind a look it lets others have the processor, and behind some of them sleeps until the driver has nothing left to do or makes no
@@ -181,10 +206,11 @@ impl Waiting {
             }
             self.left -= 1;
             thread::yield_now();
-        } else if self.awake > 0 {
+        } else if self.awake > 1 {
             self.awake -= 1;
             thread::yield_now();
         } else {
+            self.awake = 0;
             round.rests.sleep(rt, self.rests, LONGEST_SLEEP);
         }
         false

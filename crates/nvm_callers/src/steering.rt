@@ -59,7 +59,7 @@ fn give_way<W: Wait>(rt: &W, round: &Round, news: u64, turned: Turned, ended: bo
             if ended {
                 round.rest(rt, news);
             } else {
-                round.tell_rest(news);
+                round.pause(news);
             }
             true
         }
