@@ -19,7 +19,7 @@ use std::sync::Wait;
 
 // Of so many callers that may share threads one works in a thread beside the driver's. Whoever isn't in that has to be woken whenever the
 // driver had nothing left to do, and what it asks for goes from one processor to another, both of which cost more than a request.
-const ONE_OF: usize = 4;
+const ONE_OF: usize = 8;
 
 /// Each worker goes on with the program at its place, and tells the round when it is back.
 #[derive(Drop)]
