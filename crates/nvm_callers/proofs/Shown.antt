@@ -1,5 +1,5 @@
 -- What the driver may conclude from what came along with a store.
-use Rattle.nvm_callers.proofs.Common.{slice_get, ◌≡◌, ◌==◌, inl, inr, ℕ, zero, suc, ◌+◌, ◌<◌, ◌≤◌, ◌∙◌, Bool, true, List, [], ◌∷◌, ◌++◌, length, take, drop, Some, refl, sym, ap, subst, arith, length-take, cases_Bool, eqb-true, take-append_seam, dite, some, get_elem?, at_longer, Request, Entry, Ask, Configuration, Each, Ascend, AreAt, AreAll, asks_by_number, Step, StepKind, AskStep, StoreStep, AwaitStep, WaitedFor, program_of, asks_of, Deed, StoreDeed, requests_in, deeds_by, deeds_from, deeds_of, HasWaited, lt_of_not-le, dec_le, NotesTellMade, DeedsAreSteps}
+use Rattle.nvm_callers.proofs.Common.{slice_get, ◌≡◌, ◌==◌, inl, inr, ℕ, zero, suc, ◌<◌, ◌≤◌, ◌∙◌, Bool, true, List, [], ◌∷◌, ◌++◌, length, take, drop, Some, refl, sym, ap, subst, arith, length-take, cases_Bool, eqb-true, take-append_seam, dite, some, get_elem?, at_longer, Request, Entry, Ask, Configuration, Each, Ascend, AreAt, AreAll, asks_by_number, Step, StepKind, AskStep, StoreStep, AwaitStep, WaitedFor, program_of, asks_of, Deed, StoreDeed, requests_in, deeds_by, deeds_from, deeds_of, HasWaited, lt_of_not-le, dec_le, NotesTellMade, DeedsAreSteps}
 use Rattle.std.specs.Prelude.{if◌then◌else◌}
 use Rattle.nvm_callers.proofs.Waiting.{inside_length}
 use Rattle.nvm_callers.proofs.Doing.{each_on, each_take, ascend_take, has_first, are_longer, are_below, are_as_many, are_first, waits_on, was_over}

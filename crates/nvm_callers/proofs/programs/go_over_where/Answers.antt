@@ -1,5 +1,5 @@
 use Rattle.std.proofs.Common.{rules}
-use Rattle.nvm_callers.proofs.Common.{◌<◌, ◌+◌, All, length, WorkerMayGoOn, MayRun}
+use Rattle.nvm_callers.proofs.Common.{◌+◌, All, WorkerMayGoOn, MayRun}
 use Rattle.nvm_callers.proofs.Rounds.{first_placed, placed_on}
 use Rattle.nvm_callers.proofs.programs.go_over_where.Goals as goal
 
