@@ -16,8 +16,8 @@ use Rattle.promise_device.specs.FlashRun.{IsCutImage, bytes_after}
 use Rattle.promise_run.specs.Refusals.{RefusesAsAsked}
 use Rattle.promise_run.specs.Run.{DueCut, plan_after, Made, Added}
 use Rattle.promise_run.specs.Beside.{Beside, AreCutImages, IsMerged, is_beside, ops_of}
-use Rattle.promise_run.specs.Promise.{making_of}
-use Rattle.promise_run.specs.TwoFlashes.{KeepBoth, OperationsAreBoth, PromiseOfBoth, CutsOf, IsOffOf, CutsAreBoth, HasCutsOfBoth, CutsOfOneAreBoth, second_after, held_both}
+use Rattle.promise_run.specs.Promise.{making_first}
+use Rattle.promise_run.specs.TwoFlashes.{KeepBoth, OperationsAreBoth, PromiseOfBoth, CutsOf, IsOffOf, CutsAreBoth, HasCutsOfBoth, CutsOfOneAreBoth, exchanged, held_both}
 use Rattle.promise_run.specs.Cases.{blank, cut_beside, one, quiet, quiet_beside, second_of, small, two}
 use Rattle.promise_run.proofs.KeptRuns.{Stands, at_most, blank_found, each, keeps_erased, some_changes, some_list, tells}
 
@@ -46,7 +46,7 @@ erased_if true x y one other = one
 erased_if false x y one other = other
 
 found_none : BlankHasErased → (n : ℕ) → marks_in (held_both small second blank one) n ≡ Erased
-found_none erased n = erased_if (second.blocks (instance_of (record { 0 = n })).block) never_written (held_in (making_of small) blank n) refl (blank_found erased n)
+found_none erased n = erased_if (second.blocks (instance_of (record { 0 = n })).block) never_written (held_in (making_first small) blank n) refl (blank_found erased n)
 
 lists_none : BlankHasErased → (marks : List (Instance × Mark)) (ops : ℕ) → Contains h (Found marks ops) → Lists small marks (marks_in (held_both small second blank one))
 lists_none erased marks ops (zero, few, is) x has =
@@ -58,7 +58,7 @@ exit_keeps : BlankIsSound → BlankHasErased → KeepBoth small second h blank o
 exit_keeps sound erased = record {
   marks = keeps_erased h (marks_in (held_both small second blank one)) (found_none erased) (each (Stands h) (inl refl) (inl refl) (inl refl))
       (λ i. record { whole = refl; brought = inl refl }) (λ i. (λ a is. inl is, tt));
-  sound = sound (banks_of (making_of small)) 320;
+  sound = sound (banks_of (making_first small)) 320;
   sound_beside = refl;
 }
 
@@ -114,8 +114,8 @@ cuts_of came others = record { came = came; others = others }
 pub cuts_of_one_are_both : CutsOfOneAreBoth
 cuts_of_one_are_both count all plan beside ops [] cuts others is = (ap (λ (ks : List ℕ). cuts_of ks others) is.0 ∙ ap (λ (n : ℕ). cuts_of [] n) is.1, refl)
 cuts_of_one_are_both count all plan beside ops (Made kind ∷ es) cuts others is =
-    subst (λ (n : ℕ). CutsAreBoth count (plan_after kind plan n) (second_after kind beside (count true ops)) ops es (cuts_of cuts others) none) (sym (all ops))
-    (cuts_of_one_are_both count all (plan_after kind plan ops) (second_after kind beside (count true ops)) ops es cuts others is)
+    subst (λ (n : ℕ). CutsAreBoth count (plan_after kind plan n) (plan_after (exchanged kind) beside (count true ops)) ops es (cuts_of cuts others) none) (sym (all ops))
+    (cuts_of_one_are_both count all (plan_after kind plan ops) (plan_after (exchanged kind) beside (count true ops)) ops es cuts others is)
 cuts_of_one_are_both count all plan beside ops (Added (Off now) ∷ es) cuts others (inl (p, rest, planned, due, is, more)) =
     inl (
       cuts_of rest others,

@@ -14,6 +14,7 @@ pub mod Turns
 pub mod DeviceTurns
 pub mod OperationLaws
 pub mod JobTurns
+pub mod TurnsOfBoth
 pub mod SectorErases
 pub mod InRoom
 pub mod Texts

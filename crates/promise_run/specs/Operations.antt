@@ -13,7 +13,7 @@ use Rattle.promise_blocks.specs.Work.{Costs, Effort, AreWorked, operations_at_mo
 use Rattle.promise_device.specs.Making.{Making}
 use Rattle.promise_device.specs.FlashRun.{FlashRun, TellsBytes, StartsSound, bytes_after}
 use Rattle.promise_device.specs.Bridge.{free_pages}
-use Rattle.promise_run.specs.JobTurns.{switch_at_most, try_on, pages_on}
+use Rattle.promise_run.specs.JobTurns.{switch_at_most, switch_of_first, try_on, try_of_both, pages_on, pages_of_both}
 
 -- WHAT WORK TAKES
 
@@ -23,6 +23,15 @@ costs_of c = record {
   switch = switch_at_most c;
   pages = λ n. pages_on c (instance_of (record { 0 = n }));
   most = λ kind n. try_on c kind (instance_of (record { 0 = n }));
+  reserve = (measures_of c.geometry.page c.blocks).urgent;
+}
+
+-- of two devices
+abbrev pub costs_of_both : Configuration → Costs
+costs_of_both c = record {
+  switch = switch_of_first c;
+  pages = λ n. pages_of_both c (instance_of (record { 0 = n }));
+  most = λ kind n. try_of_both c kind (instance_of (record { 0 = n }));
   reserve = (measures_of c.geometry.page c.blocks).urgent;
 }
 

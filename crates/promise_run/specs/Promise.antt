@@ -1,7 +1,7 @@
 -- What the stack promises of each run over one flash. Its fields, read one after another, are one sentence, and behind it the bookkeeping.
 use Rattle.std.specs.Prelude.{◌≡◌, ◌⊎◌, ◌<◌, ◌≤◌, ℕ, IsTrue, List, length, Contains, Some, IfSome}
 use Rattle.block_machine.specs.nv_base.Count.{last_count, next_count}
-use Rattle.block_machine.specs.block_config.Lengths.{lengths_of}
+use Rattle.block_machine.specs.block_config.Lengths.{lengths_of, device_lengths}
 use Rattle.block_machine.specs.block_config.Sizes.{measures_of}
 use Rattle.block_machine.specs.Words.{Instance, Mark, Entry, Found, Configuration}
 use Rattle.block_machine.specs.Legal.{IsLegal}
@@ -22,6 +22,10 @@ use Rattle.promise_run.specs.Refusals.{RefusesAsAsked}
 -- the device is made for this configuration, over its banks
 abbrev pub making_of : Configuration → Making
 making_of c = record { geometry = c.geometry; banks = c.banks; numbers = lengths_of c; reserve = (measures_of c.geometry.page c.blocks).urgent }
+
+-- beside a second device it has its own numbers alone
+abbrev pub making_first : Configuration → Making
+making_first c = record (making_of c) { numbers = device_lengths 0 c }
 
 -- what a start-up finds in an image
 abbrev pub found_by : Configuration → List ℕ → ℕ → Mark

@@ -4,7 +4,7 @@ use Rattle.block_machine.specs.nv_base.Count.{last_count, WereCounted}
 use Rattle.block_machine.specs.nv_base.Entry.{ops_behind}
 use Rattle.block_machine.specs.nv_base.Held.{Held}
 use Rattle.block_machine.specs.nv_base.Marks.{instance_of}
-use Rattle.script_walks.specs.Words.{StepKind, CutSecond, Restart}
+use Rattle.script_walks.specs.Words.{StepKind, Cut, CutSecond}
 use Rattle.block_machine.specs.Words.{Instance, Mark, Entry, Off, Found, Configuration}
 use Rattle.block_machine.specs.Legal.{IsLegal}
 use Rattle.block_machine.specs.History.{up_to}
@@ -21,7 +21,7 @@ use Rattle.promise_device.specs.Wear.{OperationsAreDue}
 use Rattle.promise_run.specs.Beside.{Beside, AreCutImages, IsMerged, is_beside, ops_of}
 use Rattle.promise_run.specs.Run.{Run, HasOrder, DueCut, plan_after, Event, Made, Added, CutsAre, events_in}
 use Rattle.promise_run.specs.Refusals.{RefusesAsAsked}
-use Rattle.promise_run.specs.Promise.{MayBeKept, Promise, making_of}
+use Rattle.promise_run.specs.Promise.{MayBeKept, Promise, making_first, making_of}
 
 -- a count of both flashes together
 abbrev pub of_both : (FlashRun → ℕ) → Run → Beside → ℕ
@@ -29,12 +29,12 @@ of_both count r b = count r.flash + count b.flash
 
 -- what is found in both images: of each block in that of its own device
 abbrev pub held_both : Configuration → Beside → List ℕ → List ℕ → ℕ → Held
-held_both c b image other n = if b.blocks (instance_of (record { 0 = n })).block then b.reading.held other n else held_in (making_of c) image n
+held_both c b image other n = if b.blocks (instance_of (record { 0 = n })).block then b.reading.held other n else held_in (making_first c) image n
 
 -- both images keep to a history
 pub record KeepBoth (c : Configuration) (b : Beside) (h : List Entry) (image other : List ℕ) : Type 0 where
   pub marks : KeepsMarks c h (marks_in (held_both c b image other))
-  pub sound : IsSoundFlash (making_of c) image
+  pub sound : IsSoundFlash (making_first c) image
   pub sound_beside : IsTrue (b.reading.is_sound other)
 
 -- a fact on the bytes of both flashes once k operations of both were made
@@ -86,12 +86,11 @@ pub record CutsOf : Type 0 where
   pub came : List ℕ
   pub others : ℕ
 
--- the cut of the second flash that stands from a step on, if one does
-abbrev pub second_after : StepKind → Option DueCut → ℕ → Option DueCut
-second_after (CutSecond zero keep) plan ops = plan
-second_after (CutSecond (suc n) keep) plan ops = Some (record { due = ops + suc n; keep = keep })
-second_after Restart plan ops = None
-second_after kind plan ops = plan
+-- a step as the second flash has it: its cuts and those of the first one change places
+abbrev pub exchanged : StepKind → StepKind
+exchanged (Cut nth keep) = CutSecond nth keep
+exchanged (CutSecond nth keep) = Cut nth keep
+exchanged kind = kind
 
 -- An Off of a flash behind so many operations of its own is the cut that is planned for it, and not for later, whose bytes are the
 -- next of the flash's; or it is one of the flash's others.
@@ -105,7 +104,7 @@ IsOffOf plan own now all behind =
 abbrev pub CutsAreBoth : (count : Bool → ℕ → ℕ) → (first second : Option DueCut) → ℕ → List Event → (own other : CutsOf) → Type 0
 CutsAreBoth count first second ops [] own other = (own ≡ record { came = []; others = 0 }) × (other ≡ record { came = []; others = 0 })
 CutsAreBoth count first second ops (Made kind ∷ es) own other =
-    CutsAreBoth count (plan_after kind first (count false ops)) (second_after kind second (count true ops)) ops es own other
+    CutsAreBoth count (plan_after kind first (count false ops)) (plan_after (exchanged kind) second (count true ops)) ops es own other
 CutsAreBoth count first second ops (Added (Off now) ∷ es) own other =
     ((behind : CutsOf) × IsOffOf first (count false now) now own behind × CutsAreBoth count None None now es behind other)
     ⊎ ((behind : CutsOf) × IsOffOf second (count true now) now other behind × CutsAreBoth count None None now es own behind)
@@ -131,7 +130,7 @@ CutsOfOneAreBoth =
 -- each flash's faults pay for the failures of its own blocks, but where it is worn out
 abbrev pub FailuresArePaidByBoth : Run → Beside → Type 0
 FailuresArePaidByBoth r b =
-    IsPaid (λ block. not (b.blocks block)) r.configuration (λ k n urgent. IsWornOut (making_of r.configuration) r.flash (ops_of false r.configuration r.history b k) n urgent)
+    IsPaid (λ block. not (b.blocks block)) r.configuration (λ k n urgent. IsWornOut (making_first r.configuration) r.flash (ops_of false r.configuration r.history b k) n urgent)
     r.flash.entry.faults r.flash.exit.faults r.history
     × IsPaid b.blocks r.configuration (λ k n urgent. IsWornBy b.reading b.flash (ops_of true r.configuration r.history b k) n urgent) b.flash.entry.faults b.flash.exit.faults r.history
 
@@ -139,10 +138,10 @@ FailuresArePaidByBoth r b =
 pub record PromiseOfBoth (r : Run) (b : Beside) : Type 0 where
   pub beside : r.beside ≡ Some b
   pub order : HasOrder r r.history
-  pub power_cut : TellsOperations r.flash → StartsSound (making_of r.configuration) r.flash → CutsKeepBoth r b
-  pub counts : TellsOperations r.flash → StartsSound (making_of r.configuration) r.flash → CutsCountBoth r b
-  pub found : TellsBytes r.flash → StartsSound (making_of r.configuration) r.flash → StartUpsFindBoth r b
-  pub at_exit : TellsBytes r.flash → StartsSound (making_of r.configuration) r.flash → ExitKeepsBoth r b
+  pub power_cut : TellsOperations r.flash → StartsSound (making_first r.configuration) r.flash → CutsKeepBoth r b
+  pub counts : TellsOperations r.flash → StartsSound (making_first r.configuration) r.flash → CutsCountBoth r b
+  pub found : TellsBytes r.flash → StartsSound (making_first r.configuration) r.flash → StartUpsFindBoth r b
+  pub at_exit : TellsBytes r.flash → StartsSound (making_first r.configuration) r.flash → ExitKeepsBoth r b
   pub block_machine : IsLegal r.configuration r.most r.history
   pub faults : FailuresArePaidByBoth r b
   pub wear : OperationsAreDue (making_of r.configuration) r.flash
