@@ -33,6 +33,7 @@ mod RunTurns
 mod UrgentCases
 mod OperationCases
 mod KeptCases
+mod BothCases
 mod Failing
 pub mod EntriesLeave
 pub mod Power

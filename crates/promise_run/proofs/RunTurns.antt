@@ -1,6 +1,6 @@
 -- The turns of a driver beside callers, one by one.
 use Rattle.std.specs.Prelude.{IfSome, not, ◌||◌}
-use Rattle.std.proofs.Common.{◌≡◌, inl, inr, true, false, ℕ, ◌+◌, ◌≤◌, List, [], ◌∷◌, ◌++◌, Option, Some, None, refl, sym, ap, ◌∙◌, subst, arith, IsTrue}
+use Rattle.std.proofs.Common.{◌≡◌, inl, inr, true, ℕ, ◌+◌, ◌≤◌, List, [], ◌∷◌, ◌++◌, Option, Some, None, refl, sym, ap, ◌∙◌, subst, arith, IsTrue}
 use Rattle.block_machine.specs.nv_base.Entry.{ops_of}
 use Rattle.block_machine.specs.State.{State}
 use Rattle.script_walks.specs.Walk.{begins_with_pick_or_post, is_due}

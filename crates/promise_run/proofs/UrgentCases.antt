@@ -13,7 +13,7 @@ use Rattle.promise_run.specs.Cases.{image_of, record_of, one as content}
 use Rattle.promise_run.specs.UrgentCases.{IsInTimeBeside, urgent, roomy, full, half_full, holding, at_another, posted_with, picks, idle, writes, others, IsInTime, IsInTimeFrom, IsBehindOthers}
 use Rattle.promise_run.proofs.OneByOne.{some_same}
 
-abbrev Soon : Bool → ℕ → ℕ → List Move → Type 0
+abbrev pub Soon : Bool → ℕ → ℕ → List Move → Type 0
 Soon one turns faults ms = IsPostedSoon (λ free left. Unit {0}) one 2 turns faults ms
 
 true_false : {t : Bool} → IsTrue t → t ≡ false → ⊥
@@ -50,7 +50,7 @@ too_many one turns faults (m ∷ ms) rest (quiet, others) before some few soon =
     too_many one (turns - 1) m.behind.faults ms rest others quiet.faults (omega (arith, more)) (omega (arith, few)) later
 
 -- EIGHT TURNS
-soon : (one : Bool) → Soon one 8 0 (picks ∷ idle 0 2 (writes 0))
+pub soon : (one : Bool) → Soon one 8 0 (picks ∷ idle 0 2 (writes 0))
 soon one = inr (inr (inr (inr (inr (inr (omega arith, inr (inr (inr (inr (inr (inr (omega arith, inr (inr (inr (inr (inr (inr (omega arith, inr (inr (inr (inr (inr (inr (omega arith, inr (inr (inr (inr (inr (inr (omega arith, inr (inr (inr (inr (inr (inr (omega arith, inr (inr (inr (inr (inr (inr (omega arith, inr (inr (inr (inr (inr (inl refl)))))))))))))))))))))))))))))))))))))))))))))))
 
 sooner : (one : Bool) → Soon one 7 0 (picks ∷ idle 0 1 (writes 0))
@@ -84,13 +84,13 @@ quiet_three = (
   ),
 )
 
-late : (one : Bool) (turns : ℕ) → 1 ≤ turns → turns ≤ 8 → Soon one turns 0 (picks ∷ idle 0 3 (writes 0)) → ⊥
+pub late : (one : Bool) (turns : ℕ) → 1 ≤ turns → turns ≤ 8 → Soon one turns 0 (picks ∷ idle 0 3 (writes 0)) → ⊥
 late one turns some few all = too_many one turns 0 (before_post 3) (drop 4 (writes 0)) quiet_three refl some few all
 
 later : (one : Bool) (turns : ℕ) → 1 ≤ turns → turns ≤ 7 → Soon one turns 0 (picks ∷ idle 0 2 (writes 0)) → ⊥
 later one turns some few all = too_many one turns 0 (before_post 2) (drop 4 (writes 0)) (quiet_three.0, quiet_three.1.1) refl some few all
 
-free : (pages : List ℕ) → min 4 (free_pages (making_of urgent) [] (image_of 1 pages)) ≡ 4 → HadFree (making_of urgent) (holding pages) 0 4
+pub free : (pages : List ℕ) → min 4 (free_pages (making_of urgent) [] (image_of 1 pages)) ≡ 4 → HadFree (making_of urgent) (holding pages) 0 4
 free pages is = record { counted = omega arith; image = image_of 1 pages; bytes = refl; free = let reserve : (making_of urgent).reserve ≡ 4 = refl in omega (arith, is, reserve) }
 
 pub not_late : IsInTime roomy (posted_with 0 3) → ⊥

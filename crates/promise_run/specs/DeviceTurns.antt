@@ -4,7 +4,6 @@ use Rattle.block_machine.specs.nv_base.Count.{last_count}
 use Rattle.memif.specs.Told.{DeviceTold, faults_of}
 use Rattle.memif.specs.Clock.{Clock, Seals, TakesKept}
 use Rattle.block_machine.specs.Words.{Entry, Configuration}
-use Rattle.block_machine.specs.State.{State}
 use Rattle.block_machine.specs.Steps.{after}
 use Rattle.promise_blocks.specs.Payment.{Worn}
 use Rattle.promise_run.specs.JobTurns.{job_turns, write_pages}

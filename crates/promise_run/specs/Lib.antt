@@ -23,5 +23,6 @@ pub mod RefusedCases
 pub mod UrgentCases
 pub mod OperationCases
 pub mod KeptCases
+pub mod BothCases
 pub mod BankTurns
 pub mod StartUps

@@ -7,7 +7,6 @@ use Rattle.memif.specs.Clock.{Trait, Seals, TakesKept}
 use Rattle.block_machine.specs.Words.{Entry, Configuration}
 use Rattle.block_machine.specs.State.{State, Job}
 use Rattle.script_walks.specs.Words.{Step}
-use Rattle.promise_blocks.specs.Payment.{Worn}
 use Rattle.promise_device.specs.FlashRun.{TellsBytes, StartsSound, HasFailed}
 use Rattle.promise_device.specs.Reading.{BeginsSound}
 use Rattle.promise_device.specs.Bridge.{IsWornOut, IsWornBy}

@@ -1,5 +1,5 @@
 -- What the stack promises of each run over two flashes: the same as over one, of both together.
-use Rattle.std.specs.Prelude.{◌≡◌, ◌⊎◌, ◌<◌, ◌≤◌, ◌+◌, ℕ, zero, suc, Bool, true, false, not, if◌then◌else◌, IsTrue, List, [], ◌∷◌, length, Contains, Option, Some, None, IfSome}
+use Rattle.std.specs.Prelude.{◌≡◌, ◌⊎◌, ◌<◌, ◌≤◌, ◌+◌, ℕ, suc, Bool, true, false, not, if◌then◌else◌, IsTrue, List, [], ◌∷◌, length, Contains, Option, Some, None, IfSome}
 use Rattle.block_machine.specs.nv_base.Count.{last_count, WereCounted}
 use Rattle.block_machine.specs.nv_base.Entry.{ops_behind}
 use Rattle.block_machine.specs.nv_base.Held.{Held}

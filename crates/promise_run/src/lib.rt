@@ -5,6 +5,7 @@
 //! That the stack, its device and the commands keep their parts is left to their crates.
 #![tactic(auto)]
 
+mod both_cases;
 mod cap;
 mod cases;
 mod kept_cases;
@@ -14,6 +15,10 @@ mod refused_cases;
 mod turn_cases;
 mod urgent_cases;
 
+pub use both_cases::{
+    cuts_of_both_come, faults_of_both_are_counted, operations_are_of_the_job_in_hand,
+    urgent_writes_are_posted_soon_by_the_first,
+};
 pub use cap::CAP;
 pub use cases::{
     a_list_that_ends_early_breaks_it, a_lost_write_breaks_it, canceled_requests_end,

@@ -1,4 +1,3 @@
-use Rattle.std.proofs.Common.{refl}
 use Rattle.promise_run.proofs.WrongOperations.{not_with_room, not_beside_last, not_untold, when_full, not_over_a_record}
 use Rattle.promise_run.proofs.cases.wrong_operations_break_it.Goals as goal
 
