@@ -41,3 +41,4 @@ pub mod Callers
 pub mod RunHalves
 pub mod BankTurns
 pub mod StartUps
+pub mod OwnOperations

@@ -15,6 +15,7 @@ pub mod DeviceTurns
 pub mod OperationLaws
 pub mod JobTurns
 pub mod TurnsOfBoth
+pub mod OwnOperations
 pub mod SectorErases
 pub mod InRoom
 pub mod Texts
