@@ -5,6 +5,7 @@ pub mod Paid
 mod RefusedRuns
 pub mod RefusalsPaid
 pub mod DeviceTurns
+pub mod TurnsOfBoth
 pub mod Counted
 pub mod WorkedMoves
 pub mod Operations

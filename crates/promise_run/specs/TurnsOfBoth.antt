@@ -56,7 +56,7 @@ pub record IsWornOfBoth (r : Run) (b : Beside) (k n : ℕ) (urgent : Bool) : Typ
   pub second : Bool
   pub of : b.blocks (instance_of (record { 0 = n })).block ≡ second
   pub moment : ℕ
-  pub by_then : moment ≤ own_ops r b second k
+  pub by_then : k < last_count → moment ≤ own_ops r b second k
   pub is : IfElse second (IsWornBy b.reading b.flash moment n urgent) (IsWornOut (making_first r.configuration) r.flash moment n urgent)
 
 -- the first flash had so many pages free
