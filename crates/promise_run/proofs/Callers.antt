@@ -13,7 +13,7 @@ use Rattle.promise_run.specs.Run.{Run, Course, Ran, End, Whole, FlashFault, Hist
 use Rattle.promise_run.specs.Completeness.{IsCalm, CallersAreServed}
 use Rattle.promise_run.proofs.Power.{is_on}
 
-rests_by : (a b : Bool) → (a || b) ≡ true → b ≡ false → a ≡ true
+pub rests_by : (a b : Bool) → (a || b) ≡ true → b ≡ false → a ≡ true
 rests_by true b is on = refl
 rests_by false true is on = cc
 rests_by false false is on = cc
@@ -25,7 +25,7 @@ by_end c most steps looks h HistoryFull other is = is.ends
 by_end c most steps looks h Memory other is = absurd (other refl)
 by_end c most steps looks h FlashFault other is = absurd is
 
-ended : (r : Run) (steps : List Step) (looks : List Look) (h : List Entry) → r.course ≡ Ran steps looks → r.end ≢ Memory → HasOrder r h → IsTrue (has_ended r.configuration h)
+pub ended : (r : Run) (steps : List Step) (looks : List Look) (h : List Entry) → r.course ≡ Ran steps looks → r.end ≢ Memory → HasOrder r h → IsTrue (has_ended r.configuration h)
 ended r steps looks [] is other order = refl
 ended r steps looks (e ∷ es) is other order = by_end r.configuration r.most steps looks (e ∷ es) r.end other (subst (λ (x : Course). Follows r x (e ∷ es)) is order)
 

@@ -66,7 +66,7 @@ step_ops (CutSecond nth keep) before ms is moves = no_ops before ms moves
 step_ops (Refuse block count) before ms is moves = no_ops before ms moves
 step_ops (Await block) before ms is moves = no_ops before ms moves
 
-all_ops : (before : Moment) (made : List Step) (mss : List (List Move)) → IsTrue (list_all (λ (x : Step). not (is_drain x.kind)) made) → AreMoves before made mss
+pub all_ops : (before : Moment) (made : List Step) (mss : List (List Move)) → IsTrue (list_all (λ (x : Step). not (is_drain x.kind)) made) → AreMoves before made mss
     → (moment_after before mss).ops ≤ before.ops + sum_by (λ (x : Step). turns_of x.kind) made
 all_ops before [] [] none are = omega arith
 all_ops before [] (ms ∷ mss) none are = absurd are
@@ -75,7 +75,7 @@ all_ops before (x ∷ made) (ms ∷ mss) none (moves, more) =
     let parts = and_parts (not (is_drain x.kind)) (list_all (λ (y : Step). not (is_drain y.kind)) made) none in
     omega (arith, sum_by-cons (λ (y : Step). turns_of y.kind) x made, step_ops x.kind before ms parts.0 moves, all_ops (moment_behind before ms) made mss parts.1 more)
 
-first_ops : (h : List Entry) (first : Moment) → HasStarted h → BeginsBefore h → BeginsAt first h → first.ops ≡ 0
+pub first_ops : (h : List Entry) (first : Moment) → HasStarted h → BeginsBefore h → BeginsAt first h → first.ops ≡ 0
 first_ops [] first started before at = absurd started
 first_ops (Found marks ops ∷ es) first started before at = (let is : ops ≡ first.ops = cc at in sym is ∙ before)
 first_ops (_ ∷ es) first started before at = absurd before

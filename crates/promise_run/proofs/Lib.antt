@@ -35,6 +35,7 @@ mod UrgentCases
 mod OperationCases
 mod KeptCases
 mod BothCases
+mod SevenTurns
 mod Failing
 pub mod EntriesLeave
 pub mod Power

@@ -1,9 +1,8 @@
 -- Whose operations are whose.
 use Rattle.std.specs.Bool.{beq}
 use Rattle.std.specs.Prelude.{IsTrue}
-use Rattle.std.proofs.Common.{◌≡◌, ◌⊎◌, ◌≤◌, ◌<◌, ◌+◌, ◌↔◌, ℕ, zero, suc, Bool, true, false, if◌then◌else◌, List, Option, Some, None, refl, sym, ap, ◌∙◌, inl, inr, arith}
+use Rattle.std.proofs.Common.{◌≡◌, ◌<◌, ◌+◌, ◌↔◌, ℕ, zero, suc, Bool, true, false, if◌then◌else◌, Option, Some, None, refl, sym, ap, ◌∙◌, arith}
 use Rattle.block_machine.specs.nv_base.Count.{last_count}
-use Rattle.block_machine.specs.Words.{Entry, Configuration}
 use Rattle.block_machine.specs.State.{Job}
 use Rattle.block_machine.specs.Blocks.{job_block}
 use Rattle.block_machine.specs.Steps.{after}
@@ -11,8 +10,8 @@ use Rattle.block_machine.specs.History.{up_to}
 use Rattle.memif.specs.Told.{DeviceTold, Second}
 use Rattle.memif.specs.Clock.{Clock}
 use Rattle.promise_blocks.specs.OverDevice.{is_of}
-use Rattle.promise_blocks.specs.Operations.{AreOfJobs, is_on}
-use Rattle.promise_run.specs.Beside.{Beside, is_beside, ops_of}
+use Rattle.promise_blocks.specs.Operations.{is_on}
+use Rattle.promise_run.specs.Beside.{is_beside}
 use Rattle.promise_run.specs.OwnOperations.{CountsPart, OperationsAreCounted}
 
 on_same : (of other : ℕ → Bool) → ((block : ℕ) → of block ≡ other block) → (hand : Option Job) → is_on of hand ≡ is_on other hand

@@ -2,6 +2,7 @@
 use Rattle.std.specs.Prelude.{ℕ, ◌==◌, ◌&&◌, if◌then◌else◌, Bool, true, List, [], ◌∷◌, Some, None}
 use Rattle.std.specs.Bool.{beq}
 use Rattle.fls_model.specs.declared.flash.FlashAnswer.TheVariants.{Done}
+use Rattle.block_machine.specs.block_config.Block.{plain_block, manager_block}
 use Rattle.memif.specs.Clock.{TakesKept}
 use Rattle.script_walks.specs.Words.{StepKind, Turn}
 use Rattle.block_machine.specs.Words.{NotOk, Write, Ask, Accepted, Post, Off, Found, Configuration}
@@ -12,7 +13,7 @@ use Rattle.promise_run.specs.Beside.{Beside}
 use Rattle.promise_run.specs.Run.{Run}
 use Rattle.promise_run.specs.Turns.{Move, CountFailed, EachMoveSince, TakeKept}
 use Rattle.promise_run.specs.TurnsOfBoth.{HasFailedOfBoth, HasTraitOfBoth, WereCountedByBoth, IsAtSealOfBoth, PostsUrgentOfBoth, CutsOfBothCome}
-use Rattle.promise_run.specs.Cases.{small, one, quiet, plays, asks_one, picks_one, at_rest, faulty, failed_once, failed_at, at_faults, holds_block_2, step_of}
+use Rattle.promise_run.specs.Cases.{small, one, quiet, plays, asks_one, picks_one, at_rest, answering, faulty, failed_once, failed_at, at_faults, holds_block_2, step_of, written_at}
 use Rattle.promise_run.specs.UrgentCases.{urgent, roomy, at}
 use Rattle.promise_run.specs.KeptCases.{programmed}
 
@@ -64,3 +65,22 @@ ComesIn second kind turns =
     CutsOfBothCome small (all_of second) (at 0 0) (after small (Found [] 0 ∷ []))
     (step_of kind ∷ step_of asks_one.0 ∷ step_of (Turn 3) ∷ [])
     ([] ∷ (record { entry = Some (Ask 0 (Write 2 (Some one) 0) Accepted); behind = at 0 0 } ∷ []) ∷ turns ∷ [])
+
+-- A RUN
+-- block 2 is the second device's, whose flash has pages of 16 bytes
+abbrev pub two_devices : Configuration
+two_devices = record small { eeprom = Some (record { page = 16; sector = 64; sectors = 4 }); blocks = manager_block 1 ∷ record (plain_block 4) { device = 1 } ∷ [] }
+
+-- a write of it is posted with the seventh of seven turns, and its slot takes five operations; the first flash makes none
+abbrev pub seven_turns : Run
+seven_turns = record (plays (asks_one ∷ (Turn 7, picks_one ∷ written_at 5) ∷ []) at_rest) { configuration = two_devices }
+
+abbrev pub makes_five : Beside
+makes_five = beside_of true (answering (Done ∷ Done ∷ Done ∷ Done ∷ Done ∷ []))
+
+-- no step is made, and one of the flashes made an operation
+abbrev pub made_untold : Run
+made_untold = record quiet { configuration = two_devices }
+
+abbrev pub makes_one : Beside
+makes_one = beside_of true (answering (Done ∷ []))

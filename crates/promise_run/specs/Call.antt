@@ -1,5 +1,5 @@
 -- The call that a run belongs to.
-use Rattle.std.specs.Prelude.{◌≡◌, ◌⊎◌, ℕ, List, [], ◌∷◌, ◌++◌, length, take, codes, Option, None, IfSome, Ok}
+use Rattle.std.specs.Prelude.{◌≡◌, ◌⊎◌, ℕ, List, [], ◌∷◌, ◌++◌, length, take, codes, Option, Some, None, IfSome, Ok}
 use Rattle.nv_streams.specs.Sink.{Written, Puts, PutsPart}
 use Rattle.block_machine.specs.block_config.Reading.{meaning_of}
 use Rattle.fls_model.specs.Told.{Told}
@@ -10,6 +10,7 @@ use Rattle.nvm_script.specs.Lines.{end_line}
 use Rattle.nvm_script.specs.Printed.{history_lines}
 use Rattle.nvm_script.specs.Script.{IsScript, first_line, later_lines}
 use Rattle.block_machine.specs.Words.{Entry}
+use Rattle.promise_run.specs.Beside.{Beside}
 use Rattle.promise_run.specs.Run.{Run, cap, Course, Played, Ran, End, Whole, FlashFault, HistoryFull, Memory}
 
 -- A call of `play` or `run` from the attach of its flash on: its input, its exit status, and what its flash and its output
@@ -74,4 +75,15 @@ pub record IsRunOf (call : Call) (r : Run) : Type 0 where
   pub entry : r.flash.entry ≡ call.entry
   pub exit : r.flash.exit ≡ call.exit
   pub beside : r.beside ≡ None
+  pub ends : Ends call r r.end
+
+-- over two flashes: and the second one told this before and behind the call
+pub record IsRunOfBoth (call : Call) (entry exit : Told) (r : Run) (b : Beside) : Type 0 where
+  pub input : IfSome call.input (IsInputOf call.mode r)
+  pub most : r.most ≡ cap
+  pub entry_first : r.flash.entry ≡ call.entry
+  pub exit_first : r.flash.exit ≡ call.exit
+  pub beside : r.beside ≡ Some b
+  pub entry_second : b.flash.entry ≡ entry
+  pub exit_second : b.flash.exit ≡ exit
   pub ends : Ends call r r.end

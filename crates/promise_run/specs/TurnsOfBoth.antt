@@ -1,23 +1,27 @@
 -- The turns of a run over two flashes: what is said of those over one, of both together, and of each flash by its own operations.
-use Rattle.std.specs.Prelude.{◌≡◌, ◌⊎◌, ◌<◌, ◌≤◌, ◌+◌, ℕ, Bool, true, false, List, [], ◌∷◌, length, map, min, Some, None}
+use Rattle.std.specs.Prelude.{◌≡◌, ◌≢◌, ◌⊎◌, ◌<◌, ◌≤◌, ◌+◌, ◌&&◌, nat_lt, ℕ, Bool, true, false, List, [], ◌∷◌, length, map, min, Some, None}
 use Rattle.block_machine.specs.nv_base.Count.{last_count, Rose, WereCounted}
 use Rattle.block_machine.specs.nv_base.Marks.{instance_of}
 use Rattle.memif.specs.Told.{IfElse}
 use Rattle.memif.specs.Clock.{Trait, Seals, TakesKept}
 use Rattle.block_machine.specs.Words.{Entry, Configuration}
 use Rattle.block_machine.specs.State.{State, Job}
+use Rattle.block_machine.specs.StartUp.{at_first}
+use Rattle.script_walks.specs.Looks.{Look}
 use Rattle.script_walks.specs.Words.{Step}
+use Rattle.promise_blocks.specs.Work.{operations_at_most}
 use Rattle.promise_device.specs.FlashRun.{TellsBytes, StartsSound, HasFailed}
 use Rattle.promise_device.specs.Reading.{BeginsSound}
 use Rattle.promise_device.specs.Bridge.{IsWornOut, IsWornBy}
 use Rattle.promise_run.specs.Beside.{Beside, is_beside, ops_of}
-use Rattle.promise_run.specs.Completeness.{IsCalm}
+use Rattle.promise_run.specs.Completeness.{IsCalm, EachEntry, PostsWell, ServesCallers}
 use Rattle.promise_run.specs.JobTurns.{write_pages}
-use Rattle.promise_run.specs.Operations.{HadFreePages, HasWork, costs_of_both}
+use Rattle.promise_run.specs.InRoom.{MadeFewTurns}
+use Rattle.promise_run.specs.Operations.{HadFreePages, HasWork, costs_of_both, has_free, left_behind}
 use Rattle.promise_run.specs.Promise.{making_first}
-use Rattle.promise_run.specs.Run.{Run, Course, Played, Ran, End, FlashFault}
+use Rattle.promise_run.specs.Run.{Run, Course, Played, Ran, End, FlashFault, HasOrder}
 use Rattle.promise_run.specs.Turns.{Moment, Move, all_moves, state_begun, come_within, turns_beside, urgent_block, ArePaidSince, BeginWhatIsDue, BeginsAt, ClosesAtDrains, CountFailed, CutsCome, EachMove, EachMoveSince, FindWorkAtDrains, HadFree, HasMoves, HasTrait, MakesRequests, PostsPicked, PostsUrgent, StaysAtRest, TakeKept}
-use Rattle.promise_run.specs.TwoFlashes.{exchanged, of_both}
+use Rattle.promise_run.specs.TwoFlashes.{PromiseOfBoth, exchanged, of_both}
 
 -- WHOSE OPERATION
 
@@ -137,3 +141,42 @@ pub record KeepsTurnsOfBoth (most : State → Job → ℕ) (r : Run) (b : Beside
       → EachMoveSince r.configuration (PostsUrgentOfBoth r b (turns_beside (come_within course))) first.ops (state_begun r) moves
   pub paid : TellsBytes r.flash → StartsSound (making_first r.configuration) r.flash → TellsBytes b.flash → BeginsSound b.reading b.flash
       → ArePaidSince r.configuration (IsWornOfBoth r b) first.faults first (state_begun r) moves
+
+-- HOW IT ENDS
+
+-- each result is that of the machine where no operation failed, but where the flash of a number was worn out for it
+abbrev pub PostWellOfBoth : Run → Beside → Type 0
+PostWellOfBoth r b = EachEntry r.configuration (PostsWell r.configuration (IsWornOfBoth r b)) at_first r.history
+
+-- as over one flash, where nothing fails of either
+pub record EndsWellOfBoth (r : Run) (b : Beside) : Type 0 where
+  pub ends : r.end ≢ FlashFault
+  pub results : TellsBytes r.flash → StartsSound (making_first r.configuration) r.flash → TellsBytes b.flash → BeginsSound b.reading b.flash → PostWellOfBoth r b
+
+abbrev pub CompletenessOfBoth : Run → Beside → Course → Type 0
+CompletenessOfBoth r b (Played made pieces left) = IsCalmOfBoth r b → EndsWellOfBoth r b
+CompletenessOfBoth r b (Ran steps looks) = IsCalmOfBoth r b → ServesCallers r
+
+-- a run that follows its callers' programs has it
+abbrev pub CallersOfBothAreServed : Type 0
+CallersOfBothAreServed =
+    (r : Run) (b : Beside) (steps : List Step) (looks : List Look) → r.course ≡ Ran steps looks → r.beside ≡ Some b → HasOrder r r.history → CompletenessOfBoth r b (Ran steps looks)
+
+-- HOW MANY OPERATIONS
+
+-- so many pages of the first flash were free, computed
+abbrev pub has_free_of_both : Run → Beside → (operations pages : ℕ) → Bool
+has_free_of_both r b k pages = nat_lt k last_count && has_free (making_first r.configuration) r.flash (own_ops r b false k) pages
+
+-- over flashes that tell their bytes, from sound images on, those of both are at most what the tries and the faults of a run add
+abbrev pub RunsOfBothMakeFew : Type 0
+RunsOfBothMakeFew =
+    (most : State → Job → ℕ) (r : Run) (b : Beside) (course : Course) (keeps : KeepsTurnsOfBoth most r b course) → TellsBytes r.flash → StartsSound (making_first r.configuration) r.flash
+    → min (of_both (λ f. length f.operations) r b) last_count ≤ keeps.first.ops + left_behind (costs_of_both r.configuration) keeps.first
+    + operations_at_most (costs_of_both r.configuration) (has_free_of_both r b) r.configuration keeps.first (state_begun r) keeps.moves keeps.work.efforts
+
+-- and a run of `play` whose steps have so many turns, and no drain, made no more
+abbrev pub TurnsOfBothMakeFew : Type 0
+TurnsOfBothMakeFew =
+    (n : ℕ) (most : State → Job → ℕ) (r : Run) (b : Beside) → PromiseOfBoth r b → KeepsTurnsOfBoth most r b r.course → MadeFewTurns n r.course → n < last_count
+    → of_both (λ f. length f.operations) r b ≤ n

@@ -47,6 +47,12 @@ StartUpsFindBoth r b =
     TellsBytes b.flash → BeginsSound b.reading b.flash → (marks : List (Instance × Mark)) (ops : ℕ) → Contains r.history (Found marks ops) → ops < last_count
     → IfBothAfter r b ops (λ image other. Lists r.configuration marks (marks_in (held_both r.configuration b image other)))
 
+-- until the first operation, whatever the images: each start-up lists what stands in the bytes, and the history is the block machine's
+pub record BothBeginWell (r : Run) (b : Beside) : Type 0 where
+  pub found : (marks : List (Instance × Mark)) → Contains r.history (Found marks 0)
+      → IfBothAfter r b 0 (λ image other. Lists r.configuration marks (marks_in (held_both r.configuration b image other)))
+  pub legal : IsLegal r.configuration r.most (up_to 0 r.history)
+
 -- any images that a power cut may leave keep to the history up to then
 abbrev pub CutsKeepBoth : Run → Beside → Type 0
 CutsKeepBoth r b =

@@ -17,7 +17,7 @@ mod urgent_cases;
 
 pub use both_cases::{
     cuts_of_both_come, faults_of_both_are_counted, operations_are_of_the_job_in_hand,
-    urgent_writes_are_posted_soon_by_the_first,
+    turns_of_both_are_kept, turns_of_slots, urgent_writes_are_posted_soon_by_the_first,
 };
 pub use cap::CAP;
 pub use cases::{
