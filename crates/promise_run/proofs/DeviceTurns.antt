@@ -25,11 +25,11 @@ use Rattle.promise_run.proofs.UrgentPosts.{urgent_by}
 use Rattle.promise_run.proofs.WorkedMoves.{worked_by}
 
 -- what is free in its bytes is spare
-spare_of : (o : Option (List ℕ)) (spare : ℕ → ℕ → Type 0) (k n reserve : ℕ) (ready : List ℕ → ℕ) (image : List ℕ) → o ≡ Some image → n ≤ min reserve (ready image) → IfSome o (λ x. spare k (ready x)) → (free : ℕ) × spare k free × (n ≤ min reserve free)
+pub spare_of : (o : Option (List ℕ)) (spare : ℕ → ℕ → Type 0) (k n reserve : ℕ) (ready : List ℕ → ℕ) (image : List ℕ) → o ≡ Some image → n ≤ min reserve (ready image) → IfSome o (λ x. spare k (ready x)) → (free : ℕ) × spare k free × (n ≤ min reserve free)
 spare_of None spare k n reserve ready image is few told = absurd (let P : ⊥ = cc is in P)
 spare_of (Some x) spare k n reserve ready image is few told = let same : x ≡ image = cc is in (ready x, told, subst (λ (y : List ℕ). n ≤ min reserve (ready y)) (sym same) few)
 
-had_room : (o : Option (List ℕ)) (spare : ℕ → ℕ → Type 0) (k n : ℕ) (free : List ℕ → ℕ) → option_map_or (λ image. nat_le n (free image)) o false ≡ true → IfSome o (λ x. spare k (free x)) → (x : ℕ) × spare k x × (n ≤ x)
+pub had_room : (o : Option (List ℕ)) (spare : ℕ → ℕ → Type 0) (k n : ℕ) (free : List ℕ → ℕ) → option_map_or (λ image. nat_le n (free image)) o false ≡ true → IfSome o (λ x. spare k (free x)) → (x : ℕ) × spare k x × (n ≤ x)
 had_room None spare k n free fits told = cc fits
 had_room (Some x) spare k n free fits told = (free x, told, leb-true n (free x) fits)
 

@@ -44,3 +44,4 @@ pub mod RunHalves
 pub mod BankTurns
 pub mod StartUps
 pub mod OwnOperations
+pub mod ClocksOfBoth

@@ -14,7 +14,7 @@ use Rattle.promise_blocks.specs.Operations.{is_on}
 use Rattle.promise_run.specs.Beside.{is_beside}
 use Rattle.promise_run.specs.OwnOperations.{CountsPart, OperationsAreCounted}
 
-on_same : (of other : ℕ → Bool) → ((block : ℕ) → of block ≡ other block) → (hand : Option Job) → is_on of hand ≡ is_on other hand
+pub on_same : (of other : ℕ → Bool) → ((block : ℕ) → of block ≡ other block) → (hand : Option Job) → is_on of hand ≡ is_on other hand
 on_same of other same None = refl
 on_same of other same (Some j) = same (job_block j)
 

@@ -16,6 +16,7 @@ pub mod OperationLaws
 pub mod JobTurns
 pub mod TurnsOfBoth
 pub mod OwnOperations
+pub mod ClocksOfBoth
 pub mod SectorErases
 pub mod InRoom
 pub mod Texts
