@@ -21,12 +21,13 @@ use Rattle.promise_run.specs.DeviceTurns.{HadPages, HadSpare, worn_by}
 use Rattle.promise_run.specs.Promise.{making_first}
 use Rattle.promise_run.specs.Run.{Run}
 use Rattle.promise_run.specs.Turns.{HadFree}
-use Rattle.promise_run.specs.TurnsOfBoth.{HadFreeOfBoth, HasTraitOfBoth, IsWornOfBoth, WereCountedByBoth, own_ops}
+use Rattle.promise_run.specs.TwoFlashes.{IsWornOfBoth, own_ops}
+use Rattle.promise_run.specs.TurnsOfBoth.{HadFreeOfBoth, HasTraitOfBoth, WereCountedByBoth}
 use Rattle.promise_run.proofs.DeviceTurns.{had_room, spare_of}
 use Rattle.promise_run.proofs.OwnOperations.{on_same, operations_are_counted}
 
 -- no more of one flash than of both
-few_own : (second : Bool) (c : Configuration) (h : List Entry) (b : Beside) (k : ℕ) → ops_of second c h b k ≤ k
+pub few_own : (second : Bool) (c : Configuration) (h : List Entry) (b : Beside) (k : ℕ) → ops_of second c h b k ≤ k
 few_own second c h b zero = omega arith
 few_own second c h b (suc k) = let before = few_own second c h b k in by (beq second (is_beside c h b k)) before
   where
@@ -42,18 +43,18 @@ module _ (r : Run) (b : Beside) (cutter : Bool) (before before_second : PartTold
   all_ops : last.ops ≤ last_count
   all_ops = let ops = over.joins.ops in let same = over.same in omega (arith, ops, same)
 
-  own_is : (p : Bool) (k : ℕ) → k ≤ last.ops → own_ops r b p k ≡ over.count p k
+  pub own_is : (p : Bool) (k : ℕ) → k ≤ last.ops → own_ops r b p k ≡ over.count p k
   own_is p k few =
       let same = over.same in let all = all_ops in
       operations_are_counted p r.configuration r.history b now clock_now (over.count p) over.jobs over.blocks (over.joins.counts p) k (omega (arith, few, same)) (omega (arith, few, all))
 
   -- whose an operation is the clock says as the history does
-  of_second : (k : ℕ) → k < last.ops → is_beside r.configuration r.history b k ≡ true → clock_now.of_second k
+  pub of_second : (k : ℕ) → k < last.ops → is_beside r.configuration r.history b k ≡ true → clock_now.of_second k
   of_second k few is =
       let same = over.same in let all = all_ops in
       (over.jobs k (omega (arith, few, all)) (omega (arith, few, same))).1 (sym (on_same b.blocks (is_of Second now.fixed) over.blocks (after r.configuration (up_to k r.history)).hand) ∙ is)
 
-  of_first : (k : ℕ) → k < last.ops → is_beside r.configuration r.history b k ≡ false → ¬ clock_now.of_second k
+  pub of_first : (k : ℕ) → k < last.ops → is_beside r.configuration r.history b k ≡ false → ¬ clock_now.of_second k
   of_first k few is of =
       let same = over.same in let all = all_ops in
       let on = (over.jobs k (omega (arith, few, all)) (omega (arith, few, same))).0 of in
@@ -103,23 +104,26 @@ module _ (r : Run) (b : Beside) (cutter : Bool) (before before_second : PartTold
       (over.of_first.spare told (sound_starts_compute m r.flash sound) own (own_within k few small) free.counted) in
       (left, to_spare k left few small spare, fits)
 
+  least : (k : ℕ) → k ≤ last.ops → min k now.ops ≡ k
+  least k few = let same = over.same in omega (arith, few, same)
+
   worn_in : (k n : ℕ) (urgent : Bool) → k ≤ last.ops → clock_now.worn k n urgent → (t : Bool) → b.blocks (instance_of (record { 0 = n })).block ≡ t → IsWornOfBoth r b k n urgent
   worn_in k n urgent few worn true of =
       let (moment, soon, is) = over.joins.worn_second k n urgent of worn in
-      let own = own_is true k few in record {
+      let own = own_is true k few in let here = least k few in record {
         second = true;
         of = of;
         moment = moment;
-        by_then = λ small. subst (λ (m : ℕ). moment ≤ m) (sym own) (soon small);
+        by_then = λ small. subst (λ (m : ℕ). moment ≤ m) (sym own) (subst (λ (j : ℕ). moment ≤ over.count true j) here (soon small));
         is = over.of_second.worn moment n urgent is;
       }
   worn_in k n urgent few worn false of =
       let (moment, soon, is) = over.joins.worn_first k n urgent of worn in
-      let own = own_is false k few in record {
+      let own = own_is false k few in let here = least k few in record {
         second = false;
         of = of;
         moment = moment;
-        by_then = λ small. subst (λ (m : ℕ). moment ≤ m) (sym own) (soon small);
+        by_then = λ small. subst (λ (m : ℕ). moment ≤ m) (sym own) (subst (λ (j : ℕ). moment ≤ over.count false j) here (soon small));
         is = worn_banks_compute (making_first r.configuration) r.flash moment n urgent (over.of_first.worn moment n urgent is);
       }
 

@@ -50,7 +50,7 @@ pays of all c worn other before after first last h more counts paid = record { f
 
 -- OPERATIONS
 -- an operation of the flash is one that the device asked for
-one_of : (k : ℕ) (xs : List Change) (x : Change) → slice_get xs k ≡ Some x → k < length xs
+pub one_of : (k : ℕ) (xs : List Change) (x : Change) → slice_get xs k ≡ Some x → k < length xs
 one_of k [] x is = cc
 one_of zero (y ∷ xs) x is = omega arith
 one_of (suc k) (y ∷ xs) x is = let rest = one_of k xs x is in omega (arith, rest)
@@ -59,11 +59,11 @@ was_asked : (n asked k : ℕ) → k < last_count → k < n → asked ≡ min n l
 was_asked n asked k small within is = omega (arith, small, within, is)
 
 -- behind all operations the bytes are those of the exit
-past : {A : Type 0} (xs : List A) → slice_get xs (length xs) ≡ None
+pub past : {A : Type 0} (xs : List A) → slice_get xs (length xs) ≡ None
 past [] = refl
 past (x ∷ xs) = past xs
 
-if_told : (bytes : Option (List ℕ)) (P Q : List ℕ → Type 0) → ((image : List ℕ) → P image → Q image) → IfSome bytes P → IfSome bytes Q
+pub if_told : (bytes : Option (List ℕ)) (P Q : List ℕ → Type 0) → ((image : List ℕ) → P image → Q image) → IfSome bytes P → IfSome bytes Q
 if_told (Some image) P Q more is = more image is
 if_told None P Q more is = tt
 

@@ -45,3 +45,4 @@ pub mod BankTurns
 pub mod StartUps
 pub mod OwnOperations
 pub mod ClocksOfBoth
+pub mod HalvesOfBoth

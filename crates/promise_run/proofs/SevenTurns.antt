@@ -11,7 +11,8 @@ use Rattle.promise_blocks.specs.Work.{MayBegin}
 use Rattle.promise_device.specs.FlashRun.{HasFailed}
 use Rattle.promise_run.specs.Operations.{HasWork, costs_of_both}
 use Rattle.promise_run.specs.Turns.{Moment, Move, moment_after, AreMoves, CountsOwn, EachMove, IsPostedWithin, PostsPicked}
-use Rattle.promise_run.specs.TurnsOfBoth.{HadFreeOfBoth, HasFailedOfBoth, HasTraitOfBoth, IsWornOfBoth, KeepsTurnsOfBoth, own_ops}
+use Rattle.promise_run.specs.TwoFlashes.{IsWornOfBoth, own_ops}
+use Rattle.promise_run.specs.TurnsOfBoth.{HadFreeOfBoth, HasFailedOfBoth, HasTraitOfBoth, KeepsTurnsOfBoth}
 use Rattle.promise_run.specs.Cases.{one, picks_one, always}
 use Rattle.promise_run.specs.BothCases.{makes_five, makes_one, made_untold, seven_turns, two_devices}
 use Rattle.promise_run.proofs.OneByOne.{asked_one, at_ops, at_work, no_sweep, none_urgent, some_same}

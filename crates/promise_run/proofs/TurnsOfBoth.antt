@@ -23,8 +23,8 @@ use Rattle.promise_run.specs.Promise.{making_first}
 use Rattle.promise_run.specs.Run.{Run, Course, Played, Ran, End, FlashFault, EndsAtStart, EndsBefore, Follows, HasOrder, LeavesFlashes, RunsBy}
 use Rattle.promise_run.specs.Turns.{Moment, Move, entry_list, moment_behind, is_found, state_begun, come_within, turns_beside, CountFailed, EachMoveSince}
 use Rattle.promise_run.specs.DeviceTurns.{HadPages, IsPostedByFirst, IsSoOfBoth, MayGoOnAsTold, MovesAreOfBoth, worn_by}
-use Rattle.promise_run.specs.TwoFlashes.{PromiseOfBoth, of_both}
-use Rattle.promise_run.specs.TurnsOfBoth.{AreMadeOfBoth, CallersOfBothAreServed, IsCalmOfBoth, KeepsTurnsOfBoth, RunsOfBothMakeFew, TurnsOfBothMakeFew, has_free_of_both, own_ops, HadFreeOfBoth, HasFailedOfBoth, HasTraitOfBoth, IsWornOfBoth, MayGoOnOfBoth, PostsUrgentOfBoth, WereCountedByBoth}
+use Rattle.promise_run.specs.TwoFlashes.{own_ops, IsWornOfBoth, PromiseOfBoth, of_both}
+use Rattle.promise_run.specs.TurnsOfBoth.{AreMadeOfBoth, CallersOfBothAreServed, IsCalmOfBoth, KeepsTurnsOfBoth, RunsOfBothMakeFew, TurnsOfBothMakeFew, has_free_of_both, HadFreeOfBoth, HasFailedOfBoth, HasTraitOfBoth, MayGoOnOfBoth, PostsUrgentOfBoth, WereCountedByBoth}
 use Rattle.promise_run.proofs.Callers.{ended, rests_by}
 use Rattle.promise_run.proofs.Counted.{all_behind, behind_later, counted_by}
 use Rattle.promise_run.proofs.InRoom.{all_ops, first_ops}

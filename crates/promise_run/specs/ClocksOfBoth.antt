@@ -25,8 +25,8 @@ pub record JoinsClocks (of : ℕ → Bool) (count : Bool → ℕ → ℕ) (a b n
   pub failed_second : (k : ℕ) → k < now.ops → k < last_count → both.of_second k → second.failed (count true k) → both.failed k
   pub was : (t : Trait) (k : ℕ) → k < now.ops → k < last_count → ¬ both.of_second k → first.was t (count false k) → both.was t k
   pub spare : (k n : ℕ) → k ≤ now.ops → k < last_count → first.spare (count false k) n → both.spare k n
-  pub worn_first : (k n : ℕ) (urgent : Bool) → of n ≡ false → both.worn k n urgent → (moment : ℕ) × (k < last_count → moment ≤ count false k) × first.worn moment n urgent
-  pub worn_second : (k n : ℕ) (urgent : Bool) → of n ≡ true → both.worn k n urgent → (moment : ℕ) × (k < last_count → moment ≤ count true k) × second.worn moment n urgent
+  pub worn_first : (k n : ℕ) (urgent : Bool) → of n ≡ false → both.worn k n urgent → (moment : ℕ) × (k < last_count → moment ≤ count false (min k now.ops)) × first.worn moment n urgent
+  pub worn_second : (k n : ℕ) (urgent : Bool) → of n ≡ true → both.worn k n urgent → (moment : ℕ) × (k < last_count → moment ≤ count true (min k now.ops)) × second.worn moment n urgent
 
 -- It is told at the end, and behind the last move: start-ups may have failed since. Each part is told before the first start-up too.
 pub record AreOverBoth (r : Run) (b : Beside) (cutter : Bool) (before before_second : PartTold) (first second last now : DeviceTold) (clock_first clock_second clock clock_now : Clock) : Type 0 where

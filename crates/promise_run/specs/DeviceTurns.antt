@@ -13,8 +13,8 @@ use Rattle.promise_device.specs.FlashRun.{TellsBytes, StartsSound}
 use Rattle.promise_device.specs.Reading.{BeginsSound}
 use Rattle.promise_run.specs.Beside.{Beside}
 use Rattle.promise_run.specs.Run.{Run, Course}
-use Rattle.promise_run.specs.TwoFlashes.{of_both}
-use Rattle.promise_run.specs.TurnsOfBoth.{AreMadeOfBoth, BothEndBy, HadFreeOfBoth, HasFailedOfBoth, HasTraitOfBoth, IsWornOfBoth, KeepsTurnsOfBoth, WereCountedByBoth, own_ops}
+use Rattle.promise_run.specs.TwoFlashes.{IsWornOfBoth, own_ops, of_both}
+use Rattle.promise_run.specs.TurnsOfBoth.{AreMadeOfBoth, BothEndBy, HadFreeOfBoth, HasFailedOfBoth, HasTraitOfBoth, KeepsTurnsOfBoth, WereCountedByBoth}
 use Rattle.promise_run.specs.JobTurns.{job_turns, job_turns_of_both, write_pages}
 use Rattle.promise_run.specs.Operations.{HasWork, costs_of, costs_of_both}
 use Rattle.promise_run.specs.Promise.{making_first, making_of}

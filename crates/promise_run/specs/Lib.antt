@@ -17,6 +17,7 @@ pub mod JobTurns
 pub mod TurnsOfBoth
 pub mod OwnOperations
 pub mod ClocksOfBoth
+pub mod HalvesOfBoth
 pub mod SectorErases
 pub mod InRoom
 pub mod Texts

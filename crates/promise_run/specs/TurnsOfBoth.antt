@@ -1,7 +1,6 @@
 -- The turns of a run over two flashes: what is said of those over one, of both together, and of each flash by its own operations.
 use Rattle.std.specs.Prelude.{◌≡◌, ◌≢◌, ◌⊎◌, ◌<◌, ◌≤◌, ◌+◌, ◌&&◌, nat_lt, ℕ, Bool, true, false, List, [], ◌∷◌, length, map, min, Some, None}
 use Rattle.block_machine.specs.nv_base.Count.{last_count, Rose, WereCounted}
-use Rattle.block_machine.specs.nv_base.Marks.{instance_of}
 use Rattle.memif.specs.Told.{IfElse}
 use Rattle.memif.specs.Clock.{Trait, Seals, TakesKept}
 use Rattle.block_machine.specs.Words.{Entry, Configuration}
@@ -12,8 +11,7 @@ use Rattle.script_walks.specs.Words.{Step}
 use Rattle.promise_blocks.specs.Work.{operations_at_most}
 use Rattle.promise_device.specs.FlashRun.{TellsBytes, StartsSound, HasFailed}
 use Rattle.promise_device.specs.Reading.{BeginsSound}
-use Rattle.promise_device.specs.Bridge.{IsWornOut, IsWornBy}
-use Rattle.promise_run.specs.Beside.{Beside, is_beside, ops_of}
+use Rattle.promise_run.specs.Beside.{Beside, is_beside}
 use Rattle.promise_run.specs.Completeness.{IsCalm, EachEntry, PostsWell, ServesCallers}
 use Rattle.promise_run.specs.JobTurns.{write_pages}
 use Rattle.promise_run.specs.InRoom.{MadeFewTurns}
@@ -21,13 +19,9 @@ use Rattle.promise_run.specs.Operations.{HadFreePages, HasWork, costs_of_both, h
 use Rattle.promise_run.specs.Promise.{making_first}
 use Rattle.promise_run.specs.Run.{Run, Course, Played, Ran, End, FlashFault, HasOrder}
 use Rattle.promise_run.specs.Turns.{Moment, Move, all_moves, state_begun, come_within, turns_beside, urgent_block, ArePaidSince, BeginWhatIsDue, BeginsAt, ClosesAtDrains, CountFailed, CutsCome, EachMove, EachMoveSince, FindWorkAtDrains, HadFree, HasMoves, HasTrait, MakesRequests, PostsPicked, PostsUrgent, StaysAtRest, TakeKept}
-use Rattle.promise_run.specs.TwoFlashes.{PromiseOfBoth, exchanged, of_both}
+use Rattle.promise_run.specs.TwoFlashes.{IsWornOfBoth, own_ops, PromiseOfBoth, exchanged, of_both}
 
 -- WHOSE OPERATION
-
--- of the first k operations of both, those of one of the flashes
-abbrev pub own_ops : Run → Beside → (second : Bool) → ℕ → ℕ
-own_ops r b second k = ops_of second r.configuration r.history b k
 
 -- operation k failed, in its own flash
 abbrev pub HasFailedOfBoth : Run → Beside → ℕ → Type 0
@@ -53,15 +47,7 @@ BothEndBy r b last end = Unit {0}
 abbrev pub IsCalmOfBoth : Run → Beside → Type 0
 IsCalmOfBoth r b = IsCalm r × ¬ Rose b.flash.entry.faults b.flash.exit.faults
 
--- WORN OUT, AND FREE
-
--- Once so many operations of both were made, the flash of a number was worn out for it: once so many of its own were, which it stays.
-pub record IsWornOfBoth (r : Run) (b : Beside) (k n : ℕ) (urgent : Bool) : Type 0 where
-  pub second : Bool
-  pub of : b.blocks (instance_of (record { 0 = n })).block ≡ second
-  pub moment : ℕ
-  pub by_then : k < last_count → moment ≤ own_ops r b second k
-  pub is : IfElse second (IsWornBy b.reading b.flash moment n urgent) (IsWornOut (making_first r.configuration) r.flash moment n urgent)
+-- FREE PAGES
 
 -- the first flash had so many pages free
 abbrev pub HadFreeOfBoth : Run → Beside → (operations pages : ℕ) → Type 0

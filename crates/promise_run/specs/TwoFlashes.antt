@@ -1,6 +1,6 @@
 -- What the stack promises of each run over two flashes: the same as over one, of both together.
 use Rattle.std.specs.Prelude.{◌≡◌, ◌⊎◌, ◌<◌, ◌≤◌, ◌+◌, ℕ, suc, Bool, true, false, not, if◌then◌else◌, IsTrue, List, [], ◌∷◌, length, Contains, Option, Some, None, IfSome}
-use Rattle.block_machine.specs.nv_base.Count.{last_count, WereCounted}
+use Rattle.block_machine.specs.nv_base.Count.{last_count, next_count, WereCounted}
 use Rattle.block_machine.specs.nv_base.Entry.{ops_behind}
 use Rattle.block_machine.specs.nv_base.Held.{Held}
 use Rattle.block_machine.specs.nv_base.Marks.{instance_of}
@@ -11,7 +11,8 @@ use Rattle.block_machine.specs.History.{up_to}
 use Rattle.promise_blocks.specs.Marks.{KeepsMarks, Lists, marks_in}
 use Rattle.promise_blocks.specs.Counts.{KeepsCounts, counts_in, last_found}
 use Rattle.promise_blocks.specs.Payment.{IsPaid}
-use Rattle.promise_blocks.specs.OverDevice.{HasStarted, BeginsBefore, TellsAtMost}
+use Rattle.promise_blocks.specs.OverDevice.{HasStarted, BeginsBefore, TellsAtMost, HasOffAt}
+use Rattle.memif.specs.Told.{IfElse}
 use Rattle.fls_model.specs.Told.{bytes_now}
 use Rattle.promise_device.specs.Image.{IsSoundFlash, held_in}
 use Rattle.promise_device.specs.FlashRun.{FlashRun, TellsBytes, TellsOperations, StartsSound, bytes_after, AreOperations}
@@ -19,13 +20,17 @@ use Rattle.promise_device.specs.Reading.{BeginsSound}
 use Rattle.promise_device.specs.Bridge.{IsWornOut, IsWornBy}
 use Rattle.promise_device.specs.Wear.{OperationsAreDue}
 use Rattle.promise_run.specs.Beside.{Beside, AreCutImages, IsMerged, is_beside, ops_of}
-use Rattle.promise_run.specs.Run.{Run, HasOrder, DueCut, plan_after, Event, Made, Added, CutsAre, events_in}
+use Rattle.promise_run.specs.Run.{Run, has_cutter, HasOrder, DueCut, plan_after, Event, Made, Added, CutsAre, events_in}
 use Rattle.promise_run.specs.Refusals.{RefusesAsAsked}
-use Rattle.promise_run.specs.Promise.{MayBeKept, Promise, making_first, making_of}
+use Rattle.promise_run.specs.Promise.{Promise, making_first, making_of}
 
 -- a count of both flashes together
 abbrev pub of_both : (FlashRun → ℕ) → Run → Beside → ℕ
 of_both count r b = count r.flash + count b.flash
+
+-- of the first k operations of both, those of one of the flashes
+abbrev pub own_ops : Run → Beside → (second : Bool) → ℕ → ℕ
+own_ops r b second k = ops_of second r.configuration r.history b k
 
 -- what is found in both images: of each block in that of its own device
 abbrev pub held_both : Configuration → Beside → List ℕ → List ℕ → ℕ → Held
@@ -39,7 +44,7 @@ pub record KeepBoth (c : Configuration) (b : Beside) (h : List Entry) (image oth
 
 -- a fact on the bytes of both flashes once k operations of both were made
 abbrev pub IfBothAfter : Run → Beside → ℕ → (List ℕ → List ℕ → Type 0) → Type 0
-IfBothAfter r b k P = IfSome (bytes_after r.flash (ops_of false r.configuration r.history b k)) (λ image. IfSome (bytes_after b.flash (ops_of true r.configuration r.history b k)) (P image))
+IfBothAfter r b k P = IfSome (bytes_after r.flash (own_ops r b false k)) (λ image. IfSome (bytes_after b.flash (own_ops r b true k)) (P image))
 
 -- each start-up lists what it found in the bytes of its moment
 abbrev pub StartUpsFindBoth : Run → Beside → Type 0
@@ -73,12 +78,16 @@ CutsCountBoth r b =
     → IfBothAfter r b ops (λ first second. KeepsCounts r.configuration (up_to k r.history)
     (counts_in (held_both r.configuration b first second)) (counts_in (held_both r.configuration b image other)))
 
--- a planned cut kept the operation with this number of one of the devices from its flash
-pub record MayBeKeptOf (r : Run) (b : Beside) (second : Bool) (n : ℕ) : Type 0 where
+-- with this operation of one of the flashes, by its number there, the power went off
+pub record HasOffOf (r : Run) (b : Beside) (second : Bool) (n : ℕ) : Type 0 where
   pub operation : ℕ
   pub whose : is_beside r.configuration r.history b operation ≡ second
-  pub number : ops_of second r.configuration r.history b operation ≡ n
-  pub kept : MayBeKept r operation
+  pub number : own_ops r b second operation ≡ n
+  pub off : HasOffAt r.history (next_count operation)
+
+-- a planned cut kept it from its flash: past the end of its count, or of that of both, no Off tells which
+abbrev pub MayBeKeptOf : Run → Beside → (second : Bool) → (n : ℕ) → Type 0
+MayBeKeptOf r b second n = IsTrue (has_cutter r.course) × ((last_count ≤ n) ⊎ ((last_count ≤ of_both (λ f. length f.operations) r b) ⊎ HasOffOf r b second n))
 
 -- the operations are those of the flashes, but for these, each done as far as the planned cut of its flash says
 abbrev pub OperationsAreBoth : Run → Beside → (own other : List ℕ) → Type 0
@@ -119,7 +128,7 @@ CutsAreBoth count first second ops (Added e ∷ es) own other = CutsAreBoth coun
 -- the Offs of a run are these planned cuts of both flashes, and others that each flash counted
 pub record CutsExplainBoth (r : Run) (b : Beside) (own other : CutsOf) : Type 0 where
   pub merged : IsMerged own.came other.came r.cuts
-  pub are : CutsAreBoth (λ second. ops_of second r.configuration r.history b) None None 0 (events_in r.course r.history) own other
+  pub are : CutsAreBoth (own_ops r b) None None 0 (events_in r.course r.history) own other
   pub counted : WereCounted own.others r.flash.entry.cuts r.flash.exit.cuts
   pub counted_beside : WereCounted other.others b.flash.entry.cuts b.flash.exit.cuts
 
@@ -133,12 +142,19 @@ CutsOfOneAreBoth =
     (count : Bool → ℕ → ℕ) → ((k : ℕ) → count false k ≡ k) → (plan second : Option DueCut) (ops : ℕ) (es : List Event) (cuts : List ℕ) (others : ℕ)
     → CutsAre plan ops es cuts others → CutsAreBoth count plan second ops es (record { came = cuts; others = others }) (record { came = []; others = 0 })
 
+-- Once so many operations of both were made, the flash of a number was worn out for it: once so many of its own were, which it stays.
+pub record IsWornOfBoth (r : Run) (b : Beside) (k n : ℕ) (urgent : Bool) : Type 0 where
+  pub second : Bool
+  pub of : b.blocks (instance_of (record { 0 = n })).block ≡ second
+  pub moment : ℕ
+  pub by_then : k < last_count → moment ≤ own_ops r b second k
+  pub is : IfElse second (IsWornBy b.reading b.flash moment n urgent) (IsWornOut (making_first r.configuration) r.flash moment n urgent)
+
 -- each flash's faults pay for the failures of its own blocks, but where it is worn out
 abbrev pub FailuresArePaidByBoth : Run → Beside → Type 0
 FailuresArePaidByBoth r b =
-    IsPaid (λ block. not (b.blocks block)) r.configuration (λ k n urgent. IsWornOut (making_first r.configuration) r.flash (ops_of false r.configuration r.history b k) n urgent)
-    r.flash.entry.faults r.flash.exit.faults r.history
-    × IsPaid b.blocks r.configuration (λ k n urgent. IsWornBy b.reading b.flash (ops_of true r.configuration r.history b k) n urgent) b.flash.entry.faults b.flash.exit.faults r.history
+    IsPaid (λ block. not (b.blocks block)) r.configuration (IsWornOfBoth r b) r.flash.entry.faults r.flash.exit.faults r.history
+    × IsPaid b.blocks r.configuration (IsWornOfBoth r b) b.flash.entry.faults b.flash.exit.faults r.history
 
 -- the fields of the promise over one flash, but for the Off that tells an operation in which the power went off
 pub record PromiseOfBoth (r : Run) (b : Beside) : Type 0 where
