@@ -75,10 +75,10 @@ abbrev held_2 : Text → Text → Held
 held_2 a b = held (row (codes "IMAGE") a ∷ []) (codes "COMMAND") b
 
 abbrev held_3 : Text → Text → Text → Held
-held_3 a b c = held (row (codes "IMAGE") a ∷ row (codes "COMMAND") b ∷ []) (codes "SEED") c
+held_3 a b c = held (row (codes "IMAGE") a ∷ row (codes "COMMAND") b ∷ []) (codes "THIRD") c
 
 abbrev held_4 : Text → Text → Text → Text → Held
-held_4 a b c d = held (row (codes "IMAGE") a ∷ row (codes "COMMAND") b ∷ row (codes "SEED") c ∷ []) (codes "COUNT") d
+held_4 a b c d = held (row (codes "IMAGE") a ∷ row (codes "COMMAND") b ∷ row (codes "THIRD") c ∷ []) (codes "FOURTH") d
 
 abbrev start : Walk
 start = at nothing_held 1
@@ -182,11 +182,11 @@ fails_5 a b c d f rest ea eb ec ed ef =
 
 -- WHAT IS FOUND
 abbrev pub places_in : List Row → Option Places
-places_in rows = places_found (first_of (codes "IMAGE") rows) (first_of (codes "COMMAND") rows) (first_of (codes "SEED") rows) (first_of (codes "COUNT") rows)
+places_in rows = places_found (first_of (codes "IMAGE") rows) (first_of (codes "COMMAND") rows) (first_of (codes "THIRD") rows) (first_of (codes "FOURTH") rows)
 
 -- the getters read the rows
-pub places_are : (f : Found) → places_found (first_value f (codes "IMAGE")) (first_value f (codes "COMMAND")) (first_value f (codes "SEED")) (first_value f (codes "COUNT")) ≡ places_in (rows_of f)
-places_are f = rw (first_value-rows f (codes "IMAGE"), first_value-rows f (codes "COMMAND"), first_value-rows f (codes "SEED"), first_value-rows f (codes "COUNT")) refl
+pub places_are : (f : Found) → places_found (first_value f (codes "IMAGE")) (first_value f (codes "COMMAND")) (first_value f (codes "THIRD")) (first_value f (codes "FOURTH")) ≡ places_in (rows_of f)
+places_are f = rw (first_value-rows f (codes "IMAGE"), first_value-rows f (codes "COMMAND"), first_value-rows f (codes "THIRD"), first_value-rows f (codes "FOURTH")) refl
 
 found_2 : (a b : Text) → is_word a ≡ true → is_word b ≡ true → places_in (matches_of line (a ∷ b ∷ [])) ≡ places_of (a ∷ b ∷ [])
 found_2 a b ea eb = ap (λ (w : Walk). places_in (finished rules w.held)) (walk_2 a b ea eb)

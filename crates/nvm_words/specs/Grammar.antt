@@ -10,4 +10,4 @@ abbrev pub bare : App
 bare = record (new_app (codes "nvm")) { top = record (new_app (codes "nvm")).top { no_binary_name = true; disable_help_flag = true } }
 
 abbrev pub line : App
-line = with_rule (with_rule (with_rule (with_rule bare (needed (new_rule (codes "IMAGE")))) (needed (new_rule (codes "COMMAND")))) (new_rule (codes "SEED"))) (new_rule (codes "COUNT"))
+line = with_rule (with_rule (with_rule (with_rule bare (needed (new_rule (codes "IMAGE")))) (needed (new_rule (codes "COMMAND")))) (new_rule (codes "THIRD"))) (new_rule (codes "FOURTH"))

@@ -1,3 +1,5 @@
 pub mod Fields
 pub mod Grammar
+pub mod Pair
+pub mod PairCases
 pub mod Words

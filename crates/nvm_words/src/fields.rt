@@ -14,19 +14,19 @@ use std::alloc::{AllocError, Global};
 pub(crate) struct Fields<'a> {
     pub image: &'a str,
     pub command: &'a str,
-    pub seed: Option<&'a str>,
-    pub count: Option<&'a str>,
+    pub third: Option<&'a str>,
+    pub fourth: Option<&'a str>,
 }
 
 // The words that a parse found.
 fn fields_in<'a>(matches: &ArgMatches<'a>) -> Option<Fields<'a>>
-    ensures { option_map shown result ≡ places_found (first_value (found_of matches.now) (codes "IMAGE")) (first_value (found_of matches.now) (codes "COMMAND")) (first_value (found_of matches.now) (codes "SEED")) (first_value (found_of matches.now) (codes "COUNT")) }
+    ensures { option_map shown result ≡ places_found (first_value (found_of matches.now) (codes "IMAGE")) (first_value (found_of matches.now) (codes "COMMAND")) (first_value (found_of matches.now) (codes "THIRD")) (first_value (found_of matches.now) (codes "FOURTH")) }
 {
     Some(Fields {
         image: matches.get_str("IMAGE")?,
         command: matches.get_str("COMMAND")?,
-        seed: matches.get_str("SEED"),
-        count: matches.get_str("COUNT"),
+        third: matches.get_str("THIRD"),
+        fourth: matches.get_str("FOURTH"),
     })
 }
 

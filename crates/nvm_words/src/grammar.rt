@@ -30,6 +30,6 @@ pub(crate) fn line<'a>(alloc: Global) -> Result<Command<'a>, AllocError>
     bare(alloc)
         .arg(needed(alloc, "IMAGE"))?
         .arg(needed(alloc, "COMMAND"))?
-        .arg(Arg::new(alloc, "SEED"))?
-        .arg(Arg::new(alloc, "COUNT"))
+        .arg(Arg::new(alloc, "THIRD"))?
+        .arg(Arg::new(alloc, "FOURTH"))
 }

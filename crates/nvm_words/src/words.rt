@@ -24,7 +24,7 @@ fn is_word(word: &[u8]) -> bool
     !word.is_empty() && word[0] != b'-'
 }
 
-fn are_words(words: &[String]) -> bool
+pub(crate) fn are_words(words: &[String]) -> bool
     ensures { result ≡ are_words (map string_bytes words.now) }
 {
     for i in 0..words.len() {
@@ -62,7 +62,7 @@ fn soak_named(word: &str, seed: &str, count: &str) -> Option<CommandKind>
 fn command_in(fields: &Fields<'_>) -> Option<CommandKind>
     ensures { result ≡ command_at (shown fields.now) }
 {
-    match (fields.seed, fields.count) {
+    match (fields.third, fields.fourth) {
         (None, None) => command_named(fields.command),
         (Some(seed), Some(count)) => soak_named(fields.command, seed, count),
         _ => None,
