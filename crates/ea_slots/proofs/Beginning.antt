@@ -20,7 +20,7 @@ use Rattle.ea_told.specs.Made.{fresh, IsNew}
 use Rattle.ea_told.specs.Inside.{IsSound}
 use Rattle.ea_told.specs.Device.{told_of}
 use Rattle.ea_told.proofs.Made.{parts_begin}
-use Rattle.ea_slots.specs.Whole.{IsMadeOf}
+use Rattle.ea_slots.specs.Whole.{IsMadeOf, part_at}
 
 zeros_small : (n : ℕ) → All (λ (x : ℕ). x < 256) (replicate n 0)
 zeros_small n = All-replicate (λ (x : ℕ). x < 256) n 0 (let lt : 0 < 256 = omega arith in lt)
@@ -57,3 +57,11 @@ is_made m entry g numbers f states content starts operations none empty = record
   ops = ap (λ (changes : List Change). min (length changes) last_count) empty;
   faults = refl;
 }
+
+-- its part is that of its flash before
+pub has_part : (m : Making) (entry flash : Told) (g : Geometry) (v f : FlsState) (states : List SlotState) (content : List ℕ) → entry ≡ flash → v ≡ just_made flash g → IsAttached v.geometry v.flash f.flash
+    → (told_of m entry (record { fls = f; geometry = g; numbers = []; states = states; content = content; job = None; last = JobOk; given = 0; starts = 0; started = false; off = false; ops = 0; faults = 0; operations = [] })).first ≡ part_at entry
+has_part m entry flash g v f states content told made attached =
+    let before : v.flash ≡ entry = ap (λ (x : FlsState). x.flash) made ∙ sym told in
+    let at : IsAttached v.geometry entry f.flash = subst (λ (x : Told). IsAttached v.geometry x f.flash) before attached in
+    λ i. record { faults = 0; flash_faults = at.faults i; off = at.off i; planning = at.planning i }

@@ -47,8 +47,9 @@ fn room_for(
 }
 
 impl<F: Flash, O: Origin> Ea<F, O> {
-    ghost use Rattle.std.specs.Prelude.{◌≡◌, false, Err, IfErr};
+    ghost use Rattle.std.specs.Prelude.{◌≡◌, ◌≤◌, false, [], Err, IfErr, IfOk, IfSome};
     ghost use Rattle.nv_base.specs.Geometry.{IsLegal};
+    ghost use Rattle.fls_model.specs.Told.{changes_in};
     ghost use Rattle.fls_model.specs.Attach.{IsAttach};
     ghost use Rattle.ea_told.specs.Making.{HasSlots};
     ghost use Rattle.promise_device.specs.Bridge.{Bridges};
@@ -68,6 +69,7 @@ impl<F: Flash, O: Origin> Ea<F, O> {
         requires making { O.making ≡ record { geometry = geometry; numbers = numbers.now } }
         requires entry { O.entry ≡ F.told flash }
         ensures made { IfOk result (λ d. IsMadeOf O.making (told_in d)) }
+        ensures part { IfOk result (λ d. (told_in d).first ≡ part_at O.entry) }
         ensures refused { IfErr result (λ e. IsAttach geometry (F.told flash) (Err e.0) (F.told e.1)) }
     {
         let Ok((numbers, states, content)) = room_for(alloc, geometry, numbers) else {
@@ -100,10 +102,16 @@ impl<F: Flash, O: Origin> Ea<F, O> {
 
     /// Gives the flash back. What the device told of it is so, from its making on.
     pub fn into_flash(self) -> F
-        ensures { Bridges (reading_of O.making) false (record { entry = O.entry; exit = F.told result; operations = self.parts.operations }) (part_at O.entry) (told_in self) (clock_in self) }
+        ensures told { F.told result ≡ self.parts.fls.flash }
+        ensures geometry { (F.told result).geometry ≡ O.making.geometry }
+        ensures more { O.entry.faults ≤ (F.told result).faults }
+        ensures none { self.parts.operations ≡ [] → ((F.told result).ops ≡ O.entry.ops) × ((F.told result).cuts ≡ O.entry.cuts) }
+        ensures changes { IfSome (changes_in (F.told result).bytes) (λ changes. changes ≡ self.parts.operations) }
+        ensures bridge { Bridges (reading_of O.making) false (record { entry = O.entry; exit = F.told result; operations = self.parts.operations }) (part_at O.entry) (told_in self) (clock_in self) }
     {
         let Ea { parts } = self;
         let EaParts { fls, .. } = parts;
+        fls.status();
         fls.into_flash()
     }
 }

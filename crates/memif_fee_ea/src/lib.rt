@@ -13,5 +13,5 @@ pub use fee_core::{
     Lengths, MemDevice, MemFlash, MemIf, PlainMark, PlainStore, Rest, bytes_of, erase, lengths_of,
     make_turns, mem_flash, run_calls, start_up,
 };
-pub use making::{FlashAndEeprom, Shapes, both_of, make};
+pub use making::{FlashAndEeprom, PairAttachFault, PairPart, Shapes, both_of, make};
 pub use memif_pair;

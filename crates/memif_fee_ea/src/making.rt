@@ -7,7 +7,7 @@ ghost use Rattle.fee_core.specs.fee_switch_laws.Space.{HasSpace};
 ghost use Rattle.fee_core.specs.fee_told.Device.{told_of};
 ghost use Rattle.ea_slots.specs.ea_told.Making.{HasSlots};
 ghost use Rattle.ea_slots.specs.Whole.{told_in};
-ghost use Rattle.memif_fee_ea.specs.Made.{AreMade, IsMadeOf, IsRefused};
+ghost use Rattle.memif_fee_ea.specs.Made.{AreMade, AreParts, IsMadeOf, IsRefused};
 ghost use Rattle.memif_fee_ea.specs.Numbers.{are_apart};
 
 use ea_slots::Ea;
@@ -32,6 +32,20 @@ pub fn both_of<F: Flash, O: fee_core::Origin, G: Flash, P: ea_slots::Origin>(
     Both::make(MemIf { first, second })
 }
 
+/// One of both: the flash, or the EEPROM.
+#[derive(Clone, Copy, Debug)]
+pub enum PairPart {
+    Flash,
+    Eeprom,
+}
+
+/// Why a device over both isn't made: one of them isn't attached.
+#[derive(Clone, Copy, Debug)]
+pub struct PairAttachFault {
+    pub part: PairPart,
+    pub fault: AttachFault,
+}
+
 /// The shapes of both flashes, how many banks share the first one's sectors, and the pages that are kept there for urgent writes.
 #[derive(Clone, Copy)]
 pub struct Shapes {
@@ -41,8 +55,8 @@ pub struct Shapes {
     pub eeprom: Geometry,
 }
 
-/// Makes the device of a flash with these numbers, and of an EEPROM with those. A refusal hands both back. It takes memory for all
-/// that the device ever needs, and isn't started.
+/// Makes the device of a flash with these numbers, and of an EEPROM with those. A refusal hands both back, and tells which of them
+/// isn't attached. It takes memory for all that the device ever needs, and isn't started.
 pub fn make<F: Flash, O: fee_core::Origin, G: Flash, P: ea_slots::Origin>(
     alloc: Global,
     flash: F,
@@ -50,7 +64,7 @@ pub fn make<F: Flash, O: fee_core::Origin, G: Flash, P: ea_slots::Origin>(
     shapes: Shapes,
     numbers: &Lengths,
     second: &Lengths,
-) -> Result<FlashAndEeprom<F, O, G, P>, (AttachFault, F, G)>
+) -> Result<FlashAndEeprom<F, O, G, P>, (PairAttachFault, F, G)>
     requires legal { IsLegal shapes.flash }
     requires shared { HasBanks shapes.flash shapes.banks }
     requires space { HasSpace numbers.now shapes.flash shapes.banks shapes.reserve }
@@ -62,7 +76,8 @@ pub fn make<F: Flash, O: fee_core::Origin, G: Flash, P: ea_slots::Origin>(
     requires apart { are_apart numbers.now second.now ≡ true }
     ensures made { IfOk result (λ d. IsMadeOf O.making O.entry P.making d) }
     ensures numbers { IfOk result (λ d. (told_as told_of told_in d).fixed.numbers ≡ merged numbers.now second.now) }
-    ensures refused { IfErr result (λ e. IsRefused shapes.flash shapes.eeprom e.0 (F.told flash) (F.told e.1) (G.told eeprom) (G.told e.2)) }
+    ensures parts { IfOk result (λ d. AreParts O.entry P.entry (told_as told_of told_in d)) }
+    ensures refused { IfErr result (λ e. IsRefused shapes.flash shapes.eeprom e.0.part e.0.fault (F.told flash) (F.told e.1) (G.told eeprom) (G.told e.2)) }
 {
     let first = match Fee::<F, O>::make(
         alloc,
@@ -73,10 +88,16 @@ pub fn make<F: Flash, O: fee_core::Origin, G: Flash, P: ea_slots::Origin>(
         shapes.reserve,
     ) {
         Ok(first) => first,
-        Err((fault, flash)) => return Err((fault, flash, eeprom)),
+        Err((fault, flash)) => {
+            let part = PairPart::Flash;
+            return Err((PairAttachFault { part, fault }, flash, eeprom));
+        }
     };
     match Ea::<G, P>::make(alloc, eeprom, shapes.eeprom, second) {
         Ok(second) => Ok(both_of(first, second)),
-        Err((fault, eeprom)) => Err((fault, first.into_flash(), eeprom)),
+        Err((fault, eeprom)) => {
+            let part = PairPart::Eeprom;
+            Err((PairAttachFault { part, fault }, first.into_flash(), eeprom))
+        }
     }
 }
