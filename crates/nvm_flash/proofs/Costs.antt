@@ -2,13 +2,13 @@
 use Rattle.std.specs.Prelude.{if◌then◌else◌}
 use Rattle.std.specs.Option.{option_map_or}
 use Rattle.std.proofs.Common.{◌≡◌, ◌≤◌, ℕ, true, Option, Some, None, refl, sym, ap, ◌∙◌, arith}
-use Rattle.fee_core.specs.nv_base.Marks.{number_of, instance_of}
+use Rattle.memif_fee_ea.specs.fee_core.nv_base.Marks.{number_of, instance_of}
 use Rattle.nvm_core.specs.block_config.Config.{Configuration}
 use Rattle.nvm_core.specs.block_config.Lengths.{lengths_of}
 use Rattle.nvm_core.specs.block_config.Rules.{IsLegalConfig}
-use Rattle.fee_core.specs.memif.Told.{Figures, figures_at, length_of, most_of, no_figures}
+use Rattle.memif_fee_ea.specs.fee_core.memif.Told.{Figures, figures_at, length_of, most_of, no_figures}
 use Rattle.nvm_core.specs.block_machine.Words.{JobKind, ReadJob, WriteJob, RestoreJob, EraseJob, InvalidateJob, ReadAllJob, WriteAllJob}
-use Rattle.fee_core.specs.fee_told.Figures.{figures_for}
+use Rattle.memif_fee_ea.specs.fee_core.fee_told.Figures.{figures_for}
 use Rattle.nvm_core.specs.job_programs.Program.{operation, works}
 use Rattle.promise_run.specs.JobTurns.{try_on, pages_on}
 use Rattle.promise_run.specs.Operations.{costs_of}

@@ -3,20 +3,20 @@ use Rattle.std.specs.Prelude.{IsTrue, IfSome, IsSome, option_map, slice_get, tak
 use Rattle.std.specs.Option.{option_map_or}
 use Rattle.std.proofs.Common.{◌≡◌, ◌⊎◌, inl, inr, ℕ, zero, suc, ◌≤◌, ◌+◌, Bool, true, false, List, length, Option, Some, None, refl, sym, ap, ◌∙◌, subst, arith}
 use Rattle.std.proofs.lemmas.Bool.{cases_lt}
-use Rattle.fee_core.specs.nv_base.Count.{Rose, WereCounted, last_count}
-use Rattle.fee_core.specs.nv_base.declared.geometry.Geometry.{Geometry}
-use Rattle.fee_core.specs.memif.Clock.{After}
-use Rattle.fee_core.specs.fls_model.Told.{Told, ToldBytes, Change, TellsFor, IfBothTold, bytes_now, changes_in}
+use Rattle.memif_fee_ea.specs.fee_core.nv_base.Count.{Rose, WereCounted, last_count}
+use Rattle.memif_fee_ea.specs.fee_core.nv_base.declared.geometry.Geometry.{Geometry}
+use Rattle.memif_fee_ea.specs.fee_core.memif.Clock.{After}
+use Rattle.memif_fee_ea.specs.fee_core.fls_model.Told.{Told, ToldBytes, Change, TellsFor, IfBothTold, bytes_now, changes_in}
 use Rattle.fls_devices.specs.Cutter.{Cutting, cutting, planning_of, told_cutting, OnlyCuts}
 use Rattle.fls_devices.specs.Journal.{Journaled, HaveParts, merged, bytes_over, empty_journal}
 use Rattle.fls_devices.specs.Overlay.{ops_over}
-use Rattle.fee_core.specs.promise_device.Making.{Making}
-use Rattle.fee_core.specs.promise_device.Image.{IsSoundFlash}
-use Rattle.fee_core.specs.promise_device.Reading.{Reading, BeginsSound}
-use Rattle.fee_core.specs.promise_device.Bridge.{IsWornBy, cuts_of}
-use Rattle.fee_core.specs.promise_device.FlashRun.{TellsBytes, TellsOperations, StartsSound, HasRoom, AreSeen, bytes_after, is_none_done}
-use Rattle.fee_core.specs.fls_told.Device.{FlashDevice, flash_told}
-use Rattle.fee_core.specs.fls_told.Clock.{flash_clock}
+use Rattle.memif_fee_ea.specs.fee_core.promise_device.Making.{Making}
+use Rattle.memif_fee_ea.specs.fee_core.promise_device.Image.{IsSoundFlash}
+use Rattle.memif_fee_ea.specs.fee_core.promise_device.Reading.{Reading, BeginsSound}
+use Rattle.memif_fee_ea.specs.fee_core.promise_device.Bridge.{IsWornBy, cuts_of}
+use Rattle.memif_fee_ea.specs.fee_core.promise_device.FlashRun.{TellsBytes, TellsOperations, StartsSound, HasRoom, AreSeen, bytes_after, is_none_done}
+use Rattle.memif_fee_ea.specs.fee_core.fls_told.Device.{FlashDevice, flash_told}
+use Rattle.memif_fee_ea.specs.fee_core.fls_told.Clock.{flash_clock}
 use Rattle.nvm_flash.specs.CutterLaws.{run_of_cutter, run_within, HandsBack, DevicesBridge}
 use Rattle.nvm_flash.proofs.CutterSeen.{OffsKept, offs_kept, keeps_of, seen_merged}
 

@@ -3,15 +3,15 @@ use Rattle.std.specs.Prelude.{IsTrue, slice_get, ◌++◌, take, drop, map}
 use Rattle.std.specs.List.{list_all}
 use Rattle.std.proofs.Common.{◌≡◌, inl, inr, ℕ, zero, suc, ◌+◌, true, List, [], ◌∷◌, Some, refl, subst, arith}
 use Rattle.std.proofs.lemmas.Bool.{and_parts}
-use Rattle.fee_core.specs.nv_base.declared.geometry.Geometry.{Geometry}
-use Rattle.fee_core.specs.fls_model.declared.flash.FlashAnswer.{FlashAnswer}
-use Rattle.fee_core.specs.fls_model.declared.flash.FlashAnswer.TheVariants.{Done, Failed, Off}
-use Rattle.fee_core.specs.fls_model.Call.{op_of}
-use Rattle.fee_core.specs.fls_model.Told.{Change}
+use Rattle.memif_fee_ea.specs.fee_core.nv_base.declared.geometry.Geometry.{Geometry}
+use Rattle.memif_fee_ea.specs.fee_core.fls_model.declared.flash.FlashAnswer.{FlashAnswer}
+use Rattle.memif_fee_ea.specs.fee_core.fls_model.declared.flash.FlashAnswer.TheVariants.{Done, Failed, Off}
+use Rattle.memif_fee_ea.specs.fee_core.fls_model.Call.{op_of}
+use Rattle.memif_fee_ea.specs.fee_core.fls_model.Told.{Change}
 use Rattle.fls_devices.specs.Journal.{Harmed, has_reached, HasPart, HaveParts, change_of, before_all, without_part, merged}
 use Rattle.fls_devices.specs.Part.{off_of}
-use Rattle.fee_core.specs.promise_device.FlashRun.{AreSeen, next_bytes}
-use Rattle.fee_core.proofs.FlashRun.{seen_all}
+use Rattle.memif_fee_ea.specs.fee_core.promise_device.FlashRun.{AreSeen, next_bytes}
+use Rattle.memif_fee_ea.proofs.FlashRun.{seen_all}
 
 -- THE ANSWERS
 off_is : (a : FlashAnswer) → off_of a ≡ true → a ≡ Off

@@ -1,12 +1,12 @@
 -- A cutter that counted no operation, and the flash within it.
 use Rattle.std.specs.Prelude.{IfSome, length, ◌≢◌}
 use Rattle.std.proofs.Common.{◌≡◌, inl, inr, ℕ, zero, suc, ◌+◌, true, false, List, Option, Some, None, sym, ap, ◌∙◌, arith}
-use Rattle.fee_core.specs.nv_base.Count.{Rose}
-use Rattle.fee_core.specs.nv_base.Geometry.{size_of}
-use Rattle.fee_core.specs.nv_base.declared.geometry.Geometry.{Geometry}
-use Rattle.fee_core.specs.fls_model.declared.flash.AttachFault.{AttachFault}
-use Rattle.fee_core.specs.fls_model.declared.flash.AttachFault.TheVariants.{Failed, InUse, WrongSize, Memory}
-use Rattle.fee_core.specs.fls_model.Told.{Told, ToldBytes, bytes_now}
+use Rattle.memif_fee_ea.specs.fee_core.nv_base.Count.{Rose}
+use Rattle.memif_fee_ea.specs.fee_core.nv_base.Geometry.{size_of}
+use Rattle.memif_fee_ea.specs.fee_core.nv_base.declared.geometry.Geometry.{Geometry}
+use Rattle.memif_fee_ea.specs.fee_core.fls_model.declared.flash.AttachFault.{AttachFault}
+use Rattle.memif_fee_ea.specs.fee_core.fls_model.declared.flash.AttachFault.TheVariants.{Failed, InUse, WrongSize, Memory}
+use Rattle.memif_fee_ea.specs.fee_core.fls_model.Told.{Told, ToldBytes, bytes_now}
 use Rattle.fls_devices.specs.Cutter.{Cutting, cutting, told_cutting, OnlyCuts}
 use Rattle.fls_devices.specs.Journal.{Journaled, bytes_over}
 use Rattle.fls_devices.specs.Overlay.{ops_over}
@@ -42,7 +42,7 @@ rose_within : (c : Cutting) (a : ℕ) → OnlyCuts c → Rose (a + 0) (told_cutt
 rose_within c a only (inl more) = inl (omega (arith, only.faults, more))
 rose_within c a only (inr big) = inr (omega (arith, big.0), omega (arith, only.faults, big.1))
 
-size_within : (j : Journaled) (g : Geometry) (b : Option ToldBytes) (P : List ℕ → Type 0) → IfSome (bytes_over j g b) (λ (x : ToldBytes). P x.now) → IfSome b (λ (x : ToldBytes). P x.now)
+pub size_within : (j : Journaled) (g : Geometry) (b : Option ToldBytes) (P : List ℕ → Type 0) → IfSome (bytes_over j g b) (λ (x : ToldBytes). P x.now) → IfSome b (λ (x : ToldBytes). P x.now)
 size_within j g None P has = tt
 size_within j g (Some b) P has = has
 

@@ -9,14 +9,14 @@ use Rattle.nvm_core.specs.block_config.Rules.{IsLegalConfig}
 use Rattle.nvm_core.specs.block_machine.Words.{Entry}
 use Rattle.nvm_core.specs.memif.Told.{Part, PartTold, DeviceTold, First, Second, part_at as at_part}
 use Rattle.nvm_core.specs.memif.Calls.{InOrder}
-use Rattle.fee_core.specs.fls_model.Told.{Told, Change}
-use Rattle.fee_core.specs.promise_device.Making.{Making}
-use Rattle.fee_core.specs.promise_device.Reading.{Reading}
-use Rattle.fee_core.specs.promise_device.Bridge.{Bridges, cuts_of}
-use Rattle.fee_core.specs.fls_told.Clock.{off_in_of}
-use Rattle.fee_core.specs.fee_told.Device.{Device, flash_device, told_of, clock_of}
-use Rattle.fee_core.specs.Tells.{told_clock}
-use Rattle.fee_core.specs.fee_laws.Made.{IsMadeOf, part_at}
+use Rattle.memif_fee_ea.specs.fee_core.fls_model.Told.{Told, Change}
+use Rattle.memif_fee_ea.specs.fee_core.promise_device.Making.{Making}
+use Rattle.memif_fee_ea.specs.fee_core.promise_device.Reading.{Reading}
+use Rattle.memif_fee_ea.specs.fee_core.promise_device.Bridge.{Bridges, cuts_of}
+use Rattle.memif_fee_ea.specs.fee_core.fls_told.Clock.{off_in_of}
+use Rattle.memif_fee_ea.specs.fee_core.fee_told.Device.{Device, flash_device, told_of, clock_of}
+use Rattle.memif_fee_ea.specs.fee_core.Tells.{told_clock}
+use Rattle.memif_fee_ea.specs.fee_core.fee_laws.Made.{IsMadeOf, part_at}
 use Rattle.nvm_core.specs.ram_blocks.declared.plain_block.PlainBlock.{PlainBlock}
 use Rattle.nvm_core.specs.nvm_device_laws.Turn.{Keeps, BeginsKept, down}
 use Rattle.nvm_core.specs.Stack.{StackState}
@@ -25,7 +25,7 @@ use Rattle.nvm_core.specs.nvm_laws.Keeps.{StackKeepsAsTold, KeepsAsTold, KeepsWh
 use Rattle.nvm_core.specs.nvm_laws.declared.turned.FoundAnswer.TheVariants as found
 use Rattle.promise_run.specs.Halves.{beyond_end}
 use Rattle.nvm_core.proofs.StartingUp.{stacks_begin}
-use Rattle.fee_core.proofs.FlashRun.{seen_more}
+use Rattle.memif_fee_ea.proofs.FlashRun.{seen_more}
 use Rattle.nvm_flash.specs.Made.{IsOrigin, IsMadeStack, AreOfFirst, one_part}
 
 -- THE FIRST START-UP

@@ -5,9 +5,9 @@ use Rattle.std.specs.Option.{option_map_or}
 use Rattle.std.proofs.Common.{◌≡◌, ◌≤◌, ◌+◌, ◌*◌, ◌==◌, ℕ, zero, suc, Bool, true, false, List, [], ◌∷◌, map, length, Option, Some, None, refl, sym, ap, ◌∙◌, arith}
 use Rattle.std.proofs.Math.Nat.{mul-add, mul-zero}
 use Rattle.std.proofs.lemmas.List.Sums.{sum_by-cons}
-use Rattle.fee_core.specs.nv_base.declared.instance.DeviceNumber.{DeviceNumber}
-use Rattle.fee_core.specs.nv_base.Marks.{number_of}
-use Rattle.fee_core.specs.nv_base.Pages.{record_pages_of}
+use Rattle.memif_fee_ea.specs.fee_core.nv_base.declared.instance.DeviceNumber.{DeviceNumber}
+use Rattle.memif_fee_ea.specs.fee_core.nv_base.Marks.{number_of}
+use Rattle.memif_fee_ea.specs.fee_core.nv_base.Pages.{record_pages_of}
 use Rattle.nvm_core.specs.block_config.declared.block.BlockDesc.{BlockDesc}
 use Rattle.nvm_core.specs.block_config.declared.block.BlockKind.{BlockKind}
 use Rattle.nvm_core.specs.block_config.declared.block.BlockKind.TheVariants.{Native, Redundant, Dataset}
@@ -18,13 +18,13 @@ use Rattle.nvm_core.specs.block_config.Rules.{IsDatasetCount, IsLegalBlock, AreB
 use Rattle.nvm_core.specs.block_config.Sizes.{instances_of, size_of}
 use Rattle.nvm_core.proofs.Devices.{lengths_are_first}
 use Rattle.nvm_core.proofs.Numbering.{length-lengths_from}
-use Rattle.fee_core.specs.memif.Told.{Figures, at_number, figures_at, length_of, most_of, no_figures}
+use Rattle.memif_fee_ea.specs.fee_core.memif.Told.{Figures, at_number, figures_at, length_of, most_of, no_figures}
 use Rattle.nvm_core.specs.block_machine.Words.{Instance, JobKind, ReadJob, WriteJob, RestoreJob, EraseJob, InvalidateJob, ReadAllJob, WriteAllJob}
 use Rattle.nvm_core.specs.block_machine.Blocks.{desc_of, indices_of, job_block, kind_of}
 use Rattle.nvm_core.specs.block_machine.Prices.{device_tries}
-use Rattle.fee_core.specs.fee_course.Copies.{copies_most, greatest}
-use Rattle.fee_core.specs.fee_switch_laws.Space.{all_pages}
-use Rattle.fee_core.specs.fee_told.Figures.{figures_for}
+use Rattle.memif_fee_ea.specs.fee_core.fee_course.Copies.{copies_most, greatest}
+use Rattle.memif_fee_ea.specs.fee_core.fee_switch_laws.Space.{all_pages}
+use Rattle.memif_fee_ea.specs.fee_core.fee_told.Figures.{figures_for}
 use Rattle.nvm_core.specs.job_programs.Program.{operation, retries_of, works}
 use Rattle.nvm_core.specs.nvm_figures.Left.{most_at, over_tries}
 use Rattle.nvm_core.specs.nvm_figures.Urgent.{pages_of}

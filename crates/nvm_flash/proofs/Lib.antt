@@ -1,5 +1,7 @@
 pub mod Returning
 pub mod Space
+pub mod PairNumbers
+pub mod PairReturning
 pub mod JobTurns
 pub mod Costs
 pub mod CutterRuns
@@ -7,9 +9,9 @@ pub mod CutterSeen
 pub mod CutterUnmade
 pub mod FirstStart
 pub use Rattle.nvm_core.proofs.Called as Called
-pub use Rattle.fee_core.proofs.Readings as Readings
+pub use Rattle.memif_fee_ea.proofs.Readings as Readings
 pub use Rattle.promise_run.proofs.Composition as Composition
-pub use Rattle.fee_core.proofs.Turning as Turning
+pub use Rattle.memif_fee_ea.proofs.Turning as Turning
 pub use Rattle.nvm_core.proofs.DownCalls as DownCalls
 pub use Rattle.promise_run.proofs.DeviceTurns as DeviceTurns
 pub use Rattle.nvm_core.proofs.DeviceWork as DeviceWork
@@ -18,7 +20,7 @@ pub use Rattle.nvm_core.proofs.Trying as Trying
 pub use Rattle.nvm_core.proofs.TurnWork as TurnWork
 pub use Rattle.nvm_core.proofs.LawStanding as LawStanding
 pub use Rattle.promise_run.proofs.Callers as Callers
-pub use Rattle.fee_core.proofs.Soundness as Soundness
+pub use Rattle.memif_fee_ea.proofs.Soundness as Soundness
 pub use Rattle.promise_run.proofs.InRoom as InRoom
 pub use Rattle.promise_run.proofs.Texts as Texts
 pub use Rattle.promise_run.proofs.BankTurns as BankTurns

@@ -4,18 +4,18 @@ use Rattle.std.specs.List.{range_with_len}
 use Rattle.std.proofs.Common.{◌≡◌, ◌≤◌, ◌+◌, ◌*◌, ◌==◌, ℕ, zero, suc, Bool, true, false, List, [], ◌∷◌, ◌++◌, map, length, Some, None, refl, sym, ap, ◌∙◌, arith}
 use Rattle.std.proofs.Math.Nat.{suc-mul, mul-zero}
 use Rattle.std.proofs.lemmas.List.Sums.{sum_by-cons}
-use Rattle.fee_core.specs.nv_base.declared.instance.DeviceNumber.{DeviceNumber}
-use Rattle.fee_core.specs.nv_base.Lengths.{AreLengths}
-use Rattle.fee_core.specs.nv_base.Pages.{record_pages_of}
+use Rattle.memif_fee_ea.specs.fee_core.nv_base.declared.instance.DeviceNumber.{DeviceNumber}
+use Rattle.memif_fee_ea.specs.fee_core.nv_base.Lengths.{AreLengths}
+use Rattle.memif_fee_ea.specs.fee_core.nv_base.Pages.{record_pages_of}
 use Rattle.nvm_core.specs.block_config.declared.block.BlockDesc.{BlockDesc}
 use Rattle.nvm_core.specs.block_config.Config.{Configuration}
-use Rattle.nvm_core.specs.block_config.Lengths.{length_at, block_lengths, stored_lengths, lengths_by, lengths_of}
+use Rattle.nvm_core.specs.block_config.Lengths.{device_lengths, length_at, block_lengths, stored_lengths, lengths_by, lengths_of}
 use Rattle.nvm_core.specs.block_config.Rules.{IsLegalConfig}
 use Rattle.nvm_core.specs.block_config.Sizes as sizes
 use Rattle.nvm_core.specs.block_config.Sizes.{instances_of, size_of, measures_of}
 use Rattle.nvm_core.proofs.Devices.{lengths_are_first}
-use Rattle.fee_core.specs.fee_course.Copies.{greatest}
-use Rattle.fee_core.specs.fee_switch_laws.Space.{HasSpace, all_pages}
+use Rattle.memif_fee_ea.specs.fee_core.fee_course.Copies.{greatest}
+use Rattle.memif_fee_ea.specs.fee_core.fee_switch_laws.Space.{HasSpace, all_pages}
 
 all_more : (p : ℕ) (xs ys : List (DeviceNumber × ℕ)) → all_pages p (xs ++ ys) ≡ all_pages p xs + all_pages p ys
 all_more p [] ys = omega arith
@@ -72,13 +72,17 @@ greatest_blocks p id (b ∷ bs) =
     let here = fold_from (size_of p) (max 0 (size_of p b)) bs in
     let grows = fold_grows (size_of p) 0 (max 0 (size_of p b)) bs (omega arith) in omega (arith, one, more, rest, here, grows)
 
-pub has_space : (c : Configuration) (numbers : List (DeviceNumber × ℕ)) → IsLegalConfig c → c.eeprom ≡ None → numbers ≡ lengths_of c → AreLengths 0 numbers → HasSpace numbers c.geometry c.banks (measures_of c.geometry.page c.blocks).urgent
-has_space c numbers legal one is lengths = record {
+-- for the instances of the first device
+pub has_first_space : (c : Configuration) (numbers : List (DeviceNumber × ℕ)) → IsLegalConfig c → numbers ≡ device_lengths 0 c → AreLengths 0 numbers → HasSpace numbers c.geometry c.banks (measures_of c.geometry.page c.blocks).urgent
+has_first_space c numbers legal is lengths = record {
   lengths = lengths;
   space =
       let room = legal.room in
-      let first = is ∙ sym (lengths_are_first c legal one) in
-      let all = ap (all_pages c.geometry.page) first ∙ all_blocks c.geometry.page 1 c.blocks in
+      let all = ap (all_pages c.geometry.page) is ∙ all_blocks c.geometry.page 1 c.blocks in
       let most = greatest_blocks c.geometry.page 1 c.blocks in
-      let same = ap (greatest c.geometry.page) first in omega (arith, room, all, most, same);
+      let same = ap (greatest c.geometry.page) is in omega (arith, room, all, most, same);
 }
+
+-- for all, without a second device
+pub has_space : (c : Configuration) (numbers : List (DeviceNumber × ℕ)) → IsLegalConfig c → c.eeprom ≡ None → numbers ≡ lengths_of c → AreLengths 0 numbers → HasSpace numbers c.geometry c.banks (measures_of c.geometry.page c.blocks).urgent
+has_space c numbers legal one is lengths = has_first_space c numbers legal (is ∙ sym (lengths_are_first c legal one)) lengths

@@ -2,7 +2,7 @@
 use Rattle.std.specs.Prelude.{◌≡◌, ◌≤◌, ℕ, None, if◌then◌else◌}
 use Rattle.nvm_core.specs.block_config.Config.{Configuration}
 use Rattle.nvm_core.specs.block_config.Rules.{IsLegalConfig}
-use Rattle.fee_core.specs.memif.Told.{Fixed, figures_at, most_of}
+use Rattle.memif_fee_ea.specs.fee_core.memif.Told.{Fixed, figures_at, most_of}
 use Rattle.nvm_core.specs.job_programs.Program.{operation, works}
 use Rattle.nvm_core.specs.promise_blocks.Work.{Costs}
 use Rattle.promise_run.specs.Operations.{costs_of}

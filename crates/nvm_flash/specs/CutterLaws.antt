@@ -1,13 +1,13 @@
 -- From the run of a cutter to the run of the flash within it.
 use Rattle.std.specs.Prelude.{◌≡◌, ℕ, true, false, List, IfSome}
-use Rattle.fee_core.specs.memif.Told.{PartTold}
-use Rattle.fee_core.specs.fls_model.Told.{Told, Change, changes_in}
+use Rattle.memif_fee_ea.specs.fee_core.memif.Told.{PartTold}
+use Rattle.memif_fee_ea.specs.fee_core.fls_model.Told.{Told, Change, changes_in}
 use Rattle.fls_devices.specs.Cutter.{Cutting, cutting, told_cutting, OnlyCuts}
-use Rattle.fee_core.specs.promise_device.Reading.{Reading}
-use Rattle.fee_core.specs.promise_device.Bridge.{Bridges}
-use Rattle.fee_core.specs.promise_device.FlashRun.{FlashRun}
-use Rattle.fee_core.specs.fls_told.Device.{FlashDevice, flash_told}
-use Rattle.fee_core.specs.fls_told.Clock.{flash_clock}
+use Rattle.memif_fee_ea.specs.fee_core.promise_device.Reading.{Reading}
+use Rattle.memif_fee_ea.specs.fee_core.promise_device.Bridge.{Bridges}
+use Rattle.memif_fee_ea.specs.fee_core.promise_device.FlashRun.{FlashRun}
+use Rattle.memif_fee_ea.specs.fee_core.fls_told.Device.{FlashDevice, flash_told}
+use Rattle.memif_fee_ea.specs.fee_core.fls_told.Clock.{flash_clock}
 
 -- the run of a cutter, from its making on, and that of the flash within it
 abbrev pub run_of_cutter : Told → ℕ → Cutting → List Change → FlashRun

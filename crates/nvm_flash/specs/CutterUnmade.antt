@@ -1,11 +1,11 @@
 -- A cutter that counted no operation, and the flash within it.
 use Rattle.std.specs.Prelude.{◌≡◌, ℕ, true, length, IfSome, Err}
-use Rattle.fee_core.specs.nv_base.Count.{Rose}
-use Rattle.fee_core.specs.nv_base.declared.geometry.Geometry.{Geometry}
-use Rattle.fee_core.specs.fls_model.Attach.{IsAttach}
-use Rattle.fee_core.specs.fls_model.declared.flash.AttachFault.{AttachFault}
-use Rattle.fee_core.specs.fls_model.declared.flash.AttachFault.TheVariants.{Failed, InUse, WrongSize, Memory}
-use Rattle.fee_core.specs.fls_model.Told.{Told, bytes_now}
+use Rattle.memif_fee_ea.specs.fee_core.nv_base.Count.{Rose}
+use Rattle.memif_fee_ea.specs.fee_core.nv_base.declared.geometry.Geometry.{Geometry}
+use Rattle.memif_fee_ea.specs.fee_core.fls_model.Attach.{IsAttach}
+use Rattle.memif_fee_ea.specs.fee_core.fls_model.declared.flash.AttachFault.{AttachFault}
+use Rattle.memif_fee_ea.specs.fee_core.fls_model.declared.flash.AttachFault.TheVariants.{Failed, InUse, WrongSize, Memory}
+use Rattle.memif_fee_ea.specs.fee_core.fls_model.Told.{Told, bytes_now}
 use Rattle.fls_devices.specs.Cutter.{Cutting, cutting, told_cutting, OnlyCuts}
 
 -- a cutter tells the bytes and the faults of the flash within it

@@ -1,14 +1,14 @@
 -- The figures of the device of a configuration, and the most turns of a job by them.
 use Rattle.std.specs.Prelude.{◌≡◌, ℕ, None}
-use Rattle.fee_core.specs.nv_base.Geometry.{sectors_of_bank}
+use Rattle.memif_fee_ea.specs.fee_core.nv_base.Geometry.{sectors_of_bank}
 use Rattle.nvm_core.specs.block_config.Config.{Configuration}
 use Rattle.nvm_core.specs.block_config.Lengths.{lengths_of}
 use Rattle.nvm_core.specs.block_config.Rules.{IsLegalConfig}
 use Rattle.nvm_core.specs.block_config.Sizes.{measures_of}
-use Rattle.fee_core.specs.memif.Told.{Fixed}
+use Rattle.memif_fee_ea.specs.fee_core.memif.Told.{Fixed}
 use Rattle.nvm_core.specs.block_machine.State.{State, Job}
 use Rattle.nvm_core.specs.block_machine.Blocks.{indices_of}
-use Rattle.fee_core.specs.fee_told.Figures.{fixed_for}
+use Rattle.memif_fee_ea.specs.fee_core.fee_told.Figures.{fixed_for}
 use Rattle.nvm_core.specs.job_progress.JobInHand.{program_for}
 use Rattle.nvm_core.specs.nvm_figures.Left.{most_turns}
 use Rattle.nvm_core.specs.nvm_figures.Urgent.{pages_of}

@@ -1,13 +1,13 @@
 // The device.
 ghost use Rattle.std.specs.Prelude.{◌≡◌, IfErr, IfOk, OnOk, None};
 ghost use Rattle.nvm_core.specs.block_config.Rules.{IsLegalConfig};
-ghost use Rattle.fee_core.specs.fee_told.Device.{told_of};
-ghost use Rattle.fee_core.specs.fee_laws.Made.{IsMadeOf};
+ghost use Rattle.memif_fee_ea.specs.fee_core.fee_told.Device.{told_of};
+ghost use Rattle.memif_fee_ea.specs.fee_core.fee_laws.Made.{IsMadeOf};
 ghost use Rattle.nvm_flash.specs.Made.{AreOfFirst, ComesBack, IsOrigin, fault_of};
 ghost use Rattle.nvm_flash.specs.Turns.{fixed_by};
 
-use fee_core::{AttachFault, Fee, Flash, Origin};
 use fls_devices::Cutter;
+use memif_fee_ea::fee_core::{AttachFault, Fee, Flash, Origin};
 use nvm_core::Config;
 use std::alloc::Global;
 use thiserror::Error;
@@ -89,7 +89,7 @@ fn make_one<F: Flash, O: Origin>(
     }
 }
 
-fn fault_of(fault: AttachFault) -> MakeFault
+pub(crate) fn fault_of(fault: AttachFault) -> MakeFault
     ensures { result ≡ fault_of fault }
 {
     match fault {

@@ -1,17 +1,18 @@
 // The stack.
 ghost use Rattle.std.specs.Prelude.{◌≡◌, ◌≤◌, ℕ, IfErr, IfOk, None};
-ghost use Rattle.fee_core.specs.fee_told.Device.{told_of};
-ghost use Rattle.fee_core.specs.Tells.{told_clock};
-ghost use Rattle.fee_core.specs.fls_model.Told.{Told};
+ghost use Rattle.memif_fee_ea.specs.fee_core.fee_told.Device.{told_of};
+ghost use Rattle.memif_fee_ea.specs.fee_core.Tells.{told_clock};
+ghost use Rattle.memif_fee_ea.specs.fee_core.fls_model.Told.{Told};
 ghost use Rattle.nvm_core.specs.StartUps.{StartsKeep, StartsUp};
 ghost use Rattle.nvm_core.specs.nv_desk_copies.Front.{AreSynchronized};
-ghost use Rattle.nvm_flash.specs.Made.{ComesBack, IsMadeStack, IsMadeWith, IsOrigin};
+ghost use Rattle.nvm_core.specs.nvm_found.Found.{FailsToFind};
+ghost use Rattle.nvm_flash.specs.Made.{ComesBack, IsMadeStack, IsMadeWith, IsOrigin, IsUnstarted};
 
 use crate::back::give_back;
 use crate::device::{MakeFault, make_device};
-use fee_core::{Fee, Flash, Origin};
 use fls_devices::Cutter;
-use nvm_core::{Config, FoundAnswer, PlainSync, Stack, SyncCalls};
+use memif_fee_ea::fee_core::{Fee, Flash, Origin};
+use nvm_core::{Config, FoundAnswer, MemDevice, PlainSync, Stack, SyncCalls};
 use std::alloc::Global;
 
 /// A stack over a flash whose power may be cut.
@@ -104,11 +105,24 @@ pub fn start_stack_with<F: Flash, O: Origin, C: SyncCalls + Drop>(
     ensures keeps { IfOk result (λ s. StartsKeep FoundAnswer.Ready stack.desk (told_of stack.device) (told_clock stack.device) s.desk (told_of s.device) (told_clock s.device)) }
     ensures stopped { IfErr result (λ e. (inner : Told) (cuts : ℕ) → IsOrigin stack.desk.config inner cuts O.making O.entry → ComesBack stack.desk.config e.0 inner (F.told e.1)) }
 {
+    match start_over(stack) {
+        Ok(stack) => Ok(stack),
+        Err(device) => Err((MakeFault::Flash, give_back(device))),
+    }
+}
+
+/// The first start-up of a stack over any device. Where it fails, by a fault, the device comes back.
+pub(crate) fn start_over<D: MemDevice, C: SyncCalls + Drop>(
+    stack: Stack<D, C>,
+) -> Result<Stack<D, C>, D>
+    requires { IsUnstarted stack }
+    ensures started { IfOk result (λ s. StartsUp D.told stack s) }
+    ensures keeps { IfOk result (λ s. StartsKeep FoundAnswer.Ready stack.desk (D.told stack.device) (D.clock stack.device) s.desk (D.told s.device) (D.clock s.device)) }
+    ensures failed { IfErr result (λ d. FailsToFind (D.told stack.device) (D.told d)) }
+{
     let mut stack = stack;
     match stack.start() {
         FoundAnswer::Ready => Ok(stack),
-        FoundAnswer::Failed | FoundAnswer::NoRoom | FoundAnswer::Memory => {
-            Err((MakeFault::Flash, give_back(stack.into_device())))
-        }
+        FoundAnswer::Failed | FoundAnswer::NoRoom | FoundAnswer::Memory => Err(stack.into_device()),
     }
 }

@@ -1,7 +1,5 @@
-use Rattle.nvm_flash.proofs.Returning.{back}
+use Rattle.promise_run.specs.Promise.{making_of}
 use Rattle.nvm_flash.proofs.back.give_back.Goals as goal
 
 pub returns : goal.returns
-returns g c = λ x inner cuts origin.
-    back x inner cuts g.O.Origin.making g.O.Origin.entry (g.F.Flash.told c.into_inner.result) c.into_flash.result c.args.device origin c.into_inner.ensures.cuts c.into_inner.ensures.inner
-    c.into_flash.ensures.told c.into_flash.ensures.changes c.into_flash.ensures.none c.into_flash.ensures.more c.into_flash.ensures.geometry c.into_flash.ensures.parts c.into_flash.ensures.bridge c.into_flash.ensures.wear c.into_flash.ensures.restarts
+returns g c = λ x inner cuts origin. c.give_bank_back.ensures (making_of x) inner cuts origin.made_for origin.over

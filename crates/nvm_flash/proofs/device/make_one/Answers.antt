@@ -1,6 +1,6 @@
-use Rattle.fee_core.specs.nv_base.declared.geometry.Geometry.{Geometry}
+use Rattle.memif_fee_ea.specs.fee_core.nv_base.declared.geometry.Geometry.{Geometry}
 use Rattle.std.proofs.Common.{ℕ, sym, subst}
-use Rattle.fee_core.specs.fee_switch_laws.Space.{HasSpace}
+use Rattle.memif_fee_ea.specs.fee_core.fee_switch_laws.Space.{HasSpace}
 use Rattle.nvm_core.specs.block_config.Sizes.{measures_of}
 use Rattle.nvm_flash.proofs.Space.{has_space}
 use Rattle.nvm_flash.proofs.device.make_one.Goals as goal
