@@ -38,7 +38,8 @@ use Rattle.nvm_flash.specs.CutterUnmade as unmade
 use Rattle.nvm_flash.specs.CutterUnmade.{CountsStay}
 use Rattle.nvm_flash.specs.Made.{IsBackFrom, IsFlashCause, IsPartBack, LeavesOne, fault_of}
 use Rattle.nvm_flash.specs.PairMade.{AreBack, AreOrigins, ComeBack, IsPairStack, failed_part, pair_fault, pair_fault_by}
-use Rattle.nvm_flash.specs.PairMaking.{making_first, making_second}
+use Rattle.promise_run.specs.Promise.{making_first}
+use Rattle.nvm_flash.specs.PairMaking.{making_second}
 use Rattle.nvm_flash.proofs.CutterRuns.{same_entry, same_exit}
 use Rattle.nvm_flash.proofs.Returning.{flash_rose, left_by, part_of}
 use Rattle.nvm_flash.proofs.CutterUnmade.{counts_stay_within, refused_within, size_within, tells_within}

@@ -22,7 +22,8 @@ use Rattle.nvm_flash.specs.declared.pair.PairCuts.{PairCuts}
 use Rattle.nvm_flash.specs.declared.pair.PairFault.{PairFault}
 use Rattle.nvm_flash.specs.declared.pair.PairFault.TheVariants.{OfFlash, OfEeprom, OneDevice, Memory}
 use Rattle.nvm_flash.specs.Made.{IsBackFrom, IsFlashCause, IsPartBack, IsUnstarted, LeavesOne, fault_of}
-use Rattle.nvm_flash.specs.PairMaking.{making_first, making_second}
+use Rattle.promise_run.specs.Promise.{making_first}
+use Rattle.nvm_flash.specs.PairMaking.{making_second}
 
 -- What both devices are made of: this configuration, over a flash and an EEPROM that tell this, with so many power cuts of each that can be
 -- planned.

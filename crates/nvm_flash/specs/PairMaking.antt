@@ -5,15 +5,9 @@ use Rattle.memif_fee_ea.specs.fee_core.nv_base.Lengths.{AreLengths}
 use Rattle.nvm_core.specs.block_config.Config.{Configuration}
 use Rattle.nvm_core.specs.block_config.Lengths.{device_lengths, lengths_of}
 use Rattle.nvm_core.specs.block_config.Rules.{IsLegalConfig}
-use Rattle.nvm_core.specs.block_config.Sizes.{measures_of}
-use Rattle.memif_fee_ea.specs.fee_core.promise_device.Making as flash
 use Rattle.memif_fee_ea.specs.ea_slots.ea_told.Making as eeprom
 use Rattle.memif_fee_ea.specs.memif_pair.Pair.{merged}
 use Rattle.memif_fee_ea.specs.Numbers.{are_apart}
-
--- the banks of the flash, for the instances that the first device stores
-abbrev pub making_first : Configuration → flash.Making
-making_first c = record { geometry = c.geometry; banks = c.banks; numbers = device_lengths 0 c; reserve = (measures_of c.geometry.page c.blocks).urgent }
 
 -- the slots of an EEPROM of this shape, for those of the second one
 abbrev pub making_second : Geometry → Configuration → eeprom.Making

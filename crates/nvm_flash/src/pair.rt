@@ -13,7 +13,8 @@ ghost use Rattle.memif_fee_ea.specs.memif_pair.Both.{told_as};
 ghost use Rattle.memif_fee_ea.specs.Made.{AreParts, IsMadeOf};
 ghost use Rattle.fls_devices.specs.Cutter.{cutting, told_cutting};
 ghost use Rattle.nvm_flash.specs.Made.{IsPartBack};
-ghost use Rattle.nvm_flash.specs.PairMaking.{making_first, making_second};
+ghost use Rattle.promise_run.specs.Promise.{making_first};
+ghost use Rattle.nvm_flash.specs.PairMaking.{making_second};
 ghost use Rattle.nvm_flash.specs.PairMade.{AreBack, AreOrigins, ComeBack, pair_fault};
 
 use crate::back::give_bank_back;
