@@ -31,13 +31,17 @@ use Rattle.nvm_core.specs.block_config.Config.{Configuration}
 use Rattle.promise_run.specs.Run.{LeavesAlone}
 use Rattle.nvm_core.specs.Stack.{StackState, first_stack}
 use Rattle.nvm_core.specs.nvm_found.Found.{FailsToFind}
-use Rattle.nvm_flash.specs.declared.device.MakeFault.TheVariants.{Flash}
+use Rattle.nvm_flash.specs.declared.device.MakeFault.TheVariants.{WrongSize, Flash, InUse, NoSecond}
+use Rattle.nvm_flash.specs.declared.device.MakeFault.TheVariants as make
 use Rattle.nvm_flash.specs.declared.pair.PairCuts.{PairCuts}
-use Rattle.nvm_flash.specs.declared.pair.PairFault.TheVariants.{Memory}
+use Rattle.nvm_flash.specs.declared.device.MakeFault.{MakeFault}
+use Rattle.nvm_flash.specs.declared.pair.PairFault.{PairFault}
+use Rattle.nvm_flash.specs.declared.pair.PairFault.TheVariants.{OfFlash, OfEeprom, OneDevice, Memory}
+use Rattle.nvm_flash.specs.Sized.{AreLooked, HasSizeOf}
 use Rattle.nvm_flash.specs.CutterUnmade as unmade
 use Rattle.nvm_flash.specs.CutterUnmade.{CountsStay}
 use Rattle.nvm_flash.specs.Made.{IsBackFrom, IsFlashCause, IsPartBack, LeavesOne, fault_of}
-use Rattle.nvm_flash.specs.PairMade.{AreBack, AreOrigins, ComeBack, IsPairStack, failed_part, pair_fault, pair_fault_by}
+use Rattle.nvm_flash.specs.PairMade.{AreBack, AreOrigins, ComeBack, IsPairStack, LeavesOther, failed_part, pair_fault, pair_fault_by}
 use Rattle.promise_run.specs.Promise.{making_first}
 use Rattle.nvm_flash.specs.PairMaking.{making_second}
 use Rattle.nvm_flash.proofs.CutterRuns.{same_entry, same_exit}
@@ -121,15 +125,40 @@ some_named o x is none = let never : Some x ≡ None = sym is ∙ none in cc nev
 at_some : {A : Type 0} (o : Option A) (x : A) (P : A → Type 0) → o ≡ Some x → P x → IfSome o P
 at_some o x P is has = subst (λ (q : Option _). IfSome q P) (sym is) has
 
-refused_by : (c : Configuration) (shape : Geometry) (p : PairPart) (fault : AttachFault) (inner other : Told) (cuts : PairCuts) (k l : Cutting) → c.eeprom ≡ Some shape → OnlyCuts k → OnlyCuts l
+-- the other flash: where one has a wrong size
+wrong_other : (shape : Geometry) (b : Option ToldBytes) (found : ℕ) (P : Type 0) → HasSizeOf shape b → IfSome b (λ x. (length x.now ≡ found) × (found ≢ 0) × (found ≢ size_of shape)) → IfSome b (λ x. P)
+wrong_other shape None found P sized wrong = tt
+wrong_other shape (Some x) found P (inl none) wrong = absurd (wrong.1 (sym wrong.0 ∙ none))
+wrong_other shape (Some x) found P (inr size) wrong = absurd (wrong.2 (sym wrong.0 ∙ size))
+
+other_first : (fault : AttachFault) (s t u v : Told) → LeavesAlone u v → LeavesOther (OfFlash (fault_of fault)) s t u v
+other_first attach.Failed s t u v alone = tt
+other_first attach.InUse s t u v alone = tt
+other_first (attach.WrongSize found) s t u v alone = alone
+other_first attach.Memory s t u v alone = tt
+
+other_second : (shape : Geometry) (fault : AttachFault) (s t u v : Told) → HasSizeOf shape u.bytes → IsFlashCause shape (fault_of fault) u v → LeavesOther (OfEeprom (fault_of fault)) s t u v
+other_second shape attach.Failed s t u v sized cause = tt
+other_second shape attach.InUse s t u v sized cause = tt
+other_second shape (attach.WrongSize found) s t u v sized cause = wrong_other shape u.bytes found (LeavesAlone s t) sized cause.0
+other_second shape attach.Memory s t u v sized cause = tt
+
+-- what no attach changed is left alone
+stays_alone : (g : Geometry) (inner : Told) (cuts : ℕ) (k : Cutting) → OnlyCuts k → told_cutting k ≡ told_cutting (cutting inner cuts) → LeavesAlone inner k.flash.inner
+stays_alone g inner cuts k only same =
+    let refused = refused_within g inner cuts k attach.Memory only same in alone_by inner attach.Memory k.flash.inner refused inner.faults refused.why
+
+refused_by : (c : Configuration) (shape : Geometry) (p : PairPart) (fault : AttachFault) (inner other : Told) (cuts : PairCuts) (k l : Cutting) → c.eeprom ≡ Some shape → HasSizeOf shape other.bytes → OnlyCuts k → OnlyCuts l
     → IsRefused c.geometry shape p fault (told_cutting (cutting inner cuts.flash)) (told_cutting k) (told_cutting (cutting other cuts.eeprom)) (told_cutting l) → ComeBack c (pair_fault_by p fault) inner k.flash.inner other l.flash.inner
-refused_by c shape part.Flash fault inner other cuts k l named only only_l (refused, same) = record {
+refused_by c shape part.Flash fault inner other cuts k l named sized only only_l (refused, same) = record {
+  other = other_first fault inner k.flash.inner other l.flash.inner (stays_alone shape other cuts.eeprom l only_l same);
   cause = refused_cause c.geometry inner cuts.flash k fault only refused;
   second = some_named c.eeprom shape named;
   flash = refused_left c.geometry inner fault k.flash.inner (refused_within c.geometry inner cuts.flash k fault only refused);
   eeprom = at_some c.eeprom shape (λ g. LeavesOne g other l.flash.inner) named (alone_left shape other cuts.eeprom l only_l same);
 }
-refused_by c shape part.Eeprom fault inner other cuts k l named only only_l (at, refused) = record {
+refused_by c shape part.Eeprom fault inner other cuts k l named sized only only_l (at, refused) = record {
+  other = other_second shape fault inner k.flash.inner other l.flash.inner sized (refused_cause shape other cuts.eeprom l fault only_l refused);
   cause = at_some c.eeprom shape (λ g. IsFlashCause g (fault_of fault) other l.flash.inner) named (refused_cause shape other cuts.eeprom l fault only_l refused);
   second = some_named c.eeprom shape named;
   flash = attached_left c.geometry inner cuts.flash k only at;
@@ -137,16 +166,16 @@ refused_by c shape part.Eeprom fault inner other cuts k l named only only_l (at,
 }
 
 -- at a refusal
-pub refused_back : (c : Configuration) (g shape : Geometry) (fault : PairAttachFault) (inner other exit exit_other : Told) (cuts : PairCuts) (first second k l : Cutting) → g ≡ c.geometry → c.eeprom ≡ Some shape → first ≡ cutting inner cuts.flash → second ≡ cutting other cuts.eeprom
+pub refused_back : (c : Configuration) (g shape : Geometry) (fault : PairAttachFault) (inner other exit exit_other : Told) (cuts : PairCuts) (first second k l : Cutting) → g ≡ c.geometry → c.eeprom ≡ Some shape → HasSizeOf shape other.bytes → first ≡ cutting inner cuts.flash → second ≡ cutting other cuts.eeprom
     → OnlyCuts k → OnlyCuts l → exit ≡ k.flash.inner → exit_other ≡ l.flash.inner → IsRefused g shape fault.part fault.fault (told_cutting first) (told_cutting k) (told_cutting second) (told_cutting l)
     → ComeBack c (pair_fault fault) inner exit other exit_other
-refused_back c g shape fault inner other exit exit_other cuts first second k l shape_is named made made_l only only_l is is_l refused =
+refused_back c g shape fault inner other exit exit_other cuts first second k l shape_is named sized made made_l only only_l is is_l refused =
     let of_first : IsRefused c.geometry shape fault.part fault.fault (told_cutting first) (told_cutting k) (told_cutting second) (told_cutting l) =
     subst (λ (x : Geometry). IsRefused x shape fault.part fault.fault (told_cutting first) (told_cutting k) (told_cutting second) (told_cutting l)) shape_is refused in
     let of_cutters = subst (λ (x : Cutting). IsRefused c.geometry shape fault.part fault.fault (told_cutting (cutting inner cuts.flash)) (told_cutting k) (told_cutting x) (told_cutting l)) made_l
     (subst (λ (x : Cutting). IsRefused c.geometry shape fault.part fault.fault (told_cutting x) (told_cutting k) (told_cutting second) (told_cutting l)) made of_first) in
     subst (λ (x : Told). ComeBack c (pair_fault fault) inner exit other x) (sym is_l)
-    (subst (λ (x : Told). ComeBack c (pair_fault fault) inner x other l.flash.inner) (sym is) (refused_by c shape fault.part fault.fault inner other cuts k l named only only_l of_cutters))
+    (subst (λ (x : Told). ComeBack c (pair_fault fault) inner x other l.flash.inner) (sym is) (refused_by c shape fault.part fault.fault inner other cuts k l named sized only only_l of_cutters))
 
 -- THE DEVICE IS TAKEN APART
 by_shape : (o : Option Geometry) (Made Back : Geometry → Type 0) → IfSome o Made → ((g : Geometry) → Made g → Back g) → IfSome o Back
@@ -197,7 +226,7 @@ pub made_pair_back : (c : Configuration) (inner other : Told) (cuts : PairCuts) 
 made_pair_back c inner other cuts m entry n entry_other exit exit_other s t origins named made parts same back =
     let back_s = subst (AreBack c inner exit other exit_other entry entry_other) same back in
     let left = left_alone c inner other cuts m entry n entry_other exit exit_other s (fee.told_of s.first).first (ea.told_in s.second).first origins (ap (λ (xs : List Bool). min (length xs) last_count) made.course) parts.first parts.second refl refl back_s in
-    record { cause = tt; second = named; flash = left.0; eeprom = left.1 }
+    record { cause = tt; other = tt; second = named; flash = left.0; eeprom = left.1 }
 
 -- a device whose first start-up failed by a fault of one of both
 first_rose : (a : ℕ) → a ≢ 0 → Rose 0 a
@@ -220,8 +249,8 @@ pub failed_pair_back : (c : Configuration) (inner other : Told) (cuts : PairCuts
     → IsMadeOf m entry n s → AreParts entry entry_other (told_as fee.told_of ea.told_in s) → FailsToFind (told_as fee.told_of ea.told_in s) (told_as fee.told_of ea.told_in t) → AreBack c inner exit other exit_other entry entry_other t
     → ComeBack c (failed_part (fee.told_of t.first)) inner exit other exit_other
 failed_pair_back c inner other cuts m entry n entry_other exit exit_other s t origins named made parts fails back = elim (cases_Bool (faults_of (fee.told_of t.first) == 0)) [
-  | inl none ↦ rw none record { cause = by_second (equal_from none); second = named; flash = left.0; eeprom = left.1 }
-  | inr some ↦ rw some record { cause = by_first (differ_from some); second = named; flash = left.0; eeprom = left.1 }
+  | inl none ↦ rw none record { cause = by_second (equal_from none); other = tt; second = named; flash = left.0; eeprom = left.1 }
+  | inr some ↦ rw some record { cause = by_first (differ_from some); other = tt; second = named; flash = left.0; eeprom = left.1 }
 ]
   where
     up : PowersUp (fee.told_of s.first).first (fee.told_of t.first).first
@@ -279,3 +308,65 @@ made_pair_stack {C} c most m entry n entry_other copies s d same made parts name
   where
     own : d ≡ s.device
     own = sym (ap (λ t. t.device) same)
+
+-- LOOKED AT
+-- nothing but the count of faults changed
+faults_alone : (s t : Told) → t ≡ record s { faults = t.faults } → s.faults ≤ t.faults → (g : Geometry) → LeavesOne g s t
+faults_alone s t is more g = record {
+  flash = record { none = refl; ops = ap (λ (x : Told). x.ops) is; bytes = same_told g (bytes_now s) (bytes_now t) (ap bytes_now is) };
+  faults = more;
+  cuts = let cuts = ap (λ (x : Told). x.cuts) is in omega (arith, cuts);
+}
+
+same_alone : (s t : Told) → t ≡ s → LeavesAlone s t
+same_alone s t is = record {
+  geometry = ap (λ (x : Told). x.geometry) is;
+  off = λ off. sym (ap (λ (x : Told). x.off) is) ∙ off;
+  bytes = ap bytes_now is;
+  ops = ap (λ (x : Told). x.ops) is;
+  faults = ap (λ (x : Told). x.faults) is;
+  cuts = ap (λ (x : Told). x.cuts) is;
+}
+
+same_one : (g : Geometry) (s t : Told) → t ≡ s → LeavesOne g s t
+same_one g s t is = faults_alone s t (is ∙ (λ i. record s { faults = sym (ap (λ (x : Told). x.faults) is) i })) (let same = ap (λ (x : Told). x.faults) is in omega (arith, same)) g
+
+any_some : {A : Type 0} (o : Option A) (P : Type 0) → P → IfSome o (λ x. P)
+any_some None P has = tt
+any_some (Some x) P has = has
+
+looked_first : (fault : MakeFault) (s t u v : Told) → v ≡ u → LeavesOther (OfFlash fault) s t u v
+looked_first (WrongSize found) s t u v same = same_alone u v same
+looked_first Flash s t u v same = tt
+looked_first InUse s t u v same = tt
+looked_first NoSecond s t u v same = tt
+looked_first make.Memory s t u v same = tt
+
+looked_second : (fault : MakeFault) (s t u v : Told) → t ≡ s → LeavesOther (OfEeprom fault) s t u v
+looked_second (WrongSize found) s t u v same = any_some u.bytes (LeavesAlone s t) (same_alone s t same)
+looked_second Flash s t u v same = tt
+looked_second InUse s t u v same = tt
+looked_second NoSecond s t u v same = tt
+looked_second make.Memory s t u v same = tt
+
+looked_by : (c : Configuration) (shape : Geometry) (fault : PairFault) (s t u v : Told) → c.eeprom ≡ Some shape → AreLooked c.geometry shape (Some fault) s t u v → ComeBack c fault s t u v
+looked_by c shape (OfFlash fault) s t u v named (looked, same) = record {
+  cause = looked.0;
+  other = looked_first fault s t u v same;
+  second = some_named c.eeprom shape named;
+  flash = faults_alone s t looked.1 looked.2 c.geometry;
+  eeprom = at_some c.eeprom shape (λ g. LeavesOne g u v) named (same_one shape u v same);
+}
+looked_by c shape (OfEeprom fault) s t u v named (same, looked) = record {
+  cause = at_some c.eeprom shape (λ g. IsFlashCause g fault u v) named looked.0;
+  other = looked_second fault s t u v same;
+  second = some_named c.eeprom shape named;
+  flash = same_one c.geometry s t same;
+  eeprom = at_some c.eeprom shape (λ g. LeavesOne g u v) named (faults_alone u v looked.1 looked.2 shape);
+}
+looked_by c shape OneDevice s t u v named looked = absurd looked
+looked_by c shape Memory s t u v named looked = absurd looked
+
+pub looked_back : (c : Configuration) (g shape : Geometry) (o : Option PairFault) (fault : PairFault) (s t u v : Told) → g ≡ c.geometry → c.eeprom ≡ Some shape → o ≡ Some fault → AreLooked g shape o s t u v → ComeBack c fault s t u v
+looked_back c g shape o fault s t u v same named is looked =
+    looked_by c shape fault s t u v named (subst (λ (x : Geometry). AreLooked x shape (Some fault) s t u v) same (subst (λ (q : Option PairFault). AreLooked g shape q s t u v) is looked))

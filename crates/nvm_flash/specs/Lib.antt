@@ -1,6 +1,7 @@
 pub mod Made
 pub mod PairMaking
 pub mod PairMade
+pub mod Sized
 pub mod Turns
 pub mod Costs
 pub mod CutterLaws

@@ -17,12 +17,13 @@ use Rattle.memif_fee_ea.specs.declared.making.PairAttachFault.{PairAttachFault}
 use Rattle.memif_fee_ea.specs.declared.making.PairPart.{PairPart}
 use Rattle.memif_fee_ea.specs.declared.making.PairPart.TheVariants as part
 use Rattle.nvm_core.specs.Stack.{StackState}
-use Rattle.nvm_flash.specs.declared.device.MakeFault.TheVariants.{Flash}
+use Rattle.nvm_flash.specs.declared.device.MakeFault.TheVariants.{WrongSize, Flash}
 use Rattle.nvm_flash.specs.declared.pair.PairCuts.{PairCuts}
 use Rattle.nvm_flash.specs.declared.pair.PairFault.{PairFault}
 use Rattle.nvm_flash.specs.declared.pair.PairFault.TheVariants.{OfFlash, OfEeprom, OneDevice, Memory}
 use Rattle.nvm_flash.specs.Made.{IsBackFrom, IsFlashCause, IsPartBack, IsUnstarted, LeavesOne, fault_of}
 use Rattle.promise_run.specs.Promise.{making_first}
+use Rattle.promise_run.specs.Run.{LeavesAlone}
 use Rattle.nvm_flash.specs.PairMaking.{making_second}
 
 -- What both devices are made of: this configuration, over a flash and an EEPROM that tell this, with so many power cuts of each that can be
@@ -46,9 +47,16 @@ abbrev pub NamesOne : Configuration → PairFault → Type 0
 NamesOne c OneDevice = c.eeprom ≡ None
 NamesOne c _ = c.eeprom ≢ None
 
+-- where one of both has a wrong size the other one is left alone: both sizes were looked at before either was attached
+abbrev pub LeavesOther : PairFault → (s t u v : Told) → Type 0
+LeavesOther (OfFlash (WrongSize found)) s t u v = LeavesAlone u v
+LeavesOther (OfEeprom (WrongSize found)) s t u v = IfSome u.bytes (λ b. LeavesAlone s t)
+LeavesOther fault s t u v = Unit {0}
+
 -- both come back as they were, or attached
 pub record ComeBack (c : Configuration) (fault : PairFault) (s t u v : Told) : Type 0 where
   pub cause : IsPairCause c fault s t u v
+  pub other : LeavesOther fault s t u v
   pub second : NamesOne c fault
   pub flash : LeavesOne c.geometry s t
   pub eeprom : IfSome c.eeprom (λ g. LeavesOne g u v)

@@ -10,6 +10,7 @@ mod back;
 mod device;
 mod pair;
 mod pair_stack;
+mod sized;
 mod stack;
 
 pub use back::give_back;
@@ -29,4 +30,5 @@ pub use nvm_core::{
 pub use pair::{PairCuts, PairDevice, PairFault, give_pair_back, make_pair};
 pub use pair_stack::{PairStack, make_pair_stack, start_pair_stack};
 pub use promise_run::CAP;
+pub use sized::SizedFlash;
 pub use stack::{FlashStack, make_stack, make_stack_with, start_stack, start_stack_with};

@@ -15,10 +15,12 @@ ghost use Rattle.fls_devices.specs.Cutter.{cutting, told_cutting};
 ghost use Rattle.nvm_flash.specs.Made.{IsPartBack};
 ghost use Rattle.promise_run.specs.Promise.{making_first};
 ghost use Rattle.nvm_flash.specs.PairMaking.{making_second};
+ghost use Rattle.nvm_flash.specs.Sized.{HasSizeOf};
 ghost use Rattle.nvm_flash.specs.PairMade.{AreBack, AreOrigins, ComeBack, pair_fault};
 
 use crate::back::give_bank_back;
 use crate::device::{MakeFault, fault_of};
+use crate::sized::{SizedFlash, look_at_both};
 use fls_devices::Cutter;
 use memif_fee_ea::ea_slots::{self, Ea};
 use memif_fee_ea::fee_core::{Flash, Geometry, Lengths, MemIf, Origin};
@@ -53,7 +55,7 @@ pub enum PairFault {
 
 /// The device of a configuration over a flash and an EEPROM, of each of which so many power cuts can be planned. A configuration without a
 /// second device is refused.
-pub fn make_pair<F: Flash, O: Origin, G: Flash, P: ea_slots::Origin>(
+pub fn make_pair<F: SizedFlash, O: Origin, G: SizedFlash, P: ea_slots::Origin>(
     alloc: Global,
     config: &Config,
     flash: F,
@@ -69,12 +71,37 @@ pub fn make_pair<F: Flash, O: Origin, G: Flash, P: ea_slots::Origin>(
     ensures stopped { IfErr result (λ e. ComeBack config.now e.0 (F.told flash) (F.told e.1) (G.told eeprom) (G.told e.2)) }
 {
     match config.second() {
-        Some(shape) => make_both(alloc, config, shape, flash, eeprom, cuts),
+        Some(shape) => make_sized(alloc, config, shape, flash, eeprom, cuts),
         None => Err((PairFault::OneDevice, flash, eeprom)),
     }
 }
 
-// So for one with a second device of this shape.
+// So for one with a second device of this shape: both sizes are looked at first.
+fn make_sized<F: SizedFlash, O: Origin, G: SizedFlash, P: ea_slots::Origin>(
+    alloc: Global,
+    config: &Config,
+    shape: Geometry,
+    flash: F,
+    eeprom: G,
+    cuts: PairCuts,
+) -> Result<PairDevice<F, O, G, P>, (PairFault, F, G)>
+    requires origins { AreOrigins config.now (F.told flash) (G.told eeprom) cuts O.making O.entry P.making P.entry }
+    requires shape { config.now.eeprom ≡ Some shape }
+    ensures made { IfOk result (λ d. IsMadeOf O.making O.entry P.making d) }
+    ensures parts { IfOk result (λ d. AreParts O.entry P.entry (told_as told_of told_in d)) }
+    ensures numbers { IfOk result (λ d. (told_as told_of told_in d).fixed.numbers ≡ lengths_of config.now) }
+    ensures legal { IsLegalConfig config.now }
+    ensures stopped { IfErr result (λ e. ComeBack config.now e.0 (F.told flash) (F.told e.1) (G.told eeprom) (G.told e.2)) }
+{
+    let mut flash = flash;
+    let mut eeprom = eeprom;
+    match look_at_both(&mut flash, &mut eeprom, config.geometry(), shape) {
+        Some(fault) => Err((fault, flash, eeprom)),
+        None => make_both(alloc, config, shape, flash, eeprom, cuts),
+    }
+}
+
+// So for flashes whose sizes are right.
 fn make_both<F: Flash, O: Origin, G: Flash, P: ea_slots::Origin>(
     alloc: Global,
     config: &Config,
@@ -85,6 +112,7 @@ fn make_both<F: Flash, O: Origin, G: Flash, P: ea_slots::Origin>(
 ) -> Result<PairDevice<F, O, G, P>, (PairFault, F, G)>
     requires origins { AreOrigins config.now (F.told flash) (G.told eeprom) cuts O.making O.entry P.making P.entry }
     requires shape { config.now.eeprom ≡ Some shape }
+    requires sized { HasSizeOf shape (G.told eeprom).bytes }
     ensures made { IfOk result (λ d. IsMadeOf O.making O.entry P.making d) }
     ensures parts { IfOk result (λ d. AreParts O.entry P.entry (told_as told_of told_in d)) }
     ensures numbers { IfOk result (λ d. (told_as told_of told_in d).fixed.numbers ≡ lengths_of config.now) }
@@ -136,7 +164,7 @@ fn make_over<F: Flash, O: Origin, G: Flash, P: ea_slots::Origin>(
     ensures made { IfOk result (λ d. IsMadeOf O.making O.entry P.making d) }
     ensures parts { IfOk result (λ d. AreParts O.entry P.entry (told_as told_of told_in d)) }
     ensures numbers { IfOk result (λ d. (told_as told_of told_in d).fixed.numbers ≡ lengths_of config.now) }
-    ensures stopped { IfErr result (λ e. (inner other : Told) (cuts : PairCuts) → first ≡ cutting inner cuts.flash → second ≡ cutting other cuts.eeprom → ComeBack config.now e.0 inner (F.told e.1) other (G.told e.2)) }
+    ensures stopped { IfErr result (λ e. (inner other : Told) (cuts : PairCuts) → first ≡ cutting inner cuts.flash → second ≡ cutting other cuts.eeprom → HasSizeOf shape other.bytes → ComeBack config.now e.0 inner (F.told e.1) other (G.told e.2)) }
 {
     let shapes = Shapes {
         flash: config.geometry(),

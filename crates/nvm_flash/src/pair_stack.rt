@@ -13,6 +13,7 @@ ghost use Rattle.nvm_flash.specs.PairMade.{AreBack, AreOrigins, ComeBack, IsPair
 use crate::back::give_bank_back;
 use crate::device::MakeFault;
 use crate::pair::{PairCuts, PairDevice, PairFault, give_pair_back, give_slots_back, make_pair};
+use crate::sized::SizedFlash;
 use crate::stack::start_over;
 use memif_fee_ea::ea_slots;
 use memif_fee_ea::fee_core::{Flash, MemDevice, MemIf, Origin};
@@ -24,7 +25,13 @@ pub type PairStack<F, O, G, P, C> = Stack<PairDevice<F, O, G, P>, C>;
 
 /// The stack of a configuration over a flash and an EEPROM, before its first start-up, with a history of at most `cap` entries. A
 /// configuration without a second device is refused.
-pub fn make_pair_stack<F: Flash, O: Origin, G: Flash, P: ea_slots::Origin, C: SyncCalls + Drop>(
+pub fn make_pair_stack<
+    F: SizedFlash,
+    O: Origin,
+    G: SizedFlash,
+    P: ea_slots::Origin,
+    C: SyncCalls + Drop,
+>(
     alloc: Global,
     config: Config,
     flash: F,

@@ -44,7 +44,7 @@ pub returns-in-Ok-clause-numbers : goal.returns-in-Ok-clause-numbers
 returns-in-Ok-clause-numbers g c = c.in-Ok.ensures.numbers ∙ ap₂ merged c.requires.numbers.0 c.requires.others.0 ∙ devices_are_all c.args.config.now c.geometry.ensures.legal
 
 pub returns-in-Err-clause-stopped : goal.returns-in-Err-clause-stopped
-returns-in-Err-clause-stopped g c = λ inner other cuts made made_other.
+returns-in-Err-clause-stopped g c = λ inner other cuts made made_other sized.
     subst (λ (f : PairFault). ComeBack c.args.config.now f inner (g.F.Flash.told c.into_inner.result) other (g.G.Flash.told c.into_inner-in-Err.result)) (sym c.pair_fault.ensures)
     (refused_back c.args.config.now c.geometry.result c.args.shape c.in-Err.fault inner other (g.F.Flash.told c.into_inner.result) (g.G.Flash.told c.into_inner-in-Err.result) cuts c.args.first c.args.second c.in-Err.first c.in-Err.second
-    c.geometry.ensures.value c.requires.shape made made_other c.into_inner.ensures.cuts c.into_inner-in-Err.ensures.cuts c.into_inner.ensures.inner c.into_inner-in-Err.ensures.inner c.in-Err.ensures.refused)
+    c.geometry.ensures.value c.requires.shape sized made made_other c.into_inner.ensures.cuts c.into_inner-in-Err.ensures.cuts c.into_inner.ensures.inner c.into_inner-in-Err.ensures.inner c.in-Err.ensures.refused)
