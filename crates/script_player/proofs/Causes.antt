@@ -1,5 +1,5 @@
 -- What explains refused copies and power cuts, over all steps.
-use Rattle.script_player.proofs.Common.{map, unwrap_or, ◌≡◌, ◌≤◌, ◌+◌, ℕ, List, [], ◌∷◌, ◌++◌, Option, Some, None, length, refl, sym, ap, ◌∙◌, subst, arith, append-nil, append_assoc, ops_behind, Instance, Mark, Entry, Found, Configuration, State, after_from, histories_go_on, Step, joined, Event, Made, Added, events_of, AreAsAsked, asked_by, ops_at, fold-append, flat_map-append, StepsRefuse}
+use Rattle.script_player.proofs.Common.{map, unwrap_or, ◌≡◌, ◌≤◌, ℕ, List, [], ◌∷◌, ◌++◌, Option, Some, None, length, refl, sym, ap, ◌∙◌, subst, arith, append-nil, append_assoc, ops_behind, Instance, Mark, Entry, Found, Configuration, State, after_from, histories_go_on, Step, joined, Event, Made, Added, events_of, AreAsAsked, asked_by, ops_at, fold-append, flat_map-append, StepsRefuse}
 use Rattle.uds_gateway.specs.nv_base.Entry.{ops_of}
 
 -- OPERATIONS

@@ -12,7 +12,7 @@ pub use Rattle.uds_gateway.specs.nvm_moves.Seen.{Seen, moment_seen, seen_as, see
 pub use Rattle.uds_gateway.specs.nvm_moves.Moved.{MovesBy}
 pub use Rattle.uds_gateway.proofs.MovesAlong.{entries_more}
 pub use Rattle.uds_gateway.proofs.Moved.{moves_more, none_moves}
-pub use Rattle.script_player.specs.Paying.{TurnMoves, IsSeen, LastsOn, AskMoves, StartsAnew, CameBy, StartMoves, StaysStill}
+pub use Rattle.script_player.specs.Paying.{TurnMoves, IsSeen, LastsOn, AskMoves, StartsAnew, CameBy, StartMoves}
 pub use Rattle.script_player.specs.Calls.{AllTell, MakesTurn, AddsAsk, Refuses, Arms, Stores, Turns, IsAnswer, Lowers, AreExplained, StartsAgain, is_last, Asks}
 pub use Rattle.uds_gateway.proofs.PlannedCuts.{from_more, none_in_time, in_time_more}
 pub use Rattle.script_player.specs.Kept.{AreMade, HasTurned, AllFindWork, MakesTurns, Drains, StaysCalm, has_work}

@@ -1,5 +1,5 @@
 -- The calls of a stack whose application stores in memory, as it is seen.
-use Rattle.script_player.proofs.Common.{◌||◌, ◌≡◌, Bool, true, false, List, [], ◌∷◌, ◌++◌, refl, sym, ap, ◌∙◌, subst, append_cancel_left, DeviceTold, Part, PartTold, Clock, Lasts, Entry, PlainBlock, TellsSlots, FoundAnswer, StackState, Restarts, Move, MovesBy, IsSeen, LastsOn, IsKept, kept_by, seen_by, told_by, ComesFrom, told_before, StaysKept, seen_as, seen_in, none_moves}
+use Rattle.script_player.proofs.Common.{◌||◌, ◌≡◌, Bool, true, false, List, [], ◌∷◌, ◌++◌, refl, sym, ap, ◌∙◌, subst, append_cancel_left, DeviceTold, Part, PartTold, Clock, Lasts, Entry, PlainBlock, TellsSlots, FoundAnswer, StackState, Restarts, Move, MovesBy, IsSeen, LastsOn, IsKept, kept_by, seen_by, told_by, ComesFrom, told_before, StaysKept, seen_as, seen_in}
 use Rattle.uds_gateway.specs.nvm_laws.declared.turned.FoundAnswer.TheVariants as found
 use Rattle.script_player.proofs.Paying.{none_last}
 use Rattle.script_player.proofs.PlainTurning.{not_two}
@@ -47,9 +47,6 @@ module _ {D : Type 0} (device : D → DeviceTold) (clock : D → Clock) (old new
 
   pub same_last : new ≡ old → LastsOn (seen_by device clock old) (seen_by device clock new)
   same_last is = subst (λ (s : StackState D (List PlainBlock)). LastsOn (seen_by device clock old) (seen_by device clock s)) (sym is) (none_last (seen_by device clock old))
-
-  pub still : new ≡ old → MovesBy false [] (seen_by device clock old) (seen_by device clock new)
-  still is = subst (λ (s : StackState D (List PlainBlock)). MovesBy false [] (seen_by device clock old) (seen_by device clock s)) (sym is) (none_moves false (seen_by device clock old))
 
   -- a start-up that doesn't stand
   pub fails_last : Lasts (device old.device) (clock old.device) (device new.device) (clock new.device) → Restarts device found.Failed old new → LastsOn (seen_by device clock old) (seen_by device clock new)

@@ -1,6 +1,5 @@
 -- What a turn picks.
 use Rattle.script_player.proofs.Common.{◌&&◌, not, is_some, ◌≡◌, ℕ, Bool, true, false, List, [], get_or, Option, None, refl, sym, ap, subst, JobKind, WriteJob, Taken, TookNothing, TookContent, TookRefused, TookStale, BlockDesc, Configuration, State, BlockState, Job, desc_of, block_at, is_synchronized, names_ram, job_block, kind_of, member_job, Next, PickJob, BeginSweep, PickMember, TakesBy, MayPick, Told, copies_out_by, copies_out_next, IsCopied, copies_next, TakesNewest, Sweep, member_request, copies_out_for, IsFromCopies}
-use Rattle.uds_gateway.specs.block_machine.Sweeps.{is_picked}
 
 -- WHAT A PICK TOOK
 

@@ -1,6 +1,5 @@
 -- The steps of the player: a power cut that is planned, a store, copies that are to be refused.
-use Rattle.script_player.proofs.Common.{◌==◌, ◌&&◌, ◌-◌, min, unwrap_or, option_map, map, nat_le, slice_set, if◌then◌else◌, ◌≡◌, ◌≢◌, get_or-set_other, ◌≤◌, ◌+◌, ◌⊎◌, ℕ, zero, suc, Bool, true, false, List, [], ◌∷◌, length, get_or, Option, Some, None, refl, sym, ap, ◌∙◌, subst, inl, inr, arith, eqb_tells, leb_tells, map-set, last_count, ops_behind, Planning, DeviceTold, armed, ops_of, faults_of, is_off, PlainBlock, next_number, Told, Synchronized, IsSynchronized, to_refuse_by, told_of, store_of, stored, refusing, no_plain, DeskState, HandState, PowersOff, Cut, Refuse, DueCut, plan_after, asked_by, IsNoEarlier, IsComing, PlansCuts, Arms, Stores, Refuses, plan_from, plan_in, takes_in, ops_in, to_refuse_in, shown, planned, stack_work, causes_in, IsErrOf, ◌↔◌, Result, Ok, AskFault, Reply, IsTrue}
-use Prim.Native.Nat.compare
+use Rattle.script_player.proofs.Common.{◌==◌, ◌&&◌, min, unwrap_or, option_map, map, nat_le, slice_set, if◌then◌else◌, ◌≡◌, ◌≢◌, get_or-set_other, ◌≤◌, ◌+◌, ◌⊎◌, ℕ, zero, suc, Bool, true, false, List, [], ◌∷◌, length, get_or, Option, Some, None, refl, sym, ap, ◌∙◌, subst, inl, inr, arith, eqb_tells, leb_tells, map-set, last_count, ops_behind, Planning, DeviceTold, armed, ops_of, faults_of, is_off, PlainBlock, next_number, Told, Synchronized, IsSynchronized, to_refuse_by, told_of, store_of, stored, refusing, no_plain, DeskState, HandState, PowersOff, Cut, Refuse, DueCut, plan_after, asked_by, IsNoEarlier, IsComing, PlansCuts, Arms, Stores, Refuses, plan_from, plan_in, takes_in, ops_in, to_refuse_in, shown, planned, stack_work, causes_in, IsErrOf, ◌↔◌, Result, Ok, AskFault, Reply, IsTrue}
 use Rattle.uds_gateway.specs.nv_desk.declared.ask.AskFault.TheVariants as fault
 use Rattle.uds_gateway.specs.nv_desk.Desk.{state_of}
 use Rattle.script_player.proofs.Coming.{pending_same}

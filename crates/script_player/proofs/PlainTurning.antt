@@ -1,5 +1,5 @@
 -- A turn: what it adds, and how that is explained.
-use Rattle.script_player.proofs.Common.{◌||◌, not, map, ◌≡◌, ◌≤◌, ◌+◌, ℕ, suc, Bool, true, false, List, [], ◌∷◌, ◌++◌, length, get_or, Option, None, refl, sym, ap, ◌∙◌, subst, inl, inr, arith, append-nil, length-map, DeviceTold, faults_of, nothing_open, is_off, Entry, Off, State, IsTurn, PlainBlock, told_of, store_of, DeskState, DueCut, Added, CutsAre, AreAsAsked, StackState, PowersOff, IsNoEarlier, AreCut, plan_behind, AllTell, MakesTurn, is_at_rest, is_due, told_by, moment_of, to_refuse_in, plan_in, came_in, ops_in, ext_get_or, sizes_of, MissesNone, begins_with_pick_or_post}
+use Rattle.script_player.proofs.Common.{◌||◌, not, map, ◌≡◌, ◌≤◌, ℕ, suc, Bool, true, false, List, [], ◌∷◌, ◌++◌, length, get_or, Option, None, refl, sym, ap, ◌∙◌, subst, inl, inr, arith, append-nil, length-map, DeviceTold, faults_of, nothing_open, is_off, Entry, Off, State, IsTurn, PlainBlock, told_of, store_of, DeskState, DueCut, Added, CutsAre, AreAsAsked, StackState, PowersOff, IsNoEarlier, AreCut, plan_behind, AllTell, MakesTurn, is_at_rest, is_due, told_by, moment_of, to_refuse_in, plan_in, came_in, ops_in, ext_get_or, sizes_of, MissesNone, begins_with_pick_or_post}
 use Rattle.std.specs.Prelude.{IsTrue}
 use Rattle.uds_gateway.specs.nv_desk.Desk.{state_of}
 use Rattle.script_player.proofs.PlainPlans.{none_earlier}

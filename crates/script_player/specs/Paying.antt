@@ -1,5 +1,5 @@
 -- What calls are by the one law of a move.
-use Rattle.std.specs.Prelude.{◌≡◌, ◌++◌, ◌∷◌, [], Bool, true, false, List, Option, Some, None}
+use Rattle.std.specs.Prelude.{◌≡◌, ◌++◌, ◌∷◌, [], true, false, List, Option, Some, None}
 use Rattle.uds_gateway.specs.memif.Told.{DeviceTold}
 use Rattle.uds_gateway.specs.memif.Trials.{Lasts}
 use Rattle.uds_gateway.specs.block_machine.Words.{Entry}
@@ -46,12 +46,6 @@ StartsAnew v w old new = (e : Entry) → new.entries ≡ old.entries ++ e ∷ []
 abbrev pub StartMoves : FoundAnswer → Seen → Seen → StackTold → StackTold → Type 0
 StartMoves found.Ready v w old new = StartsAnew v w old new
 StartMoves answer v w old new = LastsOn v w
-
--- for want of room or memory nothing moved
-abbrev pub StaysStill : FoundAnswer → Seen → Seen → Type 0
-StaysStill found.NoRoom v w = MovesBy false [] v w
-StaysStill found.Memory v w = MovesBy false [] v w
-StaysStill answer v w = Unit {0}
 
 -- ALL OF THEM
 -- From a first start-up on these moves were made, by the words of what stands now; behind them start-ups may have failed, which made none.

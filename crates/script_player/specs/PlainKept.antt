@@ -28,3 +28,6 @@ AreStartsFound ready desk d = IfElse ready (d.starts ≡ founds desk.entries) (d
 -- of a stack, by what its device tells
 abbrev pub kept_by : {D : Type 0} → (device : D → DeviceTold) → (clock : D → Clock) → StackState D (List PlainBlock) → (Part → PartTold) → Type 0
 kept_by device clock s before = IsKept s.ready before s.desk s.hand (device s.device) (clock s.device)
+
+abbrev pub starts_found : {D : Type 0} → (device : D → DeviceTold) → StackState D (List PlainBlock) → Type 0
+starts_found device s = AreStartsFound s.ready s.desk (device s.device)

@@ -5,16 +5,15 @@
 //! its cause. Which device it is, and what becomes of the history, is left to the crates above.
 #![tactic(auto)]
 
+mod calls;
 mod cuts;
 mod last_stores;
-mod played_stack;
 mod requests;
 mod steps;
 mod turns;
 
 pub use cuts::cuts_of;
 pub use last_stores::LastStores;
-pub use played_stack::PlayedStack;
 pub use requests::serve_requests;
 pub use steps::{StepFault, make_step, make_steps};
 pub use turns::{drain, make_turns};

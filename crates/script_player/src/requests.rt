@@ -9,34 +9,39 @@ ghost use Rattle.script_player.specs.Told.{state_of, desk_of};
 ghost use Rattle.script_player.specs.Kept.{IsKept, MakesTurns};
 ghost use Rattle.script_player.specs.Made.{IsFresh};
 ghost use Rattle.script_player.specs.Requests.{IsServing, EndsJob, EndsRequest, HasServed};
+ghost use Rattle.script_player.specs.PlainTold.{told_by};
+ghost use Rattle.script_player.specs.PlainKept.{kept_by, starts_found};
+ghost use Rattle.script_player.specs.PlainPaying.{seen_by};
+ghost use Rattle.uds_gateway.specs.ram_blocks.declared.plain_block.PlainBlock.{PlainBlock};
+ghost use Rattle.uds_gateway.specs.nvm_core.Stack.{StackState};
 
-use crate::PlayedStack;
+use crate::calls::{ask, turn};
 use std::alloc::Global;
 use uds_gateway::{
-    AskFault, AskedFault, Bytes, Config, Reply, Request, ServeStop, Turned, asked_by,
+    AskFault, AskedFault, Bytes, Config, MemDevice, PlainSync, Reply, Request, ServeStop, Stack,
+    Turned, asked_by,
 };
 
 /// Serves requests in order on a stack behind its first start-up, of this configuration, as caller 0: each that asks for
 /// something to its Post. Adds the number of its entries for each that has its answer; the memory for it is taken before its Ask.
-pub fn serve_requests<S: PlayedStack>(
+pub fn serve_requests<D: MemDevice>(
     alloc: Global,
     config: &Config,
     requests: &[Bytes],
     counts: &mut Vec<u32>,
-    stack: &mut S,
+    stack: &mut Stack<D, PlainSync>,
 ) -> Result<(), ServeStop>
-    requires configuration { (S.told stack.old).configuration ≡ config.now }
+    requires configuration { stack.old.desk.config ≡ config.now }
     requires some { All (λ request. 0 < length request) requests.now }
     requires none { counts.old.items ≡ [] }
-    requires fresh { IsFresh (S.told stack.old) }
-    ensures served { HasServed (S.seen stack.old) (S.seen stack.new) requests.now counts.new.items result (S.told stack.old) (S.told stack.new) }
-    ensures configuration { (S.told stack.new).configuration ≡ (S.told stack.old).configuration }
-    ensures most { (S.told stack.new).cap ≡ (S.told stack.old).cap }
-    ensures counted { (S.told stack.old).faults ≤ (S.told stack.new).faults }
-    ensures keeps { (before : Part → PartTold) → S.kept stack.old before → S.kept stack.new before }
-    ensures starts { S.starts_found stack.old → S.starts_found stack.new }
+    requires fresh { IsFresh (told_by D.told stack.old) }
+    ensures served { HasServed (seen_by D.told D.clock stack.old) (seen_by D.told D.clock stack.new) requests.now counts.new.items result (told_by D.told stack.old) (told_by D.told stack.new) }
+    ensures configuration { stack.new.desk.config ≡ stack.old.desk.config }
+    ensures most { stack.new.desk.cap ≡ stack.old.desk.cap }
+    ensures counted { (told_by D.told stack.old).faults ≤ (told_by D.told stack.new).faults }
+    ensures keeps { (before : Part → PartTold) → kept_by D.told D.clock stack.old before → kept_by D.told D.clock stack.new before }
+    ensures starts { starts_found D.told stack.old → starts_found D.told stack.new }
 {
-    let _entries = stack.len();
     for i in 0..requests.len() {
         if counts.reserve(1).is_err() {
             return Err(ServeStop::Memory);
@@ -51,19 +56,19 @@ pub fn serve_requests<S: PlayedStack>(
 }
 
 // One of them.
-fn serve_request<S: PlayedStack>(
+fn serve_request<D: MemDevice>(
     alloc: Global,
     config: &Config,
     request: &[u8],
-    stack: &mut S,
+    stack: &mut Stack<D, PlainSync>,
 ) -> Result<(), ServeStop>
     requires some { 0 < length request.now }
-    requires ready { (S.told stack.old).ready ≡ true }
-    requires none { HasNone (state_of (S.told stack.old)) }
-    ensures ends { (first : S) → IsServing (S.seen first) (S.seen stack.old) (S.told first) (S.told stack.old)
-        → EndsRequest config.now request.now (S.seen first) (S.seen stack.new) result (S.told first) (S.told stack.old) (S.told stack.new) }
-    ensures keeps { (before : Part → PartTold) → S.kept stack.old before → S.kept stack.new before }
-    ensures starts { S.starts_found stack.old → S.starts_found stack.new }
+    requires ready { stack.old.ready ≡ true }
+    requires none { HasNone (state_of (told_by D.told stack.old)) }
+    ensures ends { (first : StackState D (List PlainBlock)) → IsServing (seen_by D.told D.clock first) (seen_by D.told D.clock stack.old) (told_by D.told first) (told_by D.told stack.old)
+        → EndsRequest config.now request.now (seen_by D.told D.clock first) (seen_by D.told D.clock stack.new) result (told_by D.told first) (told_by D.told stack.old) (told_by D.told stack.new) }
+    ensures keeps { (before : Part → PartTold) → kept_by D.told D.clock stack.old before → kept_by D.told D.clock stack.new before }
+    ensures starts { starts_found D.told stack.old → starts_found D.told stack.new }
 {
     match asked_by(alloc, config, request) {
         Ok(asked) => serve_job(alloc, asked, stack),
@@ -73,16 +78,20 @@ fn serve_request<S: PlayedStack>(
 }
 
 // Asks, and makes turns to the Post.
-fn serve_job<S: PlayedStack>(alloc: Global, asked: Request, stack: &mut S) -> Result<(), ServeStop>
+fn serve_job<D: MemDevice>(
+    alloc: Global,
+    asked: Request,
+    stack: &mut Stack<D, PlainSync>,
+) -> Result<(), ServeStop>
     requires own { IsOwn asked }
-    requires ready { (S.told stack.old).ready ≡ true }
-    requires none { HasNone (state_of (S.told stack.old)) }
-    ensures ends { (first : S) → IsServing (S.seen first) (S.seen stack.old) (S.told first) (S.told stack.old)
-        → EndsJob asked (S.seen first) (S.seen stack.new) result (S.told first) (S.told stack.old) (S.told stack.new) }
-    ensures keeps { (before : Part → PartTold) → S.kept stack.old before → S.kept stack.new before }
-    ensures starts { S.starts_found stack.old → S.starts_found stack.new }
+    requires ready { stack.old.ready ≡ true }
+    requires none { HasNone (state_of (told_by D.told stack.old)) }
+    ensures ends { (first : StackState D (List PlainBlock)) → IsServing (seen_by D.told D.clock first) (seen_by D.told D.clock stack.old) (told_by D.told first) (told_by D.told stack.old)
+        → EndsJob asked (seen_by D.told D.clock first) (seen_by D.told D.clock stack.new) result (told_by D.told first) (told_by D.told stack.old) (told_by D.told stack.new) }
+    ensures keeps { (before : Part → PartTold) → kept_by D.told D.clock stack.old before → kept_by D.told D.clock stack.new before }
+    ensures starts { starts_found D.told stack.old → starts_found D.told stack.new }
 {
-    match stack.ask(alloc, 0, asked) {
+    match ask(alloc, 0, asked, stack) {
         Ok(reply) => match reply {
             Reply::Accepted => match turns_to_post(stack) {
                 Turned::Posted => Ok(()),
@@ -96,19 +105,19 @@ fn serve_job<S: PlayedStack>(alloc: Global, asked: Request, stack: &mut S) -> Re
 }
 
 // Makes turns until the one job that is pending is posted, or the power is off.
-fn turns_to_post<S: PlayedStack>(stack: &mut S) -> Turned
-    requires ready { (S.told stack.old).ready ≡ true }
-    requires job { HasJob (state_of (S.told stack.old)) }
-    ensures turns { (before : List Step) → IsKept before (S.told stack.old)
-        → (n : ℕ) × (1 ≤ n) × MakesTurns (S.seen stack.old) (S.seen stack.new) n before (S.told stack.old) (S.told stack.new) × IsKept before (S.told stack.new) }
-    ensures goes { (asked : Asked) → HasOne asked (state_of (S.told stack.old)) → Goes asked result (desk_of (S.told stack.old)) (desk_of (S.told stack.new)) }
+fn turns_to_post<D: MemDevice>(stack: &mut Stack<D, PlainSync>) -> Turned
+    requires ready { stack.old.ready ≡ true }
+    requires job { HasJob (state_of (told_by D.told stack.old)) }
+    ensures turns { (before : List Step) → IsKept before (told_by D.told stack.old)
+        → (n : ℕ) × (1 ≤ n) × MakesTurns (seen_by D.told D.clock stack.old) (seen_by D.told D.clock stack.new) n before (told_by D.told stack.old) (told_by D.told stack.new) × IsKept before (told_by D.told stack.new) }
+    ensures goes { (asked : Asked) → HasOne asked (state_of (told_by D.told stack.old)) → Goes asked result (desk_of (told_by D.told stack.old)) (desk_of (told_by D.told stack.new)) }
     ensures ends { is_on_way result ≡ false }
-    ensures keeps { (before : Part → PartTold) → S.kept stack.old before → S.kept stack.new before }
-    ensures starts { S.starts_found stack.old → S.starts_found stack.new }
+    ensures keeps { (before : Part → PartTold) → kept_by D.told D.clock stack.old before → kept_by D.told D.clock stack.new before }
+    ensures starts { starts_found D.told stack.old → starts_found D.told stack.new }
 {
-    let mut turned = stack.turn();
+    let mut turned = turn(stack);
     while is_on_way(turned) {
-        turned = stack.turn();
+        turned = turn(stack);
     }
     turned
 }

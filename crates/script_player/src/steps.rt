@@ -10,12 +10,15 @@ ghost use Rattle.script_player.specs.Calls.{StartsAgain};
 ghost use Rattle.script_player.specs.Made.{Makes, IsAsked, IsLeft, IsFresh, HasWalked, WasBroken, cuts_of};
 ghost use Rattle.script_player.specs.Paying.{AskMoves, LastsOn, StartsAnew};
 ghost use Rattle.script_player.specs.Table.{HasLastStores, HoldsSynchronized};
+ghost use Rattle.script_player.specs.PlainTold.{told_by};
+ghost use Rattle.script_player.specs.PlainKept.{kept_by, starts_found};
+ghost use Rattle.script_player.specs.PlainPaying.{seen_by};
 
 use crate::turns::{drain, make_turns};
-use crate::{LastStores, PlayedStack};
+use crate::{LastStores, calls};
 use nvm_script::{KeptStep, Step, StepKind, StepList};
 use std::alloc::Global;
-use uds_gateway::{AskFault, FoundAnswer, Request};
+use uds_gateway::{AskFault, FoundAnswer, MemDevice, PlainSync, Request, Stack};
 
 /// Why a step isn't made: a fault at a start-up, a history that is full, or want of memory.
 #[derive(Clone, Copy)]
@@ -26,25 +29,24 @@ pub enum StepFault {
 }
 
 /// Makes steps in order on a stack behind its first start-up, whose configuration has so many blocks.
-pub fn make_steps<S: PlayedStack>(
+pub fn make_steps<D: MemDevice>(
     alloc: Global,
     steps: StepList,
     blocks: u16,
-    stack: &mut S,
+    stack: &mut Stack<D, PlainSync>,
 ) -> Result<(), StepFault>
-    requires blocks { blocks ≡ length (S.told stack.old).configuration.blocks }
-    requires fresh { IsFresh (S.told stack.old) }
-    requires played { ArePlayed (S.told stack.old).configuration steps }
-    requires planned { cuts_of steps ≤ (S.told stack.old).causes.takes }
-    ensures all { OnOk result (HasWalked (S.seen stack.old) (S.seen stack.new) steps (S.told stack.old) (S.told stack.new)) }
-    ensures some { IfErr result (λ fault. WasBroken (S.seen stack.old) (S.seen stack.new) fault steps (S.told stack.old) (S.told stack.new)) }
-    ensures configuration { (S.told stack.new).configuration ≡ (S.told stack.old).configuration }
-    ensures most { (S.told stack.new).cap ≡ (S.told stack.old).cap }
-    ensures counted { (S.told stack.old).faults ≤ (S.told stack.new).faults }
-    ensures keeps { (before : Part → PartTold) → S.kept stack.old before → S.kept stack.new before }
-    ensures starts { S.starts_found stack.old → S.starts_found stack.new }
+    requires blocks { blocks ≡ length stack.old.desk.config.blocks }
+    requires fresh { IsFresh (told_by D.told stack.old) }
+    requires played { ArePlayed stack.old.desk.config steps }
+    requires planned { cuts_of steps ≤ (told_by D.told stack.old).causes.takes }
+    ensures all { OnOk result (HasWalked (seen_by D.told D.clock stack.old) (seen_by D.told D.clock stack.new) steps (told_by D.told stack.old) (told_by D.told stack.new)) }
+    ensures some { IfErr result (λ fault. WasBroken (seen_by D.told D.clock stack.old) (seen_by D.told D.clock stack.new) fault steps (told_by D.told stack.old) (told_by D.told stack.new)) }
+    ensures configuration { stack.new.desk.config ≡ stack.old.desk.config }
+    ensures most { stack.new.desk.cap ≡ stack.old.desk.cap }
+    ensures counted { (told_by D.told stack.old).faults ≤ (told_by D.told stack.new).faults }
+    ensures keeps { (before : Part → PartTold) → kept_by D.told D.clock stack.old before → kept_by D.told D.clock stack.new before }
+    ensures starts { starts_found D.told stack.old → starts_found D.told stack.new }
 {
-    let _entries = stack.len();
     let Ok(mut stores) = LastStores::make(alloc, blocks) else {
         return Err(StepFault::Memory);
     };
@@ -57,22 +59,22 @@ pub fn make_steps<S: PlayedStack>(
 }
 
 // Makes a step that is kept.
-fn make_kept<S: PlayedStack>(
+fn make_kept<D: MemDevice>(
     alloc: Global,
     kept: KeptStep,
     stores: &mut LastStores,
-    stack: &mut S,
+    stack: &mut Stack<D, PlainSync>,
 ) -> Result<(), StepFault>
-    requires ready { (S.told stack.old).ready ≡ true }
-    requires played { IsPlayed (S.told stack.old).configuration kept }
-    requires synchronized { HoldsSynchronized (S.told stack.old).configuration stores.old }
-    ensures synchronized { HoldsSynchronized (S.told stack.old).configuration stores.new }
-    ensures ready { OnOk result ((S.told stack.new).ready ≡ true) }
-    ensures made { OnOk result (Makes (S.seen stack.old) (S.seen stack.new) kept stores.old stores.new (S.told stack.old) (S.told stack.new)) }
-    ensures left { IfErr result (λ fault. IsLeft fault kept (S.told stack.old) (S.told stack.new)) }
-    ensures lasts { OnErr result (LastsOn (S.seen stack.old) (S.seen stack.new)) }
-    ensures keeps { (before : Part → PartTold) → S.kept stack.old before → S.kept stack.new before }
-    ensures starts { S.starts_found stack.old → S.starts_found stack.new }
+    requires ready { stack.old.ready ≡ true }
+    requires played { IsPlayed stack.old.desk.config kept }
+    requires synchronized { HoldsSynchronized stack.old.desk.config stores.old }
+    ensures synchronized { HoldsSynchronized stack.old.desk.config stores.new }
+    ensures ready { OnOk result (stack.new.ready ≡ true) }
+    ensures made { OnOk result (Makes (seen_by D.told D.clock stack.old) (seen_by D.told D.clock stack.new) kept stores.old stores.new (told_by D.told stack.old) (told_by D.told stack.new)) }
+    ensures left { IfErr result (λ fault. IsLeft fault kept (told_by D.told stack.old) (told_by D.told stack.new)) }
+    ensures lasts { OnErr result (LastsOn (seen_by D.told D.clock stack.old) (seen_by D.told D.clock stack.new)) }
+    ensures keeps { (before : Part → PartTold) → kept_by D.told D.clock stack.old before → kept_by D.told D.clock stack.new before }
+    ensures starts { starts_found D.told stack.old → starts_found D.told stack.new }
 {
     let Ok(step) = kept.whole(alloc) else {
         return Err(StepFault::Memory);
@@ -81,28 +83,28 @@ fn make_kept<S: PlayedStack>(
 }
 
 /// Makes one step.
-pub fn make_step<S: PlayedStack>(
+pub fn make_step<D: MemDevice>(
     alloc: Global,
     step: Step,
     stores: &mut LastStores,
-    stack: &mut S,
+    stack: &mut Stack<D, PlainSync>,
 ) -> Result<(), StepFault>
-    requires ready { (S.told stack.old).ready ≡ true }
-    requires played { IsPlayed (S.told stack.old).configuration step }
-    requires synchronized { HoldsSynchronized (S.told stack.old).configuration stores.old }
-    ensures synchronized { HoldsSynchronized (S.told stack.old).configuration stores.new }
-    ensures ready { OnOk result ((S.told stack.new).ready ≡ true) }
-    ensures made { OnOk result (Makes (S.seen stack.old) (S.seen stack.new) step stores.old stores.new (S.told stack.old) (S.told stack.new)) }
-    ensures left { IfErr result (λ fault. IsLeft fault step (S.told stack.old) (S.told stack.new)) }
-    ensures lasts { OnErr result (LastsOn (S.seen stack.old) (S.seen stack.new)) }
-    ensures keeps { (before : Part → PartTold) → S.kept stack.old before → S.kept stack.new before }
-    ensures starts { S.starts_found stack.old → S.starts_found stack.new }
+    requires ready { stack.old.ready ≡ true }
+    requires played { IsPlayed stack.old.desk.config step }
+    requires synchronized { HoldsSynchronized stack.old.desk.config stores.old }
+    ensures synchronized { HoldsSynchronized stack.old.desk.config stores.new }
+    ensures ready { OnOk result (stack.new.ready ≡ true) }
+    ensures made { OnOk result (Makes (seen_by D.told D.clock stack.old) (seen_by D.told D.clock stack.new) step stores.old stores.new (told_by D.told stack.old) (told_by D.told stack.new)) }
+    ensures left { IfErr result (λ fault. IsLeft fault step (told_by D.told stack.old) (told_by D.told stack.new)) }
+    ensures lasts { OnErr result (LastsOn (seen_by D.told D.clock stack.old) (seen_by D.told D.clock stack.new)) }
+    ensures keeps { (before : Part → PartTold) → kept_by D.told D.clock stack.old before → kept_by D.told D.clock stack.new before }
+    ensures starts { starts_found D.told stack.old → starts_found D.told stack.new }
 {
     let Step { caller, kind, .. } = step;
     match kind {
         StepKind::Ask(request) => ask(alloc, caller, request, stores, stack),
         StepKind::Store { block, content } => {
-            let number = stack.store(block, content.as_slice());
+            let number = calls::store(block, content.as_slice(), stack);
             stores.note(caller, block, number);
             Ok(())
         }
@@ -116,12 +118,12 @@ pub fn make_step<S: PlayedStack>(
         }
         StepKind::Restart => restart(alloc, stack),
         StepKind::Cut { nth, keep } => {
-            stack.arm(nth, keep);
+            calls::arm(nth, keep, stack);
             Ok(())
         }
         StepKind::CutSecond { .. } => Ok(()),
         StepKind::Refuse { block, count } => {
-            stack.refuse(block, count);
+            calls::refuse(block, count, stack);
             Ok(())
         }
         StepKind::Await { .. } => Ok(()),
@@ -148,41 +150,41 @@ fn request_with(request: Request, caller: u8, stores: &LastStores) -> Request
     }
 }
 
-fn ask<S: PlayedStack>(
+fn ask<D: MemDevice>(
     alloc: Global,
     caller: u8,
     request: Request,
     stores: &LastStores,
-    stack: &mut S,
+    stack: &mut Stack<D, PlainSync>,
 ) -> Result<(), StepFault>
-    requires ready { (S.told stack.old).ready ≡ true }
+    requires ready { stack.old.ready ≡ true }
     requires caller { caller ≤ 15 }
-    requires played { CanBePlayed (S.told stack.old).configuration (AskStep request) }
-    requires synchronized { HoldsSynchronized (S.told stack.old).configuration stores.now }
-    ensures ready { OnOk result ((S.told stack.new).ready ≡ true) }
-    ensures asked { OnOk result (IsAsked caller request stores.now (S.told stack.old) (S.told stack.new) × AskMoves (S.seen stack.old) (S.seen stack.new) (S.told stack.old) (S.told stack.new)) }
-    ensures lasts { OnErr result (LastsOn (S.seen stack.old) (S.seen stack.new)) }
-    ensures left { IfErr result (λ fault. (line : ℕ) → IsLeft fault (record { line = line; caller = caller; kind = AskStep request }) (S.told stack.old) (S.told stack.new)) }
-    ensures keeps { (before : Part → PartTold) → S.kept stack.old before → S.kept stack.new before }
-    ensures starts { S.starts_found stack.old → S.starts_found stack.new }
+    requires played { CanBePlayed stack.old.desk.config (AskStep request) }
+    requires synchronized { HoldsSynchronized stack.old.desk.config stores.now }
+    ensures ready { OnOk result (stack.new.ready ≡ true) }
+    ensures asked { OnOk result (IsAsked caller request stores.now (told_by D.told stack.old) (told_by D.told stack.new) × AskMoves (seen_by D.told D.clock stack.old) (seen_by D.told D.clock stack.new) (told_by D.told stack.old) (told_by D.told stack.new)) }
+    ensures lasts { OnErr result (LastsOn (seen_by D.told D.clock stack.old) (seen_by D.told D.clock stack.new)) }
+    ensures left { IfErr result (λ fault. (line : ℕ) → IsLeft fault (record { line = line; caller = caller; kind = AskStep request }) (told_by D.told stack.old) (told_by D.told stack.new)) }
+    ensures keeps { (before : Part → PartTold) → kept_by D.told D.clock stack.old before → kept_by D.told D.clock stack.new before }
+    ensures starts { starts_found D.told stack.old → starts_found D.told stack.new }
 {
-    match stack.ask(alloc, caller, request_with(request, caller, stores)) {
+    match calls::ask(alloc, caller, request_with(request, caller, stores), stack) {
         Ok(_reply) => Ok(()),
         Err(AskFault::NoRoom) => Err(StepFault::HistoryFull),
         Err(AskFault::Memory) => Err(StepFault::Memory),
     }
 }
 
-fn restart<S: PlayedStack>(alloc: Global, stack: &mut S) -> Result<(), StepFault>
-    requires { (S.told stack.old).ready ≡ true }
-    ensures ready { OnOk result ((S.told stack.new).ready ≡ true) }
-    ensures made { OnOk result (StartsAgain (S.told stack.old) (S.told stack.new) × StartsAnew (S.seen stack.old) (S.seen stack.new) (S.told stack.old) (S.told stack.new)) }
-    ensures lasts { OnErr result (LastsOn (S.seen stack.old) (S.seen stack.new)) }
-    ensures left { IfErr result (λ fault. (line caller : ℕ) → IsLeft fault (record { line = line; caller = caller; kind = Restart }) (S.told stack.old) (S.told stack.new)) }
-    ensures keeps { (before : Part → PartTold) → S.kept stack.old before → S.kept stack.new before }
-    ensures starts { S.starts_found stack.old → S.starts_found stack.new }
+fn restart<D: MemDevice>(alloc: Global, stack: &mut Stack<D, PlainSync>) -> Result<(), StepFault>
+    requires { stack.old.ready ≡ true }
+    ensures ready { OnOk result (stack.new.ready ≡ true) }
+    ensures made { OnOk result (StartsAgain (told_by D.told stack.old) (told_by D.told stack.new) × StartsAnew (seen_by D.told D.clock stack.old) (seen_by D.told D.clock stack.new) (told_by D.told stack.old) (told_by D.told stack.new)) }
+    ensures lasts { OnErr result (LastsOn (seen_by D.told D.clock stack.old) (seen_by D.told D.clock stack.new)) }
+    ensures left { IfErr result (λ fault. (line caller : ℕ) → IsLeft fault (record { line = line; caller = caller; kind = Restart }) (told_by D.told stack.old) (told_by D.told stack.new)) }
+    ensures keeps { (before : Part → PartTold) → kept_by D.told D.clock stack.old before → kept_by D.told D.clock stack.new before }
+    ensures starts { starts_found D.told stack.old → starts_found D.told stack.new }
 {
-    match stack.restart(alloc) {
+    match calls::restart(alloc, stack) {
         FoundAnswer::Ready => Ok(()),
         FoundAnswer::Failed => Err(StepFault::Flash),
         FoundAnswer::NoRoom => Err(StepFault::HistoryFull),

@@ -8,51 +8,54 @@ ghost use Rattle.script_player.specs.Told.{state_of, moment_of};
 ghost use Rattle.script_player.specs.Calls.{MakesTurn, is_last};
 ghost use Rattle.script_player.specs.Kept.{IsKept, MakesTurns, Drains, has_work};
 ghost use Rattle.script_player.specs.Paying.{TurnMoves};
+ghost use Rattle.script_player.specs.PlainTold.{told_by};
+ghost use Rattle.script_player.specs.PlainKept.{kept_by, starts_found};
+ghost use Rattle.script_player.specs.PlainPaying.{seen_by};
 
-use crate::PlayedStack;
-use uds_gateway::Turned;
+use crate::calls::turn;
+use uds_gateway::{MemDevice, PlainSync, Stack, Turned};
 
 /// Makes so many turns.
-pub fn make_turns<S: PlayedStack>(stack: &mut S, count: u32)
-    requires { (S.told stack.old).ready ≡ true }
-    ensures ready { (S.told stack.new).ready ≡ true }
-    ensures turns { (before : List Step) → IsKept before (S.told stack.old) → MakesTurns (S.seen stack.old) (S.seen stack.new) count before (S.told stack.old) (S.told stack.new) × IsKept before (S.told stack.new) }
-    ensures keeps { (before : Part → PartTold) → S.kept stack.old before → S.kept stack.new before }
-    ensures starts { S.starts_found stack.old → S.starts_found stack.new }
+pub fn make_turns<D: MemDevice>(stack: &mut Stack<D, PlainSync>, count: u32)
+    requires { stack.old.ready ≡ true }
+    ensures ready { stack.new.ready ≡ true }
+    ensures turns { (before : List Step) → IsKept before (told_by D.told stack.old) → MakesTurns (seen_by D.told D.clock stack.old) (seen_by D.told D.clock stack.new) count before (told_by D.told stack.old) (told_by D.told stack.new) × IsKept before (told_by D.told stack.new) }
+    ensures keeps { (before : Part → PartTold) → kept_by D.told D.clock stack.old before → kept_by D.told D.clock stack.new before }
+    ensures starts { starts_found D.told stack.old → starts_found D.told stack.new }
 {
     for _turn in 0..count {
-        stack.turn();
+        turn(stack);
     }
 }
 
 /// Makes turns until nothing is left to do or the power is off, or until one without a job in hand in which a fault was
 /// counted: no more turns than there was work, and one. Each but the last finds something pending, or open at the device. Without a fault and with the power on nothing is open at the device behind it.
-pub fn drain<S: PlayedStack>(stack: &mut S)
-    requires { (S.told stack.old).ready ≡ true }
-    ensures ready { (S.told stack.new).ready ≡ true }
-    ensures drains { (before : List Step) → IsKept before (S.told stack.old) → Drains (S.seen stack.old) (S.seen stack.new) before (S.told stack.old) (S.told stack.new) × IsKept before (S.told stack.new) }
-    ensures at_rest { ¬ Rose (S.told stack.old).faults (S.told stack.new).faults → (state_of (S.told stack.new)).off ≡ false → (S.told stack.new).busy ≡ false }
-    ensures keeps { (before : Part → PartTold) → S.kept stack.old before → S.kept stack.new before }
-    ensures starts { S.starts_found stack.old → S.starts_found stack.new }
+pub fn drain<D: MemDevice>(stack: &mut Stack<D, PlainSync>)
+    requires { stack.old.ready ≡ true }
+    ensures ready { stack.new.ready ≡ true }
+    ensures drains { (before : List Step) → IsKept before (told_by D.told stack.old) → Drains (seen_by D.told D.clock stack.old) (seen_by D.told D.clock stack.new) before (told_by D.told stack.old) (told_by D.told stack.new) × IsKept before (told_by D.told stack.new) }
+    ensures at_rest { ¬ Rose (told_by D.told stack.old).faults (told_by D.told stack.new).faults → (state_of (told_by D.told stack.new)).off ≡ false → (told_by D.told stack.new).busy ≡ false }
+    ensures keeps { (before : Part → PartTold) → kept_by D.told D.clock stack.old before → kept_by D.told D.clock stack.new before }
+    ensures starts { starts_found D.told stack.old → starts_found D.told stack.new }
 {
     while !ends_drain(stack) {}
 }
 
 // Makes a turn, and tells whether a drain ends with it.
-fn ends_drain<S: PlayedStack>(stack: &mut S) -> bool
-    requires { (S.told stack.old).ready ≡ true }
-    ensures turn { MakesTurn (S.told stack.old) (S.told stack.new) }
-    ensures moved { TurnMoves (S.seen stack.old) (S.seen stack.new) (S.told stack.old) (S.told stack.new) }
-    ensures ends { result ≡ true → IsTrue (is_at_rest (state_of (S.told stack.new)) || (state_of (S.told stack.new)).off) }
-    ensures at_rest { result ≡ true → ¬ Rose (S.told stack.old).faults (S.told stack.new).faults → (state_of (S.told stack.new)).off ≡ false → (S.told stack.new).busy ≡ false }
-    ensures goes_on { result ≡ false → (S.told stack.new).work < (S.told stack.old).work }
-    ensures finds { result ≡ false → IsTrue (has_work (state_of (S.told stack.old)) (moment_of (S.told stack.old))) }
-    ensures keeps { (before : Part → PartTold) → S.kept stack.old before → S.kept stack.new before }
-    ensures starts { S.starts_found stack.old → S.starts_found stack.new }
+fn ends_drain<D: MemDevice>(stack: &mut Stack<D, PlainSync>) -> bool
+    requires { stack.old.ready ≡ true }
+    ensures turn { MakesTurn (told_by D.told stack.old) (told_by D.told stack.new) }
+    ensures moved { TurnMoves (seen_by D.told D.clock stack.old) (seen_by D.told D.clock stack.new) (told_by D.told stack.old) (told_by D.told stack.new) }
+    ensures ends { result ≡ true → IsTrue (is_at_rest (state_of (told_by D.told stack.new)) || (state_of (told_by D.told stack.new)).off) }
+    ensures at_rest { result ≡ true → ¬ Rose (told_by D.told stack.old).faults (told_by D.told stack.new).faults → (state_of (told_by D.told stack.new)).off ≡ false → (told_by D.told stack.new).busy ≡ false }
+    ensures goes_on { result ≡ false → (told_by D.told stack.new).work < (told_by D.told stack.old).work }
+    ensures finds { result ≡ false → IsTrue (has_work (state_of (told_by D.told stack.old)) (moment_of (told_by D.told stack.old))) }
+    ensures keeps { (before : Part → PartTold) → kept_by D.told D.clock stack.old before → kept_by D.told D.clock stack.new before }
+    ensures starts { starts_found D.told stack.old → starts_found D.told stack.new }
 {
     let in_hand = stack.in_hand();
     let faults = stack.faults();
-    let turned = stack.turn();
+    let turned = turn(stack);
     is_last(turned, in_hand, has_risen(faults, stack.faults()))
 }
 

@@ -1,27 +1,28 @@
 use Rattle.std.specs.Prelude.{Result}
-use Rattle.script_player.proofs.Common.{◌≡◌, ◌+◌, ℕ, List, [], ◌∷◌, ◌++◌, length, take, drop, Err, Ok, sym, ap, ◌∙◌, subst, arith, ServeStop, EndsRequest, AreServedSoFar, HasServed, take_all, take-append-drop}
+use Rattle.script_player.proofs.Common.{◌≡◌, ◌+◌, ℕ, List, [], ◌∷◌, ◌++◌, length, take, drop, Err, Ok, sym, ap, ◌∙◌, subst, arith, ServeStop, EndsRequest, AreServedSoFar, HasServed, take_all, take-append-drop, told_by, seen_by}
 use Rattle.std.proofs.Common.{◌-◌}
 use Rattle.uds_gateway.specs.block_config.Config.{Configuration}
 use Rattle.uds_gateway.specs.declared.stop.ServeStop.TheVariants as stop
 use Rattle.script_player.proofs.Served.{serves_none, serves_one, serves_all, serves_first, serves_some, next_request, one_more}
+use Rattle.script_player.proofs.PlainPaying.{is_seen}
 use Rattle.script_player.proofs.requests.serve_requests.Goals as goal
 
 pub loop-i-init : goal.loop-i-init
 loop-i-init g c =
-    let p = g.S.PlayedStack.seen c.args.stack.now in
-    let old = g.S.PlayedStack.told c.args.stack.now in
+    let p = seen_by g.D.MemDevice.told g.D.MemDevice.clock c.args.stack.now in
+    let old = told_by g.D.MemDevice.told c.args.stack.now in
     record {
-      so_far = subst (λ (ns : List ℕ). AreServedSoFar p p [] ns old old) (sym c.requires.none) (serves_none p old c.len-entries.ensures.seen c.requires.fresh);
+      so_far = subst (λ (ns : List ℕ). AreServedSoFar p p [] ns old old) (sym c.requires.none) (serves_none p old (is_seen g.D.MemDevice.told g.D.MemDevice.clock c.args.stack.now) c.requires.fresh);
       keeps = λ before kept. kept;
       starts = λ found. found;
     }
 
 pub returns-then-is_err-clause-served : goal.returns-then-is_err-clause-served
 returns-then-is_err-clause-served g c =
-    let p = g.S.PlayedStack.seen c.args.stack.now in
-    let q = g.S.PlayedStack.seen c.loop-i.stack in
-    let old = g.S.PlayedStack.told c.args.stack.now in
-    let now = g.S.PlayedStack.told c.loop-i.stack in
+    let p = seen_by g.D.MemDevice.told g.D.MemDevice.clock c.args.stack.now in
+    let q = seen_by g.D.MemDevice.told g.D.MemDevice.clock c.loop-i.stack in
+    let old = told_by g.D.MemDevice.told c.args.stack.now in
+    let now = told_by g.D.MemDevice.told c.loop-i.stack in
     let xs = c.args.requests.now in
     let i = c.loop-i.i in
     subst (λ (ns : List ℕ). HasServed p q xs ns (Err stop.Memory) old now) (sym c.reserve.ensures.items)
@@ -29,12 +30,12 @@ returns-then-is_err-clause-served g c =
 
 pub returns-in-Err-clause-served : goal.returns-in-Err-clause-served
 returns-in-Err-clause-served g c =
-    let p = g.S.PlayedStack.seen c.args.stack.now in
-    let q = g.S.PlayedStack.seen c.loop-i.stack in
-    let r = g.S.PlayedStack.seen c.serve_request.new.stack in
-    let old = g.S.PlayedStack.told c.args.stack.now in
-    let mid = g.S.PlayedStack.told c.loop-i.stack in
-    let new = g.S.PlayedStack.told c.serve_request.new.stack in
+    let p = seen_by g.D.MemDevice.told g.D.MemDevice.clock c.args.stack.now in
+    let q = seen_by g.D.MemDevice.told g.D.MemDevice.clock c.loop-i.stack in
+    let r = seen_by g.D.MemDevice.told g.D.MemDevice.clock c.serve_request.new.stack in
+    let old = told_by g.D.MemDevice.told c.args.stack.now in
+    let mid = told_by g.D.MemDevice.told c.loop-i.stack in
+    let new = told_by g.D.MemDevice.told c.serve_request.new.stack in
     let xs = c.args.requests.now in
     let i = c.loop-i.i in
     let x = c.as_slice.result.now in
@@ -47,12 +48,12 @@ returns-in-Err-clause-served g c =
 
 pub loop-i-preserved : goal.loop-i-preserved
 loop-i-preserved g c =
-    let p = g.S.PlayedStack.seen c.args.stack.now in
-    let q = g.S.PlayedStack.seen c.loop-i.stack in
-    let r = g.S.PlayedStack.seen c.serve_request.new.stack in
-    let old = g.S.PlayedStack.told c.args.stack.now in
-    let mid = g.S.PlayedStack.told c.loop-i.stack in
-    let new = g.S.PlayedStack.told c.serve_request.new.stack in
+    let p = seen_by g.D.MemDevice.told g.D.MemDevice.clock c.args.stack.now in
+    let q = seen_by g.D.MemDevice.told g.D.MemDevice.clock c.loop-i.stack in
+    let r = seen_by g.D.MemDevice.told g.D.MemDevice.clock c.serve_request.new.stack in
+    let old = told_by g.D.MemDevice.told c.args.stack.now in
+    let mid = told_by g.D.MemDevice.told c.loop-i.stack in
+    let new = told_by g.D.MemDevice.told c.serve_request.new.stack in
     let xs = c.args.requests.now in
     let i = c.loop-i.i in
     let x = c.as_slice.result.now in
@@ -75,10 +76,10 @@ loop-i-preserved g c =
 
 pub returns-clause-served : goal.returns-clause-served
 returns-clause-served g c =
-    let p = g.S.PlayedStack.seen c.args.stack.now in
-    let q = g.S.PlayedStack.seen c.loop-i.stack in
-    let old = g.S.PlayedStack.told c.args.stack.now in
-    let now = g.S.PlayedStack.told c.loop-i.stack in
+    let p = seen_by g.D.MemDevice.told g.D.MemDevice.clock c.args.stack.now in
+    let q = seen_by g.D.MemDevice.told g.D.MemDevice.clock c.loop-i.stack in
+    let old = told_by g.D.MemDevice.told c.args.stack.now in
+    let now = told_by g.D.MemDevice.told c.loop-i.stack in
     let xs = c.args.requests.now in
     serves_all p q xs c.loop-i.counts.items old now
     (subst (λ (rs : List (List ℕ)). AreServedSoFar p q rs c.loop-i.counts.items old now) (take_all c.loop-i.i xs (let past = c.loop-i-test.false in omega (arith, past))) c.loop-i.invariant.so_far)

@@ -1,18 +1,19 @@
-use Rattle.script_player.proofs.Common.{◌≡◌, ◌++◌, ◌∷◌, [], List, length, sym, ap, ◌∙◌, subst, append_assoc, append-nil, arith, rules, into_iter_items, ArePlayed, nil_from_length}
+use Rattle.script_player.proofs.Common.{◌≡◌, ◌++◌, ◌∷◌, [], List, length, sym, ap, ◌∙◌, subst, append_assoc, append-nil, arith, rules, into_iter_items, ArePlayed, nil_from_length, told_by, seen_by}
 use Rattle.uds_gateway.specs.block_config.Config.{Configuration}
 use Rattle.nvm_script.specs.declared.step.Step.{Step}
 use Rattle.script_player.proofs.Table.{holds_synchronized}
 use Rattle.script_player.proofs.Walking.{is_played, none_made, begin, go_on, all_made, some_made}
+use Rattle.script_player.proofs.PlainPaying.{is_seen}
 use Rattle.script_player.proofs.steps.make_steps.Goals as goal
 
 pub returns-in_default-clause-some : goal.returns-in_default-clause-some
-returns-in_default-clause-some g c = none_made (g.S.PlayedStack.seen c.args.stack.now) c.args.steps (g.S.PlayedStack.told c.args.stack.now) c.len-entries.ensures.seen c.requires.fresh
+returns-in_default-clause-some g c = none_made (seen_by g.D.MemDevice.told g.D.MemDevice.clock c.args.stack.now) c.args.steps (told_by g.D.MemDevice.told c.args.stack.now) (is_seen g.D.MemDevice.told g.D.MemDevice.clock c.args.stack.now) c.requires.fresh
 
 pub loop-step-init : goal.loop-step-init
 loop-step-init g c = record {
   order = sym (c.into_iter-step-iterator.ensures.into_iter_gives.0 ∙ c.into_steps-step-items.ensures.steps);
   left = search rules;
-  way = begin (g.S.PlayedStack.seen c.args.stack.now) c.args.blocks c.in-Ok.stores (g.S.PlayedStack.told c.args.stack.now) c.len-entries.ensures.seen c.requires.fresh c.requires.blocks c.in-Ok.ensures;
+  way = begin (seen_by g.D.MemDevice.told g.D.MemDevice.clock c.args.stack.now) c.args.blocks c.in-Ok.stores (told_by g.D.MemDevice.told c.args.stack.now) (is_seen g.D.MemDevice.told g.D.MemDevice.clock c.args.stack.now) c.requires.fresh c.requires.blocks c.in-Ok.ensures;
   keeps = λ before kept. kept;
   starts = λ found. found;
 }
@@ -20,7 +21,7 @@ loop-step-init g c = record {
 pub make_kept-requires : goal.make_kept-requires
 make_kept-requires g c =
     let way = c.loop-step.invariant.way in
-    let config : Configuration = (g.S.PlayedStack.told c.loop-step.stack).configuration in
+    let config : Configuration = (told_by g.D.MemDevice.told c.loop-step.stack).configuration in
     let order = c.loop-step.invariant.order ∙ ap (λ (xs : List Step). c.loop-step.yielded ++ xs) c.in-Some.ensures.steps.0 in
     record {
       ready = way.kept.ready;
@@ -36,7 +37,7 @@ loop-step-preserved g c =
     record {
       order = order ∙ sym (append_assoc at.yielded (c.in-Some.step ∷ []) _);
       left = let few = at.invariant.left in let gone = c.in-Some.ensures.steps.1 in let short = ap length more in omega (arith, few, gone, short);
-      way = go_on (g.S.PlayedStack.seen c.args.stack.now) (g.S.PlayedStack.seen at.stack) (g.S.PlayedStack.seen c.make_kept.new.stack) c.args.steps at.yielded _ c.in-Some.step at.stores c.make_kept.new.stores (g.S.PlayedStack.told c.args.stack.now) (g.S.PlayedStack.told at.stack) (g.S.PlayedStack.told c.make_kept.new.stack) order c.into_steps-step-items.ensures.few c.requires.planned at.invariant.way c.in_default-make_kept.ensures.made;
+      way = go_on (seen_by g.D.MemDevice.told g.D.MemDevice.clock c.args.stack.now) (seen_by g.D.MemDevice.told g.D.MemDevice.clock at.stack) (seen_by g.D.MemDevice.told g.D.MemDevice.clock c.make_kept.new.stack) c.args.steps at.yielded _ c.in-Some.step at.stores c.make_kept.new.stores (told_by g.D.MemDevice.told c.args.stack.now) (told_by g.D.MemDevice.told at.stack) (told_by g.D.MemDevice.told c.make_kept.new.stack) order c.into_steps-step-items.ensures.few c.requires.planned at.invariant.way c.in_default-make_kept.ensures.made;
       keeps = λ before kept. c.make_kept.ensures.keeps before (at.invariant.keeps before kept);
       starts = λ found. c.make_kept.ensures.starts (at.invariant.starts found);
     }
@@ -44,11 +45,11 @@ loop-step-preserved g c =
 pub returns-in-Err-clause-some : goal.returns-in-Err-clause-some
 returns-in-Err-clause-some g c =
     let at = c.loop-step in
-    some_made (g.S.PlayedStack.seen c.args.stack.now) (g.S.PlayedStack.seen at.stack) (g.S.PlayedStack.seen c.make_kept.new.stack) c.in-Err.fault c.args.steps at.yielded _ c.in-Some.step at.stores (g.S.PlayedStack.told c.args.stack.now) (g.S.PlayedStack.told at.stack) (g.S.PlayedStack.told c.make_kept.new.stack) (at.invariant.order ∙ ap (λ (xs : List Step). at.yielded ++ xs) c.in-Some.ensures.steps.0) at.invariant.way c.in-Err.ensures.left c.in-Err.ensures.lasts
+    some_made (seen_by g.D.MemDevice.told g.D.MemDevice.clock c.args.stack.now) (seen_by g.D.MemDevice.told g.D.MemDevice.clock at.stack) (seen_by g.D.MemDevice.told g.D.MemDevice.clock c.make_kept.new.stack) c.in-Err.fault c.args.steps at.yielded _ c.in-Some.step at.stores (told_by g.D.MemDevice.told c.args.stack.now) (told_by g.D.MemDevice.told at.stack) (told_by g.D.MemDevice.told c.make_kept.new.stack) (at.invariant.order ∙ ap (λ (xs : List Step). at.yielded ++ xs) c.in-Some.ensures.steps.0) at.invariant.way c.in-Err.ensures.left c.in-Err.ensures.lasts
 
 pub returns-clause-all : goal.returns-clause-all
 returns-clause-all g c =
     let at = c.loop-step in
     let none : into_iter_items at.step-iterator ≡ [] = nil_from_length _ (sym at.invariant.left ∙ c.in-None.ensures.steps.0) in
-    all_made (g.S.PlayedStack.seen c.args.stack.now) (g.S.PlayedStack.seen at.stack) c.args.steps at.yielded at.stores (g.S.PlayedStack.told c.args.stack.now) (g.S.PlayedStack.told at.stack)
+    all_made (seen_by g.D.MemDevice.told g.D.MemDevice.clock c.args.stack.now) (seen_by g.D.MemDevice.told g.D.MemDevice.clock at.stack) c.args.steps at.yielded at.stores (told_by g.D.MemDevice.told c.args.stack.now) (told_by g.D.MemDevice.told at.stack)
     (sym (at.invariant.order ∙ ap (λ (xs : List Step). at.yielded ++ xs) none ∙ append-nil at.yielded)) at.invariant.way

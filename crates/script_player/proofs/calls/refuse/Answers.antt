@@ -1,7 +1,7 @@
 use Rattle.script_player.proofs.Common.{map, ◌≡◌, ℕ, List, sym, subst, Option, Some, None, refl, Configuration, PlainBlock, Told, IsSynchronized, told_of, AreSynchronized, sync_length_of, StackState, stack_stays, kept_by, Refuses, told_by, IsSome}
 use Rattle.script_player.proofs.PlainCopies.{may_store}
 use Rattle.script_player.proofs.PlainSteps.{refuses}
-use Rattle.script_player.proofs.played_stack.StackPlainSyncPlayedStack.refuse.Goals as goal
+use Rattle.script_player.proofs.calls.refuse.Goals as goal
 
 -- a block whose copies may be refused is the application's
 synchronized : (c : Configuration) (told : List Told) (id : ℕ) → AreSynchronized c told → IsSome (sync_length_of c id) → (n : ℕ) × IsSynchronized told id n
@@ -13,7 +13,7 @@ synchronized c told id are some = by (sync_length_of c id) refl some
 
 pub returns-clause-refuses : goal.returns-clause-refuses
 returns-clause-refuses g c =
-    let s = c.args.self.now in
+    let s = c.args.stack.now in
     let told = g.D.MemDevice.told in
     let (n, is) = synchronized s.desk.config (map told_of s.copies) c.args.block c.device-device.ensures.synchronized c.requires in
     subst (λ (t : StackState g.row.D.Denot (List PlainBlock)). Refuses c.args.block c.args.count (told_by told s) (told_by told t)) (sym c.refuse.ensures)
@@ -21,7 +21,7 @@ returns-clause-refuses g c =
 
 pub returns-clause-moved : goal.returns-clause-moved
 returns-clause-moved g c =
-    let s = c.args.self.now in
+    let s = c.args.stack.now in
     let new = c.refuse.new.self in
     let told = g.D.MemDevice.told in
     let clock = g.D.MemDevice.clock in

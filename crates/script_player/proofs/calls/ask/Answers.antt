@@ -1,21 +1,21 @@
-use Rattle.script_player.proofs.Common.{rules, false, IsTrue, Result, Some, List, [], ◌∷◌, refl, ap, subst, InOrder, Entry, Ask, fits, HistoriesStep, SumsGrow, histories_step, sums_grow, PlainBlock, StackState, MovesBy, moment_of, kept_by, seen_by, told_by, FreesReady, stack_asks, OnErr, Ok, Err}
+use Rattle.script_player.proofs.Common.{rules, false, IsTrue, Some, List, [], ◌∷◌, refl, ap, subst, InOrder, Entry, Ask, fits, HistoriesStep, SumsGrow, histories_step, sums_grow, PlainBlock, StackState, MovesBy, moment_of, kept_by, seen_by, told_by, FreesReady, stack_asks}
 use Rattle.uds_gateway.specs.nv_desk.Desk.{state_of}
-use Rattle.script_player.proofs.PlainPaying.{keeps_by, same_entry, still}
+use Rattle.script_player.proofs.PlainPaying.{keeps_by, same_entry}
 use Rattle.script_player.proofs.PlainStarts.{starts_stay}
 use Rattle.script_player.proofs.PlainSteps.{had_room}
-use Rattle.script_player.proofs.played_stack.StackPlainSyncPlayedStack.ask.Goals as goal
+use Rattle.script_player.proofs.calls.ask.Goals as goal
 
 pub returns-clause-asks : goal.returns-clause-asks
 returns-clause-asks g c =
     let steps : HistoriesStep = histories_step in
     let prices : SumsGrow = sums_grow in
-    let s = c.args.self.now in
+    let s = c.args.stack.now in
     let room : IsTrue (fits s.desk.config s.desk.cap (state_of s.desk) 1) = had_room c.ask.result c.in_ok-reply.reply (fits s.desk.config s.desk.cap (state_of s.desk) 1) c.in_ok-reply.was c.ask.ensures.no_room in
     search rules
 
 pub returns-clause-moved : goal.returns-clause-moved
 returns-clause-moved g c e grows =
-    let s = c.args.self.now in
+    let s = c.args.stack.now in
     let new = c.ask.new.self in
     let told = g.D.MemDevice.told in
     let clock = g.D.MemDevice.clock in
@@ -31,13 +31,5 @@ pub returns-clause-starts : goal.returns-clause-starts
 returns-clause-starts g c =
     let adds = c.in_ok-reply.ensures.ok in
     let told = g.D.MemDevice.told in
-    starts_stay told c.args.self.now c.ask.new.self (Ask c.args.caller c.args.request c.in_ok-reply.reply ∷ []) refl (ap (λ (t : StackState g.row.D.Denot (List PlainBlock)). t.ready) adds)
+    starts_stay told c.args.stack.now c.ask.new.self (Ask c.args.caller c.args.request c.in_ok-reply.reply ∷ []) refl (ap (λ (t : StackState g.row.D.Denot (List PlainBlock)). t.ready) adds)
     (ap (λ (t : StackState g.row.D.Denot (List PlainBlock)). t.desk.entries) adds) (ap (λ (t : StackState g.row.D.Denot (List PlainBlock)). (told t.device).starts) adds)
-
--- one that isn't answered moves nothing
-on_err : {X E P : Type 0} (r : Result X E) → P → OnErr r P
-on_err (Ok x) p = tt
-on_err (Err e) p = p
-
-pub returns-in_err-reply-clause-still : goal.returns-in_err-reply-clause-still
-returns-in_err-reply-clause-still g c = on_err _ (still g.D.MemDevice.told g.D.MemDevice.clock c.args.self.now c.ask.new.self c.in_err-reply.ensures.err)

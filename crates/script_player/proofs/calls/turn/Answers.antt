@@ -3,12 +3,12 @@ use Rattle.script_player.proofs.Served.{goes_told}
 use Rattle.script_player.proofs.PlainPaying.{keeps_by, up_moves}
 use Rattle.script_player.proofs.PlainBehind.{turns_told}
 use Rattle.script_player.proofs.PlainStarts.{starts_stay, turn_founds, turned_starts}
-use Rattle.script_player.proofs.played_stack.StackPlainSyncPlayedStack.turn.Goals as goal
+use Rattle.script_player.proofs.calls.turn.Goals as goal
 
 pub returns-clause-turns : goal.returns-clause-turns
 returns-clause-turns g c =
     let is = c.turn-turned.ensures in
-    turns_told g.D.MemDevice.told g.D.MemDevice.clock c.args.self.now c.turn-turned.new.self c.turn-turned.result is.turns (c.device-device.ensures.power c.requires) (λ same. record {
+    turns_told g.D.MemDevice.told g.D.MemDevice.clock c.args.stack.now c.turn-turned.new.self c.turn-turned.result is.turns (c.device-device.ensures.power c.requires) (λ same. record {
       power = c.device-behind.ensures.power (same ∙ c.requires);
       counted = is.counted;
       lowers = is.lowers;
@@ -19,7 +19,7 @@ returns-clause-turns g c =
 
 pub returns-clause-moved : goal.returns-clause-moved
 returns-clause-moved g c =
-    let s = c.args.self.now in
+    let s = c.args.stack.now in
     let new = c.turn-turned.new.self in
     let told = g.D.MemDevice.told in
     let clock = g.D.MemDevice.clock in
@@ -32,14 +32,14 @@ returns-clause-moved g c =
 
 pub returns-clause-keeps : goal.returns-clause-keeps
 returns-clause-keeps g c =
-    let s = c.args.self.now in
+    let s = c.args.stack.now in
     let new = c.turn-turned.new.self in
     let is = c.turn-turned.ensures in
     keeps_by g.D.MemDevice.told g.D.MemDevice.clock s new c.requires (turned_ready g.D.MemDevice.told g.D.MemDevice.clock _ _ _ c.turn-turned.result s new is.turns) is.keeps
 
 pub returns-clause-goes : goal.returns-clause-goes
 returns-clause-goes g c asked one =
-    let s = c.args.self.now in
+    let s = c.args.stack.now in
     let new = c.turn-turned.new.self in
     let told = g.D.MemDevice.told in
     let clock = g.D.MemDevice.clock in
@@ -48,7 +48,7 @@ returns-clause-goes g c asked one =
 
 pub returns-clause-starts : goal.returns-clause-starts
 returns-clause-starts g c =
-    let s = c.args.self.now in
+    let s = c.args.stack.now in
     let new = c.turn-turned.new.self in
     let told = g.D.MemDevice.told in
     let clock = g.D.MemDevice.clock in

@@ -1,8 +1,8 @@
-use Rattle.script_player.proofs.Common.{◌≡◌, Bool, true, false, List, [], ◌∷◌, Option, Some, sym, ap, subst, inl, DeviceTold, Part, PartTold, ops_of, Lasts, Entry, Found, Clock, InOrder, HandState, DeskState, PlainBlock, TellsSlots, FoundAnswer, StackState, PowersOff, Restarts, MovesBy, moment_of, told_by, IsKept, kept_by, seen_by, HasStarted, StackKeepsAsTold, DownKeepsAsTold, StartsKeep, stack_starts, StartMoves, StaysStill}
+use Rattle.script_player.proofs.Common.{◌≡◌, Bool, true, false, List, [], ◌∷◌, Option, Some, sym, ap, subst, inl, DeviceTold, Part, PartTold, ops_of, Lasts, Entry, Found, Clock, InOrder, HandState, DeskState, PlainBlock, TellsSlots, FoundAnswer, StackState, PowersOff, Restarts, MovesBy, moment_of, told_by, IsKept, kept_by, seen_by, HasStarted, StackKeepsAsTold, DownKeepsAsTold, StartsKeep, stack_starts, StartMoves}
 use Rattle.uds_gateway.specs.nvm_laws.declared.turned.FoundAnswer.TheVariants as found
-use Rattle.script_player.proofs.PlainPaying.{fails_last, restart_tells, same_entry, same_last, still}
+use Rattle.script_player.proofs.PlainPaying.{fails_last, restart_tells, same_entry, same_last}
 use Rattle.script_player.proofs.PlainStarts.{restart_starts, restarts_told}
-use Rattle.script_player.proofs.played_stack.StackPlainSyncPlayedStack.restart.Goals as goal
+use Rattle.script_player.proofs.calls.restart.Goals as goal
 
 -- whatever the last start-up came to, a further one has what it needs
 module _ {D : Type 0} (told : D → DeviceTold) (clock : D → Clock) (old new : StackState D (List PlainBlock)) (before : Part → PartTold)
@@ -45,27 +45,19 @@ module _ {D : Type 0} (told : D → DeviceTold) (clock : D → Clock) (old new :
   restart_moves keeps lasts order power found.NoRoom restarts = same_last told clock old new restarts.0
   restart_moves keeps lasts order power found.Memory restarts = same_last told clock old new restarts
 
-  restart_still : (answer : FoundAnswer) → Restarts told answer old new → StaysStill answer (seen_by told clock old) (seen_by told clock new)
-  restart_still found.NoRoom restarts = still told clock old new restarts.0
-  restart_still found.Memory restarts = still told clock old new restarts
-  restart_still answer restarts = tt
-
 pub returns-clause-keeps : goal.returns-clause-keeps
 returns-clause-keeps g c before =
-    restart_keeps g.D.MemDevice.told g.D.MemDevice.clock c.args.self.now c.restart-answer.new.self before (c.restart-answer.ensures.down before) c.restart-answer.result c.restart-answer.ensures.restarts c.restart-answer.ensures.keeps
+    restart_keeps g.D.MemDevice.told g.D.MemDevice.clock c.args.stack.now c.restart-answer.new.self before (c.restart-answer.ensures.down before) c.restart-answer.result c.restart-answer.ensures.restarts c.restart-answer.ensures.keeps
 
 pub returns-clause-moved : goal.returns-clause-moved
 returns-clause-moved g c =
     let told = g.D.MemDevice.told in
     let clock = g.D.MemDevice.clock in
-    restart_moves told clock c.args.self.now c.restart-answer.new.self (returns-clause-keeps g c) c.restart-answer.ensures.lasts
+    restart_moves told clock c.args.stack.now c.restart-answer.new.self (returns-clause-keeps g c) c.restart-answer.ensures.lasts
     (subst (λ (x : g.row.D.Denot). InOrder (told x) (clock x)) c.device-behind.ensures.device c.status-status.ensures.order) c.device-behind.ensures.power c.restart-answer.result c.restart-answer.ensures.restarts
 
-pub returns-clause-still : goal.returns-clause-still
-returns-clause-still g c = restart_still g.D.MemDevice.told g.D.MemDevice.clock c.args.self.now c.restart-answer.new.self c.restart-answer.result c.restart-answer.ensures.restarts
-
 pub returns-clause-restarts : goal.returns-clause-restarts
-returns-clause-restarts g c = restarts_told g.D.MemDevice.told c.args.self.now c.restart-answer.new.self c.restart-answer.result c.restart-answer.ensures.restarts
+returns-clause-restarts g c = restarts_told g.D.MemDevice.told c.args.stack.now c.restart-answer.new.self c.restart-answer.result c.restart-answer.ensures.restarts
 
 pub returns-clause-starts : goal.returns-clause-starts
-returns-clause-starts g c = restart_starts g.D.MemDevice.told c.args.self.now c.restart-answer.new.self c.restart-answer.result c.restart-answer.ensures.restarts
+returns-clause-starts g c = restart_starts g.D.MemDevice.told c.args.stack.now c.restart-answer.new.self c.restart-answer.result c.restart-answer.ensures.restarts
