@@ -19,7 +19,7 @@ use crate::calls::{ask, turn};
 use std::alloc::Global;
 use uds_gateway::{
     AskFault, AskedFault, Bytes, Config, MemDevice, PlainSync, Reply, Request, ServeStop, Stack,
-    Turned, asked_by,
+    Turned, asked_by, is_on_way,
 };
 
 /// Serves requests in order on a stack behind its first start-up, of this configuration, as caller 0: each that asks for
@@ -120,13 +120,4 @@ fn turns_to_post<D: MemDevice>(stack: &mut Stack<D, PlainSync>) -> Turned
         turned = turn(stack);
     }
     turned
-}
-
-fn is_on_way(turned: Turned) -> bool
-    ensures { result ≡ is_on_way turned }
-{
-    match turned {
-        Turned::Posted | Turned::Off => false,
-        Turned::Idle | Turned::Worked | Turned::Picked => true,
-    }
 }

@@ -25,3 +25,4 @@ pub use nvm_moves::{
 };
 pub use serving::serve;
 pub use stop::ServeStop;
+pub use turning::is_on_way;

@@ -15,7 +15,7 @@ use nvm_moves::{
     AskFault, Bytes, Config, Entry, Event, Last, MemDevice, Reply, Request, Stack, SyncCalls,
     Turned,
 };
-use std::alloc::{AllocError, Global};
+use std::alloc::Global;
 
 /// The answer of a request, which isn't empty, over a stack of this configuration that is up and has no job pending. A request that
 /// asks for nothing doesn't touch the stack. Else `serve` asks as caller 0, and makes turns to the Post; behind an answer no job is
@@ -87,7 +87,7 @@ fn asked_block(asked: &Request) -> u16
     }
 }
 
-// Goes on where the Ask was accepted.
+// Where the Ask was accepted, makes turns to the Post of its job, which is pending, and answers by it.
 fn answer_to<D: MemDevice, C: SyncCalls + Drop>(
     stack: &mut Stack<D, C>,
     room: Vec<u8>,
@@ -104,28 +104,11 @@ fn answer_to<D: MemDevice, C: SyncCalls + Drop>(
     ensures ready { stack.new.ready ≡ true }
 {
     match reply {
-        Reply::Accepted => finish(stack, room, request),
+        Reply::Accepted => match turns_to_post(stack) {
+            Turned::Posted => last_answer(stack, room, request),
+            _ => Err(ServeStop::Off),
+        },
         _ => Ok(negative(room, request, NegativeCode::ConditionsNotCorrect)),
-    }
-}
-
-// Makes turns to the Post of the job that is pending, and answers by it.
-fn finish<D: MemDevice, C: SyncCalls + Drop>(
-    stack: &mut Stack<D, C>,
-    room: Vec<u8>,
-    request: &[u8],
-) -> Result<Bytes, ServeStop>
-    requires long { 3 ≤ length request.now }
-    requires empty { room.items ≡ [] }
-    requires room { 3 ≤ vec_capacity room }
-    requires ready { stack.old.ready ≡ true }
-    requires job { HasJob (state_of stack.old.desk) }
-    ensures finishes { (asked : Asked) → HasOne asked (state_of stack.old.desk) → Finishes asked request.now (vec_capacity room) result stack.old.desk stack.new.desk }
-    ensures ready { stack.new.ready ≡ true }
-{
-    match turns_to_post(stack) {
-        Turned::Posted => last_answer(stack, room, request),
-        _ => Err(ServeStop::Off),
     }
 }
 
@@ -143,40 +126,22 @@ fn last_answer<D: MemDevice, C: SyncCalls + Drop>(
     ensures err { IfErr result (λ stop. (stop ≡ ServeStop.Memory) × ((h : List Line) (block : ℕ) (posted : Posted) (given : Option (List ℕ)) (refused ops : ℕ)
         → stack.now.desk.entries ≡ h ++ Post block posted given refused ops ∷ [] → vec_capacity room < length (unwrap_or given []) + 3)) }
 {
-    let answer = last_posted(stack, room, request)?;
-    Ok(answer)
-}
-
-// That answer, or no memory.
-fn last_posted<D: MemDevice, C: SyncCalls + Drop>(
-    stack: &Stack<D, C>,
-    room: Vec<u8>,
-    request: &[u8],
-) -> Result<Bytes, AllocError>
-    requires long { 3 ≤ length request.now }
-    requires empty { room.items ≡ [] }
-    requires room { 3 ≤ vec_capacity room }
-    ensures ok { IfOk result (λ answer. (h : List Line) (block : ℕ) (posted : Posted) (given : Option (List ℕ)) (refused ops : ℕ)
-        → stack.now.desk.entries ≡ h ++ Post block posted given refused ops ∷ [] → answer ≡ answer_of request.now posted given) }
-    ensures err { OnErr result ((h : List Line) (block : ℕ) (posted : Posted) (given : Option (List ℕ)) (refused ops : ℕ)
-        → stack.now.desk.entries ≡ h ++ Post block posted given refused ops ∷ [] → vec_capacity room < length (unwrap_or given []) + 3) }
-{
     match stack.last() {
         Some(Last::Added(entry)) => match entry {
             Entry::Post {
                 result,
                 given: Some(given),
                 ..
-            } => posted_answer(room, request, *result, Some(given.as_slice())),
+            } => Ok(posted_answer(room, request, *result, Some(given.as_slice()))?),
             Entry::Post {
                 result,
                 given: None,
                 ..
-            } => posted_answer(room, request, *result, None),
+            } => Ok(posted_answer(room, request, *result, None)?),
             _ => Ok(negative(room, request, NegativeCode::ConditionsNotCorrect)),
         },
         Some(Last::OfJob { event, content }) => match event {
-            Event::Post { result, .. } => posted_answer(room, request, result, content),
+            Event::Post { result, .. } => Ok(posted_answer(room, request, result, content)?),
             Event::Pick { .. } | Event::Wrote { .. } => Ok(negative(
                 room,
                 request,

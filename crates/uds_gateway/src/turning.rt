@@ -35,7 +35,8 @@ fn turn_on<D: MemDevice, C: SyncCalls + Drop>(stack: &mut Stack<D, C>) -> Turned
     turned
 }
 
-fn is_on_way(turned: Turned) -> bool
+/// Whether the job of which this turn was isn't posted yet, and the power is on.
+pub fn is_on_way(turned: Turned) -> bool
     ensures { result ≡ is_on_way turned }
 {
     match turned {
