@@ -1,5 +1,5 @@
 -- The lines of requests, put one behind the other.
-use Rattle.std.proofs.Common.{◌≡◌, ◌≢◌, ◌≤◌, ◌<◌, ◌+◌, ◌-◌, ℕ, zero, suc, List, [], ◌∷◌, ◌++◌, length, get_or, map, take, drop, min, Option, Some, None, Result, Ok, Err, refl, sym, ap, ◌∙◌, subst, inl, inr, append_assoc, append-nil, arith, length-append}
+use Rattle.std.proofs.Common.{◌≡◌, ◌≢◌, ◌≤◌, ◌<◌, ◌+◌, ◌-◌, ℕ, zero, suc, List, [], ◌∷◌, ◌++◌, length, get_or, map, take, drop, min, Option, Some, Result, Ok, Err, refl, sym, ap, ◌∙◌, subst, inl, inr, append_assoc, append-nil, arith, length-append}
 use Rattle.std.specs.Prelude.{sum_by}
 use Rattle.std.proofs.lemmas.List.Sums.{sum_by-cons}
 use Rattle.std.proofs.lemmas.Bool.{cases_lt}
@@ -14,7 +14,6 @@ use Rattle.nvm_script.specs.Lines.{entry_line, end_line}
 use Rattle.nvm_script.specs.Printed.{history_lines}
 use Rattle.script_player.specs.uds_gateway.Answers.{uds}
 use Rattle.script_player.specs.uds_gateway.Served.{AreServed}
-use Rattle.script_player.specs.uds_gateway.declared.stop.ServeStop.{ServeStop}
 use Rattle.script_player.specs.script_walks.Walk.{joined}
 use Rattle.uds_script.specs.Lines.{uds_line}
 use Rattle.nvm_lines.specs.declared.output.OutputFault.{OutputFault}
@@ -25,7 +24,9 @@ use Rattle.nvm_lines.specs.declared.stop.Stop.{Stop}
 use Rattle.nvm_lines.specs.declared.stop.Stop.TheVariants as stop
 use Rattle.nvm_lines.specs.Output.{BreaksOff, IsEndOf, Writes, fault_status}
 use Rattle.nvm_lines.specs.Stop.{status_of, line_of, IsStop}
-use Rattle.nvm_top.specs.Uds.{answer_lines, served_lines, lines_by, BreaksOffIn, HasPieces, WritesLines, stop_of_serving, stopped_serving, status_served, line_served}
+use Rattle.nvm_top.specs.Runs.{last_of, status_of_run}
+use Rattle.script_player.specs.uds_gateway.declared.stop.ServeStop.{ServeStop}
+use Rattle.nvm_top.specs.Uds.{answer_lines, served_lines, lines_by, BreaksOffIn, HasPieces, WritesLines, stopped_serving, status_served, line_served}
 use Rattle.nvm_top.proofs.RunLines.{not_wanting}
 
 -- SOME OF ALL LINES
@@ -85,56 +86,38 @@ served_behind P meant lines last w w1 w2 status.WriteFault leads before is =
 served_behind P meant lines last w w1 w2 x leads before is =
     ((leads x is.0 is.1).1, subst (λ (l : List (List ℕ)). Puts w w2 (lines ++ l)) (leads x is.0 is.1).2 (Puts-trans w w1 w2 lines is.0 before is.2))
 
--- how they ended, as the command's stop
-abbrev stop_in : Result (Unit {0}) Stop → Stop → Stop
-stop_in (Ok done) other = other
-stop_in (Err why) other = why
+-- by how they ended
+pub served_stops : (run : Result (Unit {0}) Stop) (why : Stop) (entries : List Entry) (lines : List (List ℕ)) (w w1 w2 : Written) (x : Status) → run ≡ Err why → Puts w w1 lines → Writes (IsStop why) w1 w2 x
+    → WritesLines (status_of_run run) lines (last_of run entries) w w2 x
+served_stops run why entries lines w w1 w2 x is before writes =
+    subst (λ (r : Result (Unit {0}) Stop). WritesLines (status_of_run r) lines (last_of r entries) w w2 x) (sym is)
+    (served_behind (IsStop why) (status_of why) lines (line_of why) w w1 w2 x (λ y l at. (not_wanting why at.0, at.1, at.2)) before writes)
 
-served_status : (end : Result (Unit {0}) ServeStop) (why : Stop) → stopped_serving end ≡ Err why → status_served end ≡ status_of why
-served_status (Ok done) why is = cc
-served_status (Err s) why is = ap (λ (r : Result (Unit {0}) Stop). status_of (stop_in r why)) is
+pub served_ends : (run : Result (Unit {0}) Stop) (done : Unit {0}) (entries : List Entry) (lines : List (List ℕ)) (w w1 w2 : Written) (x : Status) → run ≡ Ok done → Puts w w1 lines → Writes (IsEndOf entries) w1 w2 x
+    → WritesLines (status_of_run run) lines (last_of run entries) w w2 x
+served_ends run done entries lines w w1 w2 x is before writes =
+    subst (λ (r : Result (Unit {0}) Stop). WritesLines (status_of_run r) lines (last_of r entries) w w2 x) (sym is)
+    (served_behind (IsEndOf entries) status.Ok lines (end_line (length entries)) w w1 w2 x (λ y l at. (λ e. cc, at.0, at.1)) before writes)
 
-served_line : (end : Result (Unit {0}) ServeStop) (why : Stop) (entries : List Entry) → stopped_serving end ≡ Err why → line_served end entries ≡ line_of why
-served_line (Ok done) why entries is = cc
-served_line (Err s) why entries is = ap (λ (r : Result (Unit {0}) Stop). line_of (stop_in r why)) is
-
-served_done : (end : Result (Unit {0}) ServeStop) (done : Unit {0}) (entries : List Entry) → stopped_serving end ≡ Ok done → (status_served end ≡ status.Ok) × (line_served end entries ≡ end_line (length entries))
-served_done (Ok d) done entries is = (refl, refl)
-served_done (Err s) done entries is = cc
-
-pub served_stops : (end : Result (Unit {0}) ServeStop) (why : Stop) (entries : List Entry) (lines : List (List ℕ)) (w w1 w2 : Written) (x : Status) → stopped_serving end ≡ Err why → Puts w w1 lines → Writes (IsStop why) w1 w2 x
-    → WritesLines (status_served end) lines (line_served end entries) w w2 x
-served_stops end why entries lines w w1 w2 x is before writes =
-    served_behind (IsStop why) (status_served end) lines (line_served end entries) w w1 w2 x
-    (λ y l at. (λ e. not_wanting why at.0 (sym (served_status end why is) ∙ e), at.1 ∙ sym (served_status end why is), at.2 ∙ ap (λ (t : List ℕ). t ∷ []) (sym (served_line end why entries is)))) before writes
-
-pub served_ends : (end : Result (Unit {0}) ServeStop) (done : Unit {0}) (entries : List Entry) (lines : List (List ℕ)) (w w1 w2 : Written) (x : Status) → stopped_serving end ≡ Ok done → Puts w w1 lines → Writes (IsEndOf entries) w1 w2 x
-    → WritesLines (status_served end) lines (line_served end entries) w w2 x
-served_ends end done entries lines w w1 w2 x is before writes =
-    let (same, last) = served_done end done entries is in
-    served_behind (IsEndOf entries) (status_served end) lines (line_served end entries) w w1 w2 x
-    (λ y l at. (λ e. not_memory (sym same ∙ e), at.0 ∙ sym same, at.1 ∙ ap (λ (t : List ℕ). t ∷ []) (sym last))) before writes
-  where
-    not_memory : status.Ok ≡ status.Memory → ⊥
-    not_memory e = cc
-
--- memory was wanting
-pub served_wanting : (end : Result (Unit {0}) ServeStop) (entries : List Entry) (lines : List (List ℕ)) (w : Written) → WritesLines (status_served end) lines (line_served end entries) w w status.Memory
-served_wanting end entries lines w = (0, Puts-nil w)
-
-served_wants_none : (end : Result (Unit {0}) ServeStop) → stopped_serving end ≢ Err stop.Memory → status_served end ≢ status.Memory
+served_wants_none : (run : Result (Unit {0}) Stop) → run ≢ Err stop.Memory → status_of_run run ≢ status.Memory
 served_wants_none (Ok done) other e = cc
-served_wants_none (Err s) other e = not_wanting (stop_of_serving s) (λ is. other (ap (λ (y : Stop). Err y) is)) e
+served_wants_none (Err s) other e = not_wanting s (λ is. other (ap (λ (y : Stop). Err y) is)) e
+
+-- so by why no more requests were served
+pub served_text : (end : Result (Unit {0}) ServeStop) (run : Result (Unit {0}) Stop) (entries : List Entry) (lines : List (List ℕ)) (w w' : Written) (x : Status) → run ≡ stopped_serving end → WritesLines (status_of_run run) lines (last_of run entries) w w' x
+    → WritesLines (status_served end) lines (line_served end entries) w w' x
+served_text (Ok done) run entries lines w w' x same is = subst (λ (r : Result (Unit {0}) Stop). WritesLines (status_of_run r) lines (last_of r entries) w w' x) same is
+served_text (Err s) run entries lines w w' x same is = subst (λ (r : Result (Unit {0}) Stop). WritesLines (status_of_run r) lines (last_of r entries) w w' x) same is
 
 -- the output broke off
 broken_by : (meant : Status) (lines : List (List ℕ)) (last : List ℕ) (fault : OutputFault) (w w' : Written) → meant ≢ status.Memory → BreaksOffIn fault lines w w' → WritesLines meant lines last w w' (fault_status fault)
 broken_by meant lines last output.Failed w w' other part = (other, PutsPart-longer w w' lines (last ∷ []) part)
 broken_by meant lines last output.Memory w w' other part = part
 
-pub served_broken : (end : Result (Unit {0}) ServeStop) (fault : OutputFault) (entries : List Entry) (lines : List (List ℕ)) (w w' : Written) (x : Status) → stopped_serving end ≢ Err stop.Memory → x ≡ fault_status fault → BreaksOffIn fault lines w w'
-    → WritesLines (status_served end) lines (line_served end entries) w w' x
-served_broken end fault entries lines w w' x other same is =
-    subst (λ (y : Status). WritesLines (status_served end) lines (line_served end entries) w w' y) (sym same) (broken_by (status_served end) lines (line_served end entries) fault w w' (served_wants_none end other) is)
+pub served_broken : (run : Result (Unit {0}) Stop) (fault : OutputFault) (entries : List Entry) (lines : List (List ℕ)) (w w' : Written) (x : Status) → run ≢ Err stop.Memory → x ≡ fault_status fault → BreaksOffIn fault lines w w'
+    → WritesLines (status_of_run run) lines (last_of run entries) w w' x
+served_broken run fault entries lines w w' x other same is =
+    subst (λ (y : Status). WritesLines (status_of_run run) lines (last_of run entries) w w' y) (sym same) (broken_by (status_of_run run) lines (last_of run entries) fault w w' (served_wants_none run other) is)
 
 -- PIECES
 
@@ -262,10 +245,6 @@ answer_broken w w1 w2 fault entries o answer is before part =
     subst (λ (p : Option (List ℕ)). BreaksOffIn fault (history_lines entries ++ answer_lines p) w w2) is
     (broken_put w w1 w2 fault (history_lines entries ++ uds_line answer ∷ []) (uds_line answer ∷ []) []
     (more_put w w w1 (history_lines entries ++ uds_line answer ∷ []) (history_lines entries) (uds_line answer ∷ []) (none_put w (history_lines entries ++ uds_line answer ∷ [])) before) part)
-
--- there is none
-pub none_answered : (w w1 : Written) (entries : List Entry) (o : Option (List ℕ)) → None ≡ o → Puts w w1 (history_lines entries) → Puts w w1 (history_lines entries ++ answer_lines o)
-none_answered w w1 entries o is before = subst (λ (p : Option (List ℕ)). Puts w w1 (history_lines entries ++ answer_lines p)) is (subst (λ (l : List (List ℕ)). Puts w w1 l) (sym (append-nil (history_lines entries))) before)
 
 -- or no memory for it
 pub answer_wanting : (w w1 : Written) (entries : List Entry) (others : List (List ℕ)) → Puts w w1 (history_lines entries) → BreaksOffIn output.Memory (history_lines entries ++ others) w w1

@@ -1,5 +1,5 @@
 -- The stack over a flash: what it is behind its first start-up, and what its flash comes back with.
-use Rattle.std.specs.Prelude.{◌||◌, not, IfSome, IfOk, take, option_map, min, nat_lt, nat_le}
+use Rattle.std.specs.Prelude.{◌||◌, not, IfSome, IfOk, option_map, min, nat_lt}
 use Rattle.std.proofs.Common.{◌≡◌, ◌≢◌, ◌≤◌, ◌+◌, ◌*◌, ◌⊎◌, ◌++◌, ℕ, Bool, true, false, List, [], ◌∷◌, Option, Some, None, Result, Ok, Err, length, refl, sym, ap, ◌∙◌, subst, inl, inr, arith}
 use Rattle.std.proofs.Math.Nat.{eq-or-lt_of_le}
 use Rattle.nvm_flash.specs.nv_base.Count.{last_count, Rose, WereCounted}
@@ -14,7 +14,6 @@ use Rattle.nvm_flash.specs.memif.Calls.{InOrder}
 use Rattle.nvm_flash.specs.fls_model.Told.{Told, ToldBytes, Change, IfBothTold, bytes_now}
 use Rattle.nvm_flash.specs.fls_devices.Cutter.{cutting, told_cutting}
 use Rattle.nvm_flash.specs.promise_device.Making.{Making}
-use Rattle.nvm_flash.specs.memif.Clock.{Clock}
 use Rattle.nvm_flash.specs.promise_device.Bridge.{Bridges, reading_of}
 use Rattle.nvm_flash.specs.promise_device.Wear.{OperationsAreDue}
 use Rattle.nvm_flash.specs.promise_device.FlashRun.{TellsBytes, StartsSound}
@@ -23,7 +22,7 @@ use Rattle.nvm_flash.specs.fee_core.Tells.{told_clock}
 use Rattle.nvm_flash.specs.fee_laws.Made.{part_at}
 use Rattle.nvm_flash.specs.ram_blocks.declared.plain_block.PlainBlock.{PlainBlock}
 use Rattle.nvm_flash.specs.ram_blocks.Plain.{plain_blocks_of}
-use Rattle.nvm_flash.specs.nv_desk.Desk.{DeskState, state_of}
+use Rattle.nvm_flash.specs.nv_desk.Desk.{DeskState}
 use Rattle.nvm_flash.specs.nv_desk.Recorder.{keeps}
 use Rattle.nvm_flash.specs.job_progress.Hand.{HandState}
 use Rattle.nvm_flash.specs.promise_blocks.OverDevice.{KeepsOver, KeepsEarly}
@@ -43,7 +42,7 @@ use Rattle.script_player.specs.PlainTold.{told_by}
 use Rattle.script_player.specs.PlainKept.{IsKept, AreStartsFound}
 use Rattle.nvm_flash.specs.declared.device.MakeFault.{MakeFault}
 use Rattle.nvm_flash.specs.declared.device.MakeFault.TheVariants as fault
-use Rattle.nvm_flash.specs.job_progress.JobInHand.{IsPaired, program_for}
+use Rattle.nvm_flash.specs.job_progress.JobInHand.{program_for}
 use Rattle.nvm_flash.specs.promise_run.Operations.{costs_of}
 use Rattle.nvm_flash.proofs.Costs.{costs_are_figures, reads_take_one}
 use Rattle.nvm_flash.specs.nvm_core.DeviceWork.{IsSimple, costs_in, work_in}

@@ -1,5 +1,5 @@
 -- What reading a flash gives and leaves.
-use Rattle.std.proofs.Common.{◌≡◌, ◌∙◌, ◌+◌, ◌⊎◌, ℕ, List, [], ◌∷◌, ◌++◌, take, drop, Option, Some, None, IfSome, refl, sym, ap, subst, inl, inr}
+use Rattle.std.proofs.Common.{◌≡◌, ◌∙◌, ◌+◌, ◌⊎◌, ℕ, List, ◌++◌, take, drop, Option, Some, None, IfSome, refl, sym, ap, subst, inl, inr}
 use Rattle.std.proofs.Math.Seq.{take-add}
 use Rattle.nvm_flash.specs.nv_base.declared.geometry.Geometry.{Geometry}
 use Rattle.nvm_flash.specs.nv_base.Geometry.{size_of}
@@ -27,9 +27,6 @@ filled_bytes g (Some a) None is = absurd is
 
 kept-faults : (g : Geometry) (s t : Told) (n : ℕ) → KeepsFlash g s t → KeepsFlash g s (record t { faults = n })
 kept-faults g s t n is = record { bytes = is.bytes; ops = is.ops; cuts = is.cuts }
-
-pub kept-same : (g : Geometry) (s : Told) → KeepsFlash g s s
-kept-same g s = record { bytes = same_bytes g s.bytes; ops = refl; cuts = refl }
 
 pub kept-attached : (g : Geometry) (s t : Told) → IsAttached g s t → KeepsFlash g s (powered t)
 kept-attached g s t is = record { bytes = filled_bytes g s.bytes t.bytes is.bytes; ops = is.ops; cuts = is.cuts }

@@ -1,6 +1,6 @@
 -- A run of `play` keeps the promise, by the course of its steps and by what its stack vouches for.
 use Rattle.std.specs.Prelude.{OnOk, IfErr, take, true, false}
-use Rattle.std.proofs.Common.{◌≡◌, ◌≤◌, ◌+◌, ℕ, List, [], ◌∷◌, ◌++◌, Option, Some, None, Result, Ok, Err, refl, sym, ap, ◌∙◌, subst, inl, inr, arith, append-nil}
+use Rattle.std.proofs.Common.{◌≡◌, ◌≤◌, ℕ, List, [], ◌∷◌, ◌++◌, Option, Some, None, Result, Ok, Err, refl, sym, ap, ◌∙◌, subst, inl, inr, arith, append-nil}
 use Rattle.nvm_lines.specs.nv_streams.Sink.{Written}
 use Rattle.nvm_flash.specs.nv_base.Count.{Rose, WereCounted}
 use Rattle.nvm_flash.specs.nv_base.Geometry.{size_of}
@@ -12,7 +12,7 @@ use Rattle.nvm_flash.specs.promise_device.FlashRun.{FlashRun}
 use Rattle.script_player.specs.script_walks.Words.{Step}
 use Rattle.script_player.specs.script_walks.Walk.{IsWalkOf}
 use Rattle.nvm_flash.specs.block_machine.Words.{Entry, Found}
-use Rattle.nvm_flash.specs.block_machine.State.{State, Job}
+use Rattle.nvm_flash.specs.block_machine.State.{State}
 use Rattle.nvm_flash.specs.block_machine.Steps.{after}
 use Rattle.nvm_flash.specs.promise_run.Beside.{Beside}
 use Rattle.nvm_flash.specs.promise_run.Run.{Run, Course, Played, End, Whole, FlashFault, cap, FaultWasCounted, HasOrder, LeavesFor, EachPiece, HasNoRoom, HadRoom, CutsAre, CutsExplain, events_of}
@@ -20,7 +20,6 @@ use Rattle.nvm_flash.specs.promise_run.Refusals.{RefusesAsAsked}
 use Rattle.nvm_flash.specs.promise_run.Run.{Memory}
 use Rattle.nvm_flash.specs.promise_run.Promise.{making_of}
 use Rattle.nvm_script.specs.declared.script.Mode.TheVariants as mode
-use Rattle.nvm_flash.specs.promise_run.JobTurns.{job_turns}
 use Rattle.nvm_top.specs.Play.{IsRightSize}
 use Rattle.nvm_flash.specs.promise_run.Turns.{Moment, FindWorkAtDrains, all_moves, entries_of, CutsCome}
 use Rattle.nvm_flash.specs.promise_run.DeviceTurns.{HasMovesTo}

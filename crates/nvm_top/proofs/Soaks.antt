@@ -5,7 +5,6 @@ use Rattle.std.proofs.Common.{◌≡◌, ◌≤◌, ◌⊎◌, ◌&&◌, ℕ, Bo
 use Rattle.std.proofs.lemmas.Bool.{leb-true}
 use Rattle.nvm_lines.specs.nv_streams.Sink.{Written}
 use Rattle.nvm_flash.specs.nv_base.Decimal.{is_numeral, decimal_number_of}
-use Rattle.nvm_flash.specs.nv_base.Geometry.{size_of}
 use Rattle.nvm_flash.specs.block_config.Config.{Configuration}
 use Rattle.nvm_flash.specs.fls_model.Told.{Told}
 use Rattle.nvm_words.specs.Words.{are_words, command_named, command_in, command_of}

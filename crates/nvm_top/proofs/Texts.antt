@@ -76,8 +76,3 @@ stopped_text text run why entries w w1 w2 x e before is =
 pub summary_broken : (run : Result (Unit {0}) Stop) (done : Unit {0}) (entries : List Entry) (w w' : Written) (text : List ℕ) → run ≡ Ok done → text ≡ summary entries → PutsPart w w' (cut_lines text) → WritesText (status_of_run run) [] (lines_written Summary run entries) w w' status.WriteFault
 summary_broken run done entries w w' text e is part =
     subst (λ (r : Result (Unit {0}) Stop). WritesText (status_of_run r) [] (lines_written Summary r entries) w w' status.WriteFault) (sym e) (λ none. cc, subst (λ (l : List ℕ). PutsPart w w' (cut_lines l)) is part)
-
--- a whole one
-pub summary_whole : (run : Result (Unit {0}) Stop) (done : Unit {0}) (entries : List Entry) (w w' : Written) (text : List ℕ) → run ≡ Ok done → text ≡ summary entries → Puts w w' (cut_lines text) → WritesText (status_of_run run) [] (lines_written Summary run entries) w w' status.Ok
-summary_whole run done entries w w' text e is whole =
-    subst (λ (r : Result (Unit {0}) Stop). WritesText (status_of_run r) [] (lines_written Summary r entries) w w' status.Ok) (sym e) (refl, subst (λ (l : List ℕ). Puts w w' (cut_lines l)) is whole)

@@ -3,7 +3,6 @@ use Rattle.std.specs.Prelude.{IfSome}
 use Rattle.std.proofs.Common.{◌≡◌, ◌≢◌, ◌⊎◌, ℕ, List, [], ◌∷◌, Option, Some, None, Result, Ok, Err, refl, sym, ap, ◌∙◌, subst, inl, inr}
 use Rattle.nvm_lines.specs.nv_streams.Sink.{Written}
 use Rattle.nvm_flash.specs.nv_base.Count.{Rose}
-use Rattle.nvm_flash.specs.nv_base.Geometry.{size_of}
 use Rattle.nvm_flash.specs.block_config.Config.{Configuration}
 use Rattle.nvm_flash.specs.fls_model.Told.{Told, ToldBytes}
 use Rattle.script_player.specs.script_walks.Words.{Step}
@@ -13,7 +12,6 @@ use Rattle.nvm_flash.specs.promise_run.Run.{LeavesAlone}
 use Rattle.nvm_flash.specs.promise_run.Call.{IsCourseOf, IsInputOf}
 use Rattle.nvm_script.specs.Script.{IsScript, later_lines}
 use Rattle.nvm_script.specs.declared.script.Mode.{Mode}
-use Rattle.nvm_script.specs.declared.script.Mode.TheVariants as mode
 use Rattle.nvm_top.specs.Ends.{HasScript, HasWrongLine}
 use Rattle.nvm_top.specs.Play.{IsStartStop, IsBeforeAttach, IsFlashStop, StepsStopBy, StopsBy}
 use Rattle.nvm_top.specs.Reading.{IsReadStop}

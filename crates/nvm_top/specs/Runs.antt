@@ -42,3 +42,8 @@ abbrev pub lines_written : RunText → Result (Unit {0}) Stop → List Entry →
 lines_written History (Ok done) entries = end_line (length entries) ∷ []
 lines_written Summary (Ok done) entries = cut_lines (summary entries)
 lines_written text (Err why) entries = line_of why ∷ []
+
+-- so of requests that were served: how many entries there are, or why no more were
+abbrev pub last_of : Result (Unit {0}) Stop → List Entry → List ℕ
+last_of (Ok done) entries = end_line (length entries)
+last_of (Err why) entries = line_of why

@@ -6,7 +6,8 @@ ghost use Rattle.nvm_script.specs.Printed.{history_lines};
 ghost use Rattle.script_player.specs.uds_gateway.Answers.{uds};
 ghost use Rattle.uds_script.specs.Lines.{uds_line};
 ghost use Rattle.uds_script.specs.Requests.{HaveBytes};
-ghost use Rattle.nvm_top.specs.Uds.{BreaksOffIn, HasPieces, WritesLines, answer_lines, line_served, lines_of_history, status_served, stopped_serving};
+ghost use Rattle.nvm_top.specs.Uds.{BreaksOffIn, HasPieces, WritesLines, answer_lines, lines_of_history, stopped_serving};
+ghost use Rattle.nvm_top.specs.Runs.{last_of, status_of_run};
 
 use nvm_flash::{Bytes, Config, History};
 use nvm_lines::nv_streams::Sink;
@@ -92,7 +93,7 @@ fn write_requests<K: Sink>(
 }
 
 /// How a command ended, by why its requests stopped.
-fn stopped_serving(end: Result<(), ServeStop>) -> Result<(), Stop>
+pub fn stopped_serving(end: Result<(), ServeStop>) -> Result<(), Stop>
     ensures { result ≡ stopped_serving end }
 {
     match end {
@@ -109,16 +110,15 @@ pub fn write_served<K: Sink>(
     config: &Config,
     requests: &[Bytes],
     counts: &[u32],
-    end: Result<(), ServeStop>,
+    run: Result<(), Stop>,
     history: &History,
     output: &mut K,
 ) -> Status
     requires some { HaveBytes requests.now }
     requires pieces { HasPieces requests.now counts.now history.now.entries }
-    ensures text { WritesLines (status_served end) (lines_of_history config.now requests.now counts.now history.now.entries) (line_served end history.now.entries) (K.written output.old) (K.written output.new) result }
+    ensures text { WritesLines (status_of_run run) (lines_of_history config.now requests.now counts.now history.now.entries) (last_of run history.now.entries) (K.written output.old) (K.written output.new) result }
     ensures write_fault { result ≡ Status.WriteFault → Rose (K.faults output.old) (K.faults output.new) }
 {
-    let run = stopped_serving(end);
     if run == Err(Stop::Memory) {
         return Status::Memory;
     }

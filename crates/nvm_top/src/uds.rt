@@ -8,7 +8,7 @@ ghost use Rattle.nvm_top.specs.Play.{IsBeforeAttach, IsFlashStop};
 ghost use Rattle.nvm_top.specs.Promised.{HasNoRun, played_call};
 ghost use Rattle.nvm_top.specs.Uds.{HasAnswered, HasServing, UdsStopsBy};
 
-use crate::answers::write_served;
+use crate::answers::{stopped_serving, write_served};
 use crate::flashes::Flashes;
 use crate::gateway::{Gateway, read_gateway};
 use crate::served::{Served, serve_run};
@@ -87,7 +87,8 @@ fn serve_over<K: Sink, F: Flash, O: Origin>(
         Ok(Served { counts, end, stack }) => {
             let history = stack.history();
             history_values(history);
-            let status = write_served(alloc, own, requests, &counts, end, history, output);
+            let run = stopped_serving(end);
+            let status = write_served(alloc, own, requests, &counts, run, history, output);
             let device = stack.into_device();
             let OneFlash { flash, .. } = OneFlash::<F, O>::back(device);
             (status, flash)

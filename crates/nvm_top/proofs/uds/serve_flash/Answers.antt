@@ -1,5 +1,4 @@
 use Rattle.std.proofs.Common.{◌⊎◌, ℕ, List, subst}
-use Rattle.nvm_flash.specs.nv_base.Geometry.{size_of}
 use Rattle.nvm_top.specs.Play.{IsFlashStop}
 use Rattle.nvm_top.specs.Promised.{HasNoRun, played_call}
 use Rattle.nvm_top.specs.Uds.{HasServing}
