@@ -16,7 +16,7 @@ ghost use Rattle.script_player.specs.PlainPaying.{seen_by};
 
 use crate::turns::{drain, make_turns};
 use crate::{LastStores, calls};
-use nvm_script::{KeptStep, Step, StepKind, StepList};
+use nvm_script::{Step, StepKind, StepList};
 use std::alloc::Global;
 use uds_gateway::{AskFault, FoundAnswer, MemDevice, PlainSync, Request, Stack};
 
@@ -51,35 +51,14 @@ pub fn make_steps<D: MemDevice>(
         return Err(StepFault::Memory);
     };
     for step in steps.into_steps() {
-        if let Err(fault) = make_kept(alloc, step, &mut stores, stack) {
+        let Ok(whole) = step.whole(alloc) else {
+            return Err(StepFault::Memory);
+        };
+        if let Err(fault) = make_step(alloc, whole, &mut stores, stack) {
             return Err(fault);
         }
     }
     Ok(())
-}
-
-// Makes a step that is kept.
-fn make_kept<D: MemDevice>(
-    alloc: Global,
-    kept: KeptStep,
-    stores: &mut LastStores,
-    stack: &mut Stack<D, PlainSync>,
-) -> Result<(), StepFault>
-    requires ready { stack.old.ready ≡ true }
-    requires played { IsPlayed stack.old.desk.config kept }
-    requires synchronized { HoldsSynchronized stack.old.desk.config stores.old }
-    ensures synchronized { HoldsSynchronized stack.old.desk.config stores.new }
-    ensures ready { OnOk result (stack.new.ready ≡ true) }
-    ensures made { OnOk result (Makes (seen_by D.told D.clock stack.old) (seen_by D.told D.clock stack.new) kept stores.old stores.new (told_by D.told stack.old) (told_by D.told stack.new)) }
-    ensures left { IfErr result (λ fault. IsLeft fault kept (told_by D.told stack.old) (told_by D.told stack.new)) }
-    ensures lasts { OnErr result (LastsOn (seen_by D.told D.clock stack.old) (seen_by D.told D.clock stack.new)) }
-    ensures keeps { (before : Part → PartTold) → kept_by D.told D.clock stack.old before → kept_by D.told D.clock stack.new before }
-    ensures starts { starts_found D.told stack.old → starts_found D.told stack.new }
-{
-    let Ok(step) = kept.whole(alloc) else {
-        return Err(StepFault::Memory);
-    };
-    make_step(alloc, step, stores, stack)
 }
 
 /// Makes one step.
