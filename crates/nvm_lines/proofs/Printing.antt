@@ -1,5 +1,5 @@
 -- Lines that are put one behind the other.
-use Rattle.std.proofs.Common.{◌≡◌, ◌≤◌, ◌<◌, ◌-◌, ℕ, zero, suc, refl, min, length, ◌+◌, List, [], ◌∷◌, ◌++◌, take, drop, Some, Result, Ok, Err, IfErr, slice_get, ap, sym, subst, ◌∙◌, append_assoc, arith}
+use Rattle.std.proofs.Common.{◌≡◌, ◌≤◌, ◌<◌, ◌-◌, ℕ, zero, suc, refl, length, ◌+◌, List, [], ◌∷◌, ◌++◌, take, drop, Some, Result, Ok, Err, IfErr, slice_get, ap, sym, subst, ◌∙◌, append_assoc, arith}
 use Rattle.std.proofs.lemmas.List.{take_all, length-drop, length-take, take_more, take-append-drop, drop-drop, map-append}
 use Rattle.std.proofs.lemmas.Option.{slice_get_within, get_or_from_slice_get}
 use Rattle.std.specs.List.{slice_range}
@@ -68,12 +68,6 @@ piece-past entries from i to behind past =
     let few = length-take (to - from) (drop from entries) in
     let left = length-drop from entries in
     take_all (i - from) (take (to - from) (drop from entries)) (omega (arith, few, left, behind, past)) ∙ sym (take_all (i + 1 - from) (take (to - from) (drop from entries)) (omega (arith, few, left, behind, past)))
-
--- all of a piece
-pub piece-all : (entries : List Entry) (from i to : ℕ) → to ≤ i → take (i - from) (take (to - from) (drop from entries)) ≡ take (to - from) (drop from entries)
-piece-all entries from i to past =
-    let few : length (take (to - from) (drop from entries)) ≡ min (to - from) (length (drop from entries)) = length-take (to - from) (drop from entries) in
-    take_all (i - from) (take (to - from) (drop from entries)) (omega (arith, few, past))
 
 -- LINES OF A TEXT
 -- these are put of a text, whose rest stands from this place on
