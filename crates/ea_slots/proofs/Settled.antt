@@ -8,7 +8,7 @@ use Rattle.memif.specs.Calls.{IsKind, kind_of}
 use Rattle.fee_format.specs.declared.rec_head.RecordKind.{RecordKind}
 use Rattle.fee_format.specs.declared.rec_head.RecordKind.TheVariants.{Content, Invalid, Erased}
 use Rattle.fls_model.specs.Told.{Told, bytes_now}
-use Rattle.fls_told.specs.Device.{tells_now}
+use Rattle.ea_told.specs.fls_told.Device.{tells_now}
 use Rattle.ea_image.specs.declared.slot_head.SlotHead.{SlotHead}
 use Rattle.ea_image.specs.Memory.{held_with}
 use Rattle.ea_image.specs.Slots.{SlotBytes, slot_bytes, mark_shown}

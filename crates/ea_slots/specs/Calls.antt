@@ -10,7 +10,7 @@ use Rattle.fls_model.specs.Step.{IsStep}
 use Rattle.fls_model.specs.Told.{Change, bytes_now}
 use Rattle.fls_jobs.specs.CallOf.{closed_as}
 use Rattle.fls_jobs.specs.State.{FlsState}
-use Rattle.fls_told.specs.Clock.{change_of}
+use Rattle.ea_told.specs.fls_told.Clock.{change_of}
 use Rattle.fee_format.specs.Pages.{gate_page}
 use Rattle.fee_format.specs.RecordPages.{body_page}
 use Rattle.ea_image.specs.declared.slot_head.SlotHead.{SlotHead}

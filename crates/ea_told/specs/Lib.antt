@@ -9,3 +9,4 @@ pub mod Laws
 pub mod Calls
 pub mod Start
 pub mod Made
+pub use Rattle.fls_told.specs as fls_told

@@ -7,7 +7,7 @@ pub use Rattle.driver_moves.specs.block_machine.Words.{ReqResult, Fine, Pending,
 pub use Rattle.driver_moves.specs.block_machine.Blocks.{is_pending, desc_of, block_at, is_synchronized, job_block, kind_of, status_of, names_ram}
 pub use Rattle.driver_moves.specs.block_machine.Steps.{after, step, job_at, picked, in_hand, with_member}
 pub use Rattle.turn_gate.specs.Entries.{Gave, Note, AllAgree, StartsWith, NotBelow, AllHeard, note}
-pub use Rattle.script_walks.specs.Callers.{tells_status, tells_off, told_last, IsInOrder, asks_of, program_of, WaitedFor, pending_block, requests_of}
+pub use Rattle.driver_moves.specs.nvm_moves.script_walks.Callers.{tells_status, tells_off, told_last, IsInOrder, asks_of, program_of, WaitedFor, pending_block, requests_of}
 pub use Rattle.driver_moves.specs.nvm_shared.StatusWords.{gives, off_word, is_ask, gives_by}
 pub use Rattle.driver_moves.specs.nvm_shared.Statuses.{IsLast}
 pub use Rattle.turn_gate.specs.declared.pass.View.{View}
@@ -29,9 +29,9 @@ pub use Rattle.driver_moves.specs.block_machine.Sweeps.{member_job}
 pub use Rattle.driver_moves.specs.block_machine.Next.{Next, PickJob, BeginSweep, PickMember, PostMember, EndSweep, next_of}
 pub use Rattle.driver_moves.specs.block_machine.Legal.{TakesForWrite, TakesBy, MayPick, IsAllowed, IsLegalFrom, IsLegal}
 pub use Rattle.driver_moves.specs.block_laws.Consistent.{Each, Ascend}
-pub use Rattle.script_walks.specs.Words.{Step, StepKind, AskStep, Await as AwaitStep, Store as StoreStep}
-pub use Rattle.script_walks.specs.Walk.{store_content, copies_next, copies_by, TakesStore, TakesStores, store_by, stores_of}
-pub use Rattle.script_walks.specs.Looks.{Look, CopyIsShown, CopiesAreShown, CanBeStored, CanBeMade, AreInOrder}
+pub use Rattle.driver_moves.specs.nvm_moves.script_walks.Words.{Step, StepKind, AskStep, Await as AwaitStep, Store as StoreStep}
+pub use Rattle.driver_moves.specs.nvm_moves.script_walks.Walk.{store_content, copies_next, copies_by, TakesStore, TakesStores, store_by, stores_of}
+pub use Rattle.driver_moves.specs.nvm_moves.script_walks.Looks.{Look, CopyIsShown, CopiesAreShown, CanBeStored, CanBeMade, AreInOrder}
 pub use Rattle.driver_moves.proofs.nvm_moves.HistoryLaws.{histories_step}
 pub use Rattle.nvm_callers.specs.Looked.{TookShown, AllTookShown, IsLookOf, look_behind, LooksAreOrdered, HasLooked as LooksAre, DrivingLooks}
 pub use Rattle.atomic_table.proofs.Lists.{at_longer, at_last}
@@ -52,7 +52,7 @@ pub use Rattle.nvm_callers.specs.Driven.{DrivesBy, DrivesOn, TurnsOn, HasDriven,
 pub use Rattle.std.proofs.lemmas.List.Elements.{All-contains, All-pop, All-take, All-filter, All-map, Contains-append_left, Contains-append_right, Contains-append_cases, filter_map-append, All-push, All-same}
 pub use mathlib.Core.Logic.{dite}
 pub use native.Mathlib.Decide.{ℕ_discrete, dec_le}
-pub use Rattle.script_walks.specs.Runs.{HadNoRoom, is_found, has_ended, AskedAll, IsNextAsk, IsRun}
+pub use Rattle.driver_moves.specs.nvm_moves.script_walks.Runs.{HadNoRoom, is_found, has_ended, AskedAll, IsNextAsk, IsRun}
 pub use Rattle.script_callers.specs.declared.deed.Deed.{Deed}
 pub use Rattle.script_callers.specs.Programs.{program_by, programs_of, does_something}
 pub use Rattle.script_callers.specs.RunScripts.{AreRun}
@@ -93,8 +93,8 @@ pub use Rattle.nvm_callers.specs.Steering.{HasSteered, KeepsShares, TellsAlways}
 pub use Rattle.driver_moves.proofs.nvm_shared.Words.{the_off_word_tells, words_tell_statuses}
 pub use Rattle.nvm_callers.specs.Waits.{OverIsNotPending, Waited, OffEndsWaits, PollsEndWaits, WaitsLast}
 pub use Rattle.driver_moves.specs.block_machine.StartUp.{at_first}
-pub use Rattle.script_walks.specs.Stores.{CopiesOf, IsStored, IsTakenStored}
-pub use Rattle.script_walks.proofs.Jobs.{each_append, hand_stored, waiting_stored, content_stored, each_in_hand, each_posted, each_wrote, member_copies, next_has, takes_by}
+pub use Rattle.driver_moves.specs.nvm_moves.script_walks.Stores.{CopiesOf, IsStored, IsTakenStored}
+pub use Rattle.driver_moves.proofs.nvm_moves.WalkedJobs.{each_append, hand_stored, waiting_stored, content_stored, each_in_hand, each_posted, each_wrote, member_copies, next_has, takes_by}
 pub use Rattle.nvm_callers.specs.TakenCopies.{CopiesAreStores, CopiesHaveLooks}
 pub use Rattle.driver_moves.proofs.nvm_moves.Turning.{lasts_more, same_clock}
 pub use Rattle.driver_moves.proofs.nvm_moves.Sizes.{still_synchronized}
@@ -131,7 +131,7 @@ pub use Rattle.driver_moves.specs.block_config.Block.{plain_block}
 pub use Rattle.driver_moves.specs.promise_run.Run.{RunsBy}
 pub use Rattle.std.proofs.lemmas.Option.{get_or_from_slice_get, slice_get_within, slice_get_read, slice_get_past, slice_get-get_or, slice_get-map, IfSome_then}
 pub use Rattle.script_callers.proofs.Owning.{stores_are_of_one, by_owner, one_more}
-pub use Rattle.script_walks.proofs.Newest.{stores_are_few}
+pub use Rattle.driver_moves.proofs.nvm_moves.NewestStores.{stores_are_few}
 pub use Rattle.look_laws.specs.Shown.{HasOneOwner}
 pub use Rattle.look_laws.proofs.Shown.{shown_can_be_stored}
 pub use Rattle.nvm_callers.specs.declared.caller.NotMade.{NotMade}

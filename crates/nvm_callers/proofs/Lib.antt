@@ -30,3 +30,4 @@ mod Moving
 mod DealtSides
 mod StoresTaken
 mod Owned
+pub use Rattle.script_callers.proofs.RunScripts as RunScripts

@@ -7,7 +7,7 @@ use Rattle.driver_moves.specs.memif.Clock.{Clock}
 use Rattle.driver_moves.specs.block_machine.Words.{Entry}
 use Rattle.driver_moves.specs.ram_blocks.Told.{Told, told_at}
 use Rattle.driver_moves.specs.nv_desk_copies.Front.{AreSynchronized}
-use Rattle.script_walks.specs.Runs.{is_found}
+use Rattle.driver_moves.specs.nvm_moves.script_walks.Runs.{is_found}
 use Rattle.driver_moves.specs.nvm_shared.declared.terms.Terms.{Terms}
 use Rattle.driver_moves.specs.nvm_shared.Locked.{desk_with}
 use Rattle.driver_moves.specs.nvm_shared.Driving.{DriverState}

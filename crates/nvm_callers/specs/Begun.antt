@@ -12,7 +12,7 @@ use Rattle.driver_moves.specs.nvm_shared.Locked.{desk_with}
 use Rattle.driver_moves.specs.nvm_shared.Opening.{IsFirst}
 use Rattle.driver_moves.specs.nvm_shared.Passes.{PassValue, SharedState, IsUserOf}
 use Rattle.driver_moves.specs.nvm_shared.Driving.{DriverState}
-use Rattle.script_walks.specs.Words.{Step}
+use Rattle.driver_moves.specs.nvm_moves.script_walks.Words.{Step}
 use Rattle.script_callers.specs.declared.program.Program.{Program}
 use Rattle.script_callers.specs.Programs.{programs_of}
 use Rattle.script_callers.specs.RunScripts.{AreRun}

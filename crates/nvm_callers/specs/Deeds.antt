@@ -3,7 +3,7 @@ use Rattle.std.specs.Prelude.{◌≡◌, ◌≤◌, ◌<◌, ℕ, ◌+◌, List,
 use Rattle.driver_moves.specs.block_machine.Words.{Request, Reply, Entry, Ask, Configuration}
 use Rattle.driver_moves.specs.block_laws.Consistent.{Each, Ascend}
 use Rattle.turn_gate.specs.Entries.{Note, StartsWith, AllAgree}
-use Rattle.script_walks.specs.Callers.{WaitedFor, asks_of}
+use Rattle.driver_moves.specs.nvm_moves.script_walks.Callers.{WaitedFor, asks_of}
 use Rattle.driver_moves.specs.nvm_shared.StatusWords.{gives}
 use Rattle.driver_moves.specs.nvm_shared.Numbers.{AreAt, AreAll}
 use Rattle.script_callers.specs.declared.deed.Deed.{Deed}

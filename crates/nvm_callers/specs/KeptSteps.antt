@@ -4,9 +4,9 @@ use Rattle.turn_gate.specs.declared.pass.View.{View}
 use Rattle.turn_gate.specs.Entries.{AllAgree, AllHeard}
 use Rattle.turn_gate.specs.Pass.{OwnsAll}
 use Rattle.driver_moves.specs.block_machine.Words.{Entry, Configuration}
-use Rattle.script_walks.specs.Words.{Step}
-use Rattle.script_walks.specs.Callers.{IsInOrder, program_of}
-use Rattle.script_walks.specs.Runs.{AskedAll, HadNoRoom}
+use Rattle.driver_moves.specs.nvm_moves.script_walks.Words.{Step}
+use Rattle.driver_moves.specs.nvm_moves.script_walks.Callers.{IsInOrder, program_of}
+use Rattle.driver_moves.specs.nvm_moves.script_walks.Runs.{AskedAll, HadNoRoom}
 use Rattle.driver_moves.specs.nvm_shared.declared.terms.Terms.{Terms}
 use Rattle.driver_moves.specs.nvm_shared.StatusWords.{gives}
 use Rattle.script_callers.specs.Programs.{programs_of}

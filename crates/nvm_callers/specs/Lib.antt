@@ -22,3 +22,4 @@ pub mod Dealt
 pub mod Ran
 pub use Rattle.driver_moves.specs.nvm_moves as nvm_moves
 pub use Rattle.driver_moves.specs as driver_moves
+pub use Rattle.script_callers.specs as script_callers

@@ -6,8 +6,8 @@ use Rattle.driver_moves.specs.block_machine.Words.{TookContent, TookStale, Entry
 use Rattle.driver_moves.specs.block_machine.Next.{next_of}
 use Rattle.driver_moves.specs.block_machine.Steps.{after}
 use Rattle.driver_moves.specs.ram_blocks.Told.{Told}
-use Rattle.script_walks.specs.Looks.{Look, AreInOrder}
-use Rattle.script_walks.specs.Walk.{copies_next}
+use Rattle.driver_moves.specs.nvm_moves.script_walks.Looks.{Look, AreInOrder}
+use Rattle.driver_moves.specs.nvm_moves.script_walks.Walk.{copies_next}
 use Rattle.driver_moves.specs.nvm_shared.declared.terms.Terms.{Terms}
 use Rattle.driver_moves.specs.nvm_shared.Driving.{DriverState}
 use Rattle.nvm_callers.specs.Driven.{HasDriven}

@@ -4,10 +4,10 @@ use Rattle.driver_moves.specs.block_machine.Words.{Request, Entry, Configuration
 use Rattle.driver_moves.specs.block_machine.Reply.{fits}
 use Rattle.driver_moves.specs.block_machine.Steps.{after}
 use Rattle.turn_gate.specs.Entries.{Note, StartsWith, AllAgree}
-use Rattle.script_walks.specs.Words.{Step}
-use Rattle.script_walks.specs.Callers.{IsInOrder, asks_of, program_of, requests_of}
-use Rattle.script_walks.specs.Looks.{CanBeMade}
-use Rattle.script_walks.specs.Runs.{AskedAll, HadNoRoom}
+use Rattle.driver_moves.specs.nvm_moves.script_walks.Words.{Step}
+use Rattle.driver_moves.specs.nvm_moves.script_walks.Callers.{IsInOrder, asks_of, program_of, requests_of}
+use Rattle.driver_moves.specs.nvm_moves.script_walks.Looks.{CanBeMade}
+use Rattle.driver_moves.specs.nvm_moves.script_walks.Runs.{AskedAll, HadNoRoom}
 use Rattle.driver_moves.specs.nvm_shared.StatusWords.{gives}
 use Rattle.driver_moves.specs.nvm_shared.Numbers.{AreAll}
 use Rattle.script_callers.specs.declared.deed.Deed.{Deed}

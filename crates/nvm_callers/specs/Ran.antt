@@ -10,9 +10,9 @@ use Rattle.driver_moves.specs.nv_desk.Desk.{DeskState}
 use Rattle.driver_moves.specs.job_progress.Hand.{HandState}
 use Rattle.driver_moves.specs.nvm_laws.Keeps.{StaysKept}
 use Rattle.driver_moves.specs.nvm_core.Stack.{StackState}
-use Rattle.script_walks.specs.Words.{Step}
-use Rattle.script_walks.specs.Looks.{Look}
-use Rattle.script_walks.specs.Runs.{has_ended, is_found}
+use Rattle.driver_moves.specs.nvm_moves.script_walks.Words.{Step}
+use Rattle.driver_moves.specs.nvm_moves.script_walks.Looks.{Look}
+use Rattle.driver_moves.specs.nvm_moves.script_walks.Runs.{has_ended, is_found}
 use Rattle.driver_moves.specs.promise_run.Run.{End, Whole, HistoryFull, Memory, RunsBy}
 use Rattle.driver_moves.specs.promise_run.RunHalves.{offs_in, tells_no_refusal}
 use Rattle.nvm_callers.specs.Added.{IsUncut}

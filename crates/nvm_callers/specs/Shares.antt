@@ -3,7 +3,7 @@ use Rattle.std.specs.Prelude.{◌≡◌, ◌≢◌, ◌⊎◌, ◌<◌, ℕ, Lis
 use Rattle.driver_moves.specs.block_machine.Words.{Request, Reply, Entry, Ask, Configuration}
 use Rattle.turn_gate.specs.Entries.{Note, StartsWith, AllAgree}
 use Rattle.turn_gate.specs.Pass.{Has}
-use Rattle.script_walks.specs.Callers.{asks_of}
+use Rattle.driver_moves.specs.nvm_moves.script_walks.Callers.{asks_of}
 use Rattle.driver_moves.specs.nvm_shared.StatusWords.{gives}
 use Rattle.driver_moves.specs.nvm_shared.Numbers.{IsEntry, AreAll}
 use Rattle.driver_moves.specs.nvm_shared.Passes.{IsDriven}

@@ -11,10 +11,10 @@ use Rattle.ram_mirrors.specs.Stores.{AllStored}
 use Rattle.turn_gate.specs.declared.pass.View.{View}
 use Rattle.turn_gate.specs.Entries.{Note, StartsWith}
 use Rattle.turn_gate.specs.Pass.{IsWithin}
-use Rattle.script_walks.specs.Words.{Step, Store as StoreStep}
-use Rattle.script_walks.specs.Callers.{program_of}
-use Rattle.script_walks.specs.Walk.{store_content}
-use Rattle.script_walks.specs.Looks.{CanBeMade, CanBeStored}
+use Rattle.driver_moves.specs.nvm_moves.script_walks.Words.{Step, Store as StoreStep}
+use Rattle.driver_moves.specs.nvm_moves.script_walks.Callers.{program_of}
+use Rattle.driver_moves.specs.nvm_moves.script_walks.Walk.{store_content}
+use Rattle.driver_moves.specs.nvm_moves.script_walks.Looks.{CanBeMade, CanBeStored}
 use Rattle.script_callers.specs.declared.deed.Deed.{Deed}
 use Rattle.script_callers.specs.declared.deed.Deed.TheVariants.{Store as StoreDeed}
 use Rattle.script_callers.specs.Deeds.{deeds_of}

@@ -3,9 +3,9 @@ use Rattle.std.specs.Prelude.{◌≡◌, ℕ, List, [], ◌∷◌, take, Contain
 use Rattle.driver_moves.specs.block_machine.Words.{Instance, Mark, Entry, Found, Configuration}
 use Rattle.driver_moves.specs.block_machine.StartUp.{at_first}
 use Rattle.driver_moves.specs.block_machine.Legal.{IsLegal}
-use Rattle.script_walks.specs.Words.{Step}
-use Rattle.script_walks.specs.Walk.{TakesStores, store_content}
-use Rattle.script_walks.specs.Looks.{Look, CanBeStored, CopiesAreShown}
+use Rattle.driver_moves.specs.nvm_moves.script_walks.Words.{Step}
+use Rattle.driver_moves.specs.nvm_moves.script_walks.Walk.{TakesStores, store_content}
+use Rattle.driver_moves.specs.nvm_moves.script_walks.Looks.{Look, CanBeStored, CopiesAreShown}
 use Rattle.nvm_callers.specs.Looked.{AllTookShown}
 
 -- Where each copy of a legal history is shown, all that is taken of synchronized RAM is a store of the script with its number: so is

@@ -6,7 +6,7 @@ use Rattle.driver_moves.specs.block_machine.Blocks.{status_of, is_pending}
 use Rattle.driver_moves.specs.block_machine.Steps.{after}
 use Rattle.driver_moves.specs.block_machine.Legal.{IsLegal}
 use Rattle.turn_gate.specs.Entries.{Note, note, StartsWith, AllAgree, NotBelow}
-use Rattle.script_walks.specs.Callers.{is_over}
+use Rattle.driver_moves.specs.nvm_moves.script_walks.Callers.{is_over}
 use Rattle.driver_moves.specs.nvm_shared.StatusWords.{gives, off_word}
 
 -- A wait on a block is over behind the first `end` entries of each history that begins with what was seen and agrees with what polls

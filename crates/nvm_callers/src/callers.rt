@@ -1,7 +1,7 @@
 // Callers beside each other, with a driver beside them.
 ghost use Rattle.std.specs.Prelude.{◌≡◌, ◌≤◌, ◌^◌, ◌+◌, [], ℕ, length, slice_index_or, vec_len, vec_capacity, true, All, IsSome, IsTrue};
 ghost use Rattle.turn_gate.specs.Pass.{Has, knows};
-ghost use Rattle.script_walks.specs.Runs.{has_ended};
+ghost use Rattle.driver_moves.specs.nvm_moves.script_walks.Runs.{has_ended};
 ghost use Rattle.driver_moves.specs.block_machine.Legal.{IsLegal};
 ghost use Rattle.driver_moves.specs.nvm_shared.Driving.{IsDriverOf};
 ghost use Rattle.driver_moves.specs.nvm_shared.Passes.{IsDriven};

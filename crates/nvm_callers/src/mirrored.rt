@@ -1,7 +1,7 @@
 // Callers over mirrors of their synchronized blocks.
 ghost use Rattle.std.specs.Prelude.{◌≡◌, ◌+◌, List, length, map, IfErr, IfOk};
 ghost use Rattle.turn_gate.specs.Pass.{knows};
-ghost use Rattle.script_walks.specs.Words.{Step};
+ghost use Rattle.driver_moves.specs.nvm_moves.script_walks.Words.{Step};
 ghost use Rattle.driver_moves.specs.nv_desk_copies.Front.{AreSynchronized};
 ghost use Rattle.driver_moves.specs.nvm_shared.Driving.{stack_of};
 ghost use Rattle.driver_moves.specs.nvm_shared.Locked.{desk_with};

@@ -2,7 +2,7 @@
 ghost use Rattle.std.specs.Prelude.{◌≡◌, ◌≤◌, ◌^◌, ◌+◌, true, length, is_some, Option, All, IsTrue};
 ghost use Rattle.driver_moves.specs.job_progress.Hand.{HandState};
 ghost use Rattle.turn_gate.specs.Pass.{knows};
-ghost use Rattle.script_walks.specs.Runs.{has_ended};
+ghost use Rattle.driver_moves.specs.nvm_moves.script_walks.Runs.{has_ended};
 ghost use Rattle.driver_moves.specs.nvm_shared.Driving.{IsDriverOf, NeedsNoMore};
 ghost use Rattle.nvm_callers.specs.Callers.{GoesOn, MayRun, WorkerMayGoOn};
 ghost use Rattle.nvm_callers.specs.Placed.{AllChanged, AllPlaced};

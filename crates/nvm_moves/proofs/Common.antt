@@ -23,7 +23,7 @@ pub use Rattle.nvm_core.specs.Paying.{worn_so_far, OwesSince, has_urgent, TurnPa
 pub use Rattle.nvm_core.proofs.WorkLists.{none_worked, worked_more, one_worked, ask_worked}
 pub use Rattle.promise_run.specs.DeviceTurns.{HadPages, MayGoOnAsTold, HasMovesTo, worn_by}
 pub use Rattle.nvm_core.specs.block_machine.Legal.{MayPick, IsAllowed, MayPost, MayPostNext}
-pub use Rattle.script_walks.specs.Walk.{is_due, begins_with_pick_or_post, is_at_rest}
+pub use Rattle.promise_run.specs.script_walks.Walk.{is_due, begins_with_pick_or_post, is_at_rest}
 pub use Rattle.nvm_core.specs.memif.Calls.{InOrder, RoomIsLeft, FreesReady, Nearer, Works, urgent_first, Turns, JobTurns, pages_open, pages_urgent, Arms, IsSealing}
 pub use Rattle.nvm_core.specs.nv_desk_copies.Posts.{IsPosted, IsPostedNext}
 pub use Rattle.nvm_core.specs.nvm_laws.Halves.{IsHalf}
@@ -86,7 +86,7 @@ pub use Rattle.nvm_core.specs.block_laws.Consistent.{Each}
 pub use Rattle.nvm_core.proofs.block_laws.NextLaws.{next_is_waiting}
 pub use Rattle.nvm_core.proofs.DueAsking.{accepted_are_due, many_held, many_next}
 pub use Rattle.nvm_core.proofs.JobNumbers.{accepted_of_block, jobs_below, stays_of_block}
-pub use Rattle.script_walks.proofs.Jobs.{each_right}
+pub use Rattle.promise_run.proofs.WalkedJobs.{each_right}
 pub use Rattle.nvm_core.specs.memif.declared.answer.DeviceTurn.{DeviceTurn}
 pub use Rattle.nvm_core.specs.nvm_laws.declared.turned.Act.{Act}
 pub use Rattle.nvm_core.proofs.Traits.{half_takes_none}
@@ -115,5 +115,5 @@ pub use Rattle.nvm_core.specs.job_progress.Asks.{is_of_jobs}
 pub use Rattle.nvm_core.proofs.JobPowering.{jobs_keep_power}
 pub use Rattle.promise_run.proofs.WorkedMoves.{worked_by}
 pub use Rattle.promise_run.proofs.EntriesLeave.{IsSized, asked_stays, is_sized, picked_stays, wrote_stays}
-pub use Rattle.script_walks.proofs.Resting.{at_rest, due_hand, due_off, due_rest, next_at, rests_next, some_none}
+pub use Rattle.promise_run.proofs.Resting.{at_rest, due_hand, due_off, due_rest, next_at, rests_next, some_none}
 pub use Rattle.std.proofs.lemmas.Option.{slice_get_within}

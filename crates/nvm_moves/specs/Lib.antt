@@ -20,5 +20,5 @@ pub use Rattle.nvm_core.specs.promise_blocks as promise_blocks
 pub use Rattle.nvm_core.specs.nvm_figures as nvm_figures
 pub use Rattle.nvm_core.specs.nvm_found as nvm_found
 pub use Rattle.nvm_core.specs as nvm_core
-pub use Rattle.script_walks.specs as script_walks
+pub use Rattle.promise_run.specs.script_walks as script_walks
 pub use Rattle.promise_run.specs as promise_run

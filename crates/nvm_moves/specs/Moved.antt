@@ -25,7 +25,7 @@ use Rattle.nvm_core.specs.DeviceWork.{IsSimple}
 use Rattle.nvm_core.specs.DueWrites.{AreFirst}
 use Rattle.nvm_core.specs.OperationStart.{LeavesDevice}
 use Rattle.nvm_core.specs.Paying.{OwesSince, PaysSince, has_urgent, worn_so_far}
-use Rattle.script_walks.specs.Walk.{is_at_rest}
+use Rattle.promise_run.specs.script_walks.Walk.{is_at_rest}
 use Rattle.promise_run.specs.Turns.{Move, entry_list, entries_of, is_asked, is_found, is_picked, found_behind, Among, BeginsIn, IsMoveMade, IsPostedSoon, CountsOwn, HasImmediate, IsPaidSince}
 use Rattle.nvm_moves.specs.Along.{Bound, Cursor, Along, bound_of, cursor_behind}
 use Rattle.nvm_moves.specs.Seen.{Begun, Seen, IsOn, all_seen, frame_in, frame_of, left_seen, moment_seen, most_seen, work_seen}

@@ -6,7 +6,7 @@ use Rattle.nvm_script.specs.declared.script.Mode.{Mode}
 use Rattle.nvm_script.specs.declared.script.Mode.TheVariants as mode
 use Rattle.nvm_script.specs.declared.step.Step.{Step}
 use Rattle.nvm_script.proofs.PlayedScripts.{scripts_are_played}
-use Rattle.script_callers.proofs.RunScripts.{scripts_are_run}
+use Rattle.nvm_callers.proofs.RunScripts.{scripts_are_run}
 use Rattle.nvm_top.specs.Reading.{AreMadeIn}
 
 pub scripts_are_made : (m : Mode) (c : Configuration) (n : ℕ) (lines : List (List ℕ)) (steps : List Step) → IsScript c m n [] lines steps → AreMadeIn m c steps

@@ -8,7 +8,7 @@ use Rattle.nvm_script.specs.Played.{ArePlayed}
 use Rattle.nvm_script.specs.declared.script.Mode.{Mode}
 use Rattle.nvm_script.specs.declared.script.Mode.TheVariants as mode
 use Rattle.nvm_script.specs.declared.step.Step.{Step}
-use Rattle.script_callers.specs.RunScripts.{AreRun}
+use Rattle.nvm_callers.specs.script_callers.RunScripts.{AreRun}
 use Rattle.nvm_top.specs.Ends.{HasWrongLine}
 use Rattle.nvm_lines.specs.Reading.{BreaksRule, IsCheckStop}
 use Rattle.nvm_lines.specs.declared.stop.Stop.{Stop}

@@ -2,7 +2,7 @@
 ghost use Rattle.std.specs.Prelude.{◌≡◌, ◌≤◌, Err, IfOk, IfErr, IfSome, OnOk, length};
 ghost use Rattle.std.specs.Io.KnownBytes.{IsAtEnd};
 ghost use Rattle.nvm_flash.specs.nv_base.Count.{Rose};
-ghost use Rattle.script_callers.specs.RunScripts.{AreRun};
+ghost use Rattle.nvm_callers.specs.script_callers.RunScripts.{AreRun};
 ghost use Rattle.nvm_top.specs.Ends.{HasScript};
 ghost use Rattle.nvm_top.specs.Reading.{IsEarly, IsScriptStop, IsStepsStop};
 

@@ -2,7 +2,7 @@
 ghost use Rattle.std.specs.Prelude.{◌≡◌, ◌⊎◌, ℕ, List, Option};
 ghost use Rattle.nvm_flash.specs.nv_base.Count.{Rose};
 ghost use Rattle.nvm_flash.specs.Made.{IsOrigin};
-ghost use Rattle.script_callers.specs.RunScripts.{AreRun};
+ghost use Rattle.nvm_callers.specs.script_callers.RunScripts.{AreRun};
 ghost use Rattle.nvm_top.specs.Causes.{HasCauses};
 ghost use Rattle.nvm_top.specs.Play.{IsBeforeAttach, IsFlashStop, StepsStopBy};
 ghost use Rattle.nvm_top.specs.Promised.{EndsIn, HasNoRun, HasPromise, HasRun, call_by};

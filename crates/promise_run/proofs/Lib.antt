@@ -46,3 +46,9 @@ pub mod StartUps
 pub mod OwnOperations
 pub mod ClocksOfBoth
 pub mod HalvesOfBoth
+pub use Rattle.script_walks.proofs.First as FirstStores
+pub use Rattle.script_walks.proofs.Jobs as WalkedJobs
+pub use Rattle.script_walks.proofs.Newest as NewestStores
+pub use Rattle.script_walks.proofs.Resting as Resting
+pub use Rattle.script_walks.proofs.Turns as WalkedTurns
+pub use Rattle.script_walks.proofs.Walks as Walks

@@ -29,3 +29,4 @@ pub mod KeptCases
 pub mod BothCases
 pub mod BankTurns
 pub mod StartUps
+pub use Rattle.script_walks.specs as script_walks
