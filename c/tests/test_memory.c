@@ -1,7 +1,8 @@
 /* What a unit takes of memory beside its flash, which is used where it lies: each byte is counted that the C library's heap is asked for. A unit
-   may take what docs/COST.md has: room for one read, its blocks' contents, once more those of permanent RAM, two of the longest content, a page, so
-   much for each block, for each job that may wait at once and for each stored instance, and what grows with nothing; an opening
-   no less than its text asks for. A reset takes nothing, and leaves as many bytes as it found. */
+   may take what docs/COST.md has: room for one read and for the content of the device's job, its blocks' contents, once more those of permanent RAM,
+   the longest content, a page, so much for each block, for each job that may wait at once and for each stored instance, and what grows with nothing;
+   and no more than its contents, two of the longest, a page, 200 bytes for each block and each instance, and 8 KiB. An opening may take no less than
+   its text asks for. A reset takes nothing, and leaves as many bytes as it found. */
 #include "heap.h"
 #include "nvm_c.h"
 #include <stdio.h>
@@ -9,8 +10,8 @@
 #include <string.h>
 
 /* What a block, a job that waits and a stored instance may take, and all that grows with nothing. */
-enum { TEXT = 65536, MOST_LENGTH = 4096, MOST_READ = 4096, A_BLOCK = 166, A_JOB = 174, A_BLOCK_OF_TEXT = 1220, AN_INSTANCE = 44, BANKS = 2, FIXED = 6700,
-       RESETS = 3 };
+enum { TEXT = 65536, MOST_LENGTH = 4096, MOST_READ = 4096, A_BLOCK = 166, A_JOB = 174, A_BLOCK_OF_TEXT = 1220, AN_INSTANCE = 44, BANKS = 2, FIXED = 2700,
+       RESETS = 3, WANTED_EACH = 200, WANTED_FIXED = 8192 };
 
 /* How many jobs each queue takes, and of how many priorities the blocks are, block 1 among them. */
 enum { STANDARD = 8, IMMEDIATE = 4, PRIORITIES = 2 };
@@ -54,11 +55,19 @@ static size_t jobs(const unit *it) {
     return ids < queued ? ids : queued;
 }
 
+/* The blocks' contents, and once more those of permanent RAM. */
+static size_t contents(const unit *it) {
+    return ((size_t)(it->count - 1) * it->length + it->longest) * (it->is_permanent ? 2u : 1u);
+}
+
 static size_t allowed(const unit *it) {
-    size_t contents = (size_t)(it->count - 1) * it->length + it->longest, flash = (size_t)it->sector * it->sectors;
-    size_t bank = flash / BANKS;
-    return (bank < MOST_READ ? bank : MOST_READ) + contents * (it->is_permanent ? 2u : 1u) + 2u * it->longest + it->page + (size_t)A_BLOCK * it->count
-           + A_JOB * jobs(it) + found(it) + FIXED;
+    size_t bank = (size_t)it->sector * it->sectors / BANKS;
+    return (bank < MOST_READ ? bank : MOST_READ) + MOST_LENGTH + contents(it) + it->longest + it->page + (size_t)A_BLOCK * it->count + A_JOB * jobs(it)
+           + found(it) + FIXED;
+}
+
+static size_t wanted(const unit *it) {
+    return contents(it) + 2u * it->longest + it->page + (size_t)WANTED_EACH * it->count * (1u + it->instances) + WANTED_FIXED;
 }
 
 /* What stands at most while a unit opens: what it takes, or before that what the reading of its text takes. */
@@ -107,8 +116,8 @@ static int measure(const unit *it) {
     heap_most = heap_standing;
     for (unsigned i = 0; i < RESETS; i++) well = well && nvm_restart(&handle) == 0;
     well = well && heap_standing == stood && heap_most == stood;
-    well = well && behind <= allowed(it) && opened <= allowed_to_open(it);
-    printf("%-45s %8zu %8zu %8zu %8zu %8zu%s\n", it->name, flash, allowed(it), behind, opened, heap_most - begun, well ? "" : "  more");
+    well = well && behind <= allowed(it) && behind <= wanted(it) && opened <= allowed_to_open(it);
+    printf("%-45s %8zu %8zu %8zu %8zu %8zu %8zu%s\n", it->name, flash, wanted(it), allowed(it), behind, opened, heap_most - begun, well ? "" : "  more");
     nvm_close(&handle, &back);
     well = well && heap_standing == begun && back.at == lent.at;
     __real_free(lent.at);
@@ -117,7 +126,7 @@ static int measure(const unit *it) {
 
 int main(void) {
     int well = 1;
-    printf("%-45s %8s %8s %8s %8s %8s\n", "bytes", "flash", "allowed", "taken", "opening", "reset");
+    printf("%-45s %8s %8s %8s %8s %8s %8s\n", "bytes", "flash", "wanted", "allowed", "taken", "opening", "reset");
     for (size_t i = 0; i < sizeof UNITS / sizeof UNITS[0]; i++) well = measure(&UNITS[i]) && well;
     return !well || heap_pieces != 0;
 }
