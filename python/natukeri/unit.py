@@ -22,6 +22,8 @@ GIVES_NONE = (Result.INTEGRITY_FAILED, Result.NV_INVALIDATED)
 MOST_INDEX, MOST_OPERATIONS = 0xFF, 0xFFFFFFFF
 # bytes of a line of the history that is no start-up's, as a rule
 LINE = 256
+# the line of a start-up of which nvm_line doesn't tell what it found, with what that answers (docs/C.md)
+UNTOLD, _UNSOUND = "found, not told: the image was not sound", 6
 
 
 def _close(calls: ctypes.CDLL, handle: library.Handle, _flash: object) -> None:
@@ -35,12 +37,17 @@ def _within(number: int, least: int, most: int, what: str) -> int:
     return int(number)
 
 
+class _Untold(UnitError):
+    """What stands on the flash isn't told."""
+
+
 class Unit:
     """The stack of a unit file over a flash in memory, behind its first start-up.
 
     The flash begins with the bytes of `image`, or blank; `cuts` is how many power cuts can be planned. `history` has a line for each entry, as the
-    program prints them (docs/SCRIPT.md), and none where `keeps_history` is false, as for a unit that serves for long. A unit is used in one
-    thread. Without `with` it is closed when nothing names it any more."""
+    program prints them (docs/SCRIPT.md), and none where `keeps_history` is false, as for a unit that serves for long. Where `image` isn't sound, as
+    one of another program, the line of a start-up behind an operation is UNTOLD. A unit is used in one thread. Without `with` it is closed when
+    nothing names it any more."""
 
     def __init__(self, unit: Union[UnitPath, Configuration], image: Optional[bytes] = None, cuts: int = 1000, keeps_history: bool = True):
         self.configuration = configuration_of(unit)
@@ -107,7 +114,10 @@ class Unit:
         entries = self._call("nvm_entries")
         if entries != self._entries:
             self._entries = entries
-            self.history.append(self._look("nvm_line", room=LINE).decode().rstrip("\n"))
+            try:
+                self.history.append(self._look("nvm_line", room=LINE).decode().rstrip("\n"))
+            except _Untold:
+                self.history.append(UNTOLD)
 
     # what the stack is asked for
 
@@ -183,6 +193,8 @@ class Unit:
             code = self._call(name, *given, into, room, size)
             if code == _NO_MEMORY:
                 raise MemoryError
+            if code == _UNSOUND:
+                raise _Untold(f"{name}: the image was not sound")
             if code:
                 raise UnitError(f"{name}: there is nothing to look at")
             if size.value <= room:
@@ -226,6 +238,8 @@ class Unit:
         again. What is asked for and waits isn't among them. So `held(block) in may_hold(block)` judges a start-up by what came before it."""
         if not self._keeps_history:
             raise UnitError(f"the history of {self!r} isn't kept, by which it is told")
+        if UNTOLD in self.history:
+            raise UnitError(f"the image of {self!r} was not sound, and what a start-up found is not told")
         number = self.configuration.id(block)
         most = self.configuration.datasets(number)
         self._judge.go_on(self.history[self._judged:])

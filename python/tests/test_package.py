@@ -224,6 +224,18 @@ class Power(unittest.TestCase):
         with Unit(BODY, image) as other:
             self.assertEqual(other.read_number("odometer"), 7)
 
+    def test_an_image_that_is_not_sound(self):
+        with Unit(BODY) as unit:
+            unit.write("odometer", 7)
+        image, page = bytearray(unit.close()), unit.configuration.page
+        # (the gate of the first bank stands, and the page before it is none of a bank)
+        image[:page] = bytes(page)
+        with Unit(BODY, bytes(image)) as other:
+            other.write("odometer", 8)
+            other.restart()
+            self.assertEqual((other.history[-1], other.read_number("odometer")), (natukeri.unit.UNTOLD, 8))
+            self.assertRaisesRegex(natukeri.UnitError, "not sound", other.may_hold, "odometer")
+
     def test_a_cut(self):
         with Unit(BODY) as unit:
             unit.write("odometer", 7)

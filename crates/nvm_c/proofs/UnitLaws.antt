@@ -59,8 +59,7 @@ pub opens_back : (c : Configuration) (inner : Told) (cuts : ℕ) (making : Makin
 opens_back c inner cuts making entry exit s origin opens back =
     let made = opens.is_made.device in let restarted = opens.starts.finds.up.restarted in let up = restarted.first in
     let part : (told_of opens.made.device).first ≡ part_at (told_cutting (cutting inner cuts)) = made.part ∙ ap part_at origin.over in
-    let flash = ap (λ p. p.flash_faults) part in let grown = up.faults.flash in
-    back_so c inner exit (part_at entry) (told_of s.device) (clock_of s.device) Memory back (restarted.ops ∙ made.ops) (ap (λ p. p.planning.unplanned) up.only ∙ ap (λ p. p.planning.unplanned) part) (omega (arith, grown, flash)) tt opens.is_made.one_device
+    back_so c inner exit (part_at entry) (told_of s.device) (clock_of s.device) Memory back (restarted.ops ∙ made.ops) (ap (λ p. p.planning.unplanned) up.only ∙ ap (λ p. p.planning.unplanned) part) tt opens.is_made.one_device
 
 -- WHAT STAYS
 pub still_counted : (s t : UnitState) → Stays s t → keeps s.desk.cap ≡ false → keeps t.desk.cap ≡ false
