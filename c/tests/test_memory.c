@@ -10,7 +10,7 @@
 #include <string.h>
 
 /* What a block, a job that waits and a stored instance may take, and all that grows with nothing. */
-enum { TEXT = 65536, MOST_LENGTH = 4096, MOST_READ = 4096, A_BLOCK = 166, A_JOB = 174, A_BLOCK_OF_TEXT = 1220, AN_INSTANCE = 44, BANKS = 2, FIXED = 2700,
+enum { TEXT = 65536, MOST_LENGTH = 4096, MOST_READ = 4096, A_BLOCK = 166, A_JOB = 174, A_BLOCK_OF_TEXT = 1220, AN_INSTANCE = 44, BANKS = 2, FIXED = 2700, FIXED_OF_TEXT = 6700,
        RESETS = 3, WANTED_EACH = 200, WANTED_FIXED = 8192 };
 
 /* How many jobs each queue takes, and of how many priorities the blocks are, block 1 among them. */
@@ -72,7 +72,7 @@ static size_t wanted(const unit *it) {
 
 /* What stands at most while a unit opens: what it takes, or before that what the reading of its text takes. */
 static size_t allowed_to_open(const unit *it) {
-    size_t taken = allowed(it), text = (size_t)A_BLOCK_OF_TEXT * it->count + FIXED;
+    size_t taken = allowed(it), text = (size_t)A_BLOCK_OF_TEXT * it->count + FIXED_OF_TEXT;
     return taken > text ? taken : text;
 }
 
