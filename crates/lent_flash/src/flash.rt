@@ -120,10 +120,12 @@ impl Flash for LentFlash {
     }
 
     fn read(&mut self, address: u32, into: &mut [u8]) -> FlashAnswer {
-        let Some(lent) = &self.lent else {
+        // Taken out, the bytes are copied at once: what is written can be no part of them.
+        let Some(lent) = self.lent.take() else {
             unreachable!()
         };
         lent.copy_out(address as usize, into);
+        self.lent = Some(lent);
         FlashAnswer::Done
     }
 
