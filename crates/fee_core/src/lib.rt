@@ -25,7 +25,7 @@ mod switches;
 mod turns;
 
 pub use fee::Fee;
-pub use fls_model::{AttachFault, Flash, FlashAnswer, MemFlash, mem_flash};
+pub use fls_model::{AttachFault, Flash, FlashAnswer, MemFlash, SizedFlash, mem_flash};
 pub use mark_place::MarkPlace;
 pub use memif::{
     DeviceCall, DeviceRefusal, DeviceStep, DeviceTurn, JobResult, MemDevice, MemIf, PlainMark,

@@ -12,7 +12,7 @@ ghost use Rattle.fls_files.specs.FileFlashInside.{Finds, IsReady, IsWritten, Sto
 use crate::asked::Asked;
 use crate::system_file::open_apart;
 use crate::{ByteFile, OpenFault};
-use fls_model::{AttachFault, Call, Flash, FlashAnswer, program_call};
+use fls_model::{AttachFault, Call, Flash, FlashAnswer, SizedFlash, program_call};
 use nv_base::{Geometry, Trace};
 use std::alloc::Global;
 use std::marker::Model;
@@ -470,5 +470,17 @@ impl<T: ByteFile + Drop> Flash for FileFlash<T> {
             answer,
         });
         answer
+    }
+}
+
+impl<T: ByteFile + Drop> SizedFlash for FileFlash<T> {
+    fn size(&mut self, geometry: Geometry) -> Result<u64, AttachFault> {
+        match found_size(&mut self.file, self.torn, u64::from(geometry.size())) {
+            Ok(found) => Ok(found),
+            Err(fault) => {
+                self.faults = self.faults.saturating_add(1);
+                Err(fault_of(fault))
+            }
+        }
     }
 }

@@ -7,6 +7,7 @@ pub mod MemoryInside
 pub mod Op
 pub mod Plan
 pub mod Read
+pub mod Size
 pub mod Step
 pub mod Told
 pub mod Worked

@@ -5,6 +5,7 @@ ghost use Rattle.fls_model.specs.Told.{Told, armed, powered, HasRange, HasPage, 
 ghost use Rattle.fls_model.specs.Step.{IsStep, programs, erases};
 ghost use Rattle.fls_model.specs.Read.{IsRead};
 ghost use Rattle.fls_model.specs.Attach.{IsAttach};
+ghost use Rattle.fls_model.specs.Size.{IsLook};
 
 use nv_base::Geometry;
 use std::alloc::Global;
@@ -67,4 +68,13 @@ pub trait Flash {
     fn erase(&mut self, sector: u32) -> FlashAnswer
         requires { HasSector (told self.old) sector }
         ensures { IsStep (erases (told self.old).geometry sector) (told self.old) result (told self.new) };
+}
+
+/// A flash of which can be asked how many bytes it has before it is attached.
+pub trait SizedFlash: Flash {
+    /// How many bytes it has, none where it is blank, if it is to be attached at this geometry. Nothing changes but the count of
+    /// faults: one is counted where it can't be told.
+    fn size(&mut self, geometry: Geometry) -> Result<u64, AttachFault>
+        requires { IsLegal geometry }
+        ensures { IsLook (Self.told self.old) result (Self.told self.new) };
 }

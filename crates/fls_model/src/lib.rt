@@ -12,7 +12,7 @@ mod range;
 mod worked;
 
 pub use call::{Call, program_call};
-pub use flash::{AttachFault, Flash, FlashAnswer};
+pub use flash::{AttachFault, Flash, FlashAnswer, SizedFlash};
 pub use image::may_leave;
 pub use memory::{MemFlash, mem_flash};
 pub use worked::{answer_cases, planned_cases, room_cases, worked_cases};

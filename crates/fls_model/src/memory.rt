@@ -12,7 +12,7 @@ ghost use Rattle.fls_model.specs.Call.{KeepsCall};
 
 use crate::call::{Call, program_call};
 use crate::range::{below_256, erase_range, program_range};
-use crate::{AttachFault, Flash, FlashAnswer};
+use crate::{AttachFault, Flash, FlashAnswer, SizedFlash};
 use nv_base::Geometry;
 use std::alloc::{AllocError, Global};
 use std::marker::Model;
@@ -224,5 +224,11 @@ impl Flash for MemFlash {
         keep_erase(&mut self.calls, self.asked, sector);
         count(&mut self.asked, &mut self.ops);
         FlashAnswer::Done
+    }
+}
+
+impl SizedFlash for MemFlash {
+    fn size(&mut self, _geometry: Geometry) -> Result<u64, AttachFault> {
+        Ok(self.bytes.len() as u64)
     }
 }

@@ -11,14 +11,6 @@ use Rattle.nvm_flash.specs.declared.pair.PairFault.{PairFault}
 use Rattle.nvm_flash.specs.declared.pair.PairFault.TheVariants.{OfFlash, OfEeprom, OneDevice, Memory}
 use Rattle.nvm_flash.specs.Made.{IsFlashCause}
 
--- what the size is, where the bytes are told; or why it isn't known, as of an attach
-abbrev pub IsLook : Told → Result ℕ AttachFault → Told → Type 0
-IsLook s (Ok n) t = IfSome s.bytes (λ b. length b.now ≡ n) × (t ≡ s)
-IsLook s (Err attach.Failed) t = Rose s.faults t.faults × (t ≡ record s { faults = t.faults })
-IsLook s (Err attach.InUse) t = Rose s.faults t.faults × (t ≡ record s { faults = t.faults })
-IsLook s (Err (attach.WrongSize found)) t = ⊥
-IsLook s (Err attach.Memory) t = t ≡ s
-
 -- it has no bytes, or as many as its shape
 abbrev pub HasSizeOf : Geometry → Option ToldBytes → Type 0
 HasSizeOf g bytes = IfSome bytes (λ b. (length b.now ≡ 0) ⊎ (length b.now ≡ size_of g))

@@ -19,8 +19,8 @@ pub use fls_devices::{Cutter, FaultScript};
 pub use memif_fee_ea::ea_slots;
 pub use memif_fee_ea::fee_core::{
     AttachFault, Bytes, Entry, Fee, Flash, FlashAnswer, Geometry, History, MemDevice, MemFlash,
-    Origin, PlainStore, Refusal, Reply, ReqResult, Request, bytes_of, mem_flash, refusal_number,
-    result_code,
+    Origin, PlainStore, Refusal, Reply, ReqResult, Request, SizedFlash, bytes_of, mem_flash,
+    refusal_number, result_code,
 };
 pub use nvm_core::{
     AskFault, BlockDesc, BlockKind, Buffer, Config, ConfigFault, ENDLESS, Event, FoundAnswer,
@@ -30,5 +30,4 @@ pub use nvm_core::{
 pub use pair::{PairCuts, PairDevice, PairFault, give_pair_back, make_pair};
 pub use pair_stack::{PairStack, make_pair_stack, start_pair_stack};
 pub use promise_run::CAP;
-pub use sized::SizedFlash;
 pub use stack::{FlashStack, make_stack, make_stack_with, start_stack, start_stack_with};

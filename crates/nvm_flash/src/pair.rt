@@ -20,10 +20,10 @@ ghost use Rattle.nvm_flash.specs.PairMade.{AreBack, AreOrigins, ComeBack, pair_f
 
 use crate::back::give_bank_back;
 use crate::device::{MakeFault, fault_of};
-use crate::sized::{SizedFlash, look_at_both};
+use crate::sized::look_at_both;
 use fls_devices::Cutter;
 use memif_fee_ea::ea_slots::{self, Ea};
-use memif_fee_ea::fee_core::{Flash, Geometry, Lengths, MemIf, Origin};
+use memif_fee_ea::fee_core::{Flash, Geometry, Lengths, MemIf, Origin, SizedFlash};
 use memif_fee_ea::{FlashAndEeprom, PairAttachFault, PairPart, Shapes, make};
 use nvm_core::Config;
 use std::alloc::{AllocError, Global};

@@ -13,10 +13,9 @@ ghost use Rattle.nvm_flash.specs.PairMade.{AreBack, AreOrigins, ComeBack, IsPair
 use crate::back::give_bank_back;
 use crate::device::MakeFault;
 use crate::pair::{PairCuts, PairDevice, PairFault, give_pair_back, give_slots_back, make_pair};
-use crate::sized::SizedFlash;
 use crate::stack::start_over;
 use memif_fee_ea::ea_slots;
-use memif_fee_ea::fee_core::{Flash, MemDevice, MemIf, Origin};
+use memif_fee_ea::fee_core::{Flash, MemDevice, MemIf, Origin, SizedFlash};
 use nvm_core::{Config, FoundAnswer, Stack, SyncCalls};
 use std::alloc::Global;
 

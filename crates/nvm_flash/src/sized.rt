@@ -1,25 +1,10 @@
 // A flash whose size is looked at before it is attached.
-ghost use Rattle.std.specs.Prelude.{◌≡◌};
 ghost use Rattle.memif_fee_ea.specs.fee_core.nv_base.Geometry.{IsLegal};
-ghost use Rattle.nvm_flash.specs.Sized.{IsLook, IsLooked, AreLooked};
+ghost use Rattle.nvm_flash.specs.Sized.{IsLooked, AreLooked};
 
 use crate::device::{MakeFault, fault_of};
 use crate::pair::PairFault;
-use memif_fee_ea::fee_core::{AttachFault, Flash, Geometry, MemFlash};
-
-/// A flash of which can be asked how many bytes it has.
-pub trait SizedFlash: Flash {
-    /// How many bytes it has, none where it is blank, before it is attached at this geometry. Nothing changes but the count of faults:
-    /// one is counted where it can't be told.
-    fn size(&mut self, geometry: Geometry) -> Result<u64, AttachFault>
-        ensures { IsLook (Self.told self.old) result (Self.told self.new) };
-}
-
-impl SizedFlash for MemFlash {
-    fn size(&mut self, _geometry: Geometry) -> Result<u64, AttachFault> {
-        Ok(self.bytes().len() as u64)
-    }
-}
+use memif_fee_ea::fee_core::{Geometry, SizedFlash};
 
 // Why a flash can't be attached at a geometry, by its size.
 fn look_at<F: SizedFlash>(flash: &mut F, geometry: Geometry) -> Option<MakeFault>
