@@ -1,4 +1,5 @@
 """Calls of the program and of the worked cases' program. What a tool needs to begin and end, and of files, is passed on."""
+import functools
 import os
 import re
 import select
@@ -15,6 +16,8 @@ __all__ = ["Stop", "read_file", "read_text", "run_tool", "scratch"]
 TOP = os.path.dirname(os.path.dirname(os.path.dirname(os.path.abspath(__file__))))
 # where ./nvm couldn't start the program, it says why itself
 NOT_STARTED = (125, 126, 127)
+# what the program ends with where a unit has a second device and no flash is named for it
+NO_SECOND = 14
 # a program that NVM or NVM_ROWS names is given up where it prints nothing for so many seconds, or more than so much
 SECONDS = 600
 MOST_ANSWER, MOST_LINES = 1 << 30, 1_000_000
@@ -103,16 +106,33 @@ def call(words, text, program="nvm_bench"):
     raise Stop(f"{start_of(program)} doesn't end: more than {MOST_LINES:,} lines came", 127)
 
 
-def play(lines, image="mem"):
+@functools.lru_cache(None)
+def takes_second():
+    """Whether the program plays over a second device's flash: one that doesn't takes the words for wrong ones."""
+    return call(["mem", "play", "mem"], "@demo\n")[1] == 0
+
+
+def second_in_memory(unit):
+    """The word for the flash of a unit's second device, or None where it has none or the program plays over none: then it says so itself."""
+    return "mem" if unit.second and takes_second() else None
+
+
+def play(lines, image="mem", second=None):
     """The history of a script, and the status."""
-    return call([image, "play"], "\n".join(lines) + "\n")
+    return call([image, "play", *([second] if second else [])], "\n".join(lines) + "\n")
 
 
-def play_well(lines, image="mem"):
+def play_well(lines, image="mem", second=None):
     """The history of a script that is played to its end."""
-    history, status = play(lines, image)
+    history, status = play(lines, image, second)
     stop_on_end(image, history, status)
     return history
+
+
+def stop_without_second(unit):
+    """Ends where the program has no words for the flash of a unit's second device."""
+    if unit.second and not takes_second():
+        raise Stop(f'{unit.path}: it has a second device ("eeprom"), and {start_of("nvm_bench")} plays over none', NO_SECOND)
 
 
 def stop_on_end(path, history, status):

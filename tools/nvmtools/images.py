@@ -132,9 +132,10 @@ def mark_of(record):
     return print_content(record.content) if record.kind == CONTENT else "invalid"
 
 
-def values(image):
-    """What a read gives of each block, by name: a content, "invalid", or null where nothing is stored."""
-    unit, found, given = image.unit, image.found, {}
+def values(unit, found):
+    """What a read gives of each block, by name, where a start-up finds these records: a content, "invalid", or null where nothing is
+    stored."""
+    given = {}
     for block in unit.blocks:
         if block == 1:
             continue

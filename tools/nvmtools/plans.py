@@ -5,6 +5,10 @@ Operations are the changing ones of the flash. The figures at most follow the de
 from collections import namedtuple
 
 PICK, POST = 1, 1
+# of a write to a slot of a second device, beside the pages of its body: two erases, its head and its gate
+SLOT_STEPS = 4
+# the sectors of an instance there: two slots of two
+SLOT_SECTORS = 4
 # of the promise of an immediate write, beside its pages: docs/MODEL.md, 'The promise of a whole run'
 PROMISED = 4
 
@@ -31,27 +35,55 @@ class Plan:
     def pages(self, block):
         return self.unit.record_pages(self.unit.blocks[block]["length"])
 
+    def body_pages(self, block):
+        """The pages of a content in a slot of the second device."""
+        return -(-self.unit.blocks[block]["length"] // self.unit.second.page)
+
     def write_pages(self, block):
-        return self.pages(block) * self.unit.copies(block)
+        """The pages of the banks that a write takes: none where the second device stores the block."""
+        return self.pages(block) * self.unit.copies(block) if self.unit.is_first(block) else 0
+
+    def steps(self, block):
+        """The operations of one copy of a write: the pages of its record, or the steps of its slot."""
+        return self.pages(block) if self.unit.is_first(block) else self.body_pages(block) + SLOT_STEPS
+
+    def write_steps(self, block):
+        return self.steps(block) * self.unit.copies(block)
 
     def as_a_rule(self, block):
         """A write that finds its pages free, and whose tries don't fail."""
-        return Figure(PICK + self.write_pages(block) + POST, self.write_pages(block))
+        return Figure(PICK + self.write_steps(block) + POST, self.write_steps(block))
 
     def with_switch(self, block):
-        """A write that finds no room, so that the banks are switched first."""
-        return plus(self.as_a_rule(block), self.switch)
+        """A write that finds no room, so that the banks are switched first; None where the second device stores the block, which has
+        no banks."""
+        return plus(self.as_a_rule(block), self.switch) if self.unit.is_first(block) else None
 
     def at_most(self, block):
         """A write with every fault that its retries allow: an open switch, each try of each copy with a gate that is owed and a
-        switch, and the Post."""
+        switch, and the Post. To the second device each try takes its steps, and no switch of the banks comes before it."""
         tries = self.unit.copies(block) * (self.unit.blocks[block].get("writes", 0) + 1)
+        if not self.unit.is_first(block):
+            return Figure(PICK + tries * self.steps(block) + POST, tries * self.steps(block))
         turns, operations = (switch + tries * (self.pages(block) + 1 + switch) for switch in self.most_switch)
         return Figure(PICK + turns + POST, operations)
 
     def promised(self, block):
-        """The turns within which an immediate write is posted, or None."""
-        return self.write_pages(block) + PROMISED if self.unit.is_immediate(block) and block != 1 else None
+        """The turns within which an immediate write is posted, or None; of the second device's blocks none is promised."""
+        is_promised = self.unit.is_immediate(block) and self.unit.is_first(block) and block != 1
+        return self.write_pages(block) + PROMISED if is_promised else None
+
+    def second_instances(self):
+        return len(self.unit.lengths(is_first=False))
+
+    def second_room(self):
+        """How many instances the second device's sectors have room for."""
+        return self.unit.second.sectors // SLOT_SECTORS
+
+    def slot_erases(self, writes):
+        """The erases of a sector a day by block of the second device, where so many writes a day come to each: every second write of
+        an instance goes to the same slot. Of a dataset all may come to one index."""
+        return {block: count / 2 for block, count in writes.items() if not self.unit.is_first(block)}
 
     def read_all(self):
         """A ReadAll whose members are all stored, block 1 among them: each has a Pick, a read and a Post."""
@@ -66,13 +98,13 @@ class Plan:
 
     def shutdown(self):
         """A WriteAll of all members changed, each of which finds its pages free. Block 1 is passed over."""
-        pages = sum(self.write_pages(block) for block in self.members["writeall"])
-        return Figure(PICK + 1 + pages + 2 * len(self.members["writeall"]) + POST, pages)
+        steps = sum(self.write_steps(block) for block in self.members["writeall"])
+        return Figure(PICK + 1 + steps + 2 * len(self.members["writeall"]) + POST, steps)
 
     def shutdown_switches(self):
         """The most switches in such a WriteAll: its first record finds no room."""
         switches, free = 0, 0
-        for block in self.members["writeall"]:
+        for block in filter(self.unit.is_first, self.members["writeall"]):
             for _ in range(self.unit.copies(block)):
                 if free < self.pages(block):
                     switches, free = switches + 1, self.fresh

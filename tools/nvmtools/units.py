@@ -37,6 +37,8 @@ FEWEST_BANKS, MOST_BANKS = 2, 8
 # program reads them, as they are written, and by their place why one is no step; and the file that the configuration stands in,
 # where its parts stand, and the places of its blocks by their ids
 Given = namedtuple("Given", "path line source script written faults config places order", defaults=((), {}, None, None, ()))
+# the flash of a second device
+Second = namedtuple("Second", "page sector sectors size")
 # what is wrong with a unit or a script: its place, of what kind it is, its rule or refusal, the text, and the line of a script
 Finding = namedtuple("Finding", "place kind number text line", defaults=(None,))
 
@@ -51,6 +53,7 @@ class Unit:
         self.size = self.sector * self.sectors
         self.banks = source.get("banks", 2)
         self.bank_pages = self.size // self.banks // self.page
+        self.second = second_of(source)
         self.blocks = blocks_of(source)
         self.has_names = any(block.get("name") for block in source["blocks"])
 
@@ -63,10 +66,14 @@ class Unit:
         """How many instances one write of the block writes."""
         return 2 if self.blocks[block].get("kind") == "redundant" else 1
 
-    def lengths(self):
-        """The length of each instance that the flash stores, by device number: those of a second device aren't in its banks."""
-        return {block * 64 + i: self.blocks[block]["length"] for block in self.blocks if self.is_first(block)
+    def lengths(self, is_first=True):
+        """The length of each instance that the flash stores, or the second one, by device number."""
+        return {block * 64 + i: self.blocks[block]["length"] for block in self.blocks if self.is_first(block) == is_first
                 for i in range(self.instances(block))}
+
+    def flashes(self):
+        """The flash, and the second one where there is one."""
+        return [self, *([self.second] if self.second else [])]
 
     def record_pages(self, length):
         """The pages of a record of a content."""
@@ -123,6 +130,12 @@ def place_of(given, block, key=None):
     it."""
     way = ("blocks", given.order[block - FIRST_ID]) if block else ()
     return given.places.of(*way, *([key] if key else []))
+
+
+def second_of(source):
+    """The flash of the second device, or None."""
+    given = source.get("eeprom")
+    return Second(given["page"], given["sector"], given["sectors"], given["sector"] * given["sectors"]) if given else None
 
 
 def blocks_of(source):
