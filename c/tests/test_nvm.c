@@ -43,6 +43,25 @@ static void before_init(void) {
     CHECK(NvM_SimCut(1, 0) == E_NOT_OK && NvM_SimRestart() == E_NOT_OK && NvM_SimEntries() == 0);
 }
 
+/* A configuration with a second device is refused, and its flash stays as it was. */
+static void second_device(void) {
+    static const char *const text[] = { "{\"id\":1,\"page\":16,\"sector\":256,\"sectors\":8,\"standard\":8,\"immediate\":4,",
+        "\"eeprom\":{\"page\":16,\"sector\":64,\"sectors\":4},\"blocks\":[{\"length\":4,\"device\":1}]}", NULL };
+    static const NvM_BlockDescriptorType blocks[] = { { 4, 0, 0, NULL, NULL, NULL, NULL, NULL } };
+    static uint8 room[256], small[2048];
+    static NvM_ConfigType config = { text, blocks, 1, room, sizeof room, NULL, NULL, NULL, NULL, NULL };
+    unsigned changed = 0;
+    config.report_error = NvM_Config.report_error;
+    NvM_SimClose();
+    memset(small, 0xEE, sizeof small);
+    memset(&seen, 0, sizeof seen);
+    NvM_SimFlash(small, sizeof small, 0);
+    NvM_Init(&config);
+    for (unsigned i = 0; i < sizeof small; i++) changed += small[i] != 0xEE;
+    CHECK(NvM_SimFault() == NVM_SIM_SECOND_DEVICE && seen.error.error == NVM_E_BLOCK_CONFIG && seen.error.api == NVM_INIT_API_ID);
+    CHECK(changed == 0 && MemIf_GetStatus(0) == MEMIF_UNINIT && NvM_SimEntries() == 0);
+}
+
 /* ReadAll gives RAM to its members alone, each at its own Post. */
 static void first_start(void) {
     blank_unit();
@@ -753,6 +772,7 @@ static void files(const char *path) {
 int main(int count, char **words) {
     uint32 writes = count > 1 ? (uint32)strtoul(words[1], NULL, 10) : 30000;
     before_init();
+    second_device();
     first_start();
     single_requests();
     datasets();

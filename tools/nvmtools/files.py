@@ -46,24 +46,48 @@ def stop_unless_plain(path):
 @contextlib.contextmanager
 def in_place_of(path):
     """A new file beside a path, which gets its name where nothing stops, and is gone else."""
-    stop_unless_plain(path)
-    folder = os.path.dirname(os.path.abspath(path))
-    beside = None
-    try:
-        handle, beside = tempfile.mkstemp(prefix=f".{os.path.basename(path)}.", dir=folder)
-        os.close(handle)
+    with in_places_of([path]) as [beside], told_of(path):
         yield beside
+
+
+@contextlib.contextmanager
+def in_places_of(paths):
+    """New files beside some paths, which get their names one behind the other once all are whole, and are gone else."""
+    made = []
+    try:
+        for path in paths:
+            stop_unless_plain(path)
+            with told_of(path):
+                handle, beside = tempfile.mkstemp(prefix=f".{os.path.basename(path)}.", dir=folder_of(path))
+            made.append(beside)
+            os.close(handle)
+        yield made
         mask = os.umask(0)
         os.umask(mask)
-        os.chmod(beside, 0o666 & ~mask)
-        sync(beside)
-        os.rename(beside, path)
-        sync(folder)
+        for path, beside in zip(paths, made):
+            with told_of(path):
+                os.chmod(beside, 0o666 & ~mask)
+                sync(beside)
+        for path, beside in zip(paths, made):
+            with told_of(path):
+                os.rename(beside, path)
+                sync(folder_of(path))
+    finally:
+        for beside in filter(os.path.exists, made):
+            os.unlink(beside)
+
+
+@contextlib.contextmanager
+def told_of(path):
+    """Tells what the system refuses of a path."""
+    try:
+        yield
     except OSError as error:
         raise Stop(f"{path}: {error.strerror}") from None
-    finally:
-        if beside and os.path.exists(beside):
-            os.unlink(beside)
+
+
+def folder_of(path):
+    return os.path.dirname(os.path.abspath(path))
 
 
 def sync(path):

@@ -85,6 +85,20 @@ def block_of(entry):
     return None
 
 
+def operations_of(unit, entries):
+    """The numbers of the operations of each flash of a unit, by the block of the job in hand: with none in hand it is the first one."""
+    found, hand, last = [[], []], None, 0
+    for entry in entries:
+        if entry.ops is None:
+            continue
+        is_second = hand in unit.blocks and not unit.is_first(hand)
+        found[is_second] += range(last + 1, entry.ops + 1)
+        last = entry.ops
+        if entry.kind != "wrote":
+            hand = block_of(entry) if entry.kind == "pick" else None
+    return found
+
+
 def refused(entry):
     """The number of a request's refusal, or None."""
     return int(entry.words[-1]) if entry.kind == "ask" and entry.words[-2] == "refused" else None

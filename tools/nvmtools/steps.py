@@ -32,6 +32,11 @@ def is_idle(line):
     return line in ("", "\r") or line.startswith("#")
 
 
+def is_cut(line):
+    """Whether a line does nothing, or plans a power cut."""
+    return is_idle(line) or fields(line)[0] in ("cut", "cutee")
+
+
 def fields(line):
     """The fields of a step without its caller."""
     return re.sub(r"^[0-9]+: ", "", without_return(line)).split(" ")

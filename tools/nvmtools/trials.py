@@ -1,9 +1,11 @@
 """Runs of the worked cases' program side by side, whose lines are read as they come; and how rows of them are told."""
 import contextlib
 import os
+import re
 import signal
 import sys
 import time
+from collections import namedtuple
 
 from nvmtools import calls
 from nvmtools.calls import Stop
@@ -13,6 +15,11 @@ MOST_MARK = 40
 NOTHING, THE_SAME = "nothing", "the same"
 # seconds between two signs of life
 BETWEEN = 0.1
+# what the judge prints of a history: a mark that may not stand, and what was judged
+WRONG = re.compile(r"\d+: the mark in (\d+)\.(\d+) isn't allowed behind (\d+) entries")
+COUNTS = re.compile(r"runs \d+ cuts (\d+) start-ups (\d+) contents \d+ .*")
+# of a history: the marks that may not stand, each a block, an index and the entries before it, and what was judged
+Judged = namedtuple("Judged", "wrong power_cuts start_ups")
 
 
 def add_jobs(words):
@@ -65,6 +72,30 @@ def lines_of_case(coming):
         if line and not line.startswith("case "):
             found.append(line)
     raise Stop(calls.SHORT, 4)
+
+
+def judged(unit, run, further):
+    """What the judge of the worked cases' program says of a history and of what a further call printed."""
+    text = ["case 0", "words mem play", f"< {unit.line}", *(f"printed {it}" for it in run), f"printed end {len(run)}",
+            *(f"further {it}" for it in further), ""]
+    printed, status = calls.call([], "\n".join(text), "nvm_rows")
+    counts = next((found for line in printed if (found := COUNTS.fullmatch(line))), None)
+    if status or not counts:
+        raise Stop(f"no history of {unit.path}: {printed[-1] if printed else 'no output'}", 4)
+    return Judged([tuple(map(int, found.groups())) for line in printed if (found := WRONG.fullmatch(line))], int(counts[1]), int(counts[2]))
+
+
+# a call over the image files of both flashes of a unit: the history, that of a further start-up over what they are then, and the bytes
+Both = namedtuple("Both", "history further data")
+
+
+def over_both(unit, lines):
+    """Plays a script over a blank flash and a blank second one, in files that are gone then."""
+    with calls.scratch() as folder:
+        paths = [os.path.join(folder, name) for name in ("first", "second")]
+        history = calls.play_well([unit.line, *lines], *paths)
+        data = [calls.read_file(it) for it in paths]
+        return Both(history, calls.play_well([unit.line], *paths), data)
 
 
 class Progress:
