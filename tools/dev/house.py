@@ -9,7 +9,7 @@ import xml.etree.ElementTree as xml
 from nvmtools import calls, images, reports, units
 
 USERS = ("lint", "sweep", "cuts", "timeline", "picture", "plan", "provision", "header", "arxml", "judge", "build", "take", "release")
-DEVELOPERS = ("callers_soak", "edges", "faults", "instructions", "instructions_c", "kills", "manual", "price", "refuse", "trusted", "try", "try_c",
+DEVELOPERS = ("callers_soak", "compare", "edges", "faults", "instructions", "instructions_c", "kills", "manual", "peer", "price", "refuse", "trusted", "try", "try_c",
               "try_python", "try_release", "try_tester", "try_unit")
 FIRST_START = "@demo\nreadall\ndrain\n"
 RED = "#c00000"
