@@ -16,12 +16,12 @@ _nvm_tool() {
     sweep | nvm-sweep) options="-h --help --quiet --jobs --json --junit" ;;
     cuts | nvm-cuts) options="-h --help --keep --every --jobs --json --junit" ;;
     timeline | nvm-timeline) options="-h --help --history --text --summary --json" ;;
-    picture | nvm-picture) options="-h --help --text --values --other --check --json" ;;
+    picture | nvm-picture) options="-h --help --second --text --values --other --check --json" ;;
     plan | nvm-plan) options="-h --help --writes --endurance --turn-ms --json" ;;
-    provision | nvm-provision) options="-h --help --replace --json" ;;
+    provision | nvm-provision) options="-h --help --second --replace --json" ;;
     header | nvm-header) options="-h --help --include --det --all-done --bswm --line" ;;
     arxml | nvm-arxml) options="-h --help --from-unit --into --replace --values --elf --flash --package --strict --anyway --definitions --json" ;;
-    judge | nvm-judge) options="-h --help --image --json" ;;
+    judge | nvm-judge) options="-h --help --image --second --json" ;;
     build | nvm-build) options="-h --help --unproved" ;;
     take | nvm-take) options="-h --help --rooms" ;;
     release | nvm-release) options="-h --help --proof --unproved --archive --kit --maintainer" ;;
