@@ -1,8 +1,11 @@
 """What the tools print of a unit with a second device: over tools/dev/peer, and over the program where it takes a second flash."""
 import contextlib
+import json
 import os
 
-from nvmtools import calls
+import figures
+from nvmpeer import commands
+from nvmtools import calls, histories, plans, units
 
 HEAD = '{"id":1,"page":16,"sector":256,"sectors":8,"standard":8,"immediate":4,"eeprom":{"page":16,"sector":64,"sectors":%s},"blocks":[%s]}\n'
 # what is printed of these is worked out: a write to a slot of one body page is two erases, the page, the head and the gate
@@ -76,6 +79,45 @@ def make(folder):
         file.write(data)
 
 
+# blocks of both devices whose figures are counted, and of the second one two that are members and one that is redundant
+BLOCKS = [{"length": 4, "ram": "permanent", "readall": True, "writeall": True},
+          {"length": 20, "device": 1, "ram": "permanent", "readall": True, "writeall": True, "resistant": True, "writes": 1},
+          {"kind": "redundant", "length": 33, "device": 1, "writes": 2, "priority": 0}]
+
+
+def figures_agree():
+    """Whether the figures of tools/plan are those that the peer makes of a unit with a second device. At most are tries that each fail
+    at their last step, but for the last one of each copy."""
+    source = {**json.loads(HEAD % (16, "")), "blocks": BLOCKS}
+    plan = plans.Plan(units.Unit("figures", json.dumps(source, separators=(",", ":")), source, []))
+    stored = figures.stores(plan.unit)
+    tries = [figures.Try("first start", [], ["readall"], 0, figure=plan.first_read_all()),
+             figures.Try("ReadAll", [*stored, "restart"], ["readall"], 0, figure=plan.read_all()),
+             figures.Try("shutdown", stored, [*figures.changes(plan.unit, plan.members["writeall"]), "writeall"], 0, figure=plan.shutdown())]
+    for block in (3, 4):
+        write, steps = [figures.steps_of(block, plan.unit, 0x44)], plan.steps(block)
+        more = plan.unit.blocks[block]["writes"] + 1
+        failing = [copy * more * steps + it * steps for copy in range(plan.unit.copies(block)) for it in range(1, more)]
+        tries += [figures.Try("as a rule", stored, write, block, figure=plan.as_a_rule(block)),
+                  figures.Try("at most", stored, write, block, failing, plan.at_most(block))]
+    return all([is_so(plan.unit, it) for it in tries])
+
+
+def is_so(unit, it):
+    before = peer_plays(unit, it.before, [])
+    made = len(histories.operations_of(unit, histories.entries(before))[1])
+    probes = figures.PROBE * (it.figure.turns + 1)
+    found = figures.counted(peer_plays(unit, [*it.before, *it.asked, *probes], [(made + at, 0) for at in it.faults]), it)
+    if found != it.figure:
+        print(f"plan: second device, block {it.block}, {it.what}: {tuple(it.figure)}, and the peer makes {found and tuple(found)}")
+    return found == it.figure
+
+
+def peer_plays(unit, lines, failing):
+    """The history of a script over blank flashes, in which these operations of the second one fail."""
+    return commands.play("\n".join([unit.line, *lines, ""]).encode(), [b"", b""], [((), ()), (failing, ())])[0]
+
+
 def second_is_as_stored(folder, write, is_as_stored, names):
     """Whether each case prints what is stored, by the peer and, where it takes a second flash, by the program too."""
     make(folder)
@@ -87,4 +129,4 @@ def second_is_as_stored(folder, write, is_as_stored, names):
             if os.path.exists(f"{folder}/{name}"):
                 os.unlink(f"{folder}/{name}")
         well += [is_as_stored(it, folder, False) for it in asked(CASES)]
-    return well
+    return well if names else [*well, figures_agree()]

@@ -28,7 +28,7 @@ def members_without_defaults(unit):
 
 def large_immediate_blocks(unit):
     pages = {number: unit.record_pages(block["length"]) * unit.copies(number) for number, block in unit.blocks.items()
-             if unit.is_immediate(number)}
+             if unit.is_immediate(number) and unit.is_first(number)}
     for number, count in pages.items():
         others = max((pages[other] for other in pages if other != number), default=0)
         if count > LARGE and count >= TIMES * others:
