@@ -17,6 +17,8 @@ LONG = "9" * 5000
 SCRIPTS = ("sweep", "cuts", "timeline")
 CONFIGS = ("lint -", "plan -", *(f"{it} -" for it in SCRIPTS), "picture $image -", "provision - $none $new", "header - $folder", "judge - $history")
 NO_UTF8 = {"LC_ALL": "C", "LANG": "C", "PYTHONUTF8": "0", "PYTHONCOERCECLOCALE": "0"}
+TWO = (b'{"id":1,"page":16,"sector":256,"sectors":8,"standard":8,"immediate":4,"eeprom":{"page":16,"sector":64,"sectors":4},'
+       b'"blocks":[{"length":4,"device":1}]}\n')
 SECONDS = 600
 AT_ONCE = 4
 
@@ -80,6 +82,19 @@ def broken_others():
     yield Try(f"judge {SCRIPT} $history --image $endless", b"", 2, "FOLDER/endless: it has more than 16,777,216 bytes")
     yield Try(f"judge {SCRIPT} $history --image $absent", b"", 2, "FOLDER/absent: No such file or directory")
     yield Try(f"header {UNIT} $none", b"", 2, "FOLDER/none: File exists")
+    yield Try(f"picture $image {SCRIPT} --second $zeros", b"", 2, f"{SCRIPT} has no second device .*, so FOLDER/zeros is none of its images")
+    yield Try(f"provision {UNIT} $none $new --second $new", b"", 2, f"{UNIT} has no second device .*")
+    yield Try(f"judge {SCRIPT} $history --second $image", b"", 2, f"{SCRIPT} has no second device .*")
+    for path, line in (("$zeros", "FOLDER/zeros has 100 bytes, and the flash of the second device of - has .*"),
+                       ("$endless", "FOLDER/endless: it has more than 16,777,216 bytes"), ("$folder", "FOLDER/folder: Is a directory")):
+        yield Try(f"picture $image - --second {path}", TWO, 2, line)
+    yield Try("picture $image - --second $new", TWO, 2, "FOLDER/new: No such file or directory")
+    yield Try("header - $folder", TWO, 3, "-:1:[0-9]+: the services in C run over one flash, .*")
+    yield Try("dev/peer mem play", b"", 5, "standard input is closed", streams="<&-")
+    yield Try("dev/peer $folder play", b"@demo\n", 2, "FOLDER/folder: Is a directory")
+    yield Try("dev/peer mem play --read x", b"@demo\n", 2, "a fault is .*")
+    yield Try("dev/compare $absent", b"", 127, "FOLDER/absent: No such file or directory")
+    yield Try("dev/compare $absent --count -1", b"", 2, "--count is .*")
     for name, line in (("zeros", ".*: no XML: .*"), ("endless", ".*: no XML: .*")):
         yield Try(f"arxml ${name}", b"", 4, f"FOLDER/{name}{line}")
     yield Try("arxml $folder", b"", 2, "FOLDER/folder: Is a directory")
