@@ -2,8 +2,9 @@
 from collections import namedtuple
 
 from nvmpeer.configuration import body_pages
-from nvmpeer.device import (CONTENT_KIND, DONE, ERASED_KIND, FAILED, IDLE, KINDS, LAST, OFF, WORKED, Device, complements, filled,
-                            is_blank, is_gate, mark_of)
+from nvmpeer.device import (CONTENT_KIND, ERASED_KIND, IDLE, KINDS, LAST, WORKED, Device, complements, filled, is_blank, is_gate,
+                            mark_of)
+from nvmpeer.flash import DONE, FAILED, OFF
 
 HEAD, RECORD = 0x42, 0x52
 FORMAT = 2
@@ -28,7 +29,9 @@ def header_page(it, page):
 def read_bank(data, page):
     """The bank of these bytes, or None where it doesn't stand."""
     head, count = data[:page], len(data) // page
-    if head[0] != HEAD or head[1] not in (1, FORMAT) or head[6:12] != complements(head[:6]) or not is_blank(head[12:]) or not is_gate(data[page:2 * page]):
+    if head[0] != HEAD or head[1] not in (1, FORMAT) or head[6:12] != complements(head[:6]) or not is_blank(head[12:]):
+        return None
+    if not is_gate(data[page:2 * page]):
         return None
     found, at = [], 2
     while it := read_record(data, page, at, count, head[1]):

@@ -1,5 +1,5 @@
 """What the two devices have in common: one job at a time, one call of the flash in a turn."""
-from nvmpeer.flash import DONE, FAILED, OFF
+from nvmpeer.flash import FAILED, OFF
 from nvmpeer.texts import INVALID
 
 IDLE, WORKED = "idle", "worked"

@@ -2,8 +2,8 @@
 from collections import namedtuple
 
 from nvmpeer.configuration import body_pages
-from nvmpeer.device import (CONTENT_KIND, DONE, FAILED, IDLE, KINDS, LAST, OFF, WORKED, Device, complements, filled, is_blank, is_gate,
-                            mark_of)
+from nvmpeer.device import CONTENT_KIND, IDLE, KINDS, LAST, WORKED, Device, complements, filled, is_blank, is_gate, mark_of
+from nvmpeer.flash import DONE, FAILED, OFF
 
 SLOT = 0x45
 HEAD_END = 16

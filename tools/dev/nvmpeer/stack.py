@@ -388,7 +388,8 @@ class Stack:
         block = sweep.members.pop(0)
         it, state = self.config.blocks[block], self.states[block]
         ended = None
-        if sweep.kind == "writeall" and (state.locked or state.protected or not state.valid or not state.changed or it.is_dataset and state.index >= it.nv):
+        is_rom = it.is_dataset and state.index >= it.nv
+        if sweep.kind == "writeall" and (state.locked or state.protected or is_rom or not (state.valid and state.changed)):
             ended = SKIPPED, None
         elif sweep.kind == "readall" and not (block == 1 or sweep.same or it.resistant):
             ended = (RESTORED, it.defaults) if it.defaults is not None else (NEVER, None)
