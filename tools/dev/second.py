@@ -31,7 +31,7 @@ CASES = [
     ("second_plan", 0, "plan $two.json --writes odometer=100 --writes 2=3 --turn-ms 5", ""),
     ("second_plan_json", 0, "plan $two.json --writes odometer=100 --json", ""),
     ("second_timeline", 0, "timeline - --summary", SCRIPT),
-    ("second_cuts", 0, "cuts -", SCRIPT),
+    ("second_cuts", 0, "cuts - --keep 0,all", SCRIPT),
     ("second_sweep", 0, "sweep -", FAULT),
     ("second_sweep_json", 0, "sweep - --json --jobs 2", HEAD % (4, '{"length":4,"device":1}') + "write 2 11223344\ndrain\n"),
     ("second_provision", 0, "provision $two.json - $first.img --second $second.img", VALUES),
