@@ -1,12 +1,13 @@
 -- A request, beside what is due.
 use Rattle.std.specs.Prelude.{IfSome, ◌==◌, if◌then◌else◌, not, ◌&&◌, option_to_list}
 use Rattle.std.specs.List.{list_all}
-use Rattle.std.proofs.Common.{◌≡◌, ◌⊎◌, inl, inr, ℕ, ◌+◌, ◌<◌, Bool, true, false, List, [], ◌∷◌, ◌++◌, length, Option, Some, None, refl, sym, ap, ◌∙◌, subst, arith, append_assoc, length-append}
+use Rattle.std.proofs.Common.{◌≡◌, ◌⊎◌, inl, inr, ℕ, ◌+◌, ◌<◌, ◌≤◌, Bool, true, false, List, [], ◌∷◌, ◌++◌, length, Option, Some, None, refl, sym, ap, ◌∙◌, subst, arith, append_assoc, length-append}
 use Rattle.std.proofs.lemmas.List.{append-nil}
 use Rattle.memif.specs.Told.{DeviceTold, plans}
 use Rattle.block_machine.specs.Words.{Request, Write, SetIndex, SetProtection, SetLock, SetRam, PutRam, ReadAll, WriteAll, CancelWriteAll, Reply, Accepted, JobKind, Entry, Ask, Pending, Configuration}
 use Rattle.block_machine.specs.State.{State, BlockState, Job}
-use Rattle.block_machine.specs.Blocks.{asked_block, block_at, is_pending, job_block, job_kind, rank_of, status_of}
+use Rattle.block_machine.specs.block_config.Sizes.{instances_of}
+use Rattle.block_machine.specs.Blocks.{asked_block, block_at, desc_of, is_pending, job_block, job_kind, rank_of, status_of}
 use Rattle.block_machine.specs.Next.{first_of_two, next_in}
 use Rattle.block_machine.specs.Reply.{reply_of}
 use Rattle.block_machine.specs.Steps.{step, changed, accepted_by, asked, job_at}
@@ -203,9 +204,9 @@ standard_next c jobs all x next =
     (one_of (λ j. not (rank_of c j).immediate) before x after (subst (λ (xs : List Job). list_all (λ j. not (rank_of c j).immediate) xs ≡ true) is all))
 
 module _ (desk : DeskState) (hand : Option HandState) (d : DeviceTold) (caller block : ℕ) (content : Option (List ℕ)) (store : ℕ) where
-  write_due : IsUrgentRequest (Write block content store) (record { desk = desk; hand = hand; device = d })
+  write_due : instances_of (desc_of desk.config block) ≤ 64 → IsUrgentRequest (Write block content store) (record { desk = desk; hand = hand; device = d })
       → IsDue (length desk.entries) (pages_now desk d.fixed block + 4 + post_first hand) (record { desk = added (Ask caller (Write block content store) Accepted) desk; hand = hand; device = d })
-  write_due urgent =
+  write_due few urgent =
       let request = Write block content store in
       let behind : state_of (added (Ask caller request Accepted) desk) ≡ step desk.config (state_of desk) (Ask caller request Accepted) = histories_step desk.config desk.entries (Ask caller request Accepted) in
       let count : length (desk.entries ++ Ask caller request Accepted ∷ []) ≡ length desk.entries + 1 = longer desk.entries (Ask caller request Accepted) in
@@ -219,7 +220,7 @@ module _ (desk : DeskState) (hand : Option HandState) (d : DeviceTold) (caller b
         job = job;
         is = record {
           accepted = entries_are_counted desk.config desk.entries;
-          urgent = record { is_urgent = urgent.immediate; is_write = refl; of_first = urgent.of_first };
+          urgent = record { is_urgent = urgent.immediate; is_write = refl; few = few; of_first = urgent.of_first };
         };
         earlier = omega (arith, count);
         next = ap (λ (t : State). next_in desk.config t.waiting) behind ∙ next_with desk.config (state_of desk).waiting job
@@ -230,15 +231,15 @@ module _ (desk : DeskState) (hand : Option HandState) (d : DeviceTold) (caller b
       })
 
 accepted_due : (desk : DeskState) (hand : Option HandState) (d : DeviceTold) (caller : ℕ) (r : Request)
-    → IsUrgentRequest r (record { desk = desk; hand = hand; device = d })
+    → instances_of (desc_of desk.config (asked_block r)) ≤ 64 → IsUrgentRequest r (record { desk = desk; hand = hand; device = d })
     → IsDue (length desk.entries) (pages_now desk d.fixed (asked_block r) + 4 + post_first hand) (record { desk = added (Ask caller r Accepted) desk; hand = hand; device = d })
-accepted_due desk hand d caller (Write block content store) urgent = write_due desk hand d caller block content store urgent
-accepted_due desk hand d caller r urgent = let never = urgent.immediate in cc
+accepted_due desk hand d caller (Write block content store) few urgent = write_due desk hand d caller block content store few urgent
+accepted_due desk hand d caller r few urgent = let never = urgent.immediate in cc
 
 pub accepted_are_due : AcceptedAreDue
-accepted_are_due desk new hand d caller r adds urgent =
+accepted_are_due desk new hand d caller r adds few urgent =
     subst (λ (x : DeskState). IsDue (length desk.entries) (pages_now desk d.fixed (asked_block r) + 4 + post_first hand) (record { desk = x; hand = hand; device = d })) (sym adds)
-    (accepted_due desk hand d caller r urgent)
+    (accepted_due desk hand d caller r few urgent)
 
 -- THE PLAN OF A POWER CUT
 -- a device in whose place another stands that serves urgent writes alike

@@ -163,7 +163,7 @@ module _ (new : DeviceTold) (clock : Clock) (p : Part) (desk : DeskState) (hand 
       let on : due.driver.started ≡ true = rw due.drives at started in
       let at : IsAt desk.config in_hand.job due.driver.program old.stand = rw on at in_hand.at in
       let same : in_hand.job ≡ due.job = let both : Some in_hand.job ≡ Some due.job = sym in_hand.hand ∙ due.held in cc in
-      let urgent = urgent_at old.fixed desk.config in_hand.job number due.driver.program old.stand (rw same due.is) (ap (λ (q : Program). q.block) in_hand.working.is) at in
+      let urgent = urgent_at old.fixed desk.config (state_of desk) due.driver old number old.stand in_hand (rw same due.is) at in
       let (time, fine) = turns_stay_on_time new clock turns 3 old p due.driver.program works calm urgent (on_time number turns desk hand old due) in
       let (g, drives, program) = goes_on old.stand new.stand due.driver in
       let (w, told, soon) = time.wait in

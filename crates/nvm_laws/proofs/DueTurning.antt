@@ -1,10 +1,11 @@
 -- A turn, beside what is due.
 use Rattle.std.specs.Prelude.{IfSome, option_map, get_or, not, if◌then◌else◌}
-use Rattle.std.proofs.Common.{◌≡◌, ◌⊎◌, inl, inr, ℕ, ◌-◌, ◌≤◌, Bool, true, false, List, [], ◌∷◌, is_some, Option, Some, None, refl, sym, ap, ◌∙◌, subst, arith, length-append}
+use Rattle.std.proofs.Common.{◌≡◌, ◌⊎◌, inl, inr, ℕ, ◌-◌, ◌≤◌, ◌<◌, Bool, true, false, List, [], ◌∷◌, is_some, Option, Some, None, refl, sym, ap, ◌∙◌, subst, arith, length-append}
 use Rattle.block_machine.specs.nv_base.Marks.{number_of}
 use Rattle.memif.specs.Told.{DeviceTold, Fixed, First, Stand, Open, figures_at, is_open, IfElse}
 use Rattle.memif.specs.Clock.{Clock}
 use Rattle.memif.specs.Calls.{InOrder, IsCanceled, urgent_first}
+use Rattle.block_machine.specs.block_config.Sizes.{instances_of}
 use Rattle.block_machine.specs.Words.{ReqResult, JobKind, WriteJob, Taken, Pick, Post, Configuration}
 use Rattle.block_machine.specs.State.{State, BlockState, Job, Sweep}
 use Rattle.block_machine.specs.Blocks.{block_at, desc_of, indices_by, indices_of, job_block, kind_of, no_block, rank_of}
@@ -27,6 +28,7 @@ use Rattle.nvm_figures.proofs.OnTime.{starts_stay_on_time, picks_are_on_time}
 use Rattle.nvm_laws.specs.Turns.{hand_in}
 use Rattle.nvm_laws.specs.Due.{IsDueNext, IsDueInHand, IsNearer, IsUrgentJob, pages_now, post_first}
 use Rattle.nvm_laws.specs.AtDevice.{Begins, GoesOn}
+use Rattle.nvm_laws.proofs.Operations.{stored}
 use Rattle.nvm_laws.proofs.DueBlocks.{added, picked_blocks, posted_index, posted_waits, same_pages}
 
 -- THE JOB IN HAND
@@ -69,12 +71,15 @@ pub freed : (old new : DeviceTold) (t : Bool) → is_open old.stand ≡ t → If
 freed old new true on is = (ap (λ (x : DeviceTold). x.fixed) is.only, is.ready, ap (λ (x : DeviceTold). is_open x.stand) is.only)
 freed old new false off is = let ready : new.ready ≡ old.ready = ap (λ (x : DeviceTold). x.ready) is in (ap (λ (x : DeviceTold). x.fixed) is, omega (arith, ready), ap (λ (x : DeviceTold). is_open x.stand) is ∙ off)
 
--- an urgent write of numbers of the first part is open as one
-pub urgent_at : (f : Fixed) (c : Configuration) (j : Job) (number : ℕ) (p : Program) (stand : Stand) → IsUrgentJob number c f j → p.block ≡ job_block j → IsAt c j p stand
+-- an urgent write of a block of the first part is open as one
+pub urgent_at : (f : Fixed) (c : Configuration) (s : State) (h : HandState) (d : DeviceTold) (number : ℕ) (stand : Stand) (is : IsInHand c s h d) → IsUrgentJob number c f is.job → IsAt c is.job h.program stand
     → urgent_first f stand ≡ true
-urgent_at f c j number p stand is block at =
-    let part : (figures_at f (number_of (record { block = p.block; index = at.index }))).part ≡ First = rw block (is.urgent.of_first at.index) in
-    ap (urgent_first f) at.stands ∙ (rw (is.urgent.is_urgent, part) refl)
+urgent_at f c s h d number stand is urgent at =
+    let block : h.program.block ≡ job_block is.job = ap (λ (q : Program). q.block) is.working.is in
+    let within : at.index < instances_of (desc_of c (job_block is.job)) = stored c s h d is is.job is.hand at.index at.next in
+    let few = urgent.urgent.few in
+    let part : (figures_at f (number_of (record { block = h.program.block; index = at.index }))).part ≡ First = rw block (urgent.urgent.of_first at.index (omega (arith, within, few))) in
+    ap (urgent_first f) at.stands ∙ (rw (urgent.urgent.is_urgent, part) refl)
 
 -- A PICK
 abbrev no_sweep : Sweep
@@ -179,8 +184,7 @@ module _ (number turns : ℕ) (desk : DeskState) (hand hand_new : Option HandSta
   started_urgent is =
       let in_hand : IsInHand desk.config (state_of desk) (with_start due.driver) new = rw is at paired in
       let same : in_hand.job ≡ due.job = let both : Some in_hand.job ≡ Some due.job = sym in_hand.hand ∙ due.held in cc in
-      urgent_at old.fixed desk.config in_hand.job number due.driver.program new.stand (rw same due.is)
-      (ap (λ (q : Program). q.block) in_hand.working.is) in_hand.at
+      urgent_at old.fixed desk.config (state_of desk) (with_start due.driver) new number new.stand in_hand (rw same due.is) in_hand.at
 
   start_by : hand_new ≡ Some (with_start due.driver) → (new ≡ old) ⊎ Begins due.driver old new → (new.fixed ≡ old.fixed) × IsOnTime turns 3 due.driver.program new
   start_by is (inl same) = (ap (λ (x : DeviceTold). x.fixed) same, rw same (on_time number turns desk hand old due))

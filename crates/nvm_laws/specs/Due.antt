@@ -1,11 +1,12 @@
 -- By when an immediate write is posted.
-use Rattle.std.specs.Prelude.{◌≡◌, ◌⊎◌, ◌<◌, ◌≤◌, ◌+◌, ℕ, false, List, length, if◌then◌else◌, Option, Some, None, IfSome}
-use Rattle.memif.specs.Told.{DeviceTold, Fixed}
-use Rattle.block_machine.specs.Words.{ReqResult, Post, Configuration}
+use Rattle.std.specs.Prelude.{◌≡◌, ◌⊎◌, ◌<◌, ◌≤◌, ◌+◌, ℕ, Bool, true, false, List, length, if◌then◌else◌, Option, Some, None, IfSome}
+use Rattle.memif.specs.Told.{DeviceTold, Fixed, First, figures_at}
+use Rattle.block_machine.specs.nv_base.Marks.{number_of}
+use Rattle.block_machine.specs.block_config.Sizes.{instances_of}
+use Rattle.block_machine.specs.Words.{JobKind, WriteJob, ReqResult, Post, Configuration}
 use Rattle.block_machine.specs.State.{Job}
-use Rattle.block_machine.specs.Blocks.{indices_of, job_block, kind_of, rank_of}
+use Rattle.block_machine.specs.Blocks.{desc_of, indices_of, job_block, kind_of, rank_of}
 use Rattle.block_machine.specs.Next.{next_in}
-use Rattle.nvm_figures.specs.Run.{IsUrgentWrite}
 use Rattle.nvm_figures.specs.Urgent.{pages_ahead, pages_of}
 use Rattle.nv_desk_copies.specs.nv_desk.Desk.{DeskState, state_of}
 use Rattle.job_progress.specs.Hand.{HandState, is_finished}
@@ -17,10 +18,21 @@ pub record StackNow : Type 0 where
   pub hand : Option HandState
   pub device : DeviceTold
 
--- an immediate write of numbers of the first part, which the entry with this number accepted
+-- all numbers of a block, of which there are 64, are of the first part
+abbrev pub IsFirstBlock : Fixed → ℕ → Type 0
+IsFirstBlock f block = (index : ℕ) → index ≤ 63 → (figures_at f (number_of (record { block = block; index = index }))).part ≡ First
+
+-- it is an urgent write of a block of the first part with so many instances
+pub record IsFirstWrite (f : Fixed) (urgent : Bool) (block instances : ℕ) (kind : JobKind) : Type 0 where
+  pub is_urgent : urgent ≡ true
+  pub is_write : kind ≡ WriteJob
+  pub few : instances ≤ 64
+  pub of_first : IsFirstBlock f block
+
+-- an immediate write of a block of the first part, which the entry with this number accepted
 pub record IsUrgentJob (number : ℕ) (c : Configuration) (f : Fixed) (j : Job) : Type 0 where
   pub accepted : j.number ≡ number
-  pub urgent : IsUrgentWrite f (rank_of c j).immediate (job_block j) (kind_of j)
+  pub urgent : IsFirstWrite f (rank_of c j).immediate (job_block j) (instances_of (desc_of c (job_block j))) (kind_of j)
 
 -- the pages of the records of a write of a block, at its data index
 abbrev pub pages_now : DeskState → Fixed → ℕ → ℕ

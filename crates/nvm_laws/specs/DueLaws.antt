@@ -2,13 +2,13 @@
 use Rattle.std.specs.Prelude.{◌≡◌, ◌⊎◌, ◌≤◌, ◌+◌, ◌++◌, ℕ, not, true, List, [], ◌∷◌, length, IsTrue, Option, IfSome}
 use Rattle.std.specs.List.{list_all}
 use Rattle.block_machine.specs.nv_base.Count.{Rose}
-use Rattle.block_machine.specs.nv_base.Marks.{number_of}
-use Rattle.memif.specs.Told.{DeviceTold, First, Part, armed, figures_at}
+use Rattle.memif.specs.Told.{DeviceTold, Part, armed}
 use Rattle.memif.specs.Clock.{Clock}
 use Rattle.memif.specs.Calls.{InOrder, Works}
+use Rattle.block_machine.specs.block_config.Sizes.{instances_of}
 use Rattle.block_machine.specs.Words.{Request, Reply, Accepted, Entry, Ask, Configuration}
 use Rattle.block_machine.specs.State.{State, jobs_of}
-use Rattle.block_machine.specs.Blocks.{asked_block, is_immediate, is_pending, job_block, rank_of, status_of}
+use Rattle.block_machine.specs.Blocks.{asked_block, desc_of, is_immediate, is_pending, job_block, rank_of, status_of}
 use Rattle.block_machine.specs.Next.{next_in}
 use Rattle.block_machine.specs.Reply.{reply_of}
 use Rattle.block_machine.specs.Steps.{step}
@@ -24,23 +24,23 @@ use Rattle.nvm_laws.specs.Turns.{AddsBy, hand_by}
 use Rattle.nvm_laws.specs.declared.turned.Turned.TheVariants as turned
 use Rattle.nvm_laws.specs.declared.turned.Act.{Act}
 use Rattle.nvm_laws.specs.declared.turned.Act.TheVariants.{Ended, Device}
-use Rattle.nvm_laws.specs.Due.{StackNow, IsDue, IsDueInHand, IsNearer, PostsDue, pages_now, post_first}
+use Rattle.nvm_laws.specs.Due.{StackNow, IsDue, IsDueInHand, IsFirstBlock, IsNearer, PostsDue, pages_now, post_first}
 use Rattle.nvm_laws.specs.AtDevice.{AtDevice}
 
 -- REQUESTS
--- An immediate write of numbers of the first part, while no other immediate job waits or is in hand, and the pages of its
+-- An immediate write of a block of the first part, while no other immediate job waits or is in hand, and the pages of its
 -- records are ready.
 pub record IsUrgentRequest (r : Request) (now : StackNow) : Type 0 where
   pub immediate : is_immediate now.desk.config r ≡ true
   pub alone : IsTrue (list_all (λ j. not (rank_of now.desk.config j).immediate) (jobs_of (state_of now.desk)))
-  pub of_first : (index : ℕ) → (figures_at now.device.fixed (number_of (record { block = asked_block r; index = index }))).part ≡ First
+  pub of_first : IsFirstBlock now.device.fixed (asked_block r)
   pub ready : pages_now now.desk now.device.fixed (asked_block r) ≤ now.device.ready
 
--- once it is accepted it is due within these pages and four turns, behind the Post of a finished job
+-- once it is accepted, for a block of at most 64 instances, it is due within these pages and four turns, behind the Post of a finished job
 abbrev pub AcceptedAreDue : Type 0
 AcceptedAreDue =
     (desk new : DeskState) (hand : Option HandState) (d : DeviceTold) (caller : ℕ) (r : Request) → Adds (Ask caller r Accepted) desk new
-    → IsUrgentRequest r (record { desk = desk; hand = hand; device = d })
+    → instances_of (desc_of desk.config (asked_block r)) ≤ 64 → IsUrgentRequest r (record { desk = desk; hand = hand; device = d })
     → IsDue (length desk.entries) (pages_now desk d.fixed (asked_block r) + 4 + post_first hand) (record { desk = new; hand = hand; device = d })
 
 -- What is due stays so through any request: those that come later wait behind it, and leave its block, which is

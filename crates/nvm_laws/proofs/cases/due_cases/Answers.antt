@@ -1,5 +1,5 @@
 use Rattle.std.specs.Prelude.{◌==◌, if◌then◌else◌}
-use Rattle.std.proofs.Common.{◌≡◌, inl, inr, ℕ, Bool, true, false, refl, arith}
+use Rattle.std.proofs.Common.{◌≡◌, inl, inr, ℕ, ◌≤◌, Bool, true, false, refl, arith}
 use Rattle.block_machine.specs.nv_base.Marks.{number_of}
 use Rattle.memif.specs.Told.{First, figures_at, no_figures}
 use Rattle.block_machine.specs.Words.{TookContent}
@@ -18,14 +18,14 @@ first_by false true c = refl
 first_by false false true = refl
 first_by false false false = refl
 
-all_first : (block index : ℕ) → (figures_at fixed (number_of (record { block = block; index = index }))).part ≡ First
-all_first block index =
+all_first : (block index : ℕ) → index ≤ 63 → (figures_at fixed (number_of (record { block = block; index = index }))).part ≡ First
+all_first block index few =
     let n = number_of (record { block = block; index = index }) in first_by (128 == n) (192 == n) (193 == n)
 
 pub returns-clause-accepted : goal.returns-clause-accepted
 returns-clause-accepted c = inl (record {
   job = job_at urgent_config 1 (write 2 bytes_1);
-  is = record { accepted = refl; urgent = record { is_urgent = refl; is_write = refl; of_first = all_first 2 } };
+  is = record { accepted = refl; urgent = record { is_urgent = refl; is_write = refl; few = omega arith; of_first = all_first 2 } };
   earlier = omega arith;
   next = refl;
   standard = tt;
@@ -38,7 +38,7 @@ returns-clause-picked c =
     let job = picked_job (TookContent bytes_1 0) 0 (job_at urgent_config 1 (write 2 bytes_1)) in
     inr (record {
       job = job;
-      is = record { accepted = refl; urgent = record { is_urgent = refl; is_write = refl; of_first = all_first 2 } };
+      is = record { accepted = refl; urgent = record { is_urgent = refl; is_write = refl; few = omega arith; of_first = all_first 2 } };
       held = refl;
       driver = hand_for urgent_config (state_of (desk_with urgent_config in_hand)) job;
       drives = refl;
@@ -49,7 +49,7 @@ returns-clause-picked c =
 pub returns-clause-over_a_standard_job : goal.returns-clause-over_a_standard_job
 returns-clause-over_a_standard_job c = inl (record {
   job = job_at mixed_config 3 (write 3 bytes_2);
-  is = record { accepted = refl; urgent = record { is_urgent = refl; is_write = refl; of_first = all_first 3 } };
+  is = record { accepted = refl; urgent = record { is_urgent = refl; is_write = refl; few = omega arith; of_first = all_first 3 } };
   earlier = omega arith;
   next = refl;
   standard = refl;
@@ -60,7 +60,7 @@ returns-clause-over_a_standard_job c = inl (record {
 pub returns-clause-behind_a_post : goal.returns-clause-behind_a_post
 returns-clause-behind_a_post c = inl (record {
   job = job_at mixed_config 3 (write 3 bytes_2);
-  is = record { accepted = refl; urgent = record { is_urgent = refl; is_write = refl; of_first = all_first 3 } };
+  is = record { accepted = refl; urgent = record { is_urgent = refl; is_write = refl; few = omega arith; of_first = all_first 3 } };
   earlier = omega arith;
   next = refl;
   standard = refl;
