@@ -260,7 +260,7 @@ module _ (c : Configuration) (s : State) (room : ℕ → Type 0) (d b : DeviceTo
           let t = test (needed (costs_in d.fixed) urgent number) in
           let wanted : memif_needed b.fixed b.stand ≡ needed (costs_in d.fixed) urgent number =
           ap (λ (x : DeviceTold). memif_needed x.fixed b.stand) begun.accepts.1.only ∙ ap (memif_needed d.fixed) at.is ∙ ap (λ (k : Bool). (if k then (figures_at d.fixed number).pages else 0) + (if urgent then 0 else d.fixed.reserve)) some in
-          let raise = starts_raise b clock d begun.wish t (simple.first begun.wish.job.number) on (ap (λ (j : memif.Job). is_some j.mark) job_is ∙ some) begun.accepts roomy
+          let raise = starts_raise b clock d begun.wish t simple.second on (ap (λ (j : memif.Job). is_some j.mark) job_is ∙ some) begun.accepts roomy
           (λ yes. let (x, spare, fits) = free (needed (costs_in d.fixed) urgent number) (has (needed (costs_in d.fixed) urgent number) yes) in (x, spare, omega (arith, wanted, fits))) in
           let same : begun_adds (costs_in d.fixed) test c before s (Some number) ≡ start_raises d.fixed t d.switching begun.wish.job =
           ap (λ (o : Option Job). option_map_or (λ j. try_adds (costs_in d.fixed) (test (needed (costs_in d.fixed) (rank_of c j).immediate number)) before.busy (rank_of c j).immediate (kind_of j) number) o 0) at.hand

@@ -4,7 +4,7 @@ use Rattle.std.proofs.Common.{◌≡◌, ◌⊎◌, inl, inr, ℕ, ◌+◌, ◌*
 use Rattle.nvm_laws.specs.nv_base.Count.{Rose, next_count}
 use Rattle.nvm_laws.specs.nv_base.Marks.{instance_of}
 use Rattle.nvm_laws.specs.memif.Told as device
-use Rattle.nvm_laws.specs.memif.Told.{DeviceTold, Fixed, Part, First, Second, Stand, Open, Ended, faults_of, is_off, is_open, length_of, part_at, most_open, figures_at, most_of, op_of}
+use Rattle.nvm_laws.specs.memif.Told.{DeviceTold, Fixed, Part, First, Second, Stand, Open, Ended, faults_of, is_off, is_open, length_of, part_at, part_of, most_open, figures_at, most_of, op_of}
 use Rattle.nvm_laws.specs.memif.Clock.{Clock}
 use Rattle.nvm_laws.specs.memif.Calls.{Wish, AcceptsAs, Opens, InOrder, IsCut, JobTurns, EndsAs, Writes, MayFail, RoomIsLeft, Turns, Works, is_first, is_read, job_first, length_refusal, record_pages, pages_needed, pages_open, refusal_of}
 use Rattle.nvm_laws.specs.memif.declared.answer.DeviceTurn.TheVariants as turn
@@ -47,8 +47,23 @@ raised f j true room was now high beside free = beside refl
 raised f j false true was now high beside free = let less = free refl refl in omega (arith, less)
 raised f j false false was now high beside free = high
 
-pub starts_raise : (new : DeviceTold) (clock : Clock) → StartsRaise new clock
-starts_raise new clock old w room first on record_is (none, opens) roomy free =
+-- of a number of the second part, whatever is free
+more_than_pages : (urgent : Bool) (n : ℕ) → n ≤ (if urgent then 2 else 1) * (n + 1)
+more_than_pages true n = omega arith
+more_than_pages false n = omega arith
+
+record_is_all : (f : Fixed) (j : device.Job) → is_some j.mark ≡ true → record_pages f j ≡ (figures_at f j.number).pages
+record_is_all f j some = ap (λ (b : Bool). if b then (figures_at f j.number).pages else 0) some
+
+beside_first : (f : Fixed) (j : device.Job) (switching room : Bool) (was now : ℕ) → is_some j.mark ≡ true → most_of (figures_at f j.number) (op_of j.mark) ≤ (figures_at f j.number).pages
+    → now ≤ was + most_of (figures_at f j.number) (op_of j.mark) → now ≤ was + start_raises f room switching j
+beside_first f j true room was now some few high = let pages = record_is_all f j some in let more = more_than_pages j.urgent (record_pages f j) in omega (arith, pages, more, few, high)
+beside_first f j false true was now some few high = let pages = record_is_all f j some in omega (arith, pages, few, high)
+beside_first f j false false was now some few high = high
+
+raises_first : (new : DeviceTold) (clock : Clock) (old : DeviceTold) (w : Wish) (room : Bool) → part_of old.fixed w.job ≡ First → is_off old ≡ false → is_some w.job.mark ≡ true → AcceptsAs w (Ok tt) old new → RoomIsLeft new clock
+    → (room ≡ true → (s : ℕ) × clock.spare new.ops s × (pages_needed new.fixed new.stand ≤ s)) → new.left ≤ old.left + start_raises old.fixed room old.switching w.job
+raises_first new clock old w room first on record_is (none, opens) roomy free =
     raised old.fixed w.job old.switching room old.left new.left opens.left_high (opens.left_beside first)
     (λ closed has.
     let (s, spare, fits) = free has in
@@ -56,6 +71,13 @@ starts_raise new clock old w room first on record_is (none, opens) roomy free =
     let less = roomy (ap (λ (d : DeviceTold). d.started) opens.only ∙ (taken_by (is_open old.stand) old.started (length_refusal w.length (length_of old.fixed.numbers w.job.number)) none).1)
     (ap (λ (d : DeviceTold). d.first.off) opens.only ∙ first_on old.first.off old.second.off on) (ap (λ (d : DeviceTold). d.switching) opens.only ∙ closed)
     (ap (λ (d : DeviceTold). job_first d.fixed d.stand) opens.only ∙ ap is_first first) (ap (λ (d : DeviceTold). is_read d.stand) opens.only ∙ not_read w.job record_is) s spare fits in omega (arith, less, same))
+
+pub starts_raise : (new : DeviceTold) (clock : Clock) → StartsRaise new clock
+starts_raise new clock old w room second on record_is accepts roomy free = by (part_of old.fixed w.job) refl
+  where
+    by : (p : Part) → part_of old.fixed w.job ≡ p → new.left ≤ old.left + start_raises old.fixed room old.switching w.job
+    by First is = raises_first new clock old w room is on record_is accepts roomy free
+    by Second is = beside_first old.fixed w.job old.switching room old.left new.left record_is (second w.job.number (op_of w.job.mark) is) accepts.1.left_high
 
 -- THE DEVICE'S TURN
 on_left : (off : Bool) (left : ℕ) → (if off then 0 else left) ≤ left

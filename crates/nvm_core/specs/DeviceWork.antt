@@ -8,8 +8,7 @@ use Rattle.nvm_laws.specs.job_programs.Program.{operation, works}
 use Rattle.nvm_laws.specs.job_progress.Hand.{HandState}
 use Rattle.nvm_laws.specs.nvm_figures.Drain.{tries_ahead}
 use Rattle.nvm_found.specs.Found.{ReadAtOnce}
-use Rattle.nvm_core.specs.DueWrites.{AreFirst}
-use Rattle.nvm_core.specs.Operations.{left_on, number_tried}
+use Rattle.nvm_core.specs.Operations.{TakesItsPages, left_on, number_tried}
 use Rattle.nvm_laws.specs.promise_blocks.Moves.{Moment, Move}
 use Rattle.nvm_laws.specs.promise_blocks.Work.{Costs, Work, Effort, AreWorked, work_behind}
 
@@ -22,9 +21,9 @@ costs_in f = record {
   reserve = f.reserve;
 }
 
--- a device whose numbers are all of its first part, and whose reads take a turn each
+-- a device whose reads take a turn each, and whose numbers of the second part no more turns than their pages
 pub record IsSimple (f : Fixed) : Type 0 where
-  pub first : AreFirst f
+  pub second : TakesItsPages f
   pub reads : ReadAtOnce f
 
 -- of the job in hand, the tries that aren't started

@@ -2,8 +2,9 @@
 use Rattle.std.specs.Prelude.{◌≡◌, ◌⊎◌, ◌≤◌, ◌+◌, ◌*◌, ℕ, Bool, true, false, if◌then◌else◌, Option, Some, None, is_some, Ok}
 use Rattle.nvm_laws.specs.nv_base.Count.{Rose}
 use Rattle.nvm_laws.specs.nv_base.Marks.{instance_of}
+use Rattle.nvm_laws.specs.nv_base.declared.job.DeviceOp.{DeviceOp}
 use Rattle.nvm_laws.specs.memif.Told as device
-use Rattle.nvm_laws.specs.memif.Told.{DeviceTold, Fixed, First, Stand, Open, Ended, figures_at, part_of, most_of, op_of, faults_of, is_off}
+use Rattle.nvm_laws.specs.memif.Told.{DeviceTold, Fixed, Second, Stand, Open, Ended, figures_at, most_of, op_of, faults_of, is_off}
 use Rattle.nvm_laws.specs.memif.Clock.{Clock}
 use Rattle.nvm_laws.specs.memif.Calls.{Wish, AcceptsAs, InOrder, RoomIsLeft, is_read, record_pages, pages_needed}
 use Rattle.nvm_laws.specs.block_machine.Words.{Mark, Wrote}
@@ -27,10 +28,14 @@ abbrev pub start_raises : Fixed → (room switching : Bool) → device.Job → �
 start_raises f room true j = (if j.urgent then 2 else 1) * (record_pages f j + 1)
 start_raises f room false j = if room then record_pages f j else most_of (figures_at f j.number) (op_of j.mark)
 
--- of any job of the device's first part, by any test that answers yes only where the pages that it needs are free
+-- of a number of the second part no operation takes more turns than the pages of its record
+abbrev pub TakesItsPages : Fixed → Type 0
+TakesItsPages f = (n : ℕ) (op : DeviceOp) → (figures_at f n).part ≡ Second → most_of (figures_at f n) op ≤ (figures_at f n).pages
+
+-- of any job of either part, by any test that answers yes only where the pages that one of the first part needs are free
 abbrev pub StartsRaise : DeviceTold → Clock → Type 0
 StartsRaise new clock =
-    (old : DeviceTold) (w : Wish) (room : Bool) → part_of old.fixed w.job ≡ First → is_off old ≡ false → is_some w.job.mark ≡ true → AcceptsAs w (Ok tt) old new → RoomIsLeft new clock
+    (old : DeviceTold) (w : Wish) (room : Bool) → TakesItsPages old.fixed → is_off old ≡ false → is_some w.job.mark ≡ true → AcceptsAs w (Ok tt) old new → RoomIsLeft new clock
     → (room ≡ true → (s : ℕ) × clock.spare new.ops s × (pages_needed new.fixed new.stand ≤ s)) → new.left ≤ old.left + start_raises old.fixed room old.switching w.job
 
 -- THE DEVICE'S TURN

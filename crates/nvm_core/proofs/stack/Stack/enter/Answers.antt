@@ -1,4 +1,5 @@
 use Rattle.std.proofs.Common.{◌≡◌, Bool, true, ap, sym, subst, ◌∙◌}
+use Rattle.nvm_laws.specs.block_config.Rules.{IsLegalConfig}
 use Rattle.nvm_laws.specs.block_machine.Legal.{HasStore}
 use Rattle.nvm_laws.specs.Keeps.{StaysKept}
 use Rattle.nvm_laws.specs.DueCalls.{KeepsDue}
@@ -36,7 +37,7 @@ returns-clause-accepted g c =
     let told = g.D.MemDevice.told in
     let old = stack_seen inside.front.desk inside.driver.hand inside.driver.device inside.driver.copies inside.ready (is_unused inside.ready inside.room) in
     subst (λ (s : StackState g.row.D.Denot g.row.C.Denot). AcceptsDue told (request_lent c.args.request) c.enter.result s (record old { desk = c.enter.new.self })) c.self.view_is
-    (accepted_due told old c.enter.new.self c.args.caller (request_lent c.args.request) c.enter.result c.enter.ensures.ok)
+    (accepted_due told old c.enter.new.self c.args.caller (request_lent c.args.request) (subst IsLegalConfig c.config.ensures c.blocks-blocks.ensures.legal) c.enter.result c.enter.ensures.ok)
 
 pub returns-clause-due : goal.returns-clause-due
 returns-clause-due g c =
