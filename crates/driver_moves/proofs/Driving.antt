@@ -25,7 +25,7 @@ use Rattle.nvm_moves.specs.promise_run.Turns.{is_asked}
 use Rattle.nvm_moves.specs.Seen.{Begun, Seen}
 use Rattle.nvm_moves.specs.Moved.{ArePending, AreAsked, HasMoved}
 use Rattle.nvm_moves.proofs.Moved.{asks_moved, half_moved, has_moved_more, none_moves, turn_moved}
-use Rattle.nvm_moves.proofs.Halves.{ended_adds, device_is_told, ended_is_told, half_is_told, never_late, unfinished}
+use Rattle.nvm_moves.proofs.Halves.{as_turn, ended_adds, device_is_told, ended_is_told, half_is_told, never_late, unfinished}
 use Rattle.nvm_moves.proofs.DeviceWorks.{on_by}
 use Rattle.nvm_moves.proofs.TurnEntries.{on_behind}
 use Rattle.driver_moves.specs.Driving.{IsUncut, seen_of}
@@ -78,7 +78,7 @@ asks_told asks s are replied kept tied ready pending =
         seals = λ since sealed. sealed;
       };
       replied = replied;
-      on = is_on s.desk s.device;
+      on = is_on s.desk s.device s.clock ready.order;
       tied = tied;
       order = ready.order;
       frees = ready.frees;
@@ -131,7 +131,7 @@ module _ {D C : Type 0} (told : D → DeviceTold) (clock : D → Clock) where
         has_moved_more true (At desk old) (At asked old) (At desk_new new) (asks_told begins.asks (At desk old) begins.are begins.replied begins.stands tied begins.ready (next, held))
         (turn_moved (At asked old) (At desk_new new) true
         (ended_is_told told clock copies is_store looked (stack_of asked old) (stack_of desk_new new) (IsUncut asked (told old.device)) (IsUncut desk_new (told new.device)) uncut begins.kept begins.tied begins.clock_stays answer off
-        (taken (stack_of desk old) (stack_of asked old) (stack_of desk_new new) answer refl refl takes) begins.order (is_on desk_new (told new.device)) begins.served begins.half))
+        (taken (stack_of desk old) (stack_of asked old) (stack_of desk_new new) answer refl refl takes) begins.order (is_on desk_new (told new.device) (clock new.device) begins.order) begins.served begins.half))
 
     -- with the device's turn
     device_moved : (desk_between : DeskState) (between : DriverState D C) → BeginsTurn told clock copies is_store looked Device desk desk_between old between → EndsTurn told clock answer desk_between desk_new between new → HasMoved true (At desk old) (At desk_new new)
@@ -170,9 +170,9 @@ module _ {D C : Type 0} (told : D → DeviceTold) (clock : D → Clock) where
           busy = begins.half.half.1;
           late = never_late asked.config (state_of asked) begins.half.half.3;
           room = ends.ready.room;
-          on = λ uncut. sym (ap is_off begins.half.device) ∙ on_by last (told between.device) (clock between.device) (is_on last (told between.device) uncut) ends.ready.order on;
+          on = λ uncut. sym (ap is_off begins.half.device) ∙ on_by last (told between.device) (is_on last (told between.device) (clock between.device) ends.ready.order uncut) on;
         })
-        (λ is. faulty (stack_of desk old) (stack_of desk_new new) answer between begins.half.device is takes) tied_new.paired ends.turns ends.adds ends.hand (is_on desk_new (told new.device))
+        (λ is. faulty (stack_of desk old) (stack_of desk_new new) answer between begins.half.device is takes) tied_new.paired ends.turns ends.adds ends.hand (is_on desk_new (told new.device) (clock new.device) (as_turn answer (told between.device) (clock between.device) (told new.device) (clock new.device) ends.turns).1.1)
         (λ number turns calm up due. ends.nearer number turns (begins.half.started refl) begins.half.half.1 calm up due)))))
 
     pub driver_moved : TurnsBehind told clock copies is_store looked answer desk desk_new old new → HasMoved true (At desk old) (At desk_new new)

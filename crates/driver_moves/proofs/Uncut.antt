@@ -1,8 +1,10 @@
 -- Where no power cut is planned none is, through the halves of a turn.
-use Rattle.std.proofs.Common.{◌≡◌, true, false, List, [], ◌∷◌, ◌++◌, refl, sym, ap, ◌∙◌, subst, inl, inr}
+use Rattle.std.specs.Prelude.{◌||◌}
+use Rattle.std.proofs.Common.{◌≡◌, Bool, true, false, List, [], ◌∷◌, ◌++◌, refl, sym, ap, ◌∙◌, subst, inl, inr}
 use Rattle.std.proofs.lemmas.Bool.{cases_Bool}
 use Rattle.nvm_moves.specs.memif.Told.{DeviceTold, Fixed, PartTold, ops_of}
 use Rattle.nvm_moves.specs.memif.Clock.{Clock}
+use Rattle.nvm_moves.specs.memif.Calls.{InOrder}
 use Rattle.nvm_moves.specs.block_machine.Words.{Entry, Ask, Off, Configuration}
 use Rattle.nvm_moves.specs.block_machine.State.{State}
 use Rattle.nvm_moves.specs.block_machine.StartUp.{at_first}
@@ -13,17 +15,23 @@ use Rattle.nvm_moves.specs.nvm_laws.declared.turned.Turned.{Turned}
 use Rattle.nvm_moves.specs.nvm_laws.declared.turned.Turned.TheVariants as turned
 use Rattle.nvm_moves.specs.nvm_core.BehindDevice.{TurnsDevice, asked_by}
 use Rattle.nvm_moves.specs.nvm_core.OperationStart.{LeavesDevice}
+use Rattle.nvm_moves.specs.nvm_core.Stack.{PowersOff}
 use Rattle.nvm_moves.proofs.Halves.{device_fixed}
 use Rattle.nvm_moves.proofs.HistoryLaws.{histories_go_on, histories_step}
 use Rattle.nvm_shared.specs.Behind.{AreAsks, with_more}
 use Rattle.nvm_shared.specs.Unplanned.{IsUnplanned, StaysUnplanned}
 use Rattle.nvm_shared.proofs.Standing.{asks_leave_power}
 use Rattle.nvm_shared.proofs.Unplanned.{turns_stay_unplanned}
-use Rattle.nvm_moves.specs.Seen.{IsOn}
 use Rattle.driver_moves.specs.Driving.{IsUncut}
 
-pub is_on : (desk : DeskState) (d : DeviceTold) → IsUncut desk d → IsOn desk d
-is_on desk d uncut = record { one = uncut.one; power = uncut.power }
+-- a device of one part is off where that part is
+off_first : (a b : Bool) → b ≡ false → (a || b) ≡ true → a ≡ true
+off_first a true none off = cc none
+off_first true false none off = refl
+off_first false false none off = off
+
+pub is_on : (desk : DeskState) (d : DeviceTold) (clock : Clock) → InOrder d clock → IsUncut desk d → PowersOff desk d
+is_on desk d clock order uncut off = uncut.power (off_first d.first.off d.second.off (ap (λ (p : PartTold). p.off) (order.second uncut.one)) off)
 
 -- REQUESTS
 ask_power : (c : Configuration) (s : State) (es : List Entry) → AreAsks es → (after_from c s es).off ≡ s.off

@@ -7,7 +7,7 @@ use Rattle.nvm_moves.specs.job_progress.Hand.{HandState}
 use Rattle.nvm_moves.specs.nvm_laws.Keeps.{StackKeepsAsTold}
 use Rattle.nvm_shared.specs.Driving.{DriverState}
 use Rattle.nvm_shared.specs.Unplanned.{IsUnplanned}
-use Rattle.nvm_moves.specs.Seen.{IsOn, Seen}
+use Rattle.nvm_moves.specs.Seen.{Seen}
 
 -- A device of one part, at which no planned cut came and none is planned; and where it is off the machine's power is, since an Off
 -- tells of each cut.

@@ -47,14 +47,14 @@ pub use Rattle.nvm_core.specs.Turns.{IsFirstHalf}
 pub use Rattle.nvm_core.specs.nvm_laws.Traits.{KeepsSeal, TakesKeptInHand, IsSealedSince}
 pub use Rattle.nvm_core.proofs.Paying.{half_lasts, device_lasts, half_pays, device_owes, device_urgency, device_adds, asked_free, device_picks_none, asked_picks_none, IsNoPick, half_goes}
 pub use Rattle.nvm_core.specs.Due.{now_of}
-pub use Rattle.nvm_core.specs.DueWrites.{IsDueFor, free_turns, AreFirst, pages_in, IsServedFor}
+pub use Rattle.nvm_core.specs.DueWrites.{IsDueFor, free_turns, pages_in, IsServedFor}
 pub use Rattle.nvm_core.specs.JobNumbers.{IsOfBlock}
 pub use Rattle.nvm_core.specs.OperationStart.{LeavesDevice}
 pub use Rattle.nvm_core.specs.Work.{left_with, IsWithin, TakesTurns}
 pub use Rattle.nvm_core.proofs.block_laws.HistoryLaws.{histories_step, histories_go_on, entries_are_counted}
 pub use Rattle.promise_run.proofs.UrgentAsks.{not_true, urgent_is, posts_another, posts_own}
-pub use Rattle.nvm_moves.specs.Seen.{Begun, IsOn, Seen, all_with, frame_in, moment_by, most_by, frame_of, moment_seen, all_seen, left_seen, most_seen, work_seen, seen_as, seen_in}
-pub use Rattle.nvm_moves.specs.Served.{IsDueWithin, AreServed, DueAt, IsServable, IsAskedDue, ServesBy, due_by}
+pub use Rattle.nvm_moves.specs.Seen.{Begun, Seen, all_with, frame_in, moment_by, most_by, frame_of, moment_seen, all_seen, left_seen, most_seen, work_seen, seen_as, seen_in}
+pub use Rattle.nvm_moves.specs.Served.{HasBlocks, OfFirst, PostsUrgentOf, IsDueWithin, AreServed, DueAt, IsServable, IsAskedDue, ServesBy, due_by}
 pub use Rattle.std.specs.Option.{option_map_or}
 pub use Rattle.std.proofs.lemmas.List.{append-nil}
 pub use Rattle.nvm_core.proofs.Turning.{same_clock, same_told, works_fixed, lasts_more, same_lasts}
@@ -76,7 +76,7 @@ pub use Rattle.nvm_core.proofs.block_laws.Locality.{entries_give_status}
 pub use Rattle.promise_run.specs.JobTurns.{job_turns, write_pages}
 pub use Rattle.promise_run.specs.Operations.{HasWork, costs_of}
 pub use Rattle.promise_run.specs.Promise.{making_of}
-pub use Rattle.nvm_moves.specs.Beginning.{BeginsMoves}
+pub use Rattle.nvm_moves.specs.Beginning.{BeginsMoves, BeginsMovesBy, BeginsMovesOfBoth}
 pub use Rattle.nvm_core.specs.block_machine.Sweeps.{sweep_result}
 pub use Rattle.nvm_core.specs.block_machine.Results.{Answer}
 pub use Rattle.std.proofs.lemmas.Bool.Decides.{leb_tells}
@@ -107,7 +107,7 @@ pub use Rattle.nvm_core.proofs.Trying.{since_stays, part_rises}
 pub use Rattle.promise_run.proofs.TakenPages.{found_more}
 pub use Rattle.promise_run.proofs.Paid.{since_too}
 pub use Rattle.nvm_moves.specs.Worked.{KeepToWork, KeepsToWork}
-pub use Rattle.promise_run.proofs.UrgentPosts.{soon_by, soon_more, urgent_by, urgent_more}
+pub use Rattle.promise_run.proofs.UrgentPosts.{soon_by, soon_more}
 pub use Rattle.nvm_core.specs.StartUps.{StartsUp}
 pub use Rattle.nvm_core.proofs.StartWork.{start_leaves}
 pub use Rattle.promise_run.proofs.StartUps.{turns_start_none}

@@ -1,20 +1,11 @@
 -- What a turn does at the device, by what its halves tell.
-use Rattle.nvm_moves.proofs.Common.{IfSome, ◌||◌, ◌≡◌, ℕ, Bool, true, false, Option, sym, ap, ◌∙◌, subst, inl, inr, arith, cases_Bool, DeviceTold, PartTold, is_off, Clock, InOrder, RoomIsLeft, Configuration, State, DeskState, state_of, HandState, IsPaired, GoesOn, hand_by, Turned, IsWorked, TurnsDevice, asked_by, IsSimple, costs_in, work_in, LeavesDevice, worn_so_far, device_lasts, Move, IsOn, HadPages, moment_in, works_behind, half_begins, hand_is_open}
+use Rattle.nvm_moves.proofs.Common.{IfSome, ◌≡◌, ℕ, true, false, Option, sym, ap, subst, arith, DeviceTold, is_off, Clock, RoomIsLeft, Configuration, State, DeskState, state_of, HandState, IsPaired, GoesOn, hand_by, Turned, IsWorked, TurnsDevice, asked_by, IsSimple, costs_in, work_in, LeavesDevice, worn_so_far, device_lasts, Move, HadPages, moment_in, works_behind, half_begins, hand_is_open, PowersOff}
+use Rattle.nvm_moves.proofs.Servable.{still_on}
 
 -- THE POWER
-is_on : (first second : Bool) → first ≡ false → second ≡ false → (first || second) ≡ false
-is_on true second first_on second_on = cc first_on
-is_on false second first_on second_on = second_on
-
--- a device of one part is on where its machine is
-pub on_by : (desk : DeskState) (d : DeviceTold) (clock : Clock) → IsOn desk d → InOrder d clock → (state_of desk).off ≡ false → is_off d ≡ false
-on_by desk d clock at order on = is_on d.first.off d.second.off first (ap (λ (p : PartTold). p.off) (order.second at.one))
-  where
-    first : d.first.off ≡ false
-    first = elim (cases_Bool d.first.off) [
-      | inl off ↦ absurd (let P : true ≡ false = sym (at.power off) ∙ on in cc P)
-      | inr is ↦ is
-    ]
+-- a device is on where its machine is
+pub on_by : (desk : DeskState) (d : DeviceTold) → PowersOff desk d → (state_of desk).off ≡ false → is_off d ≡ false
+on_by desk d power on = still_on (is_off d) (state_of desk).off on power
 
 -- THE DEVICE'S TURN
 -- from where the turn began to behind it

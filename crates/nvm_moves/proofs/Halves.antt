@@ -1,5 +1,5 @@
 -- A turn's halves, and a whole turn of a stack, as moves.
-use Rattle.nvm_moves.proofs.Common.{LeavesTurns, AreFirst, DueAt, IsPostedSoon, IfSome, IsTrue, is_none, not, ◌||◌, ◌≡◌, ◌⊎◌, inl, inr, ℕ, ◌+◌, ◌<◌, ◌≤◌, Bool, true, false, List, [], ◌∷◌, Option, Some, None, refl, sym, ap, ◌∙◌, subst, arith, Rose, DeviceTold, Fixed, Stand, faults_of, nothing_open, Clock, InOrder, RoomIsLeft, Entry, Pick, Post, Off, Taken, Configuration, State, Job, job_block, Next, Nothing, PostMember, EndSweep, next_of, MayPick, IsPosted, IsPostedNext, Answer, IsHalf, GoesOn, with_entries, DeskState, state_of, HandState, IsPaired, Told, IsTied, IsDue, IsDueInHand, IsNearer, post_first, TurnServesDue, StaysKept, AddsBy, hand_by, Turned, Ended, has_turned, TurnsDevice, asked_by, StackState, IsFirstHalf, OwesSince, has_urgent, worn_so_far, TurnPays, KeepsSeal, TakesKeptInHand, Lasts, half_lasts, device_lasts, Worn, IsWorked, is_posted, IsSimple, costs_in, work_in, now_of, IsDueFor, free_turns, IsOfBlock, LeavesDevice, left_with, IsWithin, TakesTurns, histories_step, is_due, is_at_rest, begins_with_pick_or_post, Moment, Move, EndsCanceled, entry_list, is_asked, is_found, is_picked, not_true, bound_of, Begun, IsOn, Seen, all_with, frame_in, moment_by, most_by, IsDueWithin, HadPages, FitsHand, IsBound, IsTurnTold, IsHalfTold, next_count, is_device_off, SameClock, Turns, DeviceTurn, AtDevice, IsServed, StackKeepsAsTold, Act, Device, device_turns_keep_seal, device_turns_take_kept, first_halves_keep_seal, half_pays, device_owes, device_urgency, device_adds, asked_free, device_picks_none, asked_picks_none, IsNoPick, half_takes_none, half_works, half_adds, Effort, moment_of, device_counts, BeginsIn, at_rest, due_hand, due_off, due_rest, rests_next}
+use Rattle.nvm_moves.proofs.Common.{LeavesTurns, DueAt, IsPostedSoon, IfSome, IsTrue, is_none, not, ◌||◌, ◌≡◌, ◌⊎◌, inl, inr, ℕ, ◌+◌, ◌<◌, ◌≤◌, Bool, true, false, List, [], ◌∷◌, Option, Some, None, refl, sym, ap, ◌∙◌, subst, arith, Rose, DeviceTold, Fixed, Stand, faults_of, nothing_open, Clock, InOrder, RoomIsLeft, Entry, Pick, Post, Off, Taken, Configuration, State, Job, job_block, Next, Nothing, PostMember, EndSweep, next_of, MayPick, IsPosted, IsPostedNext, Answer, IsHalf, GoesOn, with_entries, DeskState, state_of, HandState, IsPaired, Told, IsTied, IsDue, IsDueInHand, IsNearer, post_first, TurnServesDue, StaysKept, AddsBy, hand_by, Turned, Ended, has_turned, TurnsDevice, asked_by, StackState, IsFirstHalf, OwesSince, has_urgent, worn_so_far, TurnPays, KeepsSeal, TakesKeptInHand, Lasts, half_lasts, device_lasts, Worn, IsWorked, is_posted, IsSimple, costs_in, work_in, now_of, IsDueFor, free_turns, IsOfBlock, LeavesDevice, left_with, IsWithin, TakesTurns, histories_step, is_due, is_at_rest, begins_with_pick_or_post, Moment, Move, EndsCanceled, entry_list, is_asked, is_found, is_picked, not_true, bound_of, Begun, Seen, all_with, frame_in, moment_by, most_by, IsDueWithin, HadPages, FitsHand, IsBound, IsTurnTold, IsHalfTold, next_count, is_device_off, SameClock, Turns, DeviceTurn, AtDevice, IsServed, StackKeepsAsTold, Act, Device, device_turns_keep_seal, device_turns_take_kept, first_halves_keep_seal, half_pays, device_owes, device_urgency, device_adds, asked_free, device_picks_none, asked_picks_none, IsNoPick, half_takes_none, half_works, half_adds, Effort, moment_of, device_counts, BeginsIn, at_rest, due_hand, due_off, due_rest, rests_next, PowersOff}
 use Rattle.nvm_core.specs.memif.Told.{ops_of}
 use Rattle.nvm_core.specs.memif.declared.answer.DeviceTurn.TheVariants as turn
 use Rattle.nvm_core.specs.nvm_laws.declared.turned.Turned.TheVariants as turned
@@ -10,6 +10,7 @@ use Rattle.promise_run.specs.Turns.{is_off}
 use Rattle.nvm_moves.proofs.Canceled.{allowed_ends, held_ends, late_ends}
 use Rattle.nvm_moves.proofs.DeviceDue.{device_soon}
 use Rattle.nvm_moves.proofs.DeviceWorks.{device_works, on_by}
+use Rattle.nvm_moves.proofs.Servable.{one_off}
 use Rattle.nvm_moves.proofs.TurnServed.{ended_soon, turn_soon}
 use Rattle.nvm_moves.proofs.TurnEntries.{AddsOne, IsOfTurn, asked_posts, device_adds_one, isnt_asked, isnt_found, none_more}
 
@@ -268,7 +269,7 @@ module _ {D C : Type 0} (told : D → DeviceTold) (clock : D → Clock) (copies 
     -- what a first half that ends the turn adds comes soon
     abbrev EndsSoon : Type 0
     EndsSoon =
-        (e : Option Entry) → AddsOne (ops_of (told new.device)) old.desk new.desk e → U → AreFirst (told old.device).fixed → (one : Bool) (id turns : ℕ) → DueAt (seen None U old) one id turns
+        (e : Option Entry) → AddsOne (ops_of (told new.device)) old.desk new.desk e → U → (one : Bool) (id turns : ℕ) → DueAt (seen None U old) one id turns
         → IsPostedSoon (λ o n. DueAt (seen None V new) o id n) one id turns (faults_of (told old.device)) (record { entry = e; behind = moment_by None (told new.device) } ∷ [])
 
     -- a first half that ends the turn, by what is told of the device behind it
@@ -316,7 +317,7 @@ module _ {D C : Type 0} (told : D → DeviceTold) (clock : D → Clock) (copies 
           first_halves_keep_seal (told old.device) (clock old.device) (told new.device) (clock new.device) act old.desk new.desk (copies old.copies) (copies new.copies) old.hand new.hand
           (half_adds act _ _ old.desk new.desk (copies old.copies) (copies new.copies) (told new.device) half.half) half.at_device tied.paired half.device same
 
-      pub ended_is_told : (answer : Turned) → (answer ≡ turned.Off → (state_of old.desk).off ≡ true) → TakesTurns told answer old new → InOrder (told new.device) (clock new.device) → (V → IsOn new.desk (told new.device))
+      pub ended_is_told : (answer : Turned) → (answer ≡ turned.Off → (state_of old.desk).off ≡ true) → TakesTurns told answer old new → InOrder (told new.device) (clock new.device) → (V → PowersOff new.desk (told new.device))
           → ((number turns : ℕ) → IsDue number turns (now_of told old) → IsServed (Ended answer) number turns (now_of told old) (now_of told new)) → IsFirstHalf told copies is_store looked (Ended answer) old new → IsTurnTold (seen None U old) (seen None V new)
       ended_is_told answer off takes order is_on serves half =
           let faults : faults_of (told new.device) ≡ faults_of (told old.device) = ap faults_of half.device in
@@ -325,7 +326,7 @@ module _ {D C : Type 0} (told : D → DeviceTold) (clock : D → Clock) (copies 
           (λ before since kept owes.
           half_pays since old.desk new.desk old.hand new.hand (told old.device) (told new.device) (clock old.device) (clock new.device) half.device same tied.paired stays before kept owes answer _ _ _ _ half.half half.at_device)
           (seals_by (Ended answer) half)
-          (λ e adds at first. ended_soon told clock copies is_store looked old new e adds (moment_by None (told new.device)) refl order (is_on (uncut at)) tied lasts answer half serves)
+          (λ e adds at. ended_soon told clock copies is_store looked old new e adds (moment_by None (told new.device)) refl order (is_on (uncut at)) tied lasts answer half serves)
 
       -- what is due before it is in hand then
       due_within : IsFirstHalf told copies is_store looked Device old new → ((number turns : ℕ) → IsDue number turns (now_of told old) → IsDueInHand number turns (now_of told new)) → (one : Bool) (id turns : ℕ) → IsDueFor id one turns (now_of told old)
@@ -366,7 +367,7 @@ module _ {D C : Type 0} (told : D → DeviceTold) (clock : D → Clock) (copies 
         → IsPaired new.desk.config (state_of new.desk) new.hand (told new.device)
         → TurnsDevice answer (told old.device) (clock old.device) (told new.device) (clock new.device)
         → AddsBy (asked_by answer (told old.device).stand (told new.device).stand (ops_of (told new.device))) old.desk new.desk
-        → new.hand ≡ hand_by (told old.device).stand (told new.device).stand old.hand → (V → IsOn new.desk (told new.device))
+        → new.hand ≡ hand_by (told old.device).stand (told new.device).stand old.hand → (V → PowersOff new.desk (told new.device))
         → ((number turns : ℕ) → ¬ Rose (told old.device).first.faults (told new.device).first.faults → (state_of new.desk).off ≡ false → IsDueInHand number turns (now_of told old) → IsNearer number turns (now_of told new))
         → IsTurnTold (seen (Some b) U old) (seen None V new)
     device_is_told answer b begun takes paired_new turns adds hand is_on nears =
@@ -410,8 +411,8 @@ module _ {D C : Type 0} (told : D → DeviceTold) (clock : D → Clock) (copies 
           };
           uncut = uncut;
           seals = device_turns_keep_seal d (clock old.device) d_new (clock new.device) a is;
-          dues = λ at first.
-              device_soon (now_of told old) (now_of told new) (clock old.device) (clock new.device) answer turns one begun.paired begun.busy (unfinished b.hand old.hand b.device d begun.goes).1 lasts.faults.1 nears (λ off. (is_on (uncut at)).power off) (moment_by None d_new) refl;
+          dues = λ at.
+              device_soon (now_of told old) (now_of told new) (clock old.device) (clock new.device) answer turns one begun.paired begun.busy (unfinished b.hand old.hand b.device d begun.goes).1 lasts.faults.1 nears (λ off. is_on (uncut at) (one_off d_new.first.off d_new.second.off off)) (moment_by None d_new) refl;
           work = λ at simple.
               let (begins, worked) = device_works answer old.desk.config (state_of old.desk) b.hand old.hand new.hand b.device d d_new (clock old.device) (clock new.device) m begun.leaves begun.goes begun.started begun.paired begun.room turns hand
               (subst IsSimple fixed simple) (begun.on at) refl refl in
@@ -424,10 +425,10 @@ module _ {D C : Type 0} (told : D → DeviceTold) (clock : D → Clock) (copies 
         → Lasts (told old.device) (clock old.device) (told new.device) (clock new.device) → TurnPays told clock old new → TakesKeptInHand old.desk (told old.device) (told new.device) (clock new.device)
         → (IsFirstHalf told copies is_store looked (Ended answer) old new → answer ≡ turned.Off → (state_of old.desk).off ≡ true) → TakesTurns told answer old new → IsTied old.desk old.hand (told old.device) → IsPaired new.desk.config (state_of new.desk) new.hand (told new.device)
         → KeepsSeal (told old.device) (clock old.device) (told new.device) (clock new.device) → TurnServesDue (now_of told old) (now_of told new) → InOrder (told old.device) (clock old.device) → InOrder (told new.device) (clock new.device)
-        → (U → IsOn old.desk (told old.device)) → (V → IsOn new.desk (told new.device)) → IsTurnTold (seen None U old) (seen None V new)
+        → (U → PowersOff old.desk (told old.device)) → (V → PowersOff new.desk (told new.device)) → IsTurnTold (seen None U old) (seen None V new)
     turn_is_told answer (inl half) counted lasts pays kept off takes tied paired_new seals comes order order_new is_on is_on_new =
         ended_by answer (off half) takes tied order_new half counted lasts kept pays seals
-        (λ e adds at first. turn_soon told clock copies is_store looked old new e adds (moment_by None (told new.device)) refl order_new (is_on_new (uncut at)) tied lasts answer (inl half) comes)
+        (λ e adds at. turn_soon told clock copies is_store looked old new e adds (moment_by None (told new.device)) refl order_new (is_on_new (uncut at)) tied lasts answer (inl half) comes)
     turn_is_told answer (inr (between, half, rest)) counted lasts pays kept off takes tied paired_new seals comes order order_new is_on is_on_new =
         let d = told between.device in
         let d_new = told new.device in
@@ -467,8 +468,8 @@ module _ {D C : Type 0} (told : D → DeviceTold) (clock : D → Clock) (copies 
           pays = pays;
           uncut = uncut;
           seals = seals;
-          dues = λ at first. turn_soon told clock copies is_store looked old new e whole (moment_by None d_new) refl order_new (is_on_new (uncut at)) tied lasts answer (inr (between, half, rest)) comes;
+          dues = λ at. turn_soon told clock copies is_store looked old new e whole (moment_by None d_new) refl order_new (is_on_new (uncut at)) tied lasts answer (inr (between, half, rest)) comes;
           work = λ at simple.
               device_works answer old.desk.config (state_of old.desk) old.hand between.hand new.hand (told old.device) d d_new (clock between.device) (clock new.device) (record { entry = e; behind = moment_by None d_new }) half.device half.at_device (half.started refl)
-              paired_between rest.room rest.turns rest.hand simple (on_by old.desk (told old.device) (clock old.device) (is_on at) order half.half.2) refl refl;
+              paired_between rest.room rest.turns rest.hand simple (on_by old.desk (told old.device) (is_on at) half.half.2) refl refl;
         }

@@ -1,5 +1,5 @@
 -- What a call does as a move, and moves behind moves.
-use Rattle.nvm_moves.proofs.Common.{Part, PartTold, IfSome, IsTrue, is_none, option_map, ◌&&◌, ◌||◌, option_map_or, ◌≡◌, inl, inr, ◌≤◌, ◌<◌, ◌+◌, ℕ, Bool, true, false, List, [], ◌∷◌, ◌++◌, Option, Some, None, refl, sym, ap, ◌∙◌, subst, arith, append_assoc, append-nil, Rose, DeviceTold, faults_of, Clock, TakesKept, Lasts, same_clock, same_told, Entry, Ask, Pick, Wrote, Post, Off, Found, Configuration, State, Job, rank_of, at_first, after, after_from, Worn, histories_go_on, DeskState, state_of, is_hand_urgent, with_entries, OwesSince, has_urgent, worn_so_far, half_lasts, HandState, Fixed, Work, AreWorkedTo, IsSimple, costs_in, AreFirst, pages_in, none_worked, worked_more, Moment, Move, entry_list, entries_of, moment_behind, is_asked, is_found, is_picked, found_behind, Among, CountFailed, turns_beside, cases_Bool, has_risen, is_at_rest, Bound, Cursor, Frame, bound_of, left_behind, next_by, cursor_behind, one_less, renewed, Along, Begun, Seen, frame_in, frame_of, moment_seen, AreServed, DueAt, IsServable, HadPages, MayGoOnAsTold, FitsHand, IsBound, IsLawful, IsPaidAt, IsTurnTold, LeavesTurns, IsAt, IsHalfTold, AreAsked, HasMoved, MovesBy, WereCounted, lasts_more, price_in_faults, PaysSince, asked_urgency, since_stays, part_rises, half_goes, one_worked, HasImmediate, IsPaidSince, found_more, or_parts, risen, since_too, all_seen, left_seen, most_seen, work_seen, ServesBy, due_by, KeepToWork, IsStartTold, IsStillTold, GrowsBy, ArePending, AreAsksMade, AreAsksTold, Owes}
+use Rattle.nvm_moves.proofs.Common.{Part, PartTold, IfSome, IsTrue, is_none, option_map, ◌&&◌, ◌||◌, option_map_or, ◌≡◌, inl, inr, ◌≤◌, ◌<◌, ◌+◌, ℕ, Bool, true, false, List, [], ◌∷◌, ◌++◌, Option, Some, None, refl, sym, ap, ◌∙◌, subst, arith, append_assoc, append-nil, Rose, DeviceTold, faults_of, Clock, TakesKept, Lasts, same_clock, same_told, Entry, Ask, Pick, Wrote, Post, Off, Found, Configuration, State, Job, rank_of, at_first, after, after_from, Worn, histories_go_on, DeskState, state_of, is_hand_urgent, with_entries, OwesSince, has_urgent, worn_so_far, half_lasts, HandState, Fixed, Work, AreWorkedTo, IsSimple, costs_in, pages_in, none_worked, worked_more, Moment, Move, entry_list, entries_of, moment_behind, is_asked, is_found, is_picked, found_behind, Among, CountFailed, turns_beside, cases_Bool, has_risen, is_at_rest, Bound, Cursor, Frame, bound_of, left_behind, next_by, cursor_behind, one_less, renewed, Along, Begun, Seen, frame_in, frame_of, moment_seen, AreServed, DueAt, IsServable, HadPages, MayGoOnAsTold, FitsHand, IsBound, IsLawful, IsPaidAt, IsTurnTold, LeavesTurns, IsAt, IsHalfTold, AreAsked, HasMoved, MovesBy, WereCounted, lasts_more, price_in_faults, PaysSince, asked_urgency, since_stays, part_rises, half_goes, one_worked, HasImmediate, IsPaidSince, found_more, or_parts, risen, since_too, all_seen, left_seen, most_seen, work_seen, ServesBy, due_by, KeepToWork, IsStartTold, IsStillTold, GrowsBy, ArePending, AreAsksMade, AreAsksTold, Owes, HasBlocks, OfFirst}
 use Rattle.std.specs.Prelude.{if◌then◌else◌}
 use Rattle.nvm_moves.proofs.TurnEntries.{asks_urgent, none_more}
 use Rattle.nvm_moves.proofs.Along.{along_by, along_more, along_to, cursor_more, cursor_now, cursor_state, entries_more}
@@ -56,20 +56,24 @@ module _ (within : Bool) (x y : Seen) (is : HasMoved within x y) where
   ops_then : (moment_behind (moment_seen x) is.moves).ops ≤ y.device.ops
   ops_then = let ops = ap (λ (m : Moment). m.ops) moment_then in omega (arith, ops)
 
+-- the same blocks
+blocks_on : (old new : Seen) → new.device.fixed ≡ old.device.fixed → new.desk.config ≡ old.desk.config → HasBlocks old.desk.config old.device.fixed → HasBlocks new.desk.config new.device.fixed
+blocks_on old new fixed config blocks = rw (fixed, config) blocks
+
 module _ (within : Bool) (x y z : Seen) (one : HasMoved within x y) (two : HasMoved within y z) where
   config : y.desk.config ≡ x.desk.config
   config = ap (λ (d : DeskState). d.config) one.tell
 
   abbrev Served_by : ℕ → Configuration → Fixed → Moment → State → Type 0
-  Served_by since c f now s = AreServed (turns_beside within) c (pages_in f c) (MayGoOnAsTold z.clock f.reserve) (DueAt y) (DueAt z) since now s two.moves
+  Served_by since c f now s = AreServed (OfFirst f) (turns_beside within) c (pages_in f c) (MayGoOnAsTold z.clock f.reserve) (DueAt y) (DueAt z) since now s two.moves
 
   serves : (since : ℕ) → ServesBy within y.clock (DueAt x) (DueAt y) since x one.moves → ServesBy within z.clock (DueAt y) (DueAt z) (found_behind since one.moves) y two.moves → ServesBy within z.clock (DueAt x) (DueAt z) since x (one.moves ++ two.moves)
   serves since first second =
       let c = x.desk.config in
       let d = x.device.fixed in
       let from = found_behind since one.moves in
-      served_more (turns_beside within) c (pages_in d c) (MayGoOnAsTold z.clock d.reserve) (DueAt x) (DueAt y) (DueAt z) since (moment_seen x) (state_of x.desk) one.moves two.moves
-      (served_on (turns_beside within) c (pages_in d c) y.device z.device y.clock z.clock two.lasts d.reserve y.clock.failed (DueAt x) (DueAt y) since (moment_seen x) (state_of x.desk) one.moves (ops_then within x y one) (counts_then within x y one) first)
+      served_more (OfFirst d) (turns_beside within) c (pages_in d c) (MayGoOnAsTold z.clock d.reserve) (DueAt x) (DueAt y) (DueAt z) since (moment_seen x) (state_of x.desk) one.moves two.moves
+      (served_on (OfFirst d) (turns_beside within) c (pages_in d c) y.device z.device y.clock z.clock two.lasts d.reserve y.clock.failed (DueAt x) (DueAt y) since (moment_seen x) (state_of x.desk) one.moves (ops_then within x y one) (counts_then within x y one) first)
       (subst (λ (now : Moment). Served_by from c d now (after_from c (state_of x.desk) (entries_of one.moves))) (sym (moment_then within x y one))
       (subst (λ (s : State). Served_by from c d (moment_seen y) s) (sym (state_then within x y one))
       (subst (λ (f : Fixed). Served_by from c f (moment_seen y) (state_of y.desk)) one.fixed (subst (λ (g : Configuration). Served_by from g y.device.fixed (moment_seen y) (state_of y.desk)) config second))))
@@ -295,8 +299,8 @@ module _ (old new : Seen) where
             );
         uncut = is.uncut;
         servable = λ since s. subst (λ (n : ℕ). IsServable n new) (not_found (is_found is.entry) new.device.ops since is.turns.1)
-            (record { uncut = is.uncut s.uncut; first = subst AreFirst (sym is.fixed) s.first; sealed = is.seals since s.sealed });
-        served = λ since s. record { dues = is.dues s.uncut s.first; urgent = (λ id urgent room. absurd (asks_urgent c (state_of old.desk) is.entry id is.turns.0 urgent), tt) };
+            (record { uncut = is.uncut s.uncut; blocks = blocks_on old new is.fixed (ap (λ (d : DeskState). d.config) is.adds) s.blocks; sealed = is.seals since s.sealed });
+        served = λ since s. record { dues = is.dues s.uncut; urgent = (λ such id urgent room. absurd (asks_urgent c (state_of old.desk) is.entry id is.turns.0 urgent), tt) };
         work = λ uncut simple. let (b, worked) = is.work uncut simple in
             one_worked (costs_in old.device.fixed) (HadPages new.clock) (worn_so_far new.device new.clock) c (moment_seen old) (state_of old.desk) (work_seen old) m (record { begins = b; behind = work_seen new }) worked;
         paid = λ tells before kept k at owes.
@@ -404,7 +408,7 @@ few_beside false = omega arith
 -- by what they make due
 pub asks_moved_by : (within : Bool) (asks : List Entry) (old new : Seen) → AreAsksMade asks old new → IfSome old.begun (λ b. within ≡ true)
     → ((since : ℕ) → IsServable since old
-    → AreServed (turns_beside within) old.desk.config (pages_in old.device.fixed old.desk.config) (MayGoOnAsTold new.clock old.device.fixed.reserve) (DueAt old) (due_by old.begun old.hand old.device (with_entries old.desk asks)) since (moment_seen old) (state_of old.desk)
+    → AreServed (OfFirst old.device.fixed) (turns_beside within) old.desk.config (pages_in old.device.fixed old.desk.config) (MayGoOnAsTold new.clock old.device.fixed.reserve) (DueAt old) (due_by old.begun old.hand old.device (with_entries old.desk asks)) since (moment_seen old) (state_of old.desk)
     (asked_moves (moment_seen old) asks)) → HasMoved within old new
 asks_moved_by within asks old new is in_turn serves =
     let c = old.desk.config in
@@ -424,9 +428,9 @@ asks_moved_by within asks old new is in_turn serves =
       lasts = is.lasts;
       stays = is.stays;
       uncut = is.uncut;
-      servable = λ since s. subst (λ (n : ℕ). IsServable n new) (asks_found now since asks is.are) (record { uncut = is.uncut s.uncut; first = subst AreFirst (sym fixed) s.first; sealed = is.seals since s.sealed });
+      servable = λ since s. subst (λ (n : ℕ). IsServable n new) (asks_found now since asks is.are) (record { uncut = is.uncut s.uncut; blocks = blocks_on old new fixed (ap (λ (d : DeskState). d.config) is.adds) s.blocks; sealed = is.seals since s.sealed });
       served = λ since s.
-          served_as (turns_beside within) c (pages_in old.device.fixed c) (MayGoOnAsTold new.clock old.device.fixed.reserve) (DueAt old) (DueAt old) (due_by old.begun old.hand old.device (with_entries old.desk asks)) (DueAt new) since now (state_of old.desk) (asked_moves now asks)
+          served_as (OfFirst old.device.fixed) (turns_beside within) c (pages_in old.device.fixed c) (MayGoOnAsTold new.clock old.device.fixed.reserve) (DueAt old) (DueAt old) (due_by old.begun old.hand old.device (with_entries old.desk asks)) (DueAt new) since now (state_of old.desk) (asked_moves now asks)
           (λ one id turns due. due) (λ one id turns due. rw (is.begun, is.hand, is.device, is.adds) due) (serves since s);
       work = λ uncut simple. subst (λ (w : Work). KeepToWork (worn_so_far new.device new.clock) new.clock old w (asked_moves now asks)) same_work
           (asks_worked (costs_in old.device.fixed) (HadPages new.clock) (worn_so_far new.device new.clock) c now (state_of old.desk) (work_seen old) asks is.are);
@@ -461,19 +465,19 @@ asks_moved within asks old new is = asks_moved_by within asks old new is.made (i
     in_turn (Some b) pending = pending.0
 
     serves : (since : ℕ) → IsServable since old → (o : Option Begun) → ArePending within o old
-        → AreServed (turns_beside within) old.desk.config (pages_in old.device.fixed old.desk.config) (MayGoOnAsTold new.clock old.device.fixed.reserve) (due_by o old.hand old.device old.desk) (due_by o old.hand old.device (with_entries old.desk asks)) since (moment_seen old) (state_of old.desk)
+        → AreServed (OfFirst old.device.fixed) (turns_beside within) old.desk.config (pages_in old.device.fixed old.desk.config) (MayGoOnAsTold new.clock old.device.fixed.reserve) (due_by o old.hand old.device old.desk) (due_by o old.hand old.device (with_entries old.desk asks)) since (moment_seen old) (state_of old.desk)
         (asked_moves (moment_seen old) asks)
     serves since s None pending =
-        between_served old.hand old.device s.first (turns_beside within) (MayGoOnAsTold new.clock old.device.fixed.reserve) since (moment_seen old) old.desk asks is.replied is.tied.started
+        between_served old.hand old.device (turns_beside within) (MayGoOnAsTold new.clock old.device.fixed.reserve) since (moment_seen old) old.desk asks s.blocks is.replied is.tied.started
         (roomy since old.desk old.hand old.device new.device old.clock new.clock (is.on s.uncut) s.sealed is.order is.frees is.tied.paired is.tied.up is.made.lasts) (few_beside within) pending.0 pending.1
     serves since s (Some b) pending =
-        within_served old.hand old.device s.first (turns_beside within) (MayGoOnAsTold new.clock old.device.fixed.reserve) since (moment_seen old) old.desk asks is.replied is.tied.started
+        within_served old.hand old.device (turns_beside within) (MayGoOnAsTold new.clock old.device.fixed.reserve) since (moment_seen old) old.desk asks s.blocks is.replied is.tied.started
         (roomy since old.desk old.hand old.device new.device old.clock new.clock (is.on s.uncut) s.sealed is.order is.frees is.tied.paired is.tied.up is.made.lasts) (subst (λ (b : Bool). 5 ≤ turns_beside b) (sym pending.0) (omega arith)) pending.1
 
 -- one request
 pub ask_moves : (within : Bool) (e : Entry) (old new : Seen) → AreAsksMade (e ∷ []) old new → IfSome old.begun (λ b. within ≡ true)
     → ((since : ℕ) → IsServable since old
-    → AreServed (turns_beside within) old.desk.config (pages_in old.device.fixed old.desk.config) (MayGoOnAsTold new.clock old.device.fixed.reserve) (DueAt old) (due_by old.begun old.hand old.device (with_entries old.desk (e ∷ []))) since (moment_seen old) (state_of old.desk)
+    → AreServed (OfFirst old.device.fixed) (turns_beside within) old.desk.config (pages_in old.device.fixed old.desk.config) (MayGoOnAsTold new.clock old.device.fixed.reserve) (DueAt old) (due_by old.begun old.hand old.device (with_entries old.desk (e ∷ []))) since (moment_seen old) (state_of old.desk)
     (asked_moves (moment_seen old) (e ∷ []))) → MovesBy within (record { entry = Some e; behind = moment_seen old } ∷ []) old new
 unfolding asks_moved_by
 ask_moves within e old new is in_turn serves = record { moved = asks_moved_by within (e ∷ []) old new is in_turn serves; are = refl }
@@ -496,7 +500,7 @@ half_moved within old new is =
       lasts = half_lasts old.device new.device old.clock new.clock is.leaves is.clock;
       stays = is.on;
       uncut = is.uncut;
-      servable = λ since s. record { uncut = is.uncut s.uncut; first = subst AreFirst (sym fixed) s.first; sealed = is.seals since s.sealed };
+      servable = λ since s. record { uncut = is.uncut s.uncut; blocks = blocks_on old new fixed (ap (λ (d : DeskState). d.config) is.desk) s.blocks; sealed = is.seals since s.sealed };
       served = λ since s. record { dues = is.dues; urgent = tt };
       work = λ uncut simple. subst (λ (w : Work). KeepToWork (worn_so_far new.device new.clock) new.clock old w []) same_work
           (none_worked (costs_in old.device.fixed) (HadPages new.clock) (worn_so_far new.device new.clock) old.desk.config (moment_seen old) (state_of old.desk) (work_seen old));
@@ -546,8 +550,8 @@ start_moved within old new is =
       stays = is.stays;
       uncut = is.uncut;
       servable = λ since s. subst (λ (n : ℕ). IsServable n new) (was_found (is_found (Some is.entry)) new.device.ops since is.found)
-          (record { uncut = is.uncut s.uncut; first = subst AreFirst (sym is.fixed) s.first; sealed = λ on o late at few was. absurd (omega (arith, late, at)) });
-      served = λ since s. record { dues = λ one id turns due. inl is.found; urgent = (λ id urgent room. absurd (asks_urgent c (state_of old.desk) (Some is.entry) id not_.0 urgent), tt) };
+          (record { uncut = is.uncut s.uncut; blocks = blocks_on old new is.fixed (ap (λ (d : DeskState). d.config) is.adds) s.blocks; sealed = λ on o late at few was. absurd (omega (arith, late, at)) });
+      served = λ since s. record { dues = λ one id turns due. inl is.found; urgent = (λ such id urgent room. absurd (asks_urgent c (state_of old.desk) (Some is.entry) id not_.0 urgent), tt) };
       work = λ uncut simple. let (b, worked) = is.work uncut simple in
           one_worked (costs_in old.device.fixed) (HadPages new.clock) (worn_so_far new.device new.clock) c (moment_seen old) (state_of old.desk) (work_seen old) m (record { begins = b; behind = work_seen new }) worked;
       lawful = λ k at.
@@ -604,7 +608,7 @@ still_moved within old new is =
       lasts = is.lasts;
       stays = is.stays;
       uncut = is.uncut;
-      servable = λ since s. record { uncut = is.uncut s.uncut; first = subst AreFirst (sym is.fixed) s.first; sealed = is.seals since s.sealed };
+      servable = λ since s. record { uncut = is.uncut s.uncut; blocks = blocks_on old new is.fixed (ap (λ (d : DeskState). d.config) is.desk) s.blocks; sealed = is.seals since s.sealed };
       served = λ since s. record { dues = is.dues; urgent = tt };
       work = λ uncut simple. subst (λ (w : Work). KeepToWork (worn_so_far new.device new.clock) new.clock old w []) (sym is.work)
           (none_worked (costs_in old.device.fixed) (HadPages new.clock) (worn_so_far new.device new.clock) old.desk.config (moment_seen old) (state_of old.desk) (work_seen old));

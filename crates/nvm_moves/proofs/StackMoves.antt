@@ -1,5 +1,5 @@
 -- The calls of a stack of one's own, as moves.
-use Rattle.nvm_moves.proofs.Common.{◌||◌, ◌≡◌, inl, inr, ℕ, ◌+◌, ◌≤◌, Bool, true, false, List, [], ◌∷◌, ◌++◌, Option, Some, None, refl, sym, ap, ◌∙◌, subst, arith, last_count, DeviceTold, Fixed, Part, PartTold, faults_of, is_off, is_open, Clock, Seals, FreesReady, InOrder, Lasts, same_clock, same_told, Request, Reply, Entry, Ask, Found, State, histories_step, Told, DeskState, state_of, HandState, IsDue, TurnServesDue, StaysKept, IsTied, KeepsSeal, TakesKeptInHand, Turned, Ended, IsSimple, tries_left, work_in, TurnsDevice, now_of, free_turns, IsOfBlock, left_on, TurnPays, worn_so_far, StackState, PowersOff, IsFirstHalf, left_with, TakesTurns, closed_tries, has_risen, Move, entry_list, turns_beside, Seen, IsOn, all_with, moment_by, moment_seen, MayGoOnAsTold, MovesBy, SameClock, is_asked, is_found, plans, Arms, IsSealing, same_lasts, TellsSlots, KeepsDue, StartsUp, none_some, start_leaves, turns_start_none, seen_as, seen_in, KeepsToWork, asked_stays}
+use Rattle.nvm_moves.proofs.Common.{◌||◌, ◌≡◌, inl, inr, ℕ, ◌+◌, ◌≤◌, Bool, true, false, List, [], ◌∷◌, ◌++◌, Option, Some, None, refl, sym, ap, ◌∙◌, subst, arith, last_count, DeviceTold, Fixed, Part, PartTold, faults_of, is_off, is_open, Clock, Seals, FreesReady, InOrder, Lasts, same_clock, same_told, Request, Reply, Entry, Ask, Found, State, histories_step, Told, DeskState, state_of, HandState, IsDue, TurnServesDue, StaysKept, IsTied, KeepsSeal, TakesKeptInHand, Turned, Ended, IsSimple, tries_left, work_in, TurnsDevice, now_of, free_turns, IsOfBlock, left_on, TurnPays, worn_so_far, StackState, PowersOff, IsFirstHalf, left_with, TakesTurns, closed_tries, has_risen, Move, entry_list, turns_beside, Seen, all_with, moment_by, moment_seen, MayGoOnAsTold, MovesBy, SameClock, is_asked, is_found, plans, Arms, IsSealing, same_lasts, TellsSlots, KeepsDue, StartsUp, none_some, start_leaves, turns_start_none, seen_as, seen_in, KeepsToWork, asked_stays}
 use Rattle.std.specs.Prelude.{min, if◌then◌else◌, ◌==◌}
 use Rattle.nvm_core.specs.nv_base.Plan.{Planning, planned}
 use Rattle.nvm_core.specs.memif.Told.{ops_of}
@@ -15,14 +15,6 @@ use Rattle.nvm_moves.proofs.Servable.{roomy}
 -- the device counts no start-up in it
 pub device_starts : (answer : Turned) (old new : DeviceTold) (clock clock_new : Clock) → TurnsDevice answer old clock new clock_new → new.starts ≡ old.starts
 device_starts answer old new clock clock_new turns = let (a, is) = as_turn answer old clock new clock_new turns in turns_start_none a old clock new clock_new is
-
-one_off : (a b : Bool) → a ≡ true → (a || b) ≡ true
-one_off true b off = refl
-one_off false b off = cc off
-
--- where the power is off behind a call the machine's is
-stays_on : (desk : DeskState) (old new : DeviceTold) → new.fixed ≡ old.fixed → PowersOff desk new → old.fixed.two ≡ false → IsOn desk new
-stays_on desk old new fixed power one = record { one = ap (λ (f : Fixed). f.two) fixed ∙ one; power = λ off. power (one_off new.first.off new.second.off off) }
 
 module _ {D C : Type 0} (told : D → DeviceTold) (clock : D → Clock) (copies : C → List Told) (is_store : C → ℕ → ℕ → List ℕ → Type 0) (looked : C → C → ℕ → ℕ → Type 0) where
   pub turned_ready : (answer : Turned) (old new : StackState D C) → core.Turns told clock copies is_store looked answer old new → new.ready ≡ old.ready
@@ -48,7 +40,7 @@ module _ {D C : Type 0} (told : D → DeviceTold) (clock : D → Clock) (copies 
   stack_turns answer old new turns ready keeps counted left lasts pays due seals kept tied tied_new power order order_new =
       let up : new.ready ≡ true = turned_ready answer old new turns ∙ ready in
       let is =
-      turn_is_told told clock copies is_store looked old new (IsOn old.desk (told old.device)) (IsOn new.desk (told new.device)) (λ on. stays_on new.desk (told old.device) (told new.device) (turned_fixed answer old new turns) (power up) on.one) keeps answer turns counted lasts pays kept
+      turn_is_told told clock copies is_store looked old new (PowersOff old.desk (told old.device)) (PowersOff new.desk (told new.device)) (λ on. power up) keeps answer turns counted lasts pays kept
       (λ half off. went_off answer old new off half (power up)) left tied (tied_new up).paired seals due order order_new (λ on. on) (λ on. on) in
       (is.entry, ap (λ (d : DeskState). d.entries) is.adds, is.turns, turn_moves (seen_in told clock old) (seen_in told clock new) false is)
 
@@ -97,13 +89,11 @@ module _ {D C : Type 0} (told : D → DeviceTold) (clock : D → Clock) (old new
         begun = refl;
         lasts = lasts;
         stays = record { told = subst (λ (s : StackState D C). TellsSlots (told s.device)) is; kept = stays };
-        uncut = λ on. subst (λ (s : StackState D C). IsOn s.desk (told s.device)) (sym is) (record {
-          one = on.one;
-          power = λ off. ap (λ (x : State). x.off) (histories_step old.desk.config old.desk.entries e) ∙ (asked_stays old.desk.config (state_of old.desk) r reply).off ∙ on.power off;
-        });
+        uncut = λ on. subst (λ (s : StackState D C). PowersOff s.desk (told s.device)) (sym is)
+            (λ off. ap (λ (x : State). x.off) (histories_step old.desk.config old.desk.entries e) ∙ (asked_stays old.desk.config (state_of old.desk) r reply).off ∙ on off);
         seals = subst (λ (s : StackState D C). KeepsSeal (told old.device) (clock old.device) (told s.device) (clock s.device)) (sym is) (λ since sealed. sealed);
       }) tt
-      (λ since s. one_served old.hand (told old.device) s.first (turns_beside false) (MayGoOnAsTold New.clock Old.device.fixed.reserve) since (moment_seen Old) old.desk caller r reply tied.started
+      (λ since s. one_served old.hand (told old.device) (turns_beside false) (MayGoOnAsTold New.clock Old.device.fixed.reserve) since (moment_seen Old) old.desk caller r reply s.blocks tied.started
       (roomy since old.desk old.hand (told old.device) (told new.device) (clock old.device) (clock new.device) s.uncut s.sealed order frees tied.paired tied.up lasts) (omega arith)
       (subst (λ (s : StackState D C). KeepsDue (now_of told old) (now_of told s)) is due))
 
@@ -128,7 +118,7 @@ module _ {D C : Type 0} (told : D → DeviceTold) (clock : D → Clock) (old new
         fixed = ap (λ (x : DeviceTold). x.fixed) is;
         lasts = same_lasts d (clock old.device) (told new.device) (clock new.device) (ap (λ (x : DeviceTold). x.ops) is) (ap (λ (x : DeviceTold). x.first.faults) is) (ap (λ (x : DeviceTold). x.second.faults) is) arms.1.same;
         stays = record { told = tells; kept = stays };
-        uncut = λ on. record { one = ap (λ (x : DeviceTold). x.fixed.two) is ∙ on.one; power = λ off. ap (λ (x : DeskState). (state_of x).off) desk ∙ on.power (sym (ap (λ (x : DeviceTold). x.first.off) is) ∙ off) };
+        uncut = λ on off. ap (λ (x : DeskState). (state_of x).off) desk ∙ on (sym (ap is_off is) ∙ off);
         seals = plan_keeps_seal p q d (clock old.device) (told new.device) (clock new.device) is arms.1.same;
         dues = λ one id turns was. record {
           number = was.number;
@@ -195,6 +185,6 @@ module _ {D C : Type 0} (told : D → DeviceTold) (clock : D → Clock) (old new
           counted = more_in last_count (told old.device).first.faults (told old.device).second.faults (told new.device).first.faults (told new.device).second.faults lasts.faults.0 lasts.faults.1;
           lasts = lasts;
           stays = record { told = tells; kept = stays };
-          uncut = λ on. stays_on new.desk (told old.device) (told new.device) starts.finds.up.restarted.fixed power on.one;
+          uncut = λ on. power;
           work = λ on simple. start_works simple;
         })

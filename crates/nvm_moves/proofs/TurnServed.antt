@@ -1,18 +1,9 @@
 -- What is due, in one turn.
-use Rattle.nvm_moves.proofs.Common.{IsTrue, ◌||◌, ◌&&◌, ◌≡◌, ◌⊎◌, inl, inr, ℕ, Bool, true, false, List, [], ◌∷◌, ◌++◌, Option, refl, sym, ap, ◌∙◌, subst, cases_Bool, Rose, DeviceTold, faults_of, is_off, Clock, InOrder, Lasts, Told, Entry, DeskState, state_of, IsTied, Turned, Ended, StackNow, IsDue, IsNearer, TurnServesDue, StackState, PowersOff, IsFirstHalf, now_of, IsOfBlock, IsDueFor, true_false, Moment, entry_list, IsOn, PostsDue, IsServedBy, IsServedFor, IsTurning, nearer_for, of_block_behind, turn_serves, posts_another, posts_own, is_off_entry, posts_other, IsPostedSoon}
+use Rattle.nvm_moves.proofs.Common.{IsTrue, ◌&&◌, ◌≡◌, ◌⊎◌, inl, inr, ℕ, Bool, false, List, [], ◌∷◌, ◌++◌, Option, refl, sym, ap, ◌∙◌, subst, cases_Bool, Rose, DeviceTold, faults_of, Clock, InOrder, Lasts, Told, Entry, DeskState, state_of, IsTied, Turned, Ended, StackNow, IsDue, IsNearer, TurnServesDue, StackState, PowersOff, IsFirstHalf, now_of, IsOfBlock, IsDueFor, true_false, Moment, entry_list, PostsDue, IsServedBy, IsServedFor, IsTurning, nearer_for, of_block_behind, turn_serves, posts_another, posts_own, is_off_entry, posts_other, IsPostedSoon}
 use Rattle.nvm_core.specs.nvm_laws.declared.turned.Turned.TheVariants as turned
 use Rattle.nvm_core.specs.Turns as core
 use Rattle.nvm_moves.proofs.Counts.{rose_in, rose_or}
 use Rattle.nvm_moves.proofs.TurnEntries.{AddsOne, on_behind}
-
--- THE DEVICE
--- one of one part is off where that part is
-pub first_off : (d : DeviceTold) (c : Clock) → InOrder d c → d.fixed.two ≡ false → is_off d ≡ d.first.off
-first_off d c order one = by d.first.off d.second.off (ap (λ p. p.off) (order.second one))
-  where
-    by : (a b : Bool) → b ≡ false → (a || b) ≡ a
-    by true b is = refl
-    by false b is = is
 
 -- A MOVE
 module _ (old new : StackNow) (e : Option Entry) (ops : ℕ) (adds : AddsOne ops old.desk new.desk e) (behind : Moment) where
@@ -44,12 +35,9 @@ module _ (old new : StackNow) (e : Option Entry) (ops : ℕ) (adds : AddsOne ops
 
 -- A WHOLE TURN
 module _ {D C : Type 0} (told : D → DeviceTold) (clock : D → Clock) (copies : C → List Told) (is_store : C → ℕ → ℕ → List ℕ → Type 0) (looked : C → C → ℕ → ℕ → Type 0) (old new : StackState D C) (e : Option Entry) (adds : AddsOne (told new.device).ops old.desk new.desk e) (behind : Moment) (same : behind.faults ≡ faults_of (told new.device))
-    (order : InOrder (told new.device) (clock new.device)) (is_on : IsOn new.desk (told new.device)) (tied : IsTied old.desk old.hand (told old.device)) (lasts : Lasts (told old.device) (clock old.device) (told new.device) (clock new.device)) where
+    (order : InOrder (told new.device) (clock new.device)) (power : PowersOff new.desk (told new.device)) (tied : IsTied old.desk old.hand (told old.device)) (lasts : Lasts (told old.device) (clock old.device) (told new.device) (clock new.device)) where
   abbrev Soon : (one : Bool) → (id turns : ℕ) → Type 0
   Soon one id turns = IsSoon (now_of told old) (now_of told new) e (told new.device).ops adds behind one id turns
-
-  power : PowersOff new.desk (told new.device)
-  power off = is_on.power (sym (first_off (told new.device) (clock new.device) order is_on.one) ∙ off)
 
   module _ (answer : Turned) (made : core.Turns told clock copies is_store looked answer old new) (comes : TurnServesDue (now_of told old) (now_of told new)) where
     calm_soon : ¬ Rose (faults_of (told old.device)) (faults_of (told new.device)) → is_off_entry e ≡ false → (one : Bool) (id turns : ℕ) → IsDueFor id one turns (now_of told old) → Soon one id turns

@@ -22,13 +22,13 @@ use Rattle.nvm_core.specs.nvm_laws.Keeps.{StackKeeps, StaysKept}
 use Rattle.nvm_core.specs.nvm_laws.Ties.{IsTied}
 use Rattle.nvm_core.specs.nvm_laws.Traits.{KeepsSeal, TakesKeptInHand}
 use Rattle.nvm_core.specs.DeviceWork.{IsSimple}
-use Rattle.nvm_core.specs.DueWrites.{AreFirst}
 use Rattle.nvm_core.specs.OperationStart.{LeavesDevice}
+use Rattle.nvm_core.specs.Stack.{PowersOff}
 use Rattle.nvm_core.specs.Paying.{OwesSince, PaysSince, has_urgent, worn_so_far}
 use Rattle.promise_run.specs.script_walks.Walk.{is_at_rest}
 use Rattle.promise_run.specs.Turns.{Move, entry_list, entries_of, is_asked, is_found, is_picked, found_behind, Among, BeginsIn, IsMoveMade, IsPostedSoon, CountsOwn, HasImmediate, IsPaidSince}
 use Rattle.nvm_moves.specs.Along.{Bound, Cursor, Along, bound_of, cursor_behind}
-use Rattle.nvm_moves.specs.Seen.{Begun, Seen, IsOn, all_seen, frame_in, frame_of, left_seen, moment_seen, most_seen, work_seen}
+use Rattle.nvm_moves.specs.Seen.{Begun, Seen, all_seen, frame_in, frame_of, left_seen, moment_seen, most_seen, work_seen}
 use Rattle.nvm_moves.specs.Served.{DueAt, IsServable, ServesBy}
 use Rattle.nvm_moves.specs.Worked.{KeepToWork, KeepsToWork}
 
@@ -152,7 +152,7 @@ pub record IsTurnTold (old new : Seen) : Type 0 where
   pub uncut : old.uncut → new.uncut
   pub seals : KeepsSeal old.device old.clock new.device new.clock
   -- what is due is posted, or comes nearer
-  pub dues : old.uncut → AreFirst old.device.fixed → (one : Bool) (id turns : ℕ) → DueAt old one id turns
+  pub dues : old.uncut → (one : Bool) (id turns : ℕ) → DueAt old one id turns
       → IsPostedSoon (λ o n. DueAt new o id n) one id turns (faults_of old.device) (record { entry = entry; behind = moment_seen new } ∷ [])
   pub work : old.uncut → IsSimple old.device.fixed → KeepsToWork (worn_so_far new.device new.clock) new.clock old (work_seen new) (record { entry = entry; behind = moment_seen new })
 
@@ -182,7 +182,7 @@ pub record AreAsksMade (asks : List Entry) (old new : Seen) : Type 0 where
 pub record AreAsksTold (within : Bool) (asks : List Entry) (old new : Seen) : Type 0 where
   pub made : AreAsksMade asks old new
   pub replied : AreReplied old.desk.config old.desk.cap (state_of old.desk) asks
-  pub on : old.uncut → IsOn old.desk old.device
+  pub on : old.uncut → PowersOff old.desk old.device
   pub tied : IsTied old.desk old.hand old.device
   pub order : InOrder old.device old.clock
   pub frees : FreesReady old.device old.clock

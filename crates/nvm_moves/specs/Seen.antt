@@ -1,16 +1,16 @@
 -- A stack at a moment, all told.
-use Rattle.std.specs.Prelude.{◌≡◌, ◌+◌, ◌*◌, ℕ, if◌then◌else◌, Bool, true, false, not, option_map, Option, Some, None}
+use Rattle.std.specs.Prelude.{◌+◌, ◌*◌, ℕ, if◌then◌else◌, Bool, not, option_map, Option, Some, None}
 use Rattle.std.specs.Option.{option_map_or}
 use Rattle.nvm_core.specs.memif.Told.{DeviceTold, Part, PartTold, Fixed, faults_of, is_open, nothing_open}
 use Rattle.nvm_core.specs.memif.Clock.{Clock}
 use Rattle.nvm_core.specs.block_machine.Words.{Configuration}
 use Rattle.nvm_core.specs.block_machine.State.{State}
-use Rattle.nvm_core.specs.nv_desk.Desk.{DeskState, state_of}
+use Rattle.nvm_core.specs.nv_desk.Desk.{DeskState}
 use Rattle.nvm_core.specs.job_progress.Hand.{HandState}
 use Rattle.nvm_core.specs.job_progress.JobInHand.{program_for}
 use Rattle.nvm_core.specs.nvm_figures.Left.{most_turns}
 use Rattle.nvm_core.specs.nvm_laws.Keeps.{StackKeepsAsTold}
-use Rattle.nvm_core.specs.Stack.{StackState}
+use Rattle.nvm_core.specs.Stack.{StackState, PowersOff}
 use Rattle.nvm_core.specs.Work.{left_with}
 use Rattle.nvm_core.specs.DeviceWork.{tries_left, work_in}
 use Rattle.nvm_core.specs.promise_blocks.Work.{Work}
@@ -33,11 +33,6 @@ pub record Seen : Type 1 where
   pub kept : (Part → PartTold) → Type 0
   -- what is known of power cuts where urgent writes are served
   pub uncut : Type 0
-
--- a device of one part, that is off only where its machine is
-pub record IsOn (desk : DeskState) (d : DeviceTold) : Type 0 where
-  pub one : d.fixed.two ≡ false
-  pub power : d.first.off ≡ true → (state_of desk).off ≡ true
 
 -- The first half of a turn that goes to the device opens something at it, and its move comes only behind its second half: until then what is
 -- open is what was when the turn began.
@@ -86,7 +81,7 @@ frame_of within s = frame_in within s.desk.config s.device.fixed
 -- A STACK OF ONE'S OWN
 -- between its turns, by what is kept of it
 abbrev pub seen_as : {D C : Type 0} → (told : D → DeviceTold) → (clock : D → Clock) → ((Part → PartTold) → Type 0) → StackState D C → Seen
-seen_as told clock kept s = record { begun = None; desk = s.desk; hand = s.hand; device = told s.device; clock = clock s.device; kept = kept; uncut = IsOn s.desk (told s.device) }
+seen_as told clock kept s = record { begun = None; desk = s.desk; hand = s.hand; device = told s.device; clock = clock s.device; kept = kept; uncut = PowersOff s.desk (told s.device) }
 
 -- while it is up
 abbrev pub seen_in : {D C : Type 0} → (told : D → DeviceTold) → (clock : D → Clock) → StackState D C → Seen
