@@ -37,7 +37,7 @@ use Rattle.nvm_flash.specs.nvm_laws.declared.turned.FoundAnswer.{FoundAnswer}
 use Rattle.nvm_flash.specs.nvm_laws.declared.turned.FoundAnswer.TheVariants as found
 use Rattle.nvm_flash.specs.nvm_core.DeviceWork.{IsSimple, costs_in, tries_left, work_in}
 use Rattle.nvm_flash.specs.nvm_core.Due.{now_of}
-use Rattle.nvm_flash.specs.nvm_core.DueWrites.{pages_in}
+use Rattle.nvm_flash.specs.nvm_core.DueWrites.{AreFirst, pages_in}
 use Rattle.nvm_flash.specs.nvm_core.Operations.{left_on}
 use Rattle.nvm_flash.specs.nvm_core.Paying.{OwesSince, TurnPays, has_urgent, worn_so_far}
 use Rattle.nvm_flash.specs.nvm_core.Stack.{PowersOff}
@@ -56,6 +56,7 @@ use Rattle.nvm_flash.proofs.StartWork.{first_leaves}
 use Rattle.nvm_flash.proofs.Trying.{part_rises}
 use Rattle.nvm_flash.proofs.TurnWork.{closed_tries}
 use Rattle.nvm_moves.specs.Beginning.{BeginsMoves}
+use Rattle.nvm_moves.proofs.Beginning.{all_of_first, on_is_uncut, one_part_has_blocks, one_part_is_simple}
 use Rattle.nvm_moves.specs.Along.{Along, Cursor}
 use Rattle.nvm_moves.specs.Seen.{frame_of, moment_by, moment_seen}
 use Rattle.nvm_moves.specs.Worked.{KeepsToWork}
@@ -187,10 +188,6 @@ first_few d true most leaves = most
 first_few d false most (inl none) = let less : left_on d ≤ d.left = on_left (is_off d) d.left in omega (arith, none, less)
 first_few d false most (inr never) = absurd (let P : false ≡ true = never in cc P)
 
-first_off : (a b : Bool) → a ≡ true → (a || b) ≡ true
-first_off true b off = refl
-first_off false b off = cc off
-
 more_in : (l x y u v : ℕ) → x ≤ u → y ≤ v → min (x + y) l ≤ min (u + v) l
 more_in l x y u v first second = omega (arith, first, second)
 
@@ -259,7 +256,7 @@ module _ (marks : List (Instance × Mark)) (u t : UnitState) (is : StandsAnew ma
         counted = counted_on (told_of u.device) (told_of t.device) (told_clock u.device) (told_clock t.device) is.lasts;
         lasts = is.lasts;
         stays = record { told = is.told; kept = is.kept };
-        uncut = λ on. record { one = ap (λ (f : Fixed). f.two) is.fixed ∙ on.one; power = λ off. is.power (first_off (told_of t.device).first.off (told_of t.device).second.off off) };
+        uncut = λ on. is.power;
         work = λ on simple. works;
       })
 
@@ -399,14 +396,18 @@ module _ (making : Making) (entry : Told) (m s : UnitState) (made : IsMadeStack 
   none = ap (λ (x : UnitState). x.hand) starts.only
 
   simple_made : IsSimple (told_of m.device).fixed
-  simple_made = record { first = made.parts; reads = λ n. subst (λ (f : Fixed). (figures_at f n).read ≤ 1) (sym made.fixed) (reads_take_one m.desk.config n) }
+  simple_made = one_part_is_simple (told_of m.device).fixed made.parts (λ n. subst (λ (f : Fixed). (figures_at f n).read ≤ 1) (sym made.fixed) (reads_take_one m.desk.config n))
+
+  parts : AreFirst (told_of s.device).fixed
+  parts = subst AreFirst (sym starts.finds.up.restarted.fixed) made.parts
 
   begins : BeginsMoves (unit_seen s)
   begins = record {
     between = refl;
     marks = starts.marks;
     entries = ap (λ (x : UnitState). x.desk.entries) starts.only ∙ ap (λ (x : UnitState). x.desk.entries ++ Found starts.marks (told_of s.device).ops ∷ []) made.only;
-    pages = ap (λ (f : Fixed). pages_in f s.desk.config) figures ∙ ap (λ (x : Configuration). pages_in (fixed_by x) s.desk.config) (sym config) ∙ (λ i x id. write_pages_are_figures s.desk.config x id i);
+    first = all_of_first (told_of s.device).fixed parts;
+    pages = λ x id all. ap (λ (f : Fixed). pages_in f s.desk.config x id) figures ∙ ap (λ (y : Configuration). pages_in (fixed_by y) s.desk.config x id) (sym config) ∙ write_pages_are_figures s.desk.config x id;
     reserve = ap (λ (f : Fixed). f.reserve) figures ∙ ap (λ (x : Configuration). (making_of x).reserve) (sym config);
     costs = ap costs_in figures ∙ costs_are_figures m.desk.config legal made.one_device ∙ ap costs_of (sym config);
     most =
@@ -415,11 +416,12 @@ module _ (making : Making) (entry : Told) (m s : UnitState) (made : IsMadeStack 
         ∙ (λ i x j. job_turns_are_figures m.desk.config legal made.one_device x j i)
         ∙ ap job_turns (sym config);
     simple = subst IsSimple (made.fixed ∙ sym figures) simple_made;
+    blocks = one_part_has_blocks s.desk.config (told_of s.device).fixed (subst IsLegalConfig (sym config) legal) parts;
     left = left_on (told_of s.device);
     few = first_few (told_of s.device) (nat_lt 0 (faults_of (told_of s.device))) (few_left (told_of s.device) (told_clock s.device) order starts.finds.at_rest) (first_leaves starts.marks (told_of m.device) (told_of s.device) starts.finds simple_made);
     is = ap (λ (o : Option ℕ). record { left = left_on (told_of s.device); trying = o; tries = 0 }) (sym (closed_tries (told_of s.device).stand starts.finds.at_rest)) ∙ ap (λ (h : Option HandState). work_in h (told_of s.device)) (sym none);
     owes = subst (λ (h : Option HandState). OwesSince (has_urgent s.desk) (faults_of (told_of s.device)) h (told_of s.device) (told_clock s.device)) (sym none) (omega arith, tt);
-    uncut = record { one = ap (λ (f : Fixed). f.two) figures; power = λ off. absurd (never_both off starts.finds.up.first_on) };
+    uncut = on_is_uncut s.desk (told_of s.device) starts.finds.up.first_on starts.finds.up.second_on;
     before = one_part (part_at entry);
     kept = subst (λ (h : Option HandState). StackKeepsAsTold (one_part (part_at entry)) s.desk h (told_of s.device) (told_clock s.device)) (sym none) keeps;
   }
