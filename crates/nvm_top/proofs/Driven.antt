@@ -35,7 +35,7 @@ use Rattle.nvm_flash.specs.promise_run.Promise.{making_of}
 use Rattle.nvm_flash.specs.promise_run.Halves.{HalvesMakeIt}
 use Rattle.script_player.specs.script_walks.Texts.{AreValues}
 use Rattle.nvm_callers.specs.nvm_moves.Beginning.{BeginsMoves}
-use Rattle.nvm_callers.proofs.nvm_moves.Beginning.{start_work}
+use Rattle.nvm_callers.proofs.nvm_moves.Beginning.{all_of_first, on_is_uncut, one_part_has_blocks, one_part_is_simple, start_work}
 use Rattle.nvm_flash.specs.nvm_core.Operations.{left_on}
 use Rattle.script_player.specs.Made.{IsFresh}
 use Rattle.script_player.specs.PlainTold.{told_by}
@@ -61,7 +61,7 @@ use Rattle.nvm_flash.specs.promise_device.SwitchErases.{RestartsAreFew}
 use Rattle.nvm_flash.specs.promise_blocks.Operations.{founds}
 use Rattle.nvm_flash.specs.nvm_core.Paying.{counted_of, TriesSince, has_urgent}
 use Rattle.script_player.specs.PlainPaying.{seen_by}
-use Rattle.nvm_flash.specs.nvm_core.DueWrites.{pages_in}
+use Rattle.nvm_flash.specs.nvm_core.DueWrites.{AreFirst, pages_in}
 use Rattle.nvm_top.specs.Stack.{IsStarted, StopsAtStart, Vouches, run_of, stop_of_make, KeepsPlayed}
 use Rattle.nvm_flash.specs.fls_model.Attach.{IsFilled}
 use Rattle.nvm_top.specs.Play.{IsRightSize, IsWrongSize}
@@ -173,7 +173,7 @@ none_owed before m s t same starts =
 
 -- its numbers are all of its one part, and a read takes a turn
 simple_up : (c : Configuration) (making : Making) (entry : Told) (m : StackState Device (List PlainBlock)) → IsMadeStack c cap making entry m → IsSimple (told_of m.device).fixed
-simple_up c making entry m made = record { first = made.parts; reads = λ n. subst (λ (f : Fixed). (figures_at f n).read ≤ 1) (sym made.fixed) (reads_take_one c n) }
+simple_up c making entry m made = one_part_is_simple (told_of m.device).fixed made.parts (λ n. subst (λ (f : Fixed). (figures_at f n).read ≤ 1) (sym made.fixed) (reads_take_one c n))
 
 -- its start-up is the one that its history tells
 starts_up : (c : Configuration) (making : Making) (entry : Told) (m s t : StackState Device (List PlainBlock)) → t ≡ s → StartsUp told_of m s → IsMadeStack c cap making entry m → AreStartsFound t.ready t.desk (told_of t.device)
@@ -196,11 +196,13 @@ first_begins c making entry before m s legal order starts made keeps =
     let fixed : (told_of s.device).fixed ≡ fixed_by c = starts.finds.up.restarted.fixed ∙ made.fixed in
     let config : s.desk.config ≡ c = ap (λ x. x.desk.config) starts.only ∙ ap (λ x. x.desk.config) made.only in
     let simple = simple_up c making entry m made in
+    let parts : AreFirst (told_of s.device).fixed = subst AreFirst (sym starts.finds.up.restarted.fixed) made.parts in
     let (few, is) = start_work (told_of s.device) (told_clock s.device) order starts.finds.at_rest (nat_lt 0 (faults_of (told_of s.device))) (first_leaves starts.marks (told_of m.device) (told_of s.device) starts.finds simple) in record {
       between = refl;
       marks = starts.marks;
       entries = ap (λ x. x.desk.entries) starts.only ∙ ap (λ x. x.desk.entries ++ Found starts.marks (told_of s.device).ops ∷ []) made.only;
-      pages = ap (λ (f : Fixed). pages_in f s.desk.config) fixed ∙ ap (λ (x : Configuration). pages_in (fixed_by x) s.desk.config) (sym config) ∙ (λ i x id. write_pages_are_figures s.desk.config x id i);
+      first = all_of_first (told_of s.device).fixed parts;
+      pages = λ x id all. ap (λ (f : Fixed). pages_in f s.desk.config x id) fixed ∙ ap (λ (y : Configuration). pages_in (fixed_by y) s.desk.config x id) (sym config) ∙ write_pages_are_figures s.desk.config x id;
       reserve = ap (λ (f : Fixed). f.reserve) fixed ∙ ap (λ (x : Configuration). (making_of x).reserve) (sym config);
       costs = ap costs_in fixed ∙ costs_are_figures c legal made.one_device ∙ ap costs_of (sym config);
       most =
@@ -209,11 +211,12 @@ first_begins c making entry before m s legal order starts made keeps =
           ∙ (λ i x j. job_turns_are_figures c legal made.one_device x j i)
           ∙ ap job_turns (sym config);
       simple = subst IsSimple (made.fixed ∙ sym fixed) simple;
+      blocks = one_part_has_blocks s.desk.config (told_of s.device).fixed (subst IsLegalConfig (sym config) legal) parts;
       left = left_on (told_of s.device);
       few = few;
       is = is ∙ ap (λ (h : Option HandState). work_in h (told_of s.device)) (sym (ap (λ x. x.hand) starts.only));
       owes = (omega arith, none_owed before m s s refl starts);
-      uncut = record { one = ap (λ (f : Fixed). f.two) fixed; power = λ off. absurd (let never : true ≡ false = sym off ∙ starts.finds.up.first_on in cc never) };
+      uncut = on_is_uncut s.desk (told_of s.device) starts.finds.up.first_on starts.finds.up.second_on;
       before = before;
       kept = is_kept before m s s refl starts keeps;
     }
