@@ -1,17 +1,11 @@
 -- The calls of a stack whose application stores in memory, as it is seen.
-use Rattle.script_player.proofs.Common.{◌||◌, ◌≡◌, Bool, true, false, List, [], ◌∷◌, ◌++◌, refl, sym, ap, ◌∙◌, subst, append_cancel_left, DeviceTold, Part, PartTold, Clock, Lasts, Entry, PlainBlock, TellsSlots, FoundAnswer, StackState, Restarts, Move, MovesBy, IsSeen, LastsOn, IsKept, kept_by, seen_by, told_by, ComesFrom, told_before, StaysKept, seen_as, seen_in}
+use Rattle.script_player.proofs.Common.{◌≡◌, Bool, true, false, List, [], ◌∷◌, ◌++◌, refl, sym, ap, ◌∙◌, subst, append_cancel_left, DeviceTold, Part, PartTold, Clock, Lasts, Entry, PlainBlock, TellsSlots, FoundAnswer, StackState, Restarts, Move, MovesBy, IsSeen, LastsOn, IsKept, kept_by, seen_by, told_by, ComesFrom, told_before, StaysKept, seen_as, seen_in}
 use Rattle.uds_gateway.specs.nvm_laws.declared.turned.FoundAnswer.TheVariants as found
 use Rattle.script_player.proofs.Paying.{none_last}
-use Rattle.script_player.proofs.PlainTurning.{not_two}
 
 -- one entry more is the one that was added
 pub same_entry : (before h : List Entry) (e f : Entry) → h ≡ before ++ e ∷ [] → h ≡ before ++ f ∷ [] → e ≡ f
 same_entry before h e f one two = let same = append_cancel_left before (e ∷ []) (f ∷ []) (sym one ∙ two) in cc same
-
--- a device that is on is so in both parts
-first_on : (a b : Bool) → (a || b) ≡ false → a ≡ true → false ≡ true
-first_on true b on off = sym on
-first_on false b on off = off
 
 module _ {D : Type 0} (device : D → DeviceTold) (clock : D → Clock) where
   -- it is seen as it is told
@@ -21,7 +15,7 @@ module _ {D : Type 0} (device : D → DeviceTold) (clock : D → Clock) where
     config = refl;
     state = refl;
     moment = refl;
-    uncut = λ one on. record { one = not_two (device s.device).fixed.two one; power = λ off. absurd (let no_ : false ≡ true = first_on (device s.device).first.off (device s.device).second.off on off in cc no_) };
+    uncut = λ one on off. absurd (let no_ : true ≡ false = sym off ∙ on in cc no_);
   }
 
   -- what moves while it is up, with all that is kept
