@@ -142,7 +142,7 @@ pub all_of_first : (f : Fixed) → AreFirst f → (id : ℕ) → Unit {0} → Of
 all_of_first f first id all = ap (is_part Second) (first (id * 64))
 
 pub one_part_has_blocks : (c : Configuration) (f : Fixed) → IsLegalConfig c → AreFirst f → HasBlocks c f
-one_part_has_blocks c f legal first = record { few = λ id. few_at c id legal; parts = λ id index small. first _ ∙ sym (first (id * 64)) }
+one_part_has_blocks c f legal first = record { few = λ id. few_at c id legal; first = λ id of index small. first _ }
 
 pub one_part_is_simple : (f : Fixed) → AreFirst f → ReadAtOnce f → IsSimple f
 one_part_is_simple f first reads = record { second = λ n op is. absurd (let never : First ≡ Second = sym (first n) ∙ is in cc never); reads = reads }

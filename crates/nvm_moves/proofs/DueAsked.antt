@@ -1,9 +1,8 @@
 -- What is due, while requests come beside one device.
-use Rattle.nvm_moves.proofs.Common.{IfSome, IsTrue, not, option_to_list, ◌≡◌, inl, inr, ℕ, zero, suc, ◌+◌, ◌≤◌, arith, Bool, true, false, List, [], ◌∷◌, ◌++◌, length, Option, Some, None, refl, sym, ap, ◌∙◌, subst, append_assoc, and_parts, DeviceTold, Request, Write, Reply, Accepted, Entry, Ask, Configuration, State, Job, is_pending, job_block, rank_of, status_of, reply_of, next_in, step, DeskState, state_of, HandState, IsDue, post_first, with_entries, IsOfBlock, IsDueFor, free_turns, pages_in, histories_step, asked_hand, more_due, Moment, Move, urgent_block, not_true, AreServed, IsAskedDue, IsDueWithin, list_all, Each, AreReplied, NextIsPending, entries_are_counted, next_is_waiting, accepted_are_due, many_held, many_next, accepted_of_block, jobs_below, stays_of_block, each_right, urgent_is, asked_stays, is_sized, HasBlocks, OfFirst, Part}
+use Rattle.nvm_moves.proofs.Common.{IfSome, IsTrue, not, option_to_list, ◌≡◌, inl, inr, ℕ, zero, suc, ◌+◌, ◌≤◌, arith, Bool, true, false, List, [], ◌∷◌, ◌++◌, length, Option, Some, None, refl, sym, ap, ◌∙◌, subst, append_assoc, and_parts, DeviceTold, Request, Write, Reply, Accepted, Entry, Ask, Configuration, State, Job, is_pending, job_block, rank_of, status_of, reply_of, next_in, step, DeskState, state_of, HandState, IsDue, post_first, with_entries, IsOfBlock, IsDueFor, free_turns, pages_in, histories_step, asked_hand, more_due, Moment, Move, urgent_block, not_true, AreServed, IsAskedDue, IsDueWithin, list_all, Each, AreReplied, NextIsPending, entries_are_counted, next_is_waiting, accepted_are_due, many_held, many_next, accepted_of_block, jobs_below, stays_of_block, each_right, urgent_is, asked_stays, is_sized, HasBlocks, OfFirst}
 use Rattle.nvm_moves.proofs.Served.{served_as, served_more}
 use Rattle.nvm_moves.proofs.AskedBlocks.{accepted_pending, pending_on}
 use Rattle.nvm_moves.proofs.TurnEntries.{none_more}
-use Rattle.nvm_core.specs.memif.Told.{First, Second, is_part, part_of_block}
 
 -- A DESK WITH MORE
 one_more : (desk : DeskState) (e : Entry) (es : List Entry) → with_entries (with_entries desk (e ∷ [])) es ≡ with_entries desk (e ∷ es)
@@ -81,10 +80,6 @@ standard_in c (Some j) jobs all = not_true (rank_of c j).immediate (and_parts (n
 abbrev pub IsRoomy : (free : ℕ → Type 0) → Configuration → State → DeviceTold → Type 0
 IsRoomy free c s d = s.off ≡ false → IsStandard c s → (n : ℕ) → free n → n ≤ d.ready
 
-first_is : (p : Part) → is_part Second p ≡ false → p ≡ First
-first_is First is = refl
-first_is Second is = cc is
-
 module _ (hand : Option HandState) (d : DeviceTold) (free : ℕ → Type 0) where
   -- once it is accepted it is due
   asked_due : (desk : DeskState) (caller : ℕ) (r : Request) (reply : Reply) (id : ℕ) → HasBlocks desk.config d.fixed → OfFirst d.fixed id → IsTrue (state_of desk).started → IsRoomy free desk.config (state_of desk) d → urgent_block desk.config (state_of desk) (Some (Ask caller r reply)) ≡ Some id
@@ -100,7 +95,7 @@ module _ (hand : Option HandState) (d : DeviceTold) (free : ℕ → Type 0) wher
       let due = accepted_are_due desk (with_entries desk (e ∷ [])) hand d ask.caller write refl (blocks.few id) (record {
         immediate = ask.immediate;
         alone = ask.alone;
-        of_first = λ index small. blocks.parts id index small ∙ first_is (part_of_block d.fixed id) first;
+        of_first = blocks.first id first;
         ready = roomy ask.on (standard_in c s.hand s.waiting ask.alone) (pages_in d.fixed c s id) room;
       }) in
       subst (λ (x : Entry). IsAskedDue id (pages_in d.fixed c s id + 4 + post_first hand) (with_entries desk (x ∷ [])) hand d) (sym ask.entry) (record {

@@ -1,7 +1,6 @@
 -- When urgent writes are due, between moves and behind them.
 use Rattle.std.specs.Prelude.{◌≡◌, ◌⊎◌, ◌≤◌, ◌+◌, ℕ, Bool, true, false, List, Option, Some, None}
-use Rattle.nvm_core.specs.nv_base.Marks.{number_of}
-use Rattle.nvm_core.specs.memif.Told.{DeviceTold, Fixed, Second, figures_at, part_of_block}
+use Rattle.nvm_core.specs.memif.Told.{DeviceTold, Fixed, Second}
 use Rattle.nvm_core.specs.memif.Clock.{Clock}
 use Rattle.nvm_core.specs.block_config.Sizes.{instances_of}
 use Rattle.nvm_core.specs.block_machine.Words.{Configuration}
@@ -9,7 +8,7 @@ use Rattle.nvm_core.specs.block_machine.State.{State}
 use Rattle.nvm_core.specs.block_machine.Blocks.{desc_of, is_pending, status_of}
 use Rattle.nvm_core.specs.nv_desk.Desk.{DeskState, state_of}
 use Rattle.nvm_core.specs.job_progress.Hand.{HandState}
-use Rattle.nvm_core.specs.nvm_laws.Due.{IsDue, IsDueInHand}
+use Rattle.nvm_core.specs.nvm_laws.Due.{IsDue, IsDueInHand, IsFirstBlock}
 use Rattle.nvm_core.specs.nvm_laws.Traits.{IsSealedSince}
 use Rattle.nvm_core.specs.JobNumbers.{IsOfBlock}
 use Rattle.nvm_core.specs.DueWrites.{IsDueFor, pages_in}
@@ -42,10 +41,14 @@ due_by (Some b) hand d desk one id turns = IsDueWithin hand d desk one id turns
 abbrev pub DueAt : Seen → Bool → ℕ → ℕ → Type 0
 DueAt s one id turns = due_by s.begun s.hand s.device s.desk one id turns
 
--- The numbers of a block are of one part, and a block has no more instances than numbers.
+-- a block of the first part
+abbrev pub OfFirst : Fixed → ℕ → Type 0
+OfFirst f id = is_of Second f id ≡ false
+
+-- A block has no more instances than numbers, and all numbers of a block of the first part are of it.
 pub record HasBlocks (c : Configuration) (f : Fixed) : Type 0 where
   pub few : (id : ℕ) → instances_of (desc_of c id) ≤ 64
-  pub parts : (id index : ℕ) → index ≤ 63 → (figures_at f (number_of (record { block = id; index = index }))).part ≡ part_of_block f id
+  pub first : (id : ℕ) → OfFirst f id → IsFirstBlock f id
 
 -- Behind an operation that left a switch at its seal that switch goes on.
 pub record IsServable (since : ℕ) (s : Seen) : Type 0 where
@@ -64,10 +67,6 @@ pub record AreServed (of : ℕ → Type 0) (more : ℕ) (c : Configuration) (pag
     (P Q : Bool → ℕ → ℕ → Type 0) (since : ℕ) (before : Moment) (s : State) (moves : List Move) : Type 0 where
   pub dues : (one : Bool) (id turns : ℕ) → P one id turns → IsPostedSoon (λ o n. Q o id n) one id turns before.faults moves
   pub urgent : EachMoveSince c (PostsUrgentOf of c more pages free (λ id o n. Q o id n)) since s moves
-
--- a block of the first part
-abbrev pub OfFirst : Fixed → ℕ → Type 0
-OfFirst f id = is_of Second f id ≡ false
 
 -- by what a clock tells of the operations
 abbrev pub ServesBy : (within : Bool) → Clock → (P Q : Bool → ℕ → ℕ → Type 0) → ℕ → Seen → List Move → Type 0
