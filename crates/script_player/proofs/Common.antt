@@ -74,8 +74,9 @@ pub use Rattle.std.proofs.lemmas.List.Folds.{list_all-append}
 pub use Rattle.uds_gateway.specs.block_machine.Reply.{fits, reply_of}
 pub use Rattle.uds_gateway.specs.declared.stop.ServeStop.{ServeStop}
 pub use Rattle.uds_gateway.specs.Jobs.{HasOne, HasNone, IsOwn}
-pub use Rattle.uds_gateway.specs.Turning.{Goes, is_on_way, ComesToPost, ComesToOff}
-pub use Rattle.script_player.specs.Requests.{EndsRequest, AreServedSoFar, HasServed, is_of_request, AreOfRequests, no_stores, IsServing, ServesMore, ServesNoMore, LeavesRequests, EndsJob}
+pub use Rattle.uds_gateway.specs.StackCalls.{IsRequested, IsTurned}
+pub use Rattle.uds_gateway.specs.Turning.{ComesToPost, ComesToOff}
+pub use Rattle.script_player.specs.Requests.{EndsRequest, AreServedSoFar, HasServed, is_of_request, AreOfRequests, no_stores, IsServing, ServesMore, ServesNoMore, LeavesRequests}
 pub use Rattle.uds_gateway.specs.block_machine.Sweeps.{member_job, member_request}
 pub use Rattle.uds_gateway.specs.promise_run.Completeness.{is_calm_entry}
 pub use Rattle.uds_gateway.proofs.Turning.{rose_since, same_clock, same_told, told_before, rose_before}
@@ -125,6 +126,7 @@ pub use Rattle.uds_gateway.proofs.Walks.{walks_grow}
 pub use Rattle.script_player.specs.declared.steps.StepFault.{StepFault}
 pub use Rattle.script_player.specs.declared.steps.StepFault.TheVariants.{Flash, HistoryFull, Memory}
 pub use Rattle.uds_gateway.specs.promise_blocks.OverDevice.{HasStarted}
-pub use Rattle.uds_gateway.proofs.JobTurns.{turn_goes, goes_more, on_way, turns_fall}
+pub use Rattle.uds_gateway.proofs.JobTurns.{turns_keep}
+pub use Rattle.uds_gateway.proofs.Pieces.{asked_one, has_room, requested_ready}
 pub use Rattle.uds_gateway.specs.declared.asked.AskedFault.{AskedFault}
 pub use Rattle.uds_gateway.specs.Answers.{IsWhy}

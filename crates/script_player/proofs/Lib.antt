@@ -25,5 +25,8 @@ pub mod PlainHalves
 pub mod PlainBehind
 pub mod PlainStarts
 pub mod PlainPaying
+pub mod PlainTurns
+pub mod PlainAsks
+pub mod PlainJobs
 pub mod PlannedCuts
 pub mod Fresh

@@ -1,5 +1,5 @@
 -- Requests of a UDS gateway that are made on a stack, one after another.
-use Rattle.std.specs.Prelude.{◌≡◌, ◌⊎◌, ◌≤◌, ℕ, ◌+◌, ◌*◌, not, Bool, true, false, IsTrue, List, [], ◌∷◌, ◌++◌, length, map, replicate, Result, Ok, Err}
+use Rattle.std.specs.Prelude.{◌≡◌, ◌≤◌, ℕ, ◌+◌, ◌*◌, not, Bool, true, false, IsTrue, List, [], ◌∷◌, ◌++◌, length, map, replicate, Result, Ok, Err}
 use Rattle.std.specs.List.{list_all}
 use Rattle.uds_gateway.specs.block_machine.Words.{Request, Entry, Configuration}
 use Rattle.uds_gateway.specs.block_machine.State.{State}
@@ -7,7 +7,7 @@ use Rattle.uds_gateway.specs.block_machine.Reply.{fits}
 use Rattle.uds_gateway.specs.declared.stop.ServeStop.{ServeStop}
 use Rattle.uds_gateway.specs.declared.stop.ServeStop.TheVariants.{Off, NoRoom, Memory}
 use Rattle.uds_gateway.specs.Services.{asked_by}
-use Rattle.uds_gateway.specs.Jobs.{HasNone, IsRefused, EndsPosted, EndsOff}
+use Rattle.uds_gateway.specs.Jobs.{HasNone}
 use Rattle.uds_gateway.specs.Served.{IsServedBy, AreServed, IsOffBy}
 use Rattle.uds_gateway.specs.script_walks.Words.{Step, StepKind, AskStep, Turn}
 use Rattle.uds_gateway.specs.script_walks.Walk.{joined}
@@ -54,15 +54,8 @@ pub record ServesNoMore (p q : Seen) (old mid new : StackTold) : Type 0 where
   pub cap : new.cap ≡ mid.cap
   pub counted : mid.faults ≤ new.faults
 
--- What a request of the NVRAM Manager comes to: it is refused or posted, and none is pending; or the power went off; its Ask
--- doesn't fit; or memory was wanting before it.
-abbrev pub EndsJob : Request → Seen → Seen → Result (Unit {0}) ServeStop → (old mid new : StackTold) → Type 0
-EndsJob asked p q (Ok done) old mid new = (piece : List Entry) × ServesMore p q piece old mid new × (IsRefused asked piece ⊎ EndsPosted asked piece) × HasNone (state_of new)
-EndsJob asked p q (Err Off) old mid new = (piece : List Entry) × ServesMore p q piece old mid new × EndsOff asked piece
-EndsJob asked p q (Err NoRoom) old mid new = ServesNoMore p q old mid new × IsTrue (not (fits mid.configuration mid.cap (state_of mid) 1))
-EndsJob asked p q (Err Memory) old mid new = ServesNoMore p q old mid new
-
--- so a request of the gateway, which may ask for nothing
+-- What a request of the gateway comes to: it asks for nothing, or it is refused or posted, and none is pending; or the power went off; its
+-- Ask doesn't fit; or memory was wanting before it.
 abbrev pub EndsRequest : Configuration → List ℕ → Seen → Seen → Result (Unit {0}) ServeStop → (old mid new : StackTold) → Type 0
 EndsRequest c request p q (Ok done) old mid new = (piece : List Entry) × ServesMore p q piece old mid new × IsServedBy c request piece × HasNone (state_of new)
 EndsRequest c request p q (Err Off) old mid new = (piece : List Entry) × ServesMore p q piece old mid new × IsOffBy c request piece

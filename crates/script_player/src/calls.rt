@@ -1,13 +1,10 @@
 // The calls of a stack whose application stores in memory, as a player sees them. What is told of its device behind a call is looked at there.
 ghost use Rattle.std.specs.Prelude.{◌≡◌, ◌≤◌, [], true, false, Some, IsSome, IfOk, OnOk, OnErr, length};
-ghost use Rattle.uds_gateway.specs.block_machine.Words.{Request as Asked};
 ghost use Rattle.uds_gateway.specs.block_machine.Legal.{HasStore};
 ghost use Rattle.uds_gateway.specs.block_machine.Reply.{reply_of};
 ghost use Rattle.uds_gateway.specs.memif.Told.{Part, PartTold};
 ghost use Rattle.nvm_script.specs.Rules.{sync_length_of};
-ghost use Rattle.uds_gateway.specs.Jobs.{HasOne};
-ghost use Rattle.uds_gateway.specs.Turning.{Goes};
-ghost use Rattle.script_player.specs.Told.{state_of, desk_of};
+ghost use Rattle.script_player.specs.Told.{state_of};
 ghost use Rattle.script_player.specs.Calls.{Asks, Turns, Restarts, Arms, Stores, Refuses};
 ghost use Rattle.uds_gateway.specs.nvm_moves.Moved.{MovesBy};
 ghost use Rattle.script_player.specs.Paying.{AskMoves, LastsOn, StartMoves, TurnMoves};
@@ -35,28 +32,18 @@ pub fn ask<D: MemDevice>(
     ensures keeps { (before : Part → PartTold) → kept_by D.told D.clock stack.old before → kept_by D.told D.clock stack.new before }
     ensures starts { starts_found D.told stack.old → starts_found D.told stack.new }
 {
-    let device = stack.device();
-    let _status = device.status();
-    let reply = stack.ask(alloc, caller, request)?;
-    let _behind = stack.device();
-    Ok(reply)
+    uds_gateway::ask(alloc, caller, request, stack)
 }
 
 /// One turn of the main function.
 pub fn turn<D: MemDevice>(stack: &mut Stack<D, PlainSync>) -> Turned
     requires { stack.old.ready ≡ true }
     ensures turns { Turns result (told_by D.told stack.old) (told_by D.told stack.new) }
-    ensures goes { (asked : Asked) → HasOne asked (state_of (told_by D.told stack.old)) → Goes asked result (desk_of (told_by D.told stack.old)) (desk_of (told_by D.told stack.new)) }
     ensures moved { TurnMoves (seen_by D.told D.clock stack.old) (seen_by D.told D.clock stack.new) (told_by D.told stack.old) (told_by D.told stack.new) }
     ensures keeps { (before : Part → PartTold) → kept_by D.told D.clock stack.old before → kept_by D.told D.clock stack.new before }
     ensures starts { starts_found D.told stack.old → starts_found D.told stack.new }
 {
-    let device = stack.device();
-    let _before = device.status();
-    let turned = stack.turn();
-    let behind = stack.device();
-    let _status = behind.status();
-    turned
+    uds_gateway::turn(stack)
 }
 
 /// A further start-up.

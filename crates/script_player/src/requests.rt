@@ -1,25 +1,19 @@
 // Requests of a UDS gateway, one after another on a stack.
-ghost use Rattle.std.specs.Prelude.{◌≡◌, ◌<◌, ◌≤◌, ℕ, List, [], All, true, false, length};
+ghost use Rattle.std.specs.Prelude.{◌≡◌, ◌<◌, ◌≤◌, List, [], All, true, length};
 ghost use Rattle.uds_gateway.specs.memif.Told.{Part, PartTold};
-ghost use Rattle.uds_gateway.specs.block_machine.Words.{Request as Asked};
-ghost use Rattle.uds_gateway.specs.Jobs.{HasNone, HasOne, IsOwn};
-ghost use Rattle.uds_gateway.specs.Turning.{HasJob, Goes, is_on_way};
-ghost use Rattle.uds_gateway.specs.script_walks.Words.{Step};
-ghost use Rattle.script_player.specs.Told.{state_of, desk_of};
-ghost use Rattle.script_player.specs.Kept.{IsKept, MakesTurns};
+ghost use Rattle.uds_gateway.specs.Jobs.{HasNone};
+ghost use Rattle.script_player.specs.Told.{state_of};
 ghost use Rattle.script_player.specs.Made.{IsFresh};
-ghost use Rattle.script_player.specs.Requests.{IsServing, EndsJob, EndsRequest, HasServed};
+ghost use Rattle.script_player.specs.Requests.{IsServing, EndsRequest, HasServed};
 ghost use Rattle.script_player.specs.PlainTold.{told_by};
 ghost use Rattle.script_player.specs.PlainKept.{kept_by, starts_found};
 ghost use Rattle.script_player.specs.PlainPaying.{seen_by};
 ghost use Rattle.uds_gateway.specs.ram_blocks.declared.plain_block.PlainBlock.{PlainBlock};
 ghost use Rattle.uds_gateway.specs.nvm_core.Stack.{StackState};
 
-use crate::calls::{ask, turn};
 use std::alloc::Global;
 use uds_gateway::{
-    AskFault, AskedFault, Bytes, Config, MemDevice, PlainSync, Reply, Request, ServeStop, Stack,
-    Turned, asked_by, is_on_way,
+    AskedFault, Bytes, Config, MemDevice, PlainSync, ServeStop, Stack, asked_by, make_job,
 };
 
 /// Serves requests in order on a stack behind its first start-up, of this configuration, as caller 0: each that asks for
@@ -55,7 +49,7 @@ pub fn serve_requests<D: MemDevice>(
     Ok(())
 }
 
-// One of them.
+// One of them: its job, where it asks for something.
 fn serve_request<D: MemDevice>(
     alloc: Global,
     config: &Config,
@@ -71,53 +65,11 @@ fn serve_request<D: MemDevice>(
     ensures starts { starts_found D.told stack.old → starts_found D.told stack.new }
 {
     match asked_by(alloc, config, request) {
-        Ok(asked) => serve_job(alloc, asked, stack),
+        Ok(asked) => match make_job(alloc, asked, stack) {
+            Ok(_reply) => Ok(()),
+            Err(stop) => Err(stop),
+        },
         Err(AskedFault::Refused(_code)) => Ok(()),
         Err(AskedFault::Memory) => Err(ServeStop::Memory),
     }
-}
-
-// Asks, and makes turns to the Post.
-fn serve_job<D: MemDevice>(
-    alloc: Global,
-    asked: Request,
-    stack: &mut Stack<D, PlainSync>,
-) -> Result<(), ServeStop>
-    requires own { IsOwn asked }
-    requires ready { stack.old.ready ≡ true }
-    requires none { HasNone (state_of (told_by D.told stack.old)) }
-    ensures ends { (first : StackState D (List PlainBlock)) → IsServing (seen_by D.told D.clock first) (seen_by D.told D.clock stack.old) (told_by D.told first) (told_by D.told stack.old)
-        → EndsJob asked (seen_by D.told D.clock first) (seen_by D.told D.clock stack.new) result (told_by D.told first) (told_by D.told stack.old) (told_by D.told stack.new) }
-    ensures keeps { (before : Part → PartTold) → kept_by D.told D.clock stack.old before → kept_by D.told D.clock stack.new before }
-    ensures starts { starts_found D.told stack.old → starts_found D.told stack.new }
-{
-    match ask(alloc, 0, asked, stack) {
-        Ok(reply) => match reply {
-            Reply::Accepted => match turns_to_post(stack) {
-                Turned::Posted => Ok(()),
-                _ => Err(ServeStop::Off),
-            },
-            _ => Ok(()),
-        },
-        Err(AskFault::NoRoom) => Err(ServeStop::NoRoom),
-        Err(AskFault::Memory) => Err(ServeStop::Memory),
-    }
-}
-
-// Makes turns until the one job that is pending is posted, or the power is off.
-fn turns_to_post<D: MemDevice>(stack: &mut Stack<D, PlainSync>) -> Turned
-    requires ready { stack.old.ready ≡ true }
-    requires job { HasJob (state_of (told_by D.told stack.old)) }
-    ensures turns { (before : List Step) → IsKept before (told_by D.told stack.old)
-        → (n : ℕ) × (1 ≤ n) × MakesTurns (seen_by D.told D.clock stack.old) (seen_by D.told D.clock stack.new) n before (told_by D.told stack.old) (told_by D.told stack.new) × IsKept before (told_by D.told stack.new) }
-    ensures goes { (asked : Asked) → HasOne asked (state_of (told_by D.told stack.old)) → Goes asked result (desk_of (told_by D.told stack.old)) (desk_of (told_by D.told stack.new)) }
-    ensures ends { is_on_way result ≡ false }
-    ensures keeps { (before : Part → PartTold) → kept_by D.told D.clock stack.old before → kept_by D.told D.clock stack.new before }
-    ensures starts { starts_found D.told stack.old → starts_found D.told stack.new }
-{
-    let mut turned = turn(stack);
-    while is_on_way(turned) {
-        turned = turn(stack);
-    }
-    turned
 }

@@ -1,7 +1,7 @@
 -- A turn, while one job is pending.
 use Rattle.std.specs.Prelude.{IsTrue, ◌&&◌, ◌+◌, if◌then◌else◌}
 use Rattle.std.specs.List.{list_all}
-use Rattle.std.proofs.Common.{◌≡◌, ◌<◌, ℕ, Bool, true, false, List, [], ◌∷◌, ◌++◌, Option, Some, None, refl, sym, ap, ◌∙◌, subst, inl, inr, arith, append-nil}
+use Rattle.std.proofs.Common.{◌≡◌, ◌<◌, ℕ, zero, suc, Bool, true, false, List, [], ◌∷◌, ◌++◌, Option, Some, None, refl, sym, ap, ◌∙◌, subst, inl, inr, arith, append-nil}
 use Rattle.std.proofs.lemmas.Bool.{and_parts}
 use Rattle.std.proofs.lemmas.List.{append_assoc}
 use Rattle.nvm_moves.specs.memif.Told.{DeviceTold, Stand, Open, Ended, ops_of, nothing_open}
@@ -26,7 +26,9 @@ use Rattle.nvm_moves.specs.nvm_laws.declared.turned.Turned.{Turned}
 use Rattle.nvm_moves.specs.nvm_laws.declared.turned.Turned.TheVariants as turned
 use Rattle.nvm_moves.specs.nvm_laws.declared.turned.Act.TheVariants as act
 use Rattle.nvm_moves.proofs.HistoryLaws.{histories_step}
+use Rattle.nvm_moves.proofs.StackMoves.{turned_ready}
 use Rattle.uds_gateway.specs.Jobs.{HasNone, HasOne, is_under_way}
+use Rattle.uds_gateway.specs.StackCalls.{IsTurned, MakesTurns}
 use Rattle.uds_gateway.specs.Turning.{GoesOn, ComesTo, ComesToPost, Goes, is_on_way}
 use Rattle.uds_gateway.proofs.Jobs.{next_waiting, picks_one, writes_one, posts_none, never_rests}
 
@@ -143,10 +145,18 @@ module _ {D C : Type 0} (told : D → DeviceTold) (clock : D → Clock) (copies 
       by turned.Picked same at turns adds = absurd turns
       by turned.Posted same at turns adds = absurd turns
 
-  pub turn_goes : (answer : Turned) → PowersOff new.desk (told new.device) → Turns told clock copies is_store looked answer old new → Goes asked answer old.desk new.desk
-  turn_goes answer power turns = elim turns [ inl half ↦ first answer power half | inr more ↦ second answer more.0 more.1 more.2 ]
+-- ONE TURN
+module _ {D C : Type 0} (told : D → DeviceTold) (clock : D → Clock) (copies : C → List Told) (is_store : C → ℕ → ℕ → List ℕ → Type 0) (looked : C → C → ℕ → ℕ → Type 0) (answer : Turned) (old new : StackState D C) (is : IsTurned told clock copies is_store looked answer old new) where
+  pub turn_goes : (asked : Request) → HasOne asked (state_of old.desk) → Goes asked answer old.desk new.desk
+  turn_goes asked one = elim is.turns [
+    | inl half ↦ first told clock copies is_store looked old new asked one answer is.power_behind half
+    | inr more ↦ second told clock copies is_store looked old new asked one answer more.0 more.1 more.2
+  ]
 
--- THE WORK
+  -- it stays up
+  pub turn_ready : new.ready ≡ true
+  turn_ready = turned_ready told clock copies is_store looked answer old new is.turns ∙ is.ready
+
 -- nothing works while the job isn't in hand
 works_in_hand : {D C : Type 0} (told : D → DeviceTold) (clock : D → Clock) (copies : C → List Told) (is_store : C → ℕ → ℕ → List ℕ → Type 0) (looked : C → C → ℕ → ℕ → Type 0) (old new : StackState D C) (asked : Request)
     → HasOne asked (state_of old.desk) → Turns told clock copies is_store looked turned.Worked old new → (state_of old.desk).hand ≡ None → ⊥
@@ -155,14 +165,13 @@ works_in_hand told clock copies is_store looked old new asked one turns none = e
   | inr more ↦ never_rests old.desk.config (state_of old.desk) asked one none (more.1.half.3 none)
 ]
 
-pub turn_lowers : {D C : Type 0} (told : D → DeviceTold) (clock : D → Clock) (copies : C → List Told) (is_store : C → ℕ → ℕ → List ℕ → Type 0) (looked : C → C → ℕ → ℕ → Type 0) (old new : StackState D C) (asked : Request) (answer : Turned)
-    → HasOne asked (state_of old.desk) → PowersOff new.desk (told new.device) → Turns told clock copies is_store looked answer old new → work.Lowers told answer old new → is_on_way answer ≡ true
-    → work.work_of told new < work.work_of told old
-turn_lowers told clock copies is_store looked old new asked turned.Idle one power turns lowers way = absurd (turn_goes told clock copies is_store looked old new asked one turned.Idle power turns)
-turn_lowers told clock copies is_store looked old new asked turned.Worked one power turns lowers way = elim lowers [ inl less ↦ less | inr free ↦ absurd (works_in_hand told clock copies is_store looked old new asked one turns free.0) ]
-turn_lowers told clock copies is_store looked old new asked turned.Picked one power turns lowers way = lowers
-turn_lowers told clock copies is_store looked old new asked turned.Posted one power turns lowers way = absurd (cc way)
-turn_lowers told clock copies is_store looked old new asked turned.Off one power turns lowers way = absurd (cc way)
+-- the work falls until the Post
+pub turn_lowers : {D C : Type 0} (told : D → DeviceTold) (clock : D → Clock) (copies : C → List Told) (is_store : C → ℕ → ℕ → List ℕ → Type 0) (looked : C → C → ℕ → ℕ → Type 0) (answer : Turned) (old new : StackState D C) → IsTurned told clock copies is_store looked answer old new
+    → (asked : Request) → HasOne asked (state_of old.desk) → is_on_way answer ≡ true → work.work_of told new < work.work_of told old
+turn_lowers told clock copies is_store looked turned.Idle old new is asked one way = absurd (turn_goes told clock copies is_store looked turned.Idle old new is asked one)
+turn_lowers told clock copies is_store looked turned.Worked old new is asked one way = elim is.lowers [ inl less ↦ less | inr free ↦ absurd (works_in_hand told clock copies is_store looked old new asked one is.turns free.0) ]
+turn_lowers told clock copies is_store looked turned.Picked old new is asked one way = is.lowers
+turn_lowers told clock copies is_store looked answer old new is asked one way = absurd (cc way)
 
 -- MORE TURNS
 under_more : (xs ys : List Entry) → IsTrue (list_all is_under_way xs) → IsTrue (list_all is_under_way ys) → IsTrue (list_all is_under_way (xs ++ ys))
@@ -199,13 +208,14 @@ on_way asked turned.Picked old new is goes = goes
 on_way asked turned.Posted old new is goes = absurd (cc is)
 on_way asked turned.Off old new is goes = absurd (cc is)
 
--- it stays up
-pub turn_ready : {D C : Type 0} (told : D → DeviceTold) (clock : D → Clock) (copies : C → List Told) (is_store : C → ℕ → ℕ → List ℕ → Type 0) (looked : C → C → ℕ → ℕ → Type 0) (old new : StackState D C) (answer : Turned)
-    → Turns told clock copies is_store looked answer old new → old.ready ≡ true → new.ready ≡ true
-turn_ready told clock copies is_store looked old new answer turns ready = elim turns [ inl half ↦ half.ready ∙ ready | inr more ↦ more.2.ready ∙ more.1.ready ∙ ready ]
-
 -- by what the turns go down: the work, until they end
 pub turns_fall : (a b : Bool) (old new : ℕ) → a ≡ true → (b ≡ true → new < old) → (if b then new + 1 else 0) < (if a then old + 1 else 0)
 turns_fall true true old new is less = let l = less refl in omega (arith, l)
 turns_fall true false old new is less = omega arith
 turns_fall false b old new is less = absurd (cc is)
+
+-- what each turn keeps all of them keep
+pub turns_keep : {D C : Type 0} (told : D → DeviceTold) (clock : D → Clock) (copies : C → List Told) (is_store : C → ℕ → ℕ → List ℕ → Type 0) (looked : C → C → ℕ → ℕ → Type 0) (P : StackState D C → Type 0)
+    → ((answer : Turned) (s t : StackState D C) → IsTurned told clock copies is_store looked answer s t → P s → P t) → (n : ℕ) (old new : StackState D C) → MakesTurns told clock copies is_store looked n old new → P old → P new
+turns_keep told clock copies is_store looked P each zero old new same kept = subst P (sym same) kept
+turns_keep told clock copies is_store looked P each (suc n) old new (between, made, (answer, is)) kept = each answer between new is (turns_keep told clock copies is_store looked P each n old between made kept)

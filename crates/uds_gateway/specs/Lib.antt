@@ -2,6 +2,7 @@ pub mod Services
 pub mod Answers
 pub mod Jobs
 pub mod Turning
+pub mod StackCalls
 pub mod Serving
 pub mod Served
 pub mod Codes

@@ -1,5 +1,5 @@
 -- What `serve` adds to the history, and what it answers.
-use Rattle.std.specs.Prelude.{◌≡◌, ◌⊎◌, ◌<◌, ◌+◌, Bool, true, false, ℕ, List, [], ◌++◌, length, unwrap_or, IfOk, Some, Result, Ok, Err}
+use Rattle.std.specs.Prelude.{◌≡◌, ◌⊎◌, ◌<◌, Bool, true, false, ℕ, List, [], ◌++◌, length, unwrap_or, IfOk, Some, Result, Ok, Err}
 use Rattle.nvm_moves.specs.block_machine.Words.{Request, Entry, Configuration}
 use Rattle.nvm_moves.specs.block_machine.Blocks.{desc_of, asked_block}
 use Rattle.nvm_moves.specs.block_machine.Reply.{fits}
@@ -8,9 +8,8 @@ use Rattle.uds_gateway.specs.declared.code.NegativeCode.{NegativeCode}
 use Rattle.uds_gateway.specs.declared.stop.ServeStop.{ServeStop}
 use Rattle.uds_gateway.specs.declared.stop.ServeStop.TheVariants.{Off, NoRoom, Memory}
 use Rattle.uds_gateway.specs.Services.{asked_by}
-use Rattle.uds_gateway.specs.Answers.{posted_answer, answer_by}
+use Rattle.uds_gateway.specs.Answers.{answer_by}
 use Rattle.uds_gateway.specs.Jobs.{IsRefused, EndsPosted, EndsOff}
-use Rattle.uds_gateway.specs.Turning.{ComesToPost, ComesToOff}
 
 -- its Post gave more than the block's length, as none of a legal history does
 abbrev pub GivesTooMuch : Configuration → Request → List Entry → Type 0
@@ -37,11 +36,3 @@ pub record ServesBy (c : Configuration) (request : List ℕ) (asked : Result Req
 -- that is `uds` of them
 abbrev pub Serves : Configuration → List ℕ → Result (List ℕ) ServeStop → DeskState → DeskState → Type 0
 Serves c request = ServesBy c request (asked_by c request)
-
--- BEHIND THE ASK
--- the job comes to its Post, and is answered by it, but where it gave more than there is room for; or the power goes off
-abbrev pub Finishes : Request → List ℕ → (room : ℕ) → Result (List ℕ) ServeStop → DeskState → DeskState → Type 0
-Finishes asked request room (Ok answer) old new = (p : ComesToPost asked old new) × (answer ≡ posted_answer request p.result p.given)
-Finishes asked request room (Err Off) old new = ComesToOff old new
-Finishes asked request room (Err NoRoom) old new = ⊥
-Finishes asked request room (Err Memory) old new = (p : ComesToPost asked old new) × (room < length (unwrap_or p.given []) + 3)

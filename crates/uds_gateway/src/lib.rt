@@ -9,6 +9,7 @@ mod asked;
 mod cases;
 mod code;
 mod decided;
+mod job;
 mod laws;
 mod serving;
 mod stop;
@@ -18,6 +19,7 @@ pub use asked::{AskedFault, asked_by, length_of};
 pub use cases::{answers_by_the_table, answers_wait_for_the_post, requests_ask_for_jobs};
 pub use code::NegativeCode;
 pub use decided::piece_answer;
+pub use job::{ask, make_job};
 pub use laws::{codes_come_by_their_cases, failures_have_causes};
 pub use nvm_moves::{
     AskFault, Bytes, Config, FoundAnswer, LentRequest, MemDevice, PlainSync, Reply, Request,
@@ -25,4 +27,4 @@ pub use nvm_moves::{
 };
 pub use serving::serve;
 pub use stop::ServeStop;
-pub use turning::is_on_way;
+pub use turning::turn;

@@ -4,17 +4,13 @@ ghost use Rattle.nvm_moves.specs.block_machine.Words.{Entry as Line, Post, ReqRe
 ghost use Rattle.nvm_moves.specs.block_machine.Blocks.{desc_of, asked_block as block_of_request};
 ghost use Rattle.nvm_moves.specs.nv_desk.Desk.{state_of};
 ghost use Rattle.uds_gateway.specs.Answers.{posted_answer as answer_of, negative as negative_of};
-ghost use Rattle.uds_gateway.specs.Jobs.{HasNone, HasOne, IsOwn};
-ghost use Rattle.uds_gateway.specs.Turning.{HasJob};
-ghost use Rattle.uds_gateway.specs.Serving.{Serves, ServesBy, Finishes};
+ghost use Rattle.uds_gateway.specs.Jobs.{HasNone, IsOwn};
+ghost use Rattle.uds_gateway.specs.Serving.{Serves, ServesBy};
 
 use crate::answer::{answer_room, negative, posted_answer};
-use crate::turning::turns_to_post;
+use crate::job::make_job;
 use crate::{AskedFault, NegativeCode, ServeStop, asked_by, length_of};
-use nvm_moves::{
-    AskFault, Bytes, Config, Entry, Event, Last, MemDevice, Reply, Request, Stack, SyncCalls,
-    Turned,
-};
+use nvm_moves::{Bytes, Config, Entry, Event, Last, MemDevice, Reply, Request, Stack, SyncCalls};
 use std::alloc::Global;
 
 /// The answer of a request, which isn't empty, over a stack of this configuration that is up and has no job pending. A request that
@@ -52,7 +48,7 @@ fn refuse(alloc: Global, request: &[u8], code: NegativeCode) -> Result<Bytes, Se
     Ok(negative(room, request, code))
 }
 
-// Asks, and goes on to the Post.
+// Makes the job, and answers by its Post.
 fn ask<D: MemDevice, C: SyncCalls + Drop>(
     alloc: Global,
     config: &Config,
@@ -70,10 +66,12 @@ fn ask<D: MemDevice, C: SyncCalls + Drop>(
     ensures none { OnOk result (HasNone (state_of stack.new.desk)) }
 {
     let room = answer_room(alloc, length_of(config, asked_block(&asked)))?;
-    match stack.ask(alloc, 0, asked) {
-        Ok(reply) => answer_to(stack, room, request, reply),
-        Err(AskFault::NoRoom) => Err(ServeStop::NoRoom),
-        Err(AskFault::Memory) => Err(ServeStop::Memory),
+    match make_job(alloc, asked, stack) {
+        Ok(reply) => match reply {
+            Reply::Accepted => last_answer(stack, room, request),
+            _ => Ok(negative(room, request, NegativeCode::ConditionsNotCorrect)),
+        },
+        Err(stop) => Err(stop),
     }
 }
 
@@ -84,31 +82,6 @@ fn asked_block(asked: &Request) -> u16
     match asked {
         Request::Read { block, .. } | Request::Write { block, .. } => *block,
         _ => 0,
-    }
-}
-
-// Where the Ask was accepted, makes turns to the Post of its job, which is pending, and answers by it.
-fn answer_to<D: MemDevice, C: SyncCalls + Drop>(
-    stack: &mut Stack<D, C>,
-    room: Vec<u8>,
-    request: &[u8],
-    reply: Reply,
-) -> Result<Bytes, ServeStop>
-    requires long { 3 ≤ length request.now }
-    requires empty { room.items ≡ [] }
-    requires room { 3 ≤ vec_capacity room }
-    requires ready { stack.old.ready ≡ true }
-    requires job { reply ≡ Reply.Accepted → HasJob (state_of stack.old.desk) }
-    ensures accepted { reply ≡ Reply.Accepted → (asked : Asked) → HasOne asked (state_of stack.old.desk) → Finishes asked request.now (vec_capacity room) result stack.old.desk stack.new.desk }
-    ensures refused { reply ≢ Reply.Accepted → (result ≡ Ok (negative_of request.now NegativeCode.ConditionsNotCorrect)) × (stack.new.desk ≡ stack.old.desk) }
-    ensures ready { stack.new.ready ≡ true }
-{
-    match reply {
-        Reply::Accepted => match turns_to_post(stack) {
-            Turned::Posted => last_answer(stack, room, request),
-            _ => Err(ServeStop::Off),
-        },
-        _ => Ok(negative(room, request, NegativeCode::ConditionsNotCorrect)),
     }
 }
 

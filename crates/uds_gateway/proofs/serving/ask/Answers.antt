@@ -1,22 +1,36 @@
 use Rattle.std.specs.Prelude.{vec_capacity}
-use Rattle.std.proofs.Common.{◌≤◌, ◌+◌, ℕ, ap, ◌∙◌, subst}
+use Rattle.std.proofs.Common.{◌≤◌, ◌+◌, ℕ, List, Result, Ok, sym, ap, ◌∙◌, subst}
+use Rattle.nvm_moves.specs.block_machine.Words.{Reply}
 use Rattle.nvm_moves.specs.block_machine.Blocks.{desc_of}
-use Rattle.nvm_moves.specs.block_machine.Reply.{fits}
-use Rattle.nvm_moves.specs.nv_desk.Desk.{state_of}
-use Rattle.nvm_moves.specs.nvm_core.Stack.{StackState}
-use Rattle.uds_gateway.proofs.Pieces.{asked_one, asked_serves, has_room}
+use Rattle.uds_gateway.specs.declared.stop.ServeStop.{ServeStop}
+use Rattle.uds_gateway.specs.Serving.{ServesBy}
+use Rattle.uds_gateway.specs.StackCalls.{MakesJob}
+use Rattle.uds_gateway.proofs.Pieces.{job_answered, job_refused, job_stopped}
 use Rattle.uds_gateway.proofs.serving.ask.Goals as goal
 
-pub answer_to-requires-clause-job : goal.answer_to-requires-clause-job
-answer_to-requires-clause-job g c is = (c.args.asked, asked_one c.args.stack.now c.ask.new.self c.args.asked c.in-Ok.reply c.requires.own c.requires.none c.in-Ok.ensures.reply c.in-Ok.ensures.ok is)
-
-pub returns-in-Ok : goal.returns-in-Ok
-returns-in-Ok g c =
+pub returns-in-Accepted : goal.returns-in-Accepted
+returns-in-Accepted g c =
+    let made = subst (λ (r : Result Reply ServeStop). MakesJob g.D.MemDevice.told g.D.MemDevice.clock g.C.SyncCalls.told g.C.SyncCalls.is_store g.C.SyncCalls.looked c.args.asked r c.args.stack.now c.make_job.new.stack) (c.in-Ok.is ∙ ap Ok c.in-Accepted.is) c.make_job.ensures.job in
     let (serves, none) =
-    asked_serves c.args.config.now c.args.request.now c.args.asked (vec_capacity c.in_ok-room.room) c.args.stack.now.desk c.ask.new.self.desk c.answer_to.new.stack.desk c.in-Ok.reply c.answer_to.result
-    c.requires.own c.requires.none c.in-Ok.ensures.reply (ap (λ (s : StackState g.row.D.Denot g.row.C.Denot). s.desk) c.in-Ok.ensures.ok) c.requires.configuration
-    (has_room c.ask.result c.in-Ok.reply (fits c.args.stack.now.desk.config c.args.stack.now.desk.cap (state_of c.args.stack.now.desk) 1) c.in-Ok.is c.ask.ensures.no_room)
+    job_answered g.D.MemDevice.told g.D.MemDevice.clock g.C.SyncCalls.told g.C.SyncCalls.is_store g.C.SyncCalls.looked c.args.config.now c.args.request.now c.args.asked c.args.stack.now c.make_job.new.stack c.requires.configuration
+    (vec_capacity c.in_ok-room.room) c.last_answer.result
     (subst (λ (n : ℕ). n + 3 ≤ vec_capacity c.in_ok-room.room) (c.length_of.ensures.length ∙ ap (λ (b : ℕ). (desc_of c.args.config.now b).length) (c.asked_block.ensures c.requires.own)) c.in_ok-room.ensures.room)
-    (asked_one c.args.stack.now c.ask.new.self c.args.asked c.in-Ok.reply c.requires.own c.requires.none c.in-Ok.ensures.reply c.in-Ok.ensures.ok)
-    c.answer_to.ensures.accepted c.answer_to.ensures.refused in
-    record { serves = serves; ready = c.answer_to.ensures.ready; none = none }
+    made c.last_answer.ensures.ok c.last_answer.ensures.err in
+    record { serves = serves; ready = c.make_job.ensures.ready; none = none }
+
+pub returns-in_default : goal.returns-in_default
+returns-in_default g c =
+    let made = subst (λ (r : Result Reply ServeStop). MakesJob g.D.MemDevice.told g.D.MemDevice.clock g.C.SyncCalls.told g.C.SyncCalls.is_store g.C.SyncCalls.looked c.args.asked r c.args.stack.now c.make_job.new.stack) c.in-Ok.is c.make_job.ensures.job in
+    let (serves, none) =
+    job_refused g.D.MemDevice.told g.D.MemDevice.clock g.C.SyncCalls.told g.C.SyncCalls.is_store g.C.SyncCalls.looked c.args.config.now c.args.request.now c.args.asked c.args.stack.now c.make_job.new.stack c.requires.configuration
+    c.in-Ok.reply c.in_default.not-Accepted c.requires.own c.requires.none made in
+    record { serves = subst (λ (a : List ℕ). ServesBy c.args.config.now c.args.request.now (Ok c.args.asked) (Ok a) c.args.stack.now.desk c.make_job.new.stack.desk) (sym c.negative.ensures) serves; ready = c.make_job.ensures.ready; none = none }
+
+pub returns-in-Err : goal.returns-in-Err
+returns-in-Err g c =
+    let made = subst (λ (r : Result Reply ServeStop). MakesJob g.D.MemDevice.told g.D.MemDevice.clock g.C.SyncCalls.told g.C.SyncCalls.is_store g.C.SyncCalls.looked c.args.asked r c.args.stack.now c.make_job.new.stack) c.in-Err.is c.make_job.ensures.job in
+    record {
+      serves = job_stopped g.D.MemDevice.told g.D.MemDevice.clock g.C.SyncCalls.told g.C.SyncCalls.is_store g.C.SyncCalls.looked c.args.config.now c.args.request.now c.args.asked c.args.stack.now c.make_job.new.stack c.requires.configuration c.in-Err.stop made;
+      ready = c.make_job.ensures.ready;
+      none = tt;
+    }
