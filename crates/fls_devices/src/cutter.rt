@@ -5,7 +5,7 @@ ghost use Rattle.fls_devices.specs.Cutter.{due, plan_after};
 use crate::journal::Journal;
 use crate::overlay::Overlay;
 use crate::part::Harm;
-use fls_model::{AttachFault, Flash, FlashAnswer};
+use fls_model::{AttachFault, Flash, FlashAnswer, SizedFlash};
 use nv_base::{Geometry, Plan};
 use std::alloc::{AllocFailed, Global};
 use std::marker::Model;
@@ -174,5 +174,21 @@ impl<F: Flash> Flash for Cutter<F> {
             Some(keep) => self.flash.harm_erase(Harm::Cut, keep, sector),
             None => self.flash.erase(sector),
         }
+    }
+}
+
+impl<F: SizedFlash> SizedFlash for Cutter<F> {
+    ghost use Rattle.std.specs.Prelude.{◌≡◌};
+    ghost use Rattle.nv_base.specs.Geometry.{IsLegal};
+    ghost use Rattle.fls_model.specs.Size.{IsLook};
+    ghost use Rattle.fls_devices.specs.Cutter.{told_cutting};
+
+    fn size(&mut self, geometry: Geometry) -> Result<u64, AttachFault>
+        requires { IsLegal geometry }
+        ensures look { IsLook (told_cutting self.old) result (told_cutting self.new) }
+        ensures inner { IsLook self.old.flash.inner result self.new.flash.inner }
+        ensures same { self.new ≡ record self.old { flash = record self.old.flash { inner = record self.old.flash.inner { faults = self.new.flash.inner.faults } } } }
+    {
+        self.flash.size(geometry)
     }
 }

@@ -6,7 +6,7 @@ ghost use Rattle.fls_devices.specs.FaultScript.{kept_of, without};
 use crate::journal::Journal;
 use crate::overlay::Overlay;
 use crate::part::Harm;
-use fls_model::{AttachFault, Flash, FlashAnswer};
+use fls_model::{AttachFault, Flash, FlashAnswer, SizedFlash};
 use nv_base::Geometry;
 use std::alloc::{AllocError, AllocFailed, Global};
 use std::marker::Model;
@@ -182,5 +182,21 @@ impl<F: Flash> Flash for FaultScript<F> {
             Some(keep) => self.flash.harm_erase(Harm::Fault, keep, sector),
             None => self.flash.erase(sector),
         }
+    }
+}
+
+impl<F: SizedFlash> SizedFlash for FaultScript<F> {
+    ghost use Rattle.std.specs.Prelude.{◌≡◌};
+    ghost use Rattle.nv_base.specs.Geometry.{IsLegal};
+    ghost use Rattle.fls_model.specs.Size.{IsLook};
+    ghost use Rattle.fls_devices.specs.FaultScript.{told_scripted};
+
+    fn size(&mut self, geometry: Geometry) -> Result<u64, AttachFault>
+        requires { IsLegal geometry }
+        ensures look { IsLook (told_scripted self.old) result (told_scripted self.new) }
+        ensures inner { IsLook self.old.flash.inner result self.new.flash.inner }
+        ensures same { self.new ≡ record self.old { flash = record self.old.flash { inner = record self.old.flash.inner { faults = self.new.flash.inner.faults } } } }
+    {
+        self.flash.size(geometry)
     }
 }

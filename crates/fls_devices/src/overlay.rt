@@ -8,12 +8,13 @@ ghost use Rattle.nv_base.specs.Plan.{Planning};
 ghost use Rattle.fls_model.specs.Step.{CountsUnplanned, programs, erases};
 ghost use Rattle.fls_model.specs.Read.{IsRead};
 ghost use Rattle.fls_model.specs.Attach.{IsAttach};
+ghost use Rattle.fls_model.specs.Size.{IsLook};
 ghost use Rattle.fls_model.specs.Call.{op_of};
 ghost use Rattle.fls_devices.specs.Overlay.{told_over, overlaid, IsOverlaid, IsPassed, IsWithheld, IsHarmed, IsAskedOver, JournalAfter, PlanningAfter};
 
 use crate::journal::Journal;
 use crate::part::{Harm, count_cut, count_fault, harmed_answer, is_off, kept_part};
-use fls_model::{AttachFault, Call, Flash, FlashAnswer, program_call};
+use fls_model::{AttachFault, Call, Flash, FlashAnswer, SizedFlash, program_call};
 use nv_base::Geometry;
 use std::alloc::Global;
 use std::marker::Model;
@@ -214,5 +215,16 @@ impl<F: Flash> Overlay<F> {
         self.faults = count_fault(harm, self.faults);
         self.off = is_off(answer);
         answer
+    }
+}
+
+impl<F: SizedFlash> Overlay<F> {
+    pub fn size(&mut self, geometry: Geometry) -> Result<u64, AttachFault>
+        requires { IsLegal geometry }
+        ensures look { (p : Planning) → IsLook (told_over p self.old) result (told_over p self.new) }
+        ensures inner { IsLook self.old.inner result self.new.inner }
+        ensures same { self.new ≡ record self.old { inner = record self.old.inner { faults = self.new.inner.faults } } }
+    {
+        self.inner.size(geometry)
     }
 }
