@@ -1,10 +1,11 @@
 // The device is made.
 ghost use Rattle.std.specs.Prelude.{◌≡◌, true, IfErr, IfOk};
-ghost use Rattle.memif_pair.specs.nv_base.Geometry.{HasBanks, IsLegal};
+ghost use Rattle.memif_pair.specs.nv_base.Geometry.{HasBanks, IsLegal, sectors_of_bank};
 ghost use Rattle.memif_pair.specs.Pair.{merged};
 ghost use Rattle.memif_pair.specs.Both.{first_both, told_as};
 ghost use Rattle.fee_core.specs.fee_switch_laws.Space.{HasSpace};
 ghost use Rattle.fee_core.specs.fee_told.Device.{told_of};
+ghost use Rattle.fee_core.specs.fee_told.Figures.{fixed_for};
 ghost use Rattle.ea_slots.specs.ea_told.Making.{HasSlots};
 ghost use Rattle.ea_slots.specs.Whole.{told_in};
 ghost use Rattle.memif_fee_ea.specs.Made.{AreMade, AreParts, IsMadeOf, IsRefused};
@@ -76,6 +77,7 @@ pub fn make<F: Flash, O: fee_core::Origin, G: Flash, P: ea_slots::Origin>(
     requires apart { are_apart numbers.now second.now ≡ true }
     ensures made { IfOk result (λ d. IsMadeOf O.making O.entry P.making d) }
     ensures numbers { IfOk result (λ d. (told_as told_of told_in d).fixed.numbers ≡ merged numbers.now second.now) }
+    ensures figures { IfOk result (λ d. (told_of d.first).fixed ≡ fixed_for shapes.flash.page (sectors_of_bank shapes.flash shapes.banks) numbers.now shapes.reserve) }
     ensures parts { IfOk result (λ d. AreParts O.entry P.entry (told_as told_of told_in d)) }
     ensures refused { IfErr result (λ e. IsRefused shapes.flash shapes.eeprom e.0.part e.0.fault (F.told flash) (F.told e.1) (G.told eeprom) (G.told e.2)) }
 {
