@@ -1,4 +1,5 @@
-// A memory device.
+// A memory device: its calls with their contracts. Who does what they say: PlainStore here (plain_store.rt), and the rooms whose device it is,
+// each in its device.rt.
 ghost use Rattle.std.specs.Prelude.{◌≡◌, ℕ, length, None, Some, false, true};
 ghost use Rattle.nv_base.specs.declared.mark.Mark.TheVariants as mark;
 ghost use Rattle.memif.specs.Told.{DeviceTold, given_by, IsConfigured, figures_at, most_of, status_of, result_of, ops_of, faults_of, is_open, is_urgent};
