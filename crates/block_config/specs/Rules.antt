@@ -1,5 +1,6 @@
 -- The rules of a configuration, by their numbers, as facts on its numbers and blocks. The rules on the text that it is
--- read from stand in Reading (1, 23, 24 and 29), Head (2 to 10), Item (11 to 22 and 25) and Second (26 to 28).
+-- read from stand in Reading (1, 23, 24 and 29), Head (2 to 10), Item (11 to 22 and 25) and Second (26 to 28). In which order they are tested,
+-- and which one is told, says Reading.
 use Rattle.std.specs.Prelude.{◌≡◌, ℕ, ◌≤◌, Bool, false, List, [], ◌∷◌, length, Option, Some, None, is_none, IfSome, All}
 use Rattle.nv_base.specs.Geometry.{IsLegal, HasBanks}
 use Rattle.block_config.specs.Banks.{bank_pages_of}
