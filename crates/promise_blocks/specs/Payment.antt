@@ -1,4 +1,4 @@
--- What pays for the failures of a history.
+-- What pays for the failures of a history, of all blocks or of some. OverDevice says it of each part of a device by itself (`paid`).
 use Rattle.std.specs.Prelude.{◌≡◌, ◌⊎◌, ◌≤◌, ◌-◌, ℕ, Bool, true, if◌then◌else◌, List, [], ◌∷◌, unwrap_or, Contains, IsSome, Some}
 use Rattle.block_machine.specs.nv_base.Count.{WereCounted}
 use Rattle.block_machine.specs.nv_base.Marks.{number_of}
