@@ -1,4 +1,4 @@
--- An append on a bank's pages, and what is left of it.
+-- An append on a bank's pages, and what is left of it. Which record an append begins, with which count, says Log of fee_log (`head_next`).
 use Rattle.std.specs.Prelude.{◌≡◌, ◌⊎◌, ◌<◌, ◌≤◌, ◌+◌, ◌++◌, ◌∷◌, [], if◌then◌else◌, ℕ, IsTrue, List, true, length, Some}
 use Rattle.fee_format.specs.declared.rec_head.RecHead.{RecHead}
 use Rattle.fee_format.specs.Formats.{new_format}
