@@ -1,4 +1,4 @@
--- What the driver's entries say of the job in hand.
+-- What the driver's entries say of the job in hand. What the entry of a start-up asks for says `Desk::start_up` (src/start.rt).
 use Rattle.std.specs.Prelude.{◌≡◌, ℕ, List, length, unwrap_or, IsSome, IfSome, Option}
 use Rattle.std.specs.Option.{option_and_then, option_map_or}
 use Rattle.block_machine.specs.Words.{Mark, Erased, Entry}

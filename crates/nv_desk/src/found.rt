@@ -1,4 +1,4 @@
-// What a start-up found, in what is kept.
+// What a start-up found, in what is kept. The start-up itself, and what it asks of the marks, stands in start.rt.
 ghost use Rattle.std.specs.Prelude.{◌≡◌, ◌<◌, ◌+◌, [], length, take};
 ghost use Rattle.block_machine.specs.State.{State};
 ghost use Rattle.block_machine.specs.StartUp.{started_with};
