@@ -1,4 +1,5 @@
--- The two mirrors of a synchronized block, and the driver's ends of them.
+-- The two mirrors of a synchronized block, and the driver's ends of them. The application's ends, its side, and the calls of a side stand in
+-- Blocks.
 use Rattle.std.specs.Prelude.{Option, Some, None, ◌≡◌, ◌⊎◌, ◌+◌, ◌≤◌, ℕ, List, [], ◌∷◌, ◌++◌, length}
 use mathlib.Core.Option.{some}
 use lib.ListN.{get_elem?}
