@@ -1,4 +1,4 @@
-// The steps of a switch, from the active bank to its target.
+// The steps of a switch, from the active bank to its target. Which one comes behind a done or a failed one says `Course` of fee_course.
 ghost use Rattle.std.specs.Prelude.{◌≡◌, ◌<◌, true, false, None, Some, IfSome, is_some, length};
 ghost use Rattle.nv_base.specs.Geometry.{sectors_of_bank};
 ghost use Rattle.fls_model.specs.Step.{IsStep};
