@@ -1,8 +1,9 @@
 -- The digits of a number, as std knows them.
-use Rattle.std.proofs.Common.{◌≡◌, ◌<◌, ◌≤◌, ◌^◌, ◌==◌, ℕ, zero, suc, Bool, true, false, not, ◌&&◌, ◌||◌, nat_le, if◌then◌else◌, List, [], ◌∷◌, length, get_or, slice_index, IfSome, Some, None, refl, sym, arith, rules}
+use Rattle.std.proofs.Common.{◌≡◌, ◌<◌, ◌≤◌, ◌^◌, ◌+◌, ◌-◌, ◌*◌, ◌==◌, ℕ, zero, suc, Bool, true, false, not, ◌&&◌, ◌||◌, nat_le, if◌then◌else◌, List, [], ◌∷◌, length, get_or, slice_index, IfSome, Some, None, refl, sym, arith, rules}
 use Rattle.std.proofs.lemmas.Bool.{and_parts, ltb-true, lt-ltb, leb-true, le-leb, eqb-true}
 use Rattle.std.proofs.lemmas.Bool.Decides.{nat_tests}
 use Rattle.std.proofs.lemmas.Fmt.{decimal_digit, decimal_nonempty, first_decimal, digits_decimal, digits_value-decimal, decimal-digits_value}
+use Rattle.std.proofs.lemmas.Str.{digit_value_digit}
 use Rattle.std.proofs.lemmas.Str.Parse.{IsNumeralModel, numerals_by_value}
 use Rattle.std.specs.Char.{is_ascii_digit}
 use Rattle.std.specs.Fmt.{decimal}
@@ -78,3 +79,29 @@ digits-lack at (d ∷ ds) other h =
 
 pub decimal-lacks : (at n : ℕ) → is_ascii_digit at ≡ false → n < 2 ^ 64 → list_any (λ b. b == at) (decimal n) ≡ false
 decimal-lacks at n other fits = digits-lack at (decimal n) other (digits_decimal model n fits)
+
+-- THE SHORT ONES
+
+of_number : (low high n : ℕ) (text : List ℕ) → is_numeral text ≡ true → digits_value 10 text ≡ n → decimal_number_of low high text ≡ (if nat_le low n && nat_le n high then Some n else None)
+unfolding decimal_number_of
+of_number low high n text numeral value = rw (numeral, value) refl
+
+is_digit : (c : ℕ) → 48 ≤ c → c ≤ 57 → is_ascii_digit c ≡ true
+is_digit c above below = rw (le-leb 48 c above, le-leb c 57 below) refl
+
+-- one digit spells its value
+pub number_of_one : (low high one : ℕ) → 48 ≤ one → one ≤ 57 → decimal_number_of low high (one ∷ []) ≡ (if nat_le low (one - 48) && nat_le (one - 48) high then Some (one - 48) else None)
+number_of_one low high one above below =
+    let value = digit_value_digit one (above, below) in
+    of_number low high (one - 48) (one ∷ []) (rw (is_digit one above below) (grind (arith, nat_tests))) (omega (arith, value))
+
+not_zero : (ten : ℕ) → 49 ≤ ten → (not (ten == 48) || false) ≡ true
+not_zero ten above = grind (arith, nat_tests, above)
+
+-- and two digits, the first of which isn't 0, that of both
+pub number_of_two : (low high ten one : ℕ) → 49 ≤ ten → ten ≤ 57 → 48 ≤ one → one ≤ 57
+    → decimal_number_of low high (ten ∷ one ∷ []) ≡ (if nat_le low (10 * (ten - 48) + (one - 48)) && nat_le (10 * (ten - 48) + (one - 48)) high then Some (10 * (ten - 48) + (one - 48)) else None)
+number_of_two low high ten one first few above below =
+    let tens = digit_value_digit ten (omega (arith, first), few) in
+    let ones = digit_value_digit one (above, below) in
+    of_number low high (10 * (ten - 48) + (one - 48)) (ten ∷ one ∷ []) (rw (not_zero ten first, is_digit ten (omega (arith, first)) few, is_digit one above below) refl) (omega (arith, tens, ones))

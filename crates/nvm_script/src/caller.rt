@@ -3,7 +3,7 @@ ghost use Rattle.std.specs.Prelude.{◌≡◌, option_map};
 ghost use Rattle.nvm_script.specs.Line.{begins_with_digit, caller_before, called_of};
 
 use crate::cut::cut;
-use nv_base::decimal_number;
+use crate::number::number_of;
 
 fn begins_with_digit(line: &[u8]) -> bool
     ensures { result ≡ begins_with_digit line.now }
@@ -29,7 +29,7 @@ pub fn caller_of(line: &[u8]) -> Option<(Option<u8>, &[u8])>
         return Some((None, line));
     }
     let (front, rest) = cut(line, b':');
-    let Some(caller) = decimal_number(front, 0, 15) else {
+    let Some(caller) = number_of(front, 0, 15) else {
         return None;
     };
     match rest {

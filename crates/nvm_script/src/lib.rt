@@ -12,6 +12,7 @@ mod cut;
 mod digits;
 mod kept_step;
 mod lines;
+mod number;
 mod owners;
 mod played_cases;
 mod rules;

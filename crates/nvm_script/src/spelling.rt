@@ -5,11 +5,12 @@ ghost use Rattle.nvm_script.specs.Step.{IsStep};
 ghost use Rattle.nvm_script.specs.declared.step.StepKind.{StepKind as Kind};
 
 use crate::cut::cut;
+use crate::number::number_of;
 use crate::rules::settled;
 use crate::word::{Word, word_of};
 use crate::{Mode, StepKind};
 use block_config::{Config, read_content};
-use nv_base::{Request, decimal_number};
+use nv_base::Request;
 use std::alloc::{AllocError, Global};
 
 fn ask(request: Request) -> Option<StepKind>
@@ -61,11 +62,11 @@ fn with_one(word: Word, field: &[u8]) -> Option<StepKind>
 {
     match word {
         Word::Turn => {
-            let count = decimal_number(field, 1, 100_000)?;
+            let count = number_of(field, 1, 100_000)?;
             Some(StepKind::Turn { count })
         }
         _ => {
-            let block = decimal_number(field, 0, 65_535)?;
+            let block = number_of(field, 0, 65_535)?;
             of_block(word, block as u16)
         }
     }
@@ -77,26 +78,26 @@ fn with_number(word: Word, block: u16, field: &[u8]) -> Option<StepKind>
 {
     match word {
         Word::SetIndex => {
-            let index = decimal_number(field, 0, 255)?;
+            let index = number_of(field, 0, 255)?;
             ask(Request::SetIndex {
                 block,
                 index: index as u8,
             })
         }
         Word::Protect => {
-            let on = decimal_number(field, 0, 1)? == 1;
+            let on = number_of(field, 0, 1)? == 1;
             ask(Request::SetProtection { block, on })
         }
         Word::Lock => {
-            let on = decimal_number(field, 0, 1)? == 1;
+            let on = number_of(field, 0, 1)? == 1;
             ask(Request::SetLock { block, on })
         }
         Word::SetRam => {
-            let on = decimal_number(field, 0, 1)? == 1;
+            let on = number_of(field, 0, 1)? == 1;
             ask(Request::SetRam { block, on })
         }
         Word::Refuse => {
-            let count = decimal_number(field, 1, 1000)?;
+            let count = number_of(field, 1, 1000)?;
             Some(StepKind::Refuse { block, count })
         }
         _ => None,
@@ -129,8 +130,8 @@ fn with_content(
 fn cut_place(first: &[u8], second: &[u8]) -> Option<(u32, u32)>
     ensures { result ≡ read_place first.now second.now }
 {
-    let nth = decimal_number(first, 1, 1_000_000)?;
-    let keep = decimal_number(second, 0, 256)?;
+    let nth = number_of(first, 1, 1_000_000)?;
+    let keep = number_of(second, 0, 256)?;
     Some((nth, keep))
 }
 
@@ -151,7 +152,7 @@ fn with_two(
         let place = cut_place(first, second);
         return Ok(place.map(|(nth, keep)| StepKind::CutSecond { nth, keep }));
     }
-    let Some(block) = decimal_number(first, 0, 65_535) else {
+    let Some(block) = number_of(first, 0, 65_535) else {
         return Ok(None);
     };
     match word {
