@@ -2,6 +2,8 @@ pub mod Returning
 pub mod Space
 pub mod PairNumbers
 pub mod PairReturning
+pub mod PairClock
+pub mod PairStart
 pub mod JobTurns
 pub mod Costs
 pub mod CutterRuns

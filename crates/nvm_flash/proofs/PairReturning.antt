@@ -28,6 +28,7 @@ use Rattle.memif_fee_ea.specs.declared.making.PairPart.TheVariants as part
 use Rattle.memif_fee_ea.specs.Made.{AreParts, IsMadeOf, IsRefused}
 use Rattle.fls_devices.specs.Cutter.{Cutting, OnlyCuts, cutting, told_cutting}
 use Rattle.nvm_core.specs.block_config.Config.{Configuration}
+use Rattle.nvm_core.specs.block_config.Lengths.{lengths_of}
 use Rattle.promise_run.specs.Run.{LeavesAlone}
 use Rattle.nvm_core.specs.Stack.{StackState, first_stack}
 use Rattle.nvm_core.specs.nvm_found.Found.{FailsToFind}
@@ -43,7 +44,7 @@ use Rattle.nvm_flash.specs.CutterUnmade.{CountsStay}
 use Rattle.nvm_flash.specs.Made.{IsBackFrom, IsFlashCause, IsPartBack, LeavesOne, fault_of}
 use Rattle.nvm_flash.specs.PairMade.{AreBack, AreOrigins, ComeBack, IsPairStack, LeavesOther, failed_part, pair_fault, pair_fault_by}
 use Rattle.promise_run.specs.Promise.{making_first}
-use Rattle.nvm_flash.specs.PairMaking.{making_second}
+use Rattle.nvm_flash.specs.PairMaking.{making_second, fixed_of_first}
 use Rattle.nvm_flash.proofs.CutterRuns.{same_entry, same_exit}
 use Rattle.nvm_flash.proofs.Returning.{flash_rose, left_by, part_of}
 use Rattle.nvm_flash.proofs.CutterUnmade.{counts_stay_within, refused_within, size_within, tells_within}
@@ -292,10 +293,13 @@ failed_pair_back c inner other cuts m entry n entry_other exit exit_other s t or
 
 -- a stack that was made of such a device
 pub made_pair_stack : {C : Type 0} (c : Configuration) (most : ℕ) (m : flash.Making) (entry : Told) (n : eeprom.Making) (entry_other : Told) (copies : C) (s : StackState (BothState fee.Device ea.Device) C) (d : BothState fee.Device ea.Device)
-    → s ≡ first_stack c most d copies → IsMadeOf m entry n d → AreParts entry entry_other (told_as fee.told_of ea.told_in d) → c.eeprom ≢ None → 2 ≤ most → IsPairStack c most m entry n entry_other copies s
-made_pair_stack {C} c most m entry n entry_other copies s d same made parts named room = record {
+    → s ≡ first_stack c most d copies → IsMadeOf m entry n d → AreParts entry entry_other (told_as fee.told_of ea.told_in d)
+    → (told_as fee.told_of ea.told_in d).fixed.numbers ≡ lengths_of c → (fee.told_of d.first).fixed ≡ fixed_of_first c → c.eeprom ≢ None → 2 ≤ most → IsPairStack c most m entry n entry_other copies s
+made_pair_stack {C} c most m entry n entry_other copies s d same made parts numbers figures named room = record {
   device = subst (λ (x : BothState fee.Device ea.Device). IsMadeOf m entry n x) own made;
   parts = subst (λ (x : BothState fee.Device ea.Device). AreParts entry entry_other (told_as fee.told_of ea.told_in x)) own parts;
+  numbers = subst (λ (x : BothState fee.Device ea.Device). (told_as fee.told_of ea.told_in x).fixed.numbers ≡ lengths_of c) own numbers;
+  figures = subst (λ (x : BothState fee.Device ea.Device). (fee.told_of x.first).fixed ≡ fixed_of_first c) own figures;
   unstarted = record {
     only = same ∙ sym (ap (λ (t : StackState (BothState fee.Device ea.Device) C). first_stack t.desk.config t.desk.cap t.device t.copies) same);
     room = let cap = ap (λ (t : StackState (BothState fee.Device ea.Device) C). t.desk.cap) same in omega (arith, cap, room);

@@ -1,6 +1,7 @@
 -- A stack over a flash and an EEPROM, from its making on.
 use Rattle.std.specs.Prelude.{◌≡◌, ◌≢◌, ◌==◌, ℕ, List, None, IfSome, if◌then◌else◌}
 use Rattle.nvm_core.specs.block_config.Config.{Configuration}
+use Rattle.nvm_core.specs.block_config.Lengths.{lengths_of}
 use Rattle.memif_fee_ea.specs.fee_core.fls_model.declared.flash.AttachFault.{AttachFault}
 use Rattle.memif_fee_ea.specs.fee_core.fls_model.Told.{Told, Change}
 use Rattle.fls_devices.specs.Cutter.{cutting, told_cutting}
@@ -24,7 +25,7 @@ use Rattle.nvm_flash.specs.declared.pair.PairFault.TheVariants.{OfFlash, OfEepro
 use Rattle.nvm_flash.specs.Made.{IsBackFrom, IsFlashCause, IsPartBack, IsUnstarted, LeavesOne, fault_of}
 use Rattle.promise_run.specs.Promise.{making_first}
 use Rattle.promise_run.specs.Run.{LeavesAlone}
-use Rattle.nvm_flash.specs.PairMaking.{making_second}
+use Rattle.nvm_flash.specs.PairMaking.{making_second, fixed_of_first}
 
 -- What both devices are made of: this configuration, over a flash and an EEPROM that tell this, with so many power cuts of each that can be
 -- planned.
@@ -75,6 +76,8 @@ pub record IsPairStack {C : Type 0} (c : Configuration) (most : ℕ) (m : flash.
     (s : StackState (BothState fee.Device ea.Device) C) : Type 0 where
   pub device : IsMadeOf m entry n s.device
   pub parts : AreParts entry entry_other (told_as fee.told_of ea.told_in s.device)
+  pub numbers : (told_as fee.told_of ea.told_in s.device).fixed.numbers ≡ lengths_of c
+  pub figures : (fee.told_of s.device.first).fixed ≡ fixed_of_first c
   pub unstarted : IsUnstarted s
   pub config : s.desk.config ≡ c
   pub most_is : s.desk.cap ≡ most

@@ -14,7 +14,7 @@ ghost use Rattle.memif_fee_ea.specs.Made.{AreParts, IsMadeOf};
 ghost use Rattle.fls_devices.specs.Cutter.{cutting, told_cutting};
 ghost use Rattle.nvm_flash.specs.Made.{IsPartBack};
 ghost use Rattle.promise_run.specs.Promise.{making_first};
-ghost use Rattle.nvm_flash.specs.PairMaking.{making_second};
+ghost use Rattle.nvm_flash.specs.PairMaking.{making_second, fixed_of_first};
 ghost use Rattle.nvm_flash.specs.Sized.{HasSizeOf};
 ghost use Rattle.nvm_flash.specs.PairMade.{AreBack, AreOrigins, ComeBack, pair_fault};
 
@@ -66,6 +66,7 @@ pub fn make_pair<F: SizedFlash, O: Origin, G: SizedFlash, P: ea_slots::Origin>(
     ensures made { IfOk result (λ d. IsMadeOf O.making O.entry P.making d) }
     ensures parts { IfOk result (λ d. AreParts O.entry P.entry (told_as told_of told_in d)) }
     ensures numbers { IfOk result (λ d. (told_as told_of told_in d).fixed.numbers ≡ lengths_of config.now) }
+    ensures figures { IfOk result (λ d. (told_of d.first).fixed ≡ fixed_of_first config.now) }
     ensures two_devices { IfOk result (λ _. config.now.eeprom ≢ None) }
     ensures legal { IsLegalConfig config.now }
     ensures stopped { IfErr result (λ e. ComeBack config.now e.0 (F.told flash) (F.told e.1) (G.told eeprom) (G.told e.2)) }
@@ -90,6 +91,7 @@ fn make_sized<F: SizedFlash, O: Origin, G: SizedFlash, P: ea_slots::Origin>(
     ensures made { IfOk result (λ d. IsMadeOf O.making O.entry P.making d) }
     ensures parts { IfOk result (λ d. AreParts O.entry P.entry (told_as told_of told_in d)) }
     ensures numbers { IfOk result (λ d. (told_as told_of told_in d).fixed.numbers ≡ lengths_of config.now) }
+    ensures figures { IfOk result (λ d. (told_of d.first).fixed ≡ fixed_of_first config.now) }
     ensures legal { IsLegalConfig config.now }
     ensures stopped { IfErr result (λ e. ComeBack config.now e.0 (F.told flash) (F.told e.1) (G.told eeprom) (G.told e.2)) }
 {
@@ -116,6 +118,7 @@ fn make_both<F: Flash, O: Origin, G: Flash, P: ea_slots::Origin>(
     ensures made { IfOk result (λ d. IsMadeOf O.making O.entry P.making d) }
     ensures parts { IfOk result (λ d. AreParts O.entry P.entry (told_as told_of told_in d)) }
     ensures numbers { IfOk result (λ d. (told_as told_of told_in d).fixed.numbers ≡ lengths_of config.now) }
+    ensures figures { IfOk result (λ d. (told_of d.first).fixed ≡ fixed_of_first config.now) }
     ensures legal { IsLegalConfig config.now }
     ensures stopped { IfErr result (λ e. ComeBack config.now e.0 (F.told flash) (F.told e.1) (G.told eeprom) (G.told e.2)) }
 {
@@ -164,6 +167,7 @@ fn make_over<F: Flash, O: Origin, G: Flash, P: ea_slots::Origin>(
     ensures made { IfOk result (λ d. IsMadeOf O.making O.entry P.making d) }
     ensures parts { IfOk result (λ d. AreParts O.entry P.entry (told_as told_of told_in d)) }
     ensures numbers { IfOk result (λ d. (told_as told_of told_in d).fixed.numbers ≡ lengths_of config.now) }
+    ensures figures { IfOk result (λ d. (told_of d.first).fixed ≡ fixed_of_first config.now) }
     ensures stopped { IfErr result (λ e. (inner other : Told) (cuts : PairCuts) → first ≡ cutting inner cuts.flash → second ≡ cutting other cuts.eeprom → HasSizeOf shape other.bytes → ComeBack config.now e.0 inner (F.told e.1) other (G.told e.2)) }
 {
     let shapes = Shapes {

@@ -2,7 +2,9 @@ use Rattle.std.specs.Prelude.{IfSome}
 use Rattle.std.proofs.Common.{◌∙◌, ap₂, sym, subst, ℕ, List, Option}
 use Rattle.memif_fee_ea.specs.fee_core.nv_base.declared.geometry.Geometry.{Geometry}
 use Rattle.memif_fee_ea.specs.fee_core.nv_base.declared.instance.DeviceNumber.{DeviceNumber}
+use Rattle.memif_fee_ea.specs.fee_core.nv_base.Geometry.{sectors_of_bank}
 use Rattle.memif_fee_ea.specs.fee_core.nv_base.Lengths.{AreLengths}
+use Rattle.memif_fee_ea.specs.fee_core.fee_told.Figures.{fixed_for}
 use Rattle.memif_fee_ea.specs.fee_core.fee_switch_laws.Space.{HasSpace}
 use Rattle.memif_fee_ea.specs.ea_slots.ea_told.Making.{HasSlots}
 use Rattle.memif_fee_ea.specs.memif_pair.Pair.{merged}
@@ -42,6 +44,11 @@ make-requires-clause-apart g c = ap₂ are_apart c.requires.numbers.0 c.requires
 
 pub returns-in-Ok-clause-numbers : goal.returns-in-Ok-clause-numbers
 returns-in-Ok-clause-numbers g c = c.in-Ok.ensures.numbers ∙ ap₂ merged c.requires.numbers.0 c.requires.others.0 ∙ devices_are_all c.args.config.now c.geometry.ensures.legal
+
+pub returns-in-Ok-clause-figures : goal.returns-in-Ok-clause-figures
+returns-in-Ok-clause-figures g c =
+    c.in-Ok.ensures.figures
+    ∙ (λ i. fixed_for (c.geometry.ensures.value i).page (sectors_of_bank (c.geometry.ensures.value i) (c.banks.ensures.value i)) (c.requires.numbers.0 i) (c.reserve_pages.ensures i))
 
 pub returns-in-Err-clause-stopped : goal.returns-in-Err-clause-stopped
 returns-in-Err-clause-stopped g c = λ inner other cuts made made_other sized.

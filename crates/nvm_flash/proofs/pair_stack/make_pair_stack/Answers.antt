@@ -9,4 +9,4 @@ returns-in-Err-make-clause-stopped g c =
 
 pub returns-in-Ok-make-clause-made : goal.returns-in-Ok-make-clause-made
 returns-in-Ok-make-clause-made g c =
-    made_pair_stack c.args.config c.args.cap g.O.Origin.making g.O.Origin.entry g.P.Origin.making g.P.Origin.entry c.args.copies c.in-Ok-make.stack c.in-Ok.device c.in-Ok-make.ensures.made c.in-Ok.ensures.made c.in-Ok.ensures.parts c.in-Ok.ensures.two_devices c.requires.room
+    made_pair_stack c.args.config c.args.cap g.O.Origin.making g.O.Origin.entry g.P.Origin.making g.P.Origin.entry c.args.copies c.in-Ok-make.stack c.in-Ok.device c.in-Ok-make.ensures.made c.in-Ok.ensures.made c.in-Ok.ensures.parts c.in-Ok.ensures.numbers c.in-Ok.ensures.figures c.in-Ok.ensures.two_devices c.requires.room
