@@ -46,7 +46,7 @@ costs_are_figures c legal one = λ i. record {
 
 pub reads_take_one : ReadsTakeOne
 reads_take_one c n =
-    let is : (figures_at (fixed_by c) n).read ≡ (option_map_or (figures_for c.geometry.page (fixed_by c).own) (length_of (lengths_of c) n) no_figures).read = ap (λ (f : Figures). f.read) (figures_are c.geometry.page (fixed_by c).own (lengths_of c) n) in
+    let is : (figures_at (fixed_by c) n).read ≡ (option_map_or (figures_for c.geometry.page (fixed_by c).own) (length_of (lengths_of c) n) no_figures).read = ap (λ (f : Figures). f.read) (figures_are (figures_for c.geometry.page (fixed_by c).own) (lengths_of c) n) in
     let one = by (length_of (lengths_of c) n) in omega (arith, is, one)
   where
     by : (o : Option ℕ) → (option_map_or (figures_for c.geometry.page (fixed_by c).own) o no_figures).read ≤ 1

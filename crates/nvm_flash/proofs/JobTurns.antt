@@ -34,12 +34,12 @@ use Rattle.nvm_flash.proofs.Space.{all_blocks, greatest_blocks, greatest_more}
 
 -- THE SWITCH
 -- a copy is one read more than its record has pages
-copies_are : (p : ℕ) (ns : List (DeviceNumber × ℕ)) → copies_most p ns ≡ all_pages p ns + length ns
+pub copies_are : (p : ℕ) (ns : List (DeviceNumber × ℕ)) → copies_most p ns ≡ all_pages p ns + length ns
 copies_are p [] = refl
 copies_are p (n ∷ ns) = let rest = copies_are p ns in omega (arith, rest)
 
 -- each block has an instance
-abbrev HaveInstances : List BlockDesc → Type 0
+abbrev pub HaveInstances : List BlockDesc → Type 0
 HaveInstances [] = Unit {0}
 HaveInstances (b ∷ bs) = (1 ≤ instances_of b) × HaveInstances bs
 
@@ -52,7 +52,7 @@ legal_have : (bs : List BlockDesc) → All IsLegalBlock bs → HaveInstances bs
 legal_have [] legal = tt
 legal_have (b ∷ bs) legal = (some_instance b.kind b.nv (legal 0 b (omega arith)).datasets, legal_have bs (λ k d few. legal (suc k) d (omega (arith, few))))
 
-blocks_have : (id : ℕ) (bs : List BlockDesc) → AreBlocks id bs → HaveInstances bs
+pub blocks_have : (id : ℕ) (bs : List BlockDesc) → AreBlocks id bs → HaveInstances bs
 blocks_have id [] legal = absurd legal
 blocks_have id (b ∷ bs) legal = ((let two : instances_of b ≡ 2 = ap (λ (d : BlockDesc). instances_of d) legal.0 in omega (arith, two)), legal_have bs legal.1)
 
@@ -65,7 +65,7 @@ greatest_stored : (p id : ℕ) (b : BlockDesc) (first : Bool) → 1 ≤ instance
 greatest_stored p id b true some = greatest_row p id b.length 0 (instances_of b) some
 greatest_stored p id b false some = omega arith
 
-greatest_within : (p id m : ℕ) (bs : List BlockDesc) → HaveInstances bs → fold (λ n b. max n (size_of p b)) m bs ≤ max m (greatest p (lengths_by (Some 0) id bs))
+pub greatest_within : (p id m : ℕ) (bs : List BlockDesc) → HaveInstances bs → fold (λ n b. max n (size_of p b)) m bs ≤ max m (greatest p (lengths_by (Some 0) id bs))
 greatest_within p id m [] have = omega arith
 greatest_within p id m (b ∷ bs) have =
     let rest = greatest_within p (id + 1) (max m (size_of p b)) bs have.1 in
@@ -89,11 +89,9 @@ chosen : (b : Bool) (f : ℕ → Figures) (length : ℕ) (rest : Figures) (other
 chosen true f length rest others same = refl
 chosen false f length rest others same = same
 
-pub figures_are : (p own : ℕ) (ns : List (DeviceNumber × ℕ)) (n : ℕ)
-    → at_number no_figures ns (map (λ x. figures_for p own x.1) ns) n ≡ option_map_or (figures_for p own) (length_of ns n) no_figures
-figures_are p own [] n = refl
-figures_are p own (x ∷ xs) n =
-    chosen (x.0.0 == n) (figures_for p own) x.1 (at_number no_figures xs (map (λ x. figures_for p own x.1) xs) n) (length_of xs n) (figures_are p own xs n)
+pub figures_are : (f : ℕ → Figures) (ns : List (DeviceNumber × ℕ)) (n : ℕ) → at_number no_figures ns (map (λ x. f x.1) ns) n ≡ option_map_or f (length_of ns n) no_figures
+figures_are f [] n = refl
+figures_are f (x ∷ xs) n = chosen (x.0.0 == n) f x.1 (at_number no_figures xs (map (λ x. f x.1) xs) n) (length_of xs n) (figures_are f xs n)
 
 by_length : (c : Configuration) (kind : JobKind) (length : Option ℕ) → works kind ≡ true
     → most_of (option_map_or (figures_for c.geometry.page (switch_at_most c)) length no_figures) (operation kind) ≡ option_map_or (try_at_most c kind) length 0
@@ -113,12 +111,12 @@ pub try_is : (c : Configuration) → IsLegalConfig c → c.eeprom ≡ None → (
     → most_at (fixed_by c) block kind i ≡ try_on c kind (record { block = block; index = i })
 try_is c legal one block kind works i =
     let n = number_of (record { block = block; index = i }) in
-    ap (λ (f : Figures). most_of f (operation kind)) (figures_are c.geometry.page (fixed_by c).own (lengths_of c) n)
+    ap (λ (f : Figures). most_of f (operation kind)) (figures_are (figures_for c.geometry.page (fixed_by c).own) (lengths_of c) n)
     ∙ ap (λ (own : ℕ). most_of (option_map_or (figures_for c.geometry.page own) (length_of (lengths_of c) n) no_figures) (operation kind)) (switch_is c legal one)
     ∙ by_length c kind (length_of (lengths_of c) n) works
 
 -- ALL TRIES
-tries_are : (count : ℕ → ℕ) (retries : ℕ) (is : List ℕ) → over_tries count retries is ≡ (retries + 1) * sum_by count is
+pub tries_are : (count : ℕ → ℕ) (retries : ℕ) (is : List ℕ) → over_tries count retries is ≡ (retries + 1) * sum_by count is
 tries_are count retries [] = sym (mul-zero (retries + 1))
 tries_are count retries (i ∷ is) =
     ap (λ (n : ℕ). (retries + 1) * count i + n) (tries_are count retries is)
@@ -130,7 +128,7 @@ pub none_at : (length : Option ℕ) → ◌≡◌ {A = ℕ} (option_map_or (λ (
 none_at None = refl
 none_at (Some n) = refl
 
-zeros : (is : List ℕ) → sum_by (λ (i : ℕ). 0) is ≡ 0
+pub zeros : (is : List ℕ) → sum_by (λ (i : ℕ). 0) is ≡ 0
 zeros [] = refl
 zeros (i ∷ is) = let first = sum_by-cons (λ (i : ℕ). 0) i is in let rest = zeros is in omega (arith, first, rest)
 
@@ -171,7 +169,7 @@ by_pages p own (Some n) = refl
 
 pub pages_at : (c : Configuration) (i : Instance) → (figures_at (fixed_by c) (number_of i)).pages ≡ pages_on c i
 pages_at c i =
-    ap (λ (f : Figures). f.pages) (figures_are c.geometry.page (fixed_by c).own (lengths_of c) (number_of i))
+    ap (λ (f : Figures). f.pages) (figures_are (figures_for c.geometry.page (fixed_by c).own) (lengths_of c) (number_of i))
     ∙ by_pages c.geometry.page (fixed_by c).own (length_of (lengths_of c) (number_of i))
 
 all_pages_are : (c : Configuration) (block : ℕ) (is : List ℕ) → pages_of (fixed_by c) block is ≡ sum_by (λ index. pages_on c (record { block = block; index = index })) is

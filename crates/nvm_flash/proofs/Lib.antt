@@ -6,6 +6,8 @@ pub mod PairClock
 pub mod PairStart
 pub mod JobTurns
 pub mod Costs
+mod OwnNumbers
+pub mod PairFigures
 pub mod CutterRuns
 pub mod CutterSeen
 pub mod CutterUnmade

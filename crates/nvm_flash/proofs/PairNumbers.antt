@@ -24,16 +24,16 @@ use Rattle.memif_fee_ea.specs.memif_pair.Pair.{merged, with_number}
 use Rattle.memif_fee_ea.specs.Numbers.{are_apart}
 use Rattle.nvm_flash.specs.PairMaking.{DevicesAreAll, DevicesAreApart, DevicesHaveSlots, making_second}
 
-abbrev Numbers : Type 0
+abbrev pub Numbers : Type 0
 Numbers = List (DeviceNumber × ℕ)
 
 -- BOUNDS
 -- each number is so great at least, or below this one
-abbrev From : ℕ → Numbers → Type 0
+abbrev pub From : ℕ → Numbers → Type 0
 From low [] = Unit {0}
 From low (x ∷ xs) = (low ≤ x.0.0) × From low xs
 
-abbrev Below : ℕ → Numbers → Type 0
+abbrev pub Below : ℕ → Numbers → Type 0
 Below high [] = Unit {0}
 Below high (x ∷ xs) = (x.0.0 < high) × Below high xs
 
@@ -64,24 +64,24 @@ row_below id n start (suc count) high few = (omega (arith, few), row_below id n 
 block_from : (id : ℕ) (b : BlockDesc) → From (id * 64) (block_lengths id b)
 block_from id b = from_less (id * 64) (id * 64 + 0) (block_lengths id b) (omega arith) (row_from id b.length 0 (instances_of b))
 
-block_below : (id : ℕ) (b : BlockDesc) → instances_of b ≤ 64 → Below ((id + 1) * 64) (block_lengths id b)
+pub block_below : (id : ℕ) (b : BlockDesc) → instances_of b ≤ 64 → Below ((id + 1) * 64) (block_lengths id b)
 block_below id b few = row_below id b.length 0 (instances_of b) ((id + 1) * 64) (omega (arith, few))
 
 stored_from : (id : ℕ) (b : BlockDesc) (here : Bool) → From (id * 64) (if here then block_lengths id b else [])
 stored_from id b true = block_from id b
 stored_from id b false = tt
 
-stored_below : (id : ℕ) (b : BlockDesc) → instances_of b ≤ 64 → (here : Bool) → Below ((id + 1) * 64) (if here then block_lengths id b else [])
+pub stored_below : (id : ℕ) (b : BlockDesc) → instances_of b ≤ 64 → (here : Bool) → Below ((id + 1) * 64) (if here then block_lengths id b else [])
 stored_below id b few true = block_below id b few
 stored_below id b few false = tt
 
-device_from : (device id : ℕ) (bs : List BlockDesc) → From (id * 64) (lengths_by (Some device) id bs)
+pub device_from : (device id : ℕ) (bs : List BlockDesc) → From (id * 64) (lengths_by (Some device) id bs)
 device_from device id [] = tt
 device_from device id (b ∷ bs) =
     from_both (id * 64) (stored_lengths (Some device) id b) (lengths_by (Some device) (id + 1) bs) (stored_from id b (b.device == device))
     (from_less (id * 64) ((id + 1) * 64) (lengths_by (Some device) (id + 1) bs) (omega arith) (device_from device (id + 1) bs))
 
-all_from : (id : ℕ) (bs : List BlockDesc) → From (id * 64) (lengths_from id bs)
+pub all_from : (id : ℕ) (bs : List BlockDesc) → From (id * 64) (lengths_from id bs)
 all_from id [] = tt
 all_from id (b ∷ bs) =
     from_both (id * 64) (block_lengths id b) (lengths_from (id + 1) bs) (block_from id b)
@@ -89,11 +89,11 @@ all_from id (b ∷ bs) =
 
 -- BLOCKS
 -- each has 64 instances at most, and is of one of both devices
-abbrev AreFew : List BlockDesc → Type 0
+abbrev pub AreFew : List BlockDesc → Type 0
 AreFew [] = Unit {0}
 AreFew (b ∷ bs) = (instances_of b ≤ 64) × AreFew bs
 
-abbrev AreOfTwo : List BlockDesc → Type 0
+abbrev pub AreOfTwo : List BlockDesc → Type 0
 AreOfTwo [] = Unit {0}
 AreOfTwo (b ∷ bs) = (b.device ≤ 1) × AreOfTwo bs
 
@@ -106,32 +106,32 @@ legal_few : (bs : List BlockDesc) → All IsLegalBlock bs → AreFew bs
 legal_few [] legal = tt
 legal_few (b ∷ bs) legal = (few_instances b.kind b.nv (legal 0 b (omega arith)).datasets, legal_few bs (λ k d few. legal (suc k) d (omega (arith, few))))
 
-blocks_few : (id : ℕ) (bs : List BlockDesc) → AreBlocks id bs → AreFew bs
+pub blocks_few : (id : ℕ) (bs : List BlockDesc) → AreBlocks id bs → AreFew bs
 blocks_few id [] legal = absurd legal
 blocks_few id (b ∷ bs) legal = ((let two : instances_of b ≡ 2 = ap (λ (d : BlockDesc). instances_of d) legal.0 in omega (arith, two)), legal_few bs legal.1)
 
-of_two : (bs : List BlockDesc) → All (λ (b : BlockDesc). b.device ≤ 1) bs → AreOfTwo bs
+pub of_two : (bs : List BlockDesc) → All (λ (b : BlockDesc). b.device ≤ 1) bs → AreOfTwo bs
 of_two [] all = tt
 of_two (b ∷ bs) all = (all 0 b (omega arith), of_two bs (λ k d few. all (suc k) d (omega (arith, few))))
 
 -- which device a block is of
-one_device : (b : BlockDesc) → (b.device == 0) ≡ true → (b.device == 1) ≡ false
+pub one_device : (b : BlockDesc) → (b.device == 0) ≡ true → (b.device == 1) ≡ false
 one_device b first = grind (arith, nat_tests, first)
 
-other_device : (b : BlockDesc) → b.device ≤ 1 → (b.device == 0) ≡ false → (b.device == 1) ≡ true
+pub other_device : (b : BlockDesc) → b.device ≤ 1 → (b.device == 0) ≡ false → (b.device == 1) ≡ true
 other_device b two other = grind (arith, nat_tests, two, other)
 
 -- APART
 none_at : (x : DeviceNumber × ℕ) (xs : Numbers) (n : ℕ) → (x.0.0 == n) ≡ false → is_none (length_of xs n) ≡ true → is_none (length_of (x ∷ xs) n) ≡ true
 none_at x xs n other none = rw other none
 
-none_from : (n low : ℕ) (xs : Numbers) → From low xs → n < low → is_none (length_of xs n) ≡ true
+pub none_from : (n low : ℕ) (xs : Numbers) → From low xs → n < low → is_none (length_of xs n) ≡ true
 none_from n low [] from less = refl
 none_from n low (x ∷ xs) from less =
     let least = from.0 in
     let other : (x.0.0 == n) ≡ false = grind (arith, nat_tests, least, less) in none_at x xs n other (none_from n low xs from.1 less)
 
-none_below : (n high : ℕ) (xs : Numbers) → Below high xs → high ≤ n → is_none (length_of xs n) ≡ true
+pub none_below : (n high : ℕ) (xs : Numbers) → Below high xs → high ≤ n → is_none (length_of xs n) ≡ true
 none_below n high [] below more = refl
 none_below n high (x ∷ xs) below more =
     let most = below.0 in

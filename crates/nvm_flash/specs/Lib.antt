@@ -1,8 +1,7 @@
 pub mod Made
 pub mod PairMaking
 pub mod PairMade
-pub mod PairClock
-pub mod PairStart
+pub mod PairFigures
 pub mod Sized
 pub mod Turns
 pub mod Costs
