@@ -13,7 +13,10 @@ use Rattle.memif_fee_ea.specs.fee_core.fls_model.Told.{Told, Change}
 use Rattle.memif_fee_ea.specs.fee_core.promise_device.Making.{Making}
 use Rattle.memif_fee_ea.specs.fee_core.promise_device.Reading.{Reading}
 use Rattle.memif_fee_ea.specs.fee_core.promise_device.Bridge.{Bridges, cuts_of}
-use Rattle.memif_fee_ea.specs.fee_core.fls_told.Clock.{off_in_of}
+use Rattle.memif_fee_ea.specs.fee_core.fls_told.Clock.{flash_clock, off_in_of}
+use Rattle.memif_fee_ea.specs.fee_core.fls_told.Device.{FlashDevice}
+use Rattle.memif_fee_ea.specs.ea_slots.ea_told.Device as slots
+use Rattle.memif_fee_ea.specs.ea_slots.Whole as ea
 use Rattle.memif_fee_ea.specs.fee_core.fee_told.Device.{Device, flash_device, told_of, clock_of}
 use Rattle.memif_fee_ea.specs.fee_core.Tells.{told_clock}
 use Rattle.memif_fee_ea.specs.fee_core.fee_laws.Made.{IsMadeOf, part_at}
@@ -27,6 +30,7 @@ use Rattle.promise_run.specs.Halves.{beyond_end}
 use Rattle.nvm_core.proofs.StartingUp.{stacks_begin}
 use Rattle.memif_fee_ea.proofs.FlashRun.{seen_more}
 use Rattle.nvm_flash.specs.Made.{IsOrigin, IsMadeStack, AreOfFirst, one_part}
+use Rattle.nvm_flash.specs.PairClock.{until_end, slots_clock}
 
 -- THE FIRST START-UP
 none_off : (k : ℕ) (xs : List Change) → xs ≡ [] → (x : Change) → slice_get xs k ≡ Some x → ⊥
@@ -62,10 +66,10 @@ begins_up c making entry m s made begins order starts keeps inner cuts same lega
     (fresh_down m.device c inner cuts making entry m.desk.cap begins order origin legal made.device made.parts))))
 
 -- THE CLOCK
--- what the device told of its operations, by the clock that it tells
-pub told_bridge : (r : Reading) (inner exit : Told) (operations : List Change) (before : PartTold) (d : Device) → Bridges r true (record { entry = inner; exit = exit; operations = operations }) before (told_of d) (clock_of d)
-    → Bridges r true (record { entry = inner; exit = exit; operations = operations }) before (told_of d) (beyond_end (told_clock d))
-told_bridge r inner exit operations before d b = record {
+-- What a device over any flash told of its operations, also where it tells an Off of none past the end of the count.
+pub bridge_beyond : (r : Reading) (inner exit : Told) (operations : List Change) (before : PartTold) (now : DeviceTold) (d : FlashDevice) → Bridges r true (record { entry = inner; exit = exit; operations = operations }) before now (flash_clock d)
+    → Bridges r true (record { entry = inner; exit = exit; operations = operations }) before now (beyond_end (until_end (flash_clock d)))
+bridge_beyond r inner exit operations before now d b = record {
   after = b.after;
   cut = b.cut;
   tells = b.tells;
@@ -75,7 +79,7 @@ told_bridge r inner exit operations before d b = record {
   operations = record {
     told_alike = b.operations.told_alike;
     chain = b.operations.chain;
-    seen = λ t. seen_more (λ k. IsTrue true × off_in_of (flash_device d) k) (λ k. IsTrue true × ((last_count ≤ k) ⊎ ((k < last_count) × off_in_of (flash_device d) k))) 0 t.bytes.last operations (cuts_of true (told_of d)) t.changes (λ k is. (is.0, later k is.1)) (b.operations.seen t);
+    seen = λ t. seen_more (λ k. IsTrue true × off_in_of d k) (λ k. IsTrue true × ((last_count ≤ k) ⊎ ((k < last_count) × off_in_of d k))) 0 t.bytes.last operations (cuts_of true now) t.changes (λ k is. (is.0, later k is.1)) (b.operations.seen t);
     counted = b.operations.counted;
     told = b.operations.told;
   };
@@ -91,5 +95,15 @@ told_bridge r inner exit operations before d b = record {
   spare = b.spare;
 }
   where
-    later : (k : ℕ) → off_in_of (flash_device d) k → (last_count ≤ k) ⊎ ((k < last_count) × off_in_of (flash_device d) k)
+    later : (k : ℕ) → off_in_of d k → (last_count ≤ k) ⊎ ((k < last_count) × off_in_of d k)
     later k off = elim (leb_tells last_count k) [ inl past_end ↦ inl past_end.1 | inr before_end ↦ inr (before_end.1, off) ]
+
+-- what the device over banks told, by the clock that it tells
+pub told_bridge : (r : Reading) (inner exit : Told) (operations : List Change) (before : PartTold) (d : Device) → Bridges r true (record { entry = inner; exit = exit; operations = operations }) before (told_of d) (clock_of d)
+    → Bridges r true (record { entry = inner; exit = exit; operations = operations }) before (told_of d) (beyond_end (told_clock d))
+told_bridge r inner exit operations before d b = bridge_beyond r inner exit operations before (told_of d) (flash_device d) b
+
+-- and the one over slots
+pub slots_bridge : (r : Reading) (inner exit : Told) (operations : List Change) (before : PartTold) (d : ea.Device) → Bridges r true (record { entry = inner; exit = exit; operations = operations }) before (ea.told_in d) (ea.clock_in d)
+    → Bridges r true (record { entry = inner; exit = exit; operations = operations }) before (ea.told_in d) (beyond_end (slots_clock d))
+slots_bridge r inner exit operations before d b = bridge_beyond r inner exit operations before (ea.told_in d) (slots.flash_device d.making d.entry d.parts) b

@@ -1,16 +1,20 @@
 -- The figures of the device of a configuration over a flash and an EEPROM, by its blocks.
 use Rattle.std.specs.Prelude.{is_some, sum_by, nat_le, if◌then◌else◌}
+use Rattle.std.specs.List.{Contains}
 use Rattle.std.specs.Option.{option_map_or}
-use Rattle.std.proofs.Common.{◌≡◌, ◌≤◌, ◌+◌, ◌*◌, ◌/◌, ◌%◌, ℕ, Bool, true, false, List, [], ◌∷◌, Option, Some, None, refl, sym, ap, ◌∙◌, subst, arith}
+use Rattle.std.proofs.Common.{◌≡◌, ◌≢◌, ◌⊎◌, ◌≤◌, ◌<◌, ◌+◌, ◌*◌, ◌/◌, ◌%◌, ℕ, zero, suc, Bool, true, false, List, [], ◌∷◌, length, get_or, Option, Some, None, refl, sym, ap, ◌∙◌, subst, inl, inr, arith}
+use Rattle.std.proofs.Math.Dec.{eqb}
 use Rattle.std.proofs.Math.Nat.{mul-zero}
 use Rattle.std.proofs.lemmas.Bool.{leb-false}
+use Rattle.std.proofs.lemmas.Bool.Decides.{eqb_tells}
 use Rattle.std.proofs.lemmas.List.Sums.{sum_by-cons}
 use Rattle.memif_fee_ea.specs.fee_core.nv_base.declared.geometry.Geometry.{Geometry}
+use Rattle.memif_fee_ea.specs.fee_core.nv_base.declared.instance.DeviceNumber.{DeviceNumber}
 use Rattle.memif_fee_ea.specs.fee_core.nv_base.declared.job.DeviceOp.{DeviceOp}
 use Rattle.memif_fee_ea.specs.fee_core.nv_base.declared.job.DeviceOp.TheVariants.{Read, Write, Invalidate, Erase}
 use Rattle.memif_fee_ea.specs.fee_core.nv_base.Marks.{number_of, instance_of}
 use Rattle.memif_fee_ea.specs.fee_core.nv_base.Pages.{record_pages_of, body_pages_of}
-use Rattle.memif_fee_ea.specs.fee_core.memif.Told.{Figures, Fixed, First, Second, figures_at, is_part, length_of, most_of, no_figures}
+use Rattle.memif_fee_ea.specs.fee_core.memif.Told.{Figures, Fixed, First, Second, figures_at, is_part, length_of, most_of, no_figures, part_of_block}
 use Rattle.memif_fee_ea.specs.fee_core.fee_told.Figures as fee
 use Rattle.memif_fee_ea.specs.ea_slots.ea_told.Device as ea
 use Rattle.memif_fee_ea.specs.memif_pair.Pair.{is_second as in_second}
@@ -49,6 +53,19 @@ second_isnt is = cc is
 
 no_part_second : {X : Type 0} → true ≡ false → X
 no_part_second is = cc is
+
+-- a number that is listed has a length
+listed_some : (xs : List (DeviceNumber × ℕ)) (x : DeviceNumber × ℕ) → Contains xs x → length_of xs x.0.0 ≡ None → ⊥
+listed_some [] x has none = absurd (omega (arith, has.1))
+listed_some (y ∷ ys) x has none = by (eqb_tells y.0.0 x.0.0) (λ here later. listed_some ys x here later)
+  where
+    rest : y.0.0 ≢ x.0.0 → (k : ℕ) → k < length (y ∷ ys) → get_or (y ∷ ys) k x ≡ x → Contains ys x
+    rest other zero within at = absurd (other (ap (λ (z : DeviceNumber × ℕ). z.0.0) at))
+    rest other (suc k) within at = (k, omega (arith, within), at)
+
+    by : ((eqb y.0.0 x.0.0 ≡ true) × (y.0.0 ≡ x.0.0)) ⊎ ((eqb y.0.0 x.0.0 ≡ false) × (y.0.0 ≢ x.0.0)) → (Contains ys x → length_of ys x.0.0 ≡ None → ⊥) → ⊥
+    by (inl (on, same)) later = let never : Some y.1 ≡ None = subst (λ (b : Bool). (if b then Some y.1 else length_of ys x.0.0) ≡ None) on none in cc never
+    by (inr (off, other)) later = later (rest other has.0 has.1 has.2) (subst (λ (b : Bool). (if b then Some y.1 else length_of ys x.0.0) ≡ None) off none)
 
 module _ (g : Geometry) (c : Configuration) (is : IsPairOf g c) where
   abbrev pair : Fixed
@@ -265,6 +282,21 @@ module _ (g : Geometry) (c : Configuration) (is : IsPairOf g c) where
 
   any_figures : (n : ℕ) → figures_at pair n ≡ option_map_or (figure (is_second c (n / 64))) (length_of (lengths_of c) n) no_figures
   any_figures n = pair_figures (n / 64) (n % 64) n (omega arith) (omega arith)
+
+  -- the configured numbers of a block are of one part
+  one_part : (second : Bool) (o q : Option ℕ) → (o ≡ None → ⊥) → (q ≡ None → ⊥) → (option_map_or (figure second) o no_figures).part ≡ (option_map_or (figure second) q no_figures).part
+  one_part second None q some others = absurd (some refl)
+  one_part second (Some l) None some others = absurd (others refl)
+  one_part true (Some l) (Some k) some others = refl
+  one_part false (Some l) (Some k) some others = refl
+
+  pub pair_parts : (x : DeviceNumber × ℕ) → Contains (lengths_of c) x → (figures_at pair x.0.0).part ≡ part_of_block pair (instance_of x.0).block
+  pair_parts x has =
+      let n = x.0.0 in
+      ap (λ (f : Figures). f.part) (any_figures n)
+      ∙ one_part (is_second c (n / 64)) (length_of (lengths_of c) n) (length_of (lengths_of c) (n / 64 * 64)) (listed_some (lengths_of c) x has)
+      (λ none. listed_some (lengths_of c) x has (none_in_block c is.legal (n / 64) (n % 64) n (omega arith) (omega arith) none))
+      ∙ sym (ap (λ (f : Figures). f.part) (pair_figures (n / 64) 0 (n / 64 * 64) (omega arith) (omega arith)))
 
   -- with its own work
   own_all : own + 0 ≡ switch_of_first c

@@ -4,12 +4,15 @@ use Rattle.std.proofs.Common.{◌≡◌, ℕ, Bool, List, [], ◌∷◌, length,
 use Rattle.nvm_core.specs.nv_base.Count.{last_count}
 use Rattle.nvm_core.specs.block_config.Config.{Configuration}
 use Rattle.nvm_core.specs.block_machine.Words.{Entry}
-use Rattle.nvm_core.specs.memif.Told.{Part, PartTold, DeviceTold, First, Second, part_at as at_part}
+use Rattle.nvm_core.specs.nv_base.Marks.{instance_of}
+use Rattle.nvm_core.specs.memif.Told.{Part, PartTold, DeviceTold, Fixed, First, Second, figures_at, part_of_block, part_at as at_part}
 use Rattle.nvm_core.specs.memif.Calls.{InOrder}
 use Rattle.memif_fee_ea.specs.fee_core.fls_model.Told.{Told}
 use Rattle.memif_fee_ea.specs.fee_core.promise_device.Making as flash
 use Rattle.memif_fee_ea.specs.fee_core.fee_told.Device as fee
 use Rattle.memif_fee_ea.specs.ea_slots.ea_told.Making as eeprom
+use Rattle.memif_fee_ea.specs.ea_slots.ea_told.Device as slots
+use Rattle.memif_fee_ea.specs.memif_pair.Pair.{fixed_both}
 use Rattle.memif_fee_ea.specs.ea_slots.Whole as ea
 use Rattle.memif_fee_ea.specs.memif_pair.Both.{BothState}
 use Rattle.memif_fee_ea.specs.Made.{AreParts, IsMadeOf}
@@ -18,7 +21,23 @@ use Rattle.nvm_core.specs.nvm_device_laws.Pairing.{IsFor}
 use Rattle.nvm_core.specs.nvm_laws.Keeps.{KeepsAsTold, KeepsWhileDown}
 use Rattle.nvm_core.specs.Stack.{StackState}
 use Rattle.nvm_core.proofs.StartingUp.{stacks_begin}
-use Rattle.nvm_flash.specs.PairStart.{PairsBeginUp, pair_told, pair_clock, parts_before}
+use Rattle.nvm_flash.specs.PairMaking.{making_second}
+use Rattle.nvm_flash.proofs.PairFigures.{pair_parts}
+use Rattle.nvm_flash.specs.PairStart.{PairsAreFor, PairsBeginUp, PairsHaveFigures, pair_told, pair_clock, parts_before}
+
+-- THE FIGURES
+pub pairs_have_figures : PairsHaveFigures
+pairs_have_figures C g c most m entry n entry_other copies s made of =
+    let second : (ea.told_in s.device.second).fixed ≡ slots.fixed_for (making_second g c) = made.device.second.fixed ∙ ap slots.fixed_for of in
+    λ i. fixed_both (made.figures i) (second i)
+
+pub pairs_are_for : PairsAreFor
+pairs_are_for C g c most m entry n entry_other copies s made is of = record {
+  rules = is.legal;
+  numbers = made.numbers;
+  parts = λ x has.
+      subst (λ (f : Fixed). (figures_at f x.0.0).part ≡ part_of_block f (instance_of x.0).block) (sym (pairs_have_figures C g c most m entry n entry_other copies s made of)) (pair_parts g c is x has);
+}
 
 -- NOTHING WAS ASKED FOR
 none_ops : (course : List Bool) → course ≡ [] → min (length course) last_count ≡ 0

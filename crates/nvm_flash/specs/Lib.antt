@@ -1,6 +1,8 @@
 pub mod Made
 pub mod PairMaking
 pub mod PairMade
+pub mod PairClock
+pub mod PairStart
 pub mod PairFigures
 pub mod Sized
 pub mod Turns

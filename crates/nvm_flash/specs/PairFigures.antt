@@ -1,12 +1,10 @@
 -- The figures of the device of a configuration over a flash and an EEPROM, and what they are by its blocks.
 use Rattle.std.specs.Prelude.{◌≡◌, ℕ, false, Some}
 use Rattle.memif_fee_ea.specs.fee_core.nv_base.declared.geometry.Geometry.{Geometry}
-use Rattle.memif_fee_ea.specs.fee_core.nv_base.Lengths.{AreLengths}
 use Rattle.memif_fee_ea.specs.fee_core.memif.Told.{Fixed, Second}
 use Rattle.memif_fee_ea.specs.ea_slots.ea_told.Device as ea
 use Rattle.memif_fee_ea.specs.memif_pair.Pair.{fixed_both}
 use Rattle.nvm_core.specs.block_config.Config.{Configuration}
-use Rattle.nvm_core.specs.block_config.Lengths.{device_lengths}
 use Rattle.nvm_core.specs.block_config.Rules.{IsLegalConfig}
 use Rattle.nvm_core.specs.block_machine.State.{State, Job}
 use Rattle.nvm_core.specs.block_machine.Blocks.{indices_of}
@@ -24,11 +22,10 @@ use Rattle.nvm_flash.specs.PairMaking.{fixed_of_first, making_second}
 abbrev pub fixed_of_pair : Geometry → Configuration → Fixed
 fixed_of_pair g c = fixed_both (fixed_of_first c) (ea.fixed_for (making_second g c))
 
--- over an EEPROM of this shape, which is the configuration's, and whose numbers ascend
+-- over an EEPROM of this shape, which is the configuration's
 pub record IsPairOf (g : Geometry) (c : Configuration) : Type 0 where
   pub legal : IsLegalConfig c
   pub second : c.eeprom ≡ Some g
-  pub ascend : AreLengths 0 (device_lengths 1 c)
 
 -- LAWS
 -- its work is that of the configuration
